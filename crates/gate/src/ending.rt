@@ -1,7 +1,6 @@
 //! Why the program gave up, and how that is told.
 
-use gx_audit::AuditingFault;
-use gx_journal::JournalFault;
+use gx_devices::WriteFault;
 use gx_listen::ServeFault;
 use gx_log::Log;
 use gx_pass::PassFault;
@@ -70,31 +69,15 @@ impl<'a> Ended<'a> {
 
     /// The fault of what writes there, and what the system said of it, if it said something.
     pub(crate) fn of_writing(
-        fault: AuditingFault,
+        fault: WriteFault,
         place: Place<'a>,
         said: Option<io::Error>,
     ) -> Ended<'a> {
         match fault {
-            AuditingFault::OutOfMemory => OutOfMemory.into(),
-            AuditingFault::WriteFailed => Ended {
+            WriteFault::OutOfMemory => OutOfMemory.into(),
+            WriteFault::WriteFailed => Ended {
                 fault: PipeFault::WriteFailed.into(),
                 place,
-                said,
-            },
-        }
-    }
-
-    /// The fault of a journal in this file, and what the system said of it, if it said something.
-    pub(crate) fn of_journal(
-        fault: JournalFault,
-        name: &'a str,
-        said: Option<io::Error>,
-    ) -> Ended<'a> {
-        match fault {
-            JournalFault::OutOfMemory => OutOfMemory.into(),
-            JournalFault::WriteFailed => Ended {
-                fault: PipeFault::WriteFailed.into(),
-                place: Place::File(name),
                 said,
             },
         }

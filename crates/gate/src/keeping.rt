@@ -128,7 +128,11 @@ fn prepare<'a>(
     }
     match write_whole(device, &write_header_in(version, policy)) {
         Ok(()) => Ok(()),
-        Err(failed) => Err(Ended::of_journal(failed.into(), path, device.device().cause)),
+        Err(failed) => Err(Ended::of_writing(
+            failed.into(),
+            Place::File(path),
+            device.device().cause,
+        )),
     }
 }
 

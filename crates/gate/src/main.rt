@@ -34,8 +34,7 @@ use gx_command_line::{
     first_bad_word,
 };
 use gx_core::Gate;
-use gx_devices::Counted;
-use gx_journal::JournalFault;
+use gx_devices::{Counted, WriteFault};
 use gx_listen::{Ending, ServeFault};
 use gx_lobby::Lobby;
 use gx_log::{Log, write_on};
@@ -379,12 +378,12 @@ where
 
 /// Whether a journal in this file was kept, and what the system said where it was not.
 fn kept<'a>(
-    fault: Option<JournalFault>,
+    fault: Option<WriteFault>,
     path: &'a str,
     said: Option<io::Error>,
 ) -> Result<(), Ended<'a>> {
     match fault {
-        Some(fault) => Err(Ended::of_journal(fault, path, said)),
+        Some(fault) => Err(Ended::of_writing(fault, Place::File(path), said)),
         None => Ok(()),
     }
 }

@@ -1,9 +1,9 @@
 //! Audits: how that of a gate's records is written, what is told of it, as it is and changed, and how it is shown.
 
-use gx_audit::{AuditAnswer, AuditingFault, audit_of, more_of_audit, told_of_audit, write_audit};
+use gx_audit::{AuditAnswer, audit_of, more_of_audit, told_of_audit, write_audit};
 use gx_audit_bytes::AuditVersion;
 use gx_core::Gate;
-use gx_devices::Counted;
+use gx_devices::{Counted, WriteFault};
 use gx_policy::Policy;
 use gx_policyfile::{SAMPLE, read_policy};
 use gx_show::{
@@ -36,7 +36,7 @@ pub(crate) fn tell_audit(alloc: Global, out: &mut Told, gate: &Gate, limits: Lim
         alloc,
         out,
         written.as_slice(),
-        ended.err().map(AuditingFault::from),
+        ended.err().map(WriteFault::from),
     )
 }
 
@@ -133,7 +133,7 @@ fn show_chosen(
         Ok(found) => found,
         Err(FindingFault::OtherPolicy) => return out.put("other policy\n"),
         Err(FindingFault::OutOfMemory) => {
-            return put_ended(out, Some(AuditingFault::OutOfMemory));
+            return put_ended(out, Some(WriteFault::OutOfMemory));
         }
     };
     put_found(alloc, out, policy, &found, limits)

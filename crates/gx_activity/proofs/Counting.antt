@@ -1,39 +1,13 @@
 -- What one more record adds to the counts of an account.
-use Rattle.std.proofs.Common.{◌≡◌, ℕ, ◌+◌, Bool, true, false, cond, ◌&&◌, List, [], ◌∷◌, ◌++◌, arith, map, refl, ap, sym, ◌∙◌}
-use Rattle.std.specs.Prelude.{Option, Some, None, count_by, filter_map, fold, option_and_then, option_to_list}
-use Rattle.std.specs.Option.{option_map_or}
-use Rattle.std.specs.List.{cons_option}
-use Rattle.std.proofs.lemmas.List.Elements.{filter_map-append}
-use Rattle.std.proofs.lemmas.List.Sums.{fold-append, sum_by-append, sum_by_push}
-use Rattle.gx_units.specs.Names.{same_account}
-use Rattle.gx_units.specs.declared.names.AccountName.{AccountName}
+use Rattle.std.proofs.{Common.{◌≡◌, ℕ, ◌+◌, Bool, true, false, cond, ◌&&◌, List, [], ◌∷◌, ◌++◌, arith, map, refl, ap, sym, ◌∙◌}, lemmas.List.{Elements.filter_map-append, Sums.{fold-append, sum_by-append, sum_by_push}}}
+use Rattle.std.specs.{Prelude.{Option, Some, None, count_by, filter_map, fold, option_and_then, option_to_list}, Option.option_map_or, List.cons_option}
+use Rattle.gx_units.specs.{Names.same_account, declared.names.AccountName.AccountName}
 use Rattle.gx_ouch.specs.declared.letters.Liquidity.{Liquidity}
-use Rattle.gx_ouch.specs.declared.letters.Liquidity.TheVariants as liquidities
-use Rattle.gx_policy.specs.declared.policy.Account.{Account}
-use Rattle.gx_policy.specs.declared.policy.PolicyData.{PolicyData}
-use Rattle.gx_policy.specs.Lists.{each_with_earlier}
-use Rattle.gx_policy.specs.People.{account_of}
-use Rattle.gx_history.specs.declared.record.Asked.{Asked}
-use Rattle.gx_history.specs.declared.record.Fill.{Fill}
-use Rattle.gx_history.specs.declared.record.RecordData.{RecordData}
-use Rattle.gx_history.specs.declared.record.Request.{Request}
-use Rattle.gx_history.specs.declared.record.Step.{Step}
-use Rattle.gx_history.specs.declared.record.Step.TheVariants as steps
-use Rattle.gx_history.specs.declared.record.Verdict.{Verdict}
-use Rattle.gx_history.specs.declared.record.Verdict.TheVariants as verdicts
-use Rattle.gx_history.specs.Book.{rested_of}
-use Rattle.gx_history.specs.Executions.{Execution, executions, side_of, sides_in}
-use Rattle.gx_history.specs.Orders.{Order, order_numbered, orders}
-use Rattle.gx_history.specs.Requests.{asked, is_granted}
-use Rattle.gx_history_laws.proofs.NextOrders.{executions_next}
-use Rattle.gx_history_laws.proofs.Pushing.{each_after_next}
+use Rattle.gx_policy.specs.{declared.policy.{Account.Account, PolicyData.PolicyData}, Lists.each_with_earlier, People.account_of}
+use Rattle.gx_history.specs.{declared.record.{Asked.Asked, Fill.Fill, RecordData.RecordData, Request.Request, Step.Step, Verdict.Verdict}, Book.rested_of, Executions.{Execution, executions, side_of, sides_in}, Orders.{Order, order_numbered, orders}, Requests.{asked, is_granted}}
+use Rattle.gx_history_laws.proofs.{NextOrders.executions_next, Pushing.each_after_next}
 use Rattle.gx_overview.specs.Accounts.{capped_count}
-use Rattle.gx_activity.specs.declared.activity.ActivityRow.{ActivityRow}
-use Rattle.gx_activity.specs.declared.activity.OrderRequests.{OrderRequests}
-use Rattle.gx_activity.specs.declared.deeds.Deed.{Deed}
-use Rattle.gx_activity.specs.declared.deeds.Deed.TheVariants as deeds
-use Rattle.gx_activity.specs.Activity.{expired_of, is_asked, is_cancel, is_denied, is_enter, is_replace, orders_of, orders_said, trades_for}
-use Rattle.gx_activity.specs.Noting.{deed_of, deeds_in, one_more, row_done, so_far}
+use Rattle.gx_activity.specs.{declared.{activity.{ActivityRow.ActivityRow, OrderRequests.OrderRequests}, deeds.Deed.Deed}, Activity.{expired_of, is_asked, is_cancel, is_denied, is_enter, is_replace, orders_of, orders_said, trades_for}, Noting.{deed_of, deeds_in, one_more, row_done, so_far}}
 
 count_capped : (n : ℕ) → capped_count (capped_count n + 1) ≡ capped_count (n + 1)
 count_capped n = omega arith
@@ -88,7 +62,7 @@ module _ (policy : PolicyData) (known : List Order) (account : AccountName) (ge 
   still = λ i. the_row account (none_asked ge gr gc i) (none_asked de dr dc i) (no_more fills i) (no_more rested i) (no_more expired i)
 
   granted_grows : (user : Asked) (found : Option AccountName) → account_of policy user.user ≡ found
-      → grown (steps.Asked user) verdicts.Granted ≡ done_in base (map (λ (name : AccountName). (name, deeds.Granted user.request)) (option_to_list found))
+      → grown (Step.Asked user) Verdict.Granted ≡ done_in base (map (λ (name : AccountName). (name, Deed.Granted user.request)) (option_to_list found))
   granted_grows a found is =
       (λ i. the_row account
       (stopped (ge + cond (option_map_or (same_account account) (is i) false && is_enter a.request) 1 0) (gr + cond (option_map_or (same_account account) (is i) false && is_replace a.request) 1 0)
@@ -110,12 +84,12 @@ module _ (policy : PolicyData) (known : List Order) (account : AccountName) (ge 
           (stopped (ge + cond (option_map_or (same_account account) x false && is_enter q) 1 0) (gr + cond (option_map_or (same_account account) x false && is_replace q) 1 0)
           (gc + cond (option_map_or (same_account account) x false && is_cancel q) 1 0))
           (stopped de dr dc) (capped_count fills) (capped_count rested) (capped_count expired)
-          ≡ done_in base (map (λ (name : AccountName). (name, deeds.Granted q)) (option_to_list x))
+          ≡ done_in base (map (λ (name : AccountName). (name, Deed.Granted q)) (option_to_list x))
       by None = λ i. the_row account (none_asked ge gr gc i) (stopped de dr dc) (capped_count fills) (capped_count rested) (capped_count expired)
       by (Some name) = by_same name (same_account account name)
 
   denied_grows : (user : Asked) (rule : _) (found : Option AccountName) → account_of policy user.user ≡ found
-      → grown (steps.Asked user) (verdicts.Denied rule) ≡ done_in base (map (λ (name : AccountName). (name, deeds.Denied user.request)) (option_to_list found))
+      → grown (Step.Asked user) (Verdict.Denied rule) ≡ done_in base (map (λ (name : AccountName). (name, Deed.Denied user.request)) (option_to_list found))
   denied_grows a rule found is =
       (λ i. the_row account (none_asked ge gr gc i)
       (stopped (de + cond (option_map_or (same_account account) (is i) false && is_enter a.request) 1 0) (dr + cond (option_map_or (same_account account) (is i) false && is_replace a.request) 1 0)
@@ -137,7 +111,7 @@ module _ (policy : PolicyData) (known : List Order) (account : AccountName) (ge 
           (stopped (de + cond (option_map_or (same_account account) x false && is_enter q) 1 0) (dr + cond (option_map_or (same_account account) x false && is_replace q) 1 0)
           (dc + cond (option_map_or (same_account account) x false && is_cancel q) 1 0))
           (capped_count fills) (capped_count rested) (capped_count expired)
-          ≡ done_in base (map (λ (name : AccountName). (name, deeds.Denied q)) (option_to_list x))
+          ≡ done_in base (map (λ (name : AccountName). (name, Deed.Denied q)) (option_to_list x))
       by None = λ i. the_row account (stopped ge gr gc) (none_asked de dr dc i) (capped_count fills) (capped_count rested) (capped_count expired)
       by (Some name) = by_same name (same_account account name)
 
@@ -154,7 +128,7 @@ module _ (policy : PolicyData) (known : List Order) (account : AccountName) (ge 
   -- one side of a fill
   side_grows : (f : Fill) (l : Liquidity) (n : ℕ) (found : Option Order)
       → with_fills (n + count_by is_his (map (λ (o : Order). record { fill = f; liquidity = l; order = o }) (option_to_list found)))
-      ≡ done_in (with_fills n) (map (λ (o : Order). (o.account, deeds.Filled)) (option_to_list found))
+      ≡ done_in (with_fills n) (map (λ (o : Order). (o.account, Deed.Filled)) (option_to_list found))
   side_grows f l n None = λ i. with_fills (add_none i)
     where
       add_none : n + 0 ≡ n
@@ -168,24 +142,24 @@ module _ (policy : PolicyData) (known : List Order) (account : AccountName) (ge 
       by true = ap row (sym (count_capped n))
       by false = ap row (no_more n)
 
-  filled_grows : (step : Step) (f : Fill) → grown step (verdicts.Filled f) ≡ done_in base (deeds_in policy known step (verdicts.Filled f))
+  filled_grows : (step : Step) (f : Fill) → grown step (Verdict.Filled f) ≡ done_in base (deeds_in policy known step (Verdict.Filled f))
   filled_grows step f =
       (λ i. the_row account (none_asked ge gr gc i) (none_asked de dr dc i) (capped_count (fills + both i)) (no_more rested i) (no_more expired i))
       ∙ ap with_fills (omega arith)
-      ∙ side_grows f liquidities.Added (fills + takers) (order_numbered known f.maker)
-      ∙ ap (λ (row : ActivityRow). done_in row (deed_of known deeds.Filled f.maker)) (side_grows f liquidities.Removed fills (order_numbered known f.taker))
-      ∙ sym (fold-append (λ (x : ActivityRow) (d : AccountName × Deed). row_done d.0 d.1 x) base (deed_of known deeds.Filled f.taker) (deed_of known deeds.Filled f.maker))
+      ∙ side_grows f Liquidity.Added (fills + takers) (order_numbered known f.maker)
+      ∙ ap (λ (row : ActivityRow). done_in row (deed_of known Deed.Filled f.maker)) (side_grows f Liquidity.Removed fills (order_numbered known f.taker))
+      ∙ sym (fold-append (λ (x : ActivityRow) (d : AccountName × Deed). row_done d.0 d.1 x) base (deed_of known Deed.Filled f.taker) (deed_of known Deed.Filled f.maker))
     where
       takers : ℕ
-      takers = count_by is_his (side_of known f liquidities.Removed f.taker)
+      takers = count_by is_his (side_of known f Liquidity.Removed f.taker)
 
       makers : ℕ
-      makers = count_by is_his (side_of known f liquidities.Added f.maker)
+      makers = count_by is_his (side_of known f Liquidity.Added f.maker)
 
-      both : count_by is_his (sides_in known (verdicts.Filled f)) ≡ takers + makers
-      both = sum_by-append (λ (e : Execution). cond (is_his e) 1 0) (side_of known f liquidities.Removed f.taker) (side_of known f liquidities.Added f.maker)
+      both : count_by is_his (sides_in known (Verdict.Filled f)) ≡ takers + makers
+      both = sum_by-append (λ (e : Execution). cond (is_his e) 1 0) (side_of known f Liquidity.Removed f.taker) (side_of known f Liquidity.Added f.maker)
 
-  rested_grows : (n : ℕ) (found : Option Order) → with_rested (n + orders_of account (option_to_list found)) ≡ done_in (with_rested n) (map (λ (o : Order). (o.account, deeds.Rested)) (option_to_list found))
+  rested_grows : (n : ℕ) (found : Option Order) → with_rested (n + orders_of account (option_to_list found)) ≡ done_in (with_rested n) (map (λ (o : Order). (o.account, Deed.Rested)) (option_to_list found))
   rested_grows n None = ap with_rested (omega arith)
   rested_grows n (Some o) = by (same_account account o.account)
     where
@@ -196,7 +170,7 @@ module _ (policy : PolicyData) (known : List Order) (account : AccountName) (ge 
       by true = ap row (sym (count_capped n))
       by false = ap row (no_more n)
 
-  expired_grows : (n : ℕ) (found : Option Order) → with_expired (n + orders_of account (option_to_list found)) ≡ done_in (with_expired n) (map (λ (o : Order). (o.account, deeds.Expired)) (option_to_list found))
+  expired_grows : (n : ℕ) (found : Option Order) → with_expired (n + orders_of account (option_to_list found)) ≡ done_in (with_expired n) (map (λ (o : Order). (o.account, Deed.Expired)) (option_to_list found))
   expired_grows n None = ap with_expired (omega arith)
   expired_grows n (Some o) = by (same_account account o.account)
     where
@@ -209,15 +183,15 @@ module _ (policy : PolicyData) (known : List Order) (account : AccountName) (ge 
 
   -- whatever the record tells
   all_grows : (step : Step) (v : Verdict) → grown step v ≡ done_in base (deeds_in policy known step v)
-  all_grows (steps.Asked a) verdicts.Granted = granted_grows a (account_of policy a.user) refl
-  all_grows (steps.Matching handed) verdicts.Granted = still
-  all_grows (steps.Asked a) (verdicts.Denied rule) = denied_grows a rule (account_of policy a.user) refl
-  all_grows (steps.Matching handed) (verdicts.Denied rule) = still
-  all_grows step (verdicts.Filled f) = filled_grows step f
-  all_grows step (verdicts.Rested number) =
+  all_grows (Step.Asked a) Verdict.Granted = granted_grows a (account_of policy a.user) refl
+  all_grows (Step.Matching handed) Verdict.Granted = still
+  all_grows (Step.Asked a) (Verdict.Denied rule) = denied_grows a rule (account_of policy a.user) refl
+  all_grows (Step.Matching handed) (Verdict.Denied rule) = still
+  all_grows step (Verdict.Filled f) = filled_grows step f
+  all_grows step (Verdict.Rested number) =
       (λ i. the_row account (none_asked ge gr gc i) (none_asked de dr dc i) (no_more fills i) (capped_count (rested + orders_of account (named (Some number)))) (no_more expired i))
       ∙ rested_grows rested (order_numbered known number)
-  all_grows step (verdicts.Expired number) =
+  all_grows step (Verdict.Expired number) =
       (λ i. the_row account (none_asked ge gr gc i) (none_asked de dr dc i) (no_more fills i) (no_more rested i) (capped_count (expired + orders_of account (named (Some number)))))
       ∙ expired_grows expired (order_numbered known number)
 

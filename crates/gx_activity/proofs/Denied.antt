@@ -1,28 +1,14 @@
 -- What one more denial makes of the counts.
-use Rattle.std.proofs.Common.{◌≡◌, ℕ, ◌+◌, ◌<◌, ◌≤◌, ◌^◌, Bool, true, false, cond, ◌&&◌, List, [], ◌∷◌, ◌++◌, map, length, take, get_or, arith, refl, ap, sym, ◌∙◌}
-use Rattle.std.specs.Prelude.{Option, Some, None, count_by, option_to_list}
-use Rattle.std.specs.Option.{option_eq}
-use Rattle.std.proofs.lemmas.Slice.Eq.{bytes_eq-Decides}
-use Rattle.std.proofs.lemmas.List.{append-nil, map-id, take_more}
-use Rattle.std.proofs.lemmas.List.Elements.{filter_map-append}
-use Rattle.std.proofs.lemmas.List.Sums.{count_by-le-length, sum_by_push}
-use Rattle.gx_units.specs.Names.{same_account, same_rule}
-use Rattle.gx_units.specs.declared.names.AccountName.{AccountName}
-use Rattle.gx_units.specs.declared.names.RuleId.{RuleId}
-use Rattle.gx_policy.specs.declared.policy.PolicyData.{PolicyData}
-use Rattle.gx_policy.specs.Lists.{once}
+use Rattle.std.proofs.{Common.{◌≡◌, ℕ, ◌+◌, ◌<◌, ◌≤◌, ◌^◌, Bool, true, false, cond, ◌&&◌, List, [], ◌∷◌, ◌++◌, map, length, take, get_or, arith, refl, ap, sym, ◌∙◌}, lemmas.{Slice.Eq.bytes_eq-Decides, List.{append-nil, map-id, take_more, Elements.filter_map-append, Sums.{count_by-le-length, sum_by_push}}}}
+use Rattle.std.specs.{Prelude.{Option, Some, None, count_by, option_to_list}, Option.option_eq}
+use Rattle.gx_units.specs.{Names.{same_account, same_rule}, declared.names.{AccountName.AccountName, RuleId.RuleId}}
+use Rattle.gx_policy.specs.{declared.policy.PolicyData.PolicyData, Lists.once}
 use Rattle.gx_history.specs.declared.record.RecordData.{RecordData}
 use Rattle.gx_history_laws.proofs.Names.{account_is, account_is_itself}
 use Rattle.gx_overview.specs.Accounts.{capped_count}
 use Rattle.gx_overview.proofs.Passing.{map_same, map_twice}
-use Rattle.gx_activity.specs.declared.denials.Denial.{Denial}
-use Rattle.gx_activity.specs.declared.denials.DenialRow.{DenialRow}
-use Rattle.gx_activity.specs.Denials.{denial_in, denial_row, denial_rows, denials, row_of, same_denial}
-use Rattle.gx_activity.specs.Denying.{counted_in, counted_once, denial_table, never, once_more, so_often, table_of}
-use Rattle.gx_activity.proofs.Counting.{one_found, one_more_is}
-use Rattle.gx_activity.proofs.Standing.{fits, found_are_few}
-use Rattle.gx_activity.proofs.Tables.{listed_value_of, table_next}
-use Rattle.gx_activity.proofs.Trading.{both_true}
+use Rattle.gx_activity.specs.{declared.denials.{Denial.Denial, DenialRow.DenialRow}, Denials.{denial_in, denial_row, denial_rows, denials, row_of, same_denial}, Denying.{counted_in, counted_once, denial_table, never, once_more, so_often, table_of}}
+use Rattle.gx_activity.proofs.{Counting.{one_found, one_more_is}, Standing.{fits, found_are_few}, Tables.{listed_value_of, table_next}, Trading.both_true}
 
 -- ---- denials are the same where they are equal
 

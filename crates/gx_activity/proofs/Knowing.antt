@@ -1,20 +1,12 @@
 -- What is known and counted, once one more record is noted.
-use Rattle.std.proofs.Common.{◌≡◌, ℕ, ◌+◌, ◌<◌, List, [], ◌∷◌, ◌++◌, map, length, take, get_or, refl, ap, sym, subst, ◌∙◌}
-use Rattle.std.proofs.lemmas.List.{take_more}
+use Rattle.std.proofs.{Common.{◌≡◌, ℕ, ◌+◌, ◌<◌, List, [], ◌∷◌, ◌++◌, map, length, take, get_or, refl, ap, sym, subst, ◌∙◌}, lemmas.List.take_more}
 use Rattle.gx_units.specs.declared.names.AccountName.{AccountName}
-use Rattle.gx_policy.specs.declared.policy.Account.{Account}
-use Rattle.gx_policy.specs.declared.policy.PolicyData.{PolicyData}
-use Rattle.gx_history.specs.declared.record.RecordData.{RecordData}
-use Rattle.gx_history.specs.Executions.{executions}
-use Rattle.gx_history.specs.Orders.{orders}
+use Rattle.gx_policy.specs.declared.policy.{Account.Account, PolicyData.PolicyData}
+use Rattle.gx_history.specs.{declared.record.RecordData.RecordData, Executions.executions, Orders.orders}
 use Rattle.gx_history_laws.proofs.NextOrders.{orders_next, orders_none}
-use Rattle.gx_overview.specs.declared.owners.Owners.{Owners}
-use Rattle.gx_overview.specs.Executed.{KnowOrders}
-use Rattle.gx_activity.specs.declared.activity.ActivityRow.{ActivityRow}
-use Rattle.gx_activity.specs.Activity.{idle}
-use Rattle.gx_activity.specs.Noting.{NoteRecord, deeds_in, row_in, so_far}
-use Rattle.gx_activity.proofs.Counting.{row_next}
-use Rattle.gx_activity.proofs.Rowing.{row_after}
+use Rattle.gx_overview.specs.{declared.owners.Owners.Owners, Executed.KnowOrders}
+use Rattle.gx_activity.specs.{declared.activity.ActivityRow.ActivityRow, Activity.idle, Noting.{NoteRecord, deeds_in, row_in, so_far}}
+use Rattle.gx_activity.proofs.{Counting.row_next, Rowing.row_after}
 
 -- before any record
 pub nothing_known : (policy : PolicyData) (owners : Owners) → KnowOrders owners [] → KnowOrders owners (orders policy [])

@@ -1,16 +1,10 @@
 -- The row of an account, once something is done by an account.
 use Rattle.std.proofs.Common.{◌≡◌, Bool, true, false, cond, List, [], ◌∷◌, refl, ap, sym, ◌∙◌}
-use Rattle.std.specs.Prelude.{Option, Some, None, fold, unwrap_or}
-use Rattle.std.specs.Map.{lookup}
-use Rattle.gx_units.specs.Names.{same_account}
-use Rattle.gx_units.specs.declared.names.AccountName.{AccountName}
+use Rattle.std.specs.{Prelude.{Option, Some, None, fold, unwrap_or}, Map.lookup}
+use Rattle.gx_units.specs.{Names.same_account, declared.names.AccountName.AccountName}
 use Rattle.gx_history_laws.proofs.Names.{account_is}
 use Rattle.gx_overview.proofs.Keeping.{inserted}
-use Rattle.gx_activity.specs.declared.activity.ActivityRow.{ActivityRow}
-use Rattle.gx_activity.specs.declared.deeds.Deed.{Deed}
-use Rattle.gx_activity.specs.declared.deeds.Deed.TheVariants as deeds
-use Rattle.gx_activity.specs.Activity.{idle}
-use Rattle.gx_activity.specs.Noting.{entries_after, entries_done, row_done, row_in, row_with}
+use Rattle.gx_activity.specs.{declared.{activity.ActivityRow.ActivityRow, deeds.Deed.Deed}, Activity.idle, Noting.{entries_after, entries_done, row_done, row_in, row_with}}
 use Rattle.gx_activity.proofs.Counting.{done_in}
 
 abbrev Entries : Type 0
@@ -22,11 +16,11 @@ keeps account deed row = by (same_account row.account account) deed
   where
     by : (b : Bool) (d : Deed) → (cond b (row_with d row) row).account ≡ row.account
     by false d = refl
-    by true (deeds.Granted q) = refl
-    by true (deeds.Denied q) = refl
-    by true deeds.Filled = refl
-    by true deeds.Rested = refl
-    by true deeds.Expired = refl
+    by true (Deed.Granted q) = refl
+    by true (Deed.Denied q) = refl
+    by true Deed.Filled = refl
+    by true Deed.Rested = refl
+    by true Deed.Expired = refl
 
 -- one thing more
 row_then : (name account : AccountName) (deed : Deed) (entries : Entries) (row : ActivityRow) → row.account ≡ name → row_in entries name ≡ row

@@ -1,30 +1,13 @@
 -- No count comes near 64 bits, and the rows stand as they were noted.
-use Rattle.std.proofs.Common.{◌≡◌, ℕ, ◌+◌, ◌<◌, ◌≤◌, ◌*◌, ◌^◌, arith, Bool, List, [], ◌∷◌, ◌++◌, map, length, take, drop, refl, ap, sym, ◌∙◌, length-append}
-use Rattle.std.specs.Prelude.{Option, Some, None, count_by, filter_map, flat_map, option_and_then, option_to_list}
-use Rattle.std.specs.List.{cons_option}
-use Rattle.std.proofs.lemmas.List.{length-map}
-use Rattle.std.proofs.lemmas.List.Sums.{count_by-le-length}
-use Rattle.gx_units.specs.Names.{same_account}
-use Rattle.gx_units.specs.declared.names.AccountName.{AccountName}
+use Rattle.std.proofs.{Common.{◌≡◌, ℕ, ◌+◌, ◌<◌, ◌≤◌, ◌*◌, ◌^◌, arith, Bool, List, [], ◌∷◌, ◌++◌, map, length, take, drop, refl, ap, sym, ◌∙◌, length-append}, lemmas.List.{length-map, Sums.count_by-le-length}}
+use Rattle.std.specs.{Prelude.{Option, Some, None, count_by, filter_map, flat_map, option_and_then, option_to_list}, List.cons_option}
+use Rattle.gx_units.specs.{Names.same_account, declared.names.AccountName.AccountName}
 use Rattle.gx_ouch.specs.declared.letters.Liquidity.{Liquidity}
-use Rattle.gx_ouch.specs.declared.letters.Liquidity.TheVariants as liquidities
-use Rattle.gx_policy.specs.declared.policy.Account.{Account}
-use Rattle.gx_policy.specs.declared.policy.PolicyData.{PolicyData}
-use Rattle.gx_policy.specs.Lists.{each_after, each_with_earlier}
-use Rattle.gx_history.specs.declared.record.Fill.{Fill}
-use Rattle.gx_history.specs.declared.record.RecordData.{RecordData}
-use Rattle.gx_history.specs.declared.record.Request.{Request}
-use Rattle.gx_history.specs.declared.record.Verdict.{Verdict}
-use Rattle.gx_history.specs.declared.record.Verdict.TheVariants as verdicts
-use Rattle.gx_history.specs.Book.{rested_of}
-use Rattle.gx_history.specs.Executions.{Execution, executions, executions_of, side_of, sides_in}
-use Rattle.gx_history.specs.Orders.{Order, order_numbered, orders}
-use Rattle.gx_history.specs.Requests.{is_granted}
+use Rattle.gx_policy.specs.{declared.policy.{Account.Account, PolicyData.PolicyData}, Lists.{each_after, each_with_earlier}}
+use Rattle.gx_history.specs.{declared.record.{Fill.Fill, RecordData.RecordData, Request.Request, Verdict.Verdict}, Book.rested_of, Executions.{Execution, executions, executions_of, side_of, sides_in}, Orders.{Order, order_numbered, orders}, Requests.is_granted}
 use Rattle.gx_overview.specs.Accounts.{capped_count}
 use Rattle.gx_overview.proofs.Passing.{map_same}
-use Rattle.gx_activity.specs.declared.activity.ActivityRow.{ActivityRow}
-use Rattle.gx_activity.specs.Activity.{activity_row, expired_of, is_asked, is_cancel, is_denied, is_enter, is_replace, orders_of, orders_said, requests_of}
-use Rattle.gx_activity.specs.Noting.{capped_requests, row_in, so_far}
+use Rattle.gx_activity.specs.{declared.activity.ActivityRow.ActivityRow, Activity.{activity_row, expired_of, is_asked, is_cancel, is_denied, is_enter, is_replace, orders_of, orders_said, requests_of}, Noting.{capped_requests, row_in, so_far}}
 use Rattle.gx_activity.proofs.Counting.{the_requests, the_row}
 
 pub fits : (n : ℕ) → n < 2 ^ 64 → capped_count n ≡ n
@@ -60,16 +43,16 @@ one_side known f l number = by (order_numbered known number)
     by (Some o) = omega arith
 
 two_sides : (known : List Order) (v : Verdict) → length (sides_in known v) ≤ 2
-two_sides known (verdicts.Filled f) =
-    let takers : length (side_of known f liquidities.Removed f.taker) ≤ 1 = one_side known f liquidities.Removed f.taker in
-    let makers : length (side_of known f liquidities.Added f.maker) ≤ 1 = one_side known f liquidities.Added f.maker in
-    let parts : length (sides_in known (verdicts.Filled f)) ≡ length (side_of known f liquidities.Removed f.taker) + length (side_of known f liquidities.Added f.maker) =
-    length-append (side_of known f liquidities.Removed f.taker) (side_of known f liquidities.Added f.maker) in
+two_sides known (Verdict.Filled f) =
+    let takers : length (side_of known f Liquidity.Removed f.taker) ≤ 1 = one_side known f Liquidity.Removed f.taker in
+    let makers : length (side_of known f Liquidity.Added f.maker) ≤ 1 = one_side known f Liquidity.Added f.maker in
+    let parts : length (sides_in known (Verdict.Filled f)) ≡ length (side_of known f Liquidity.Removed f.taker) + length (side_of known f Liquidity.Added f.maker) =
+    length-append (side_of known f Liquidity.Removed f.taker) (side_of known f Liquidity.Added f.maker) in
     omega arith
-two_sides known verdicts.Granted = omega arith
-two_sides known (verdicts.Denied rule) = omega arith
-two_sides known (verdicts.Rested number) = omega arith
-two_sides known (verdicts.Expired number) = omega arith
+two_sides known Verdict.Granted = omega arith
+two_sides known (Verdict.Denied rule) = omega arith
+two_sides known (Verdict.Rested number) = omega arith
+two_sides known (Verdict.Expired number) = omega arith
 
 sides_are_few : (policy : PolicyData) (records : List RecordData) → length (executions policy records) ≤ 2 * length records
 unfolding executions

@@ -1,10 +1,6 @@
 -- A table with a row for each key, where the keys first come: what one more item makes of it.
-use Rattle.std.proofs.Common.{◌≡◌, Bool, true, false, not, cond, ◌||◌, List, [], ◌∷◌, ◌++◌, map, refl, ap, sym, subst, ◌∙◌, append_assoc, true≢false}
-use Rattle.std.specs.Prelude.{IfOk, Option, Some, None, Result, Ok, Err, filter, find, fold, unwrap_or}
-use Rattle.std.specs.List.{list_any}
-use Rattle.std.specs.Map.{lookup}
-use Rattle.std.proofs.lemmas.List.{append-nil}
-use Rattle.std.proofs.lemmas.List.Elements.{filter-append}
+use Rattle.std.proofs.{Common.{◌≡◌, Bool, true, false, not, cond, ◌||◌, List, [], ◌∷◌, ◌++◌, map, refl, ap, sym, subst, ◌∙◌, append_assoc, true≢false}, lemmas.List.{append-nil, Elements.filter-append}}
+use Rattle.std.specs.{Prelude.{IfOk, Option, Some, None, Result, Ok, Err, filter, find, fold, unwrap_or}, List.list_any, Map.lookup}
 use Rattle.indexmap.specs.IndexMap.{insert_entry}
 use Rattle.gx_policy.specs.Lists.{once}
 

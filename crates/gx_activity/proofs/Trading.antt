@@ -1,30 +1,13 @@
 -- What one more fill makes of the positions.
-use Rattle.std.proofs.Common.{◌≡◌, ℕ, ◌+◌, ◌<◌, Bool, true, false, not, cond, ◌&&◌, List, [], ◌∷◌, ◌++◌, map, length, take, get_or, arith, refl, ap, sym, subst, ◌∙◌}
+use Rattle.std.proofs.{Common.{◌≡◌, ℕ, ◌+◌, ◌<◌, Bool, true, false, not, cond, ◌&&◌, List, [], ◌∷◌, ◌++◌, map, length, take, get_or, arith, refl, ap, sym, subst, ◌∙◌}, lemmas.{Slice.Eq.bytes_eq-Decides, List.take_more}}
 use Rattle.std.specs.Prelude.{fold}
-use Rattle.std.proofs.lemmas.Slice.Eq.{bytes_eq-Decides}
-use Rattle.std.proofs.lemmas.List.{take_more}
-use Rattle.gx_units.specs.Money.{value}
-use Rattle.gx_units.specs.Names.{same_account, same_stock}
-use Rattle.gx_policy.specs.declared.policy.PolicyData.{PolicyData}
-use Rattle.gx_policy.specs.Lists.{once}
-use Rattle.gx_history.specs.declared.record.RecordData.{RecordData}
-use Rattle.gx_history.specs.Book.{is_buy}
-use Rattle.gx_history.specs.Executions.{Execution, executions, sides_in}
-use Rattle.gx_history.specs.Figures.{done_of_chosen}
-use Rattle.gx_history.specs.Orders.{orders}
-use Rattle.gx_history_laws.proofs.Names.{account_is, account_is_itself, stock_is}
-use Rattle.gx_history_laws.proofs.NextOrders.{executions_next, executions_none, orders_next}
-use Rattle.gx_overview.specs.declared.executed.Executed.{Executed}
-use Rattle.gx_overview.specs.declared.owners.Owners.{Owners}
-use Rattle.gx_overview.specs.Accounts.{capped}
-use Rattle.gx_overview.specs.Executed.{KnowOrders, value_of_chosen}
-use Rattle.gx_overview.proofs.Counting.{sum_capped}
-use Rattle.gx_overview.proofs.Executing.{shares_next, value_next}
-use Rattle.gx_overview.proofs.Passing.{map_twice}
-use Rattle.gx_activity.specs.declared.positions.Position.{Position}
-use Rattle.gx_activity.specs.declared.positions.PositionRow.{PositionRow}
-use Rattle.gx_activity.specs.Positions.{is_in, no_position, position_of, position_row, position_rows, position_with, row_of, same_position}
-use Rattle.gx_activity.specs.Positioning.{NotePositions, entries_after, position_table, table_of}
+use Rattle.gx_units.specs.{Money.value, Names.{same_account, same_stock}}
+use Rattle.gx_policy.specs.{declared.policy.PolicyData.PolicyData, Lists.once}
+use Rattle.gx_history.specs.{declared.record.RecordData.RecordData, Book.is_buy, Executions.{Execution, executions, sides_in}, Figures.done_of_chosen, Orders.orders}
+use Rattle.gx_history_laws.proofs.{Names.{account_is, account_is_itself, stock_is}, NextOrders.{executions_next, executions_none, orders_next}}
+use Rattle.gx_overview.specs.{declared.{executed.Executed.Executed, owners.Owners.Owners}, Accounts.capped, Executed.{KnowOrders, value_of_chosen}}
+use Rattle.gx_overview.proofs.{Counting.sum_capped, Executing.{shares_next, value_next}, Passing.map_twice}
+use Rattle.gx_activity.specs.{declared.positions.{Position.Position, PositionRow.PositionRow}, Positions.{is_in, no_position, position_of, position_row, position_rows, position_with, row_of, same_position}, Positioning.{NotePositions, entries_after, position_table, table_of}}
 use Rattle.gx_activity.proofs.Tables.{listed_value_of, table_from}
 
 -- ---- positions are the same where they are equal

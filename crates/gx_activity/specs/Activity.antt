@@ -1,45 +1,28 @@
 -- What each account asked for, and what became of its orders.
-use Rattle.std.specs.Prelude.{ℕ, Bool, true, false, ◌&&◌, List, count_by, Option, Some, None, option_and_then}
-use Rattle.std.specs.Option.{option_map_or}
-use Rattle.std.specs.List.{filter_map}
-use Rattle.gx_units.specs.Names.{same_account}
-use Rattle.gx_units.specs.declared.names.AccountName.{AccountName}
-use Rattle.gx_units.specs.declared.names.UserName.{UserName}
-use Rattle.gx_policy.specs.declared.policy.Account.{Account}
-use Rattle.gx_policy.specs.declared.policy.PolicyData.{PolicyData}
-use Rattle.gx_policy.specs.Lists.{each_with_earlier}
-use Rattle.gx_policy.specs.People.{account_of}
-use Rattle.gx_history.specs.declared.record.Asked.{Asked}
-use Rattle.gx_history.specs.declared.record.RecordData.{RecordData}
-use Rattle.gx_history.specs.declared.record.Request.{Request}
-use Rattle.gx_history.specs.declared.record.Request.TheVariants as requests
-use Rattle.gx_history.specs.declared.record.Verdict.{Verdict}
-use Rattle.gx_history.specs.declared.record.Verdict.TheVariants as verdicts
-use Rattle.gx_history.specs.Book.{rested_of}
-use Rattle.gx_history.specs.Executions.{Execution, executions}
-use Rattle.gx_history.specs.Orders.{Order, order_numbered, orders}
-use Rattle.gx_history.specs.Requests.{asked, is_granted}
-use Rattle.gx_activity.specs.declared.activity.ActivityRow.{ActivityRow}
-use Rattle.gx_activity.specs.declared.activity.OrderRequests.{OrderRequests}
+use Rattle.std.specs.{Prelude.{ℕ, Bool, true, false, ◌&&◌, List, count_by, Option, Some, None, option_and_then}, Option.option_map_or, List.filter_map}
+use Rattle.gx_units.specs.{Names.same_account, declared.names.{AccountName.AccountName, UserName.UserName}}
+use Rattle.gx_policy.specs.{declared.policy.{Account.Account, PolicyData.PolicyData}, Lists.each_with_earlier, People.account_of}
+use Rattle.gx_history.specs.{declared.record.{Asked.Asked, RecordData.RecordData, Request.Request, Verdict.Verdict}, Book.rested_of, Executions.{Execution, executions}, Orders.{Order, order_numbered, orders}, Requests.{asked, is_granted}}
+use Rattle.gx_activity.specs.declared.activity.{ActivityRow.ActivityRow, OrderRequests.OrderRequests}
 
 -- Enter Order
 abbrev pub is_enter : Request → Bool
-is_enter (requests.Enter m) = true
+is_enter (Request.Enter m) = true
 is_enter other = false
 
 -- Replace Order
 abbrev pub is_replace : Request → Bool
-is_replace (requests.Replace m) = true
+is_replace (Request.Replace m) = true
 is_replace other = false
 
 -- Cancel Order
 abbrev pub is_cancel : Request → Bool
-is_cancel (requests.Cancel m) = true
+is_cancel (Request.Cancel m) = true
 is_cancel other = false
 
 -- the request was denied
 abbrev pub is_denied : Verdict → Bool
-is_denied (verdicts.Denied rule) = true
+is_denied (Verdict.Denied rule) = true
 is_denied other = false
 
 -- the account that the user trades for is this one
@@ -61,7 +44,7 @@ requests_of policy records account became = record {
 
 -- the order that came to an end since it found nothing to trade with
 abbrev pub expired_of : Verdict → Option ℕ
-expired_of (verdicts.Expired order) = Some order
+expired_of (Verdict.Expired order) = Some order
 expired_of other = None
 
 -- the orders of which the verdicts say so, each by the records in front of it

@@ -1,19 +1,9 @@
 -- How often each rule denied what an account's users asked for.
-use Rattle.std.specs.Prelude.{Bool, ◌&&◌, List, count_by, find, map, Option, Some, None, option_and_then, unwrap_or}
-use Rattle.std.specs.List.{filter_map}
-use Rattle.std.specs.Option.{option_eq}
+use Rattle.std.specs.{Prelude.{Bool, ◌&&◌, List, count_by, find, map, Option, Some, None, option_and_then, unwrap_or}, List.filter_map, Option.option_eq}
 use Rattle.gx_units.specs.Names.{same_account, same_rule}
-use Rattle.gx_policy.specs.declared.policy.PolicyData.{PolicyData}
-use Rattle.gx_policy.specs.Lists.{once}
-use Rattle.gx_policy.specs.People.{account_of}
-use Rattle.gx_policy.specs.RuleNames.{rule_id}
-use Rattle.gx_history.specs.declared.record.Asked.{Asked}
-use Rattle.gx_history.specs.declared.record.RecordData.{RecordData}
-use Rattle.gx_history.specs.declared.record.Verdict.{Verdict}
-use Rattle.gx_history.specs.declared.record.Verdict.TheVariants as verdicts
-use Rattle.gx_history.specs.Requests.{asked}
-use Rattle.gx_activity.specs.declared.denials.Denial.{Denial}
-use Rattle.gx_activity.specs.declared.denials.DenialRow.{DenialRow}
+use Rattle.gx_policy.specs.{declared.policy.PolicyData.PolicyData, Lists.once, People.account_of, RuleNames.rule_id}
+use Rattle.gx_history.specs.{declared.record.{Asked.Asked, RecordData.RecordData, Verdict.Verdict}, Requests.asked}
+use Rattle.gx_activity.specs.declared.denials.{Denial.Denial, DenialRow.DenialRow}
 
 -- by the same rule, of the same account or none
 abbrev pub same_denial : Denial → Denial → Bool
@@ -21,7 +11,7 @@ same_denial a b = same_rule a.rule b.rule && option_eq same_account a.account b.
 
 -- what denied the request, and the account that its user trades for, if it was denied
 abbrev pub denial_by : PolicyData → Verdict → Asked → Option Denial
-denial_by policy (verdicts.Denied rule) a = Some (record { rule = rule_id rule; account = account_of policy a.user })
+denial_by policy (Verdict.Denied rule) a = Some (record { rule = rule_id rule; account = account_of policy a.user })
 denial_by policy other a = None
 
 -- and of a record, if it shows such a request

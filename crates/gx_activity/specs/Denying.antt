@@ -1,15 +1,10 @@
 -- What one more denial changes in the table of denials.
-use Rattle.std.specs.Prelude.{◌+◌, List, count_by, map, Option, unwrap_or}
-use Rattle.std.specs.Option.{option_map_or}
-use Rattle.std.specs.Map.{lookup}
+use Rattle.std.specs.{Prelude.{◌+◌, List, count_by, map, Option, unwrap_or}, Option.option_map_or, Map.lookup}
 use Rattle.indexmap.specs.IndexMap.{insert_entry}
-use Rattle.gx_policy.specs.declared.policy.PolicyData.{PolicyData}
-use Rattle.gx_policy.specs.Lists.{once}
+use Rattle.gx_policy.specs.{declared.policy.PolicyData.PolicyData, Lists.once}
 use Rattle.gx_history.specs.declared.record.RecordData.{RecordData}
 use Rattle.gx_overview.specs.Accounts.{capped_count}
-use Rattle.gx_activity.specs.declared.denials.Denial.{Denial}
-use Rattle.gx_activity.specs.declared.denials.DenialRow.{DenialRow}
-use Rattle.gx_activity.specs.Denials.{denials, same_denial}
+use Rattle.gx_activity.specs.{declared.denials.{Denial.Denial, DenialRow.DenialRow}, Denials.{denials, same_denial}}
 
 -- before it came
 abbrev pub never : Denial → DenialRow

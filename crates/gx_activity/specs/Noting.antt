@@ -1,30 +1,11 @@
 -- What one more record changes in the rows of the accounts.
-use Rattle.std.specs.Prelude.{◌≡◌, ℕ, ◌+◌, Bool, List, [], ◌++◌, map, fold, Option, option_to_list, unwrap_or, if◌then◌else◌}
-use Rattle.std.specs.Option.{option_map_or}
-use Rattle.std.specs.Map.{lookup}
+use Rattle.std.specs.{Prelude.{◌≡◌, ℕ, ◌+◌, Bool, List, [], ◌++◌, map, fold, Option, option_to_list, unwrap_or, if◌then◌else◌}, Option.option_map_or, Map.lookup}
 use Rattle.indexmap.specs.IndexMap.{insert_entry}
-use Rattle.gx_units.specs.Names.{same_account}
-use Rattle.gx_units.specs.declared.names.AccountName.{AccountName}
-use Rattle.gx_policy.specs.declared.policy.Account.{Account}
-use Rattle.gx_policy.specs.declared.policy.PolicyData.{PolicyData}
-use Rattle.gx_policy.specs.People.{account_of}
-use Rattle.gx_history.specs.declared.record.Asked.{Asked}
-use Rattle.gx_history.specs.declared.record.RecordData.{RecordData}
-use Rattle.gx_history.specs.declared.record.Request.{Request}
-use Rattle.gx_history.specs.declared.record.Step.{Step}
-use Rattle.gx_history.specs.declared.record.Verdict.{Verdict}
-use Rattle.gx_history.specs.declared.record.Verdict.TheVariants as verdicts
-use Rattle.gx_history.specs.Orders.{Order, order_numbered, orders_added}
-use Rattle.gx_history.specs.Requests.{asked}
-use Rattle.gx_overview.specs.declared.owners.Owner.{Owner}
-use Rattle.gx_overview.specs.declared.owners.Owners.{Owners}
-use Rattle.gx_overview.specs.Accounts.{capped_count}
-use Rattle.gx_overview.specs.Executed.{KnowOrders}
-use Rattle.gx_activity.specs.declared.activity.ActivityRow.{ActivityRow}
-use Rattle.gx_activity.specs.declared.activity.OrderRequests.{OrderRequests}
-use Rattle.gx_activity.specs.declared.deeds.Deed.{Deed}
-use Rattle.gx_activity.specs.declared.deeds.Deed.TheVariants as deeds
-use Rattle.gx_activity.specs.Activity.{activity_of, idle, is_cancel, is_enter, is_replace}
+use Rattle.gx_units.specs.{Names.same_account, declared.names.AccountName.AccountName}
+use Rattle.gx_policy.specs.{declared.policy.{Account.Account, PolicyData.PolicyData}, People.account_of}
+use Rattle.gx_history.specs.{declared.record.{Asked.Asked, RecordData.RecordData, Request.Request, Step.Step, Verdict.Verdict}, Orders.{Order, order_numbered, orders_added}, Requests.asked}
+use Rattle.gx_overview.specs.{declared.owners.{Owner.Owner, Owners.Owners}, Accounts.capped_count, Executed.KnowOrders}
+use Rattle.gx_activity.specs.{declared.{activity.{ActivityRow.ActivityRow, OrderRequests.OrderRequests}, deeds.Deed.Deed}, Activity.{activity_of, idle, is_cancel, is_enter, is_replace}}
 
 -- with one more, where this is so
 abbrev pub one_more : Bool → ℕ → ℕ
@@ -40,11 +21,11 @@ requests_with q counts = record {
 
 -- the row, once this is done by its account
 abbrev pub row_with : Deed → ActivityRow → ActivityRow
-row_with (deeds.Granted q) row = record { account = row.account; granted = requests_with q row.granted; denied = row.denied; fills = row.fills; rested = row.rested; expired = row.expired }
-row_with (deeds.Denied q) row = record { account = row.account; granted = row.granted; denied = requests_with q row.denied; fills = row.fills; rested = row.rested; expired = row.expired }
-row_with deeds.Filled row = record { account = row.account; granted = row.granted; denied = row.denied; fills = capped_count (row.fills + 1); rested = row.rested; expired = row.expired }
-row_with deeds.Rested row = record { account = row.account; granted = row.granted; denied = row.denied; fills = row.fills; rested = capped_count (row.rested + 1); expired = row.expired }
-row_with deeds.Expired row = record { account = row.account; granted = row.granted; denied = row.denied; fills = row.fills; rested = row.rested; expired = capped_count (row.expired + 1) }
+row_with (Deed.Granted q) row = record { account = row.account; granted = requests_with q row.granted; denied = row.denied; fills = row.fills; rested = row.rested; expired = row.expired }
+row_with (Deed.Denied q) row = record { account = row.account; granted = row.granted; denied = requests_with q row.denied; fills = row.fills; rested = row.rested; expired = row.expired }
+row_with Deed.Filled row = record { account = row.account; granted = row.granted; denied = row.denied; fills = capped_count (row.fills + 1); rested = row.rested; expired = row.expired }
+row_with Deed.Rested row = record { account = row.account; granted = row.granted; denied = row.denied; fills = row.fills; rested = capped_count (row.rested + 1); expired = row.expired }
+row_with Deed.Expired row = record { account = row.account; granted = row.granted; denied = row.denied; fills = row.fills; rested = row.rested; expired = capped_count (row.expired + 1) }
 
 -- the row, once this is done by the account, if it is that row's
 abbrev pub row_done : AccountName → Deed → ActivityRow → ActivityRow
@@ -77,11 +58,11 @@ deed_of known deed number = map (λ (o : Order). (o.account, deed)) (option_to_l
 
 -- what a record tells, where these orders are known
 abbrev pub deeds_in : PolicyData → List Order → Step → Verdict → List (AccountName × Deed)
-deeds_in policy known step verdicts.Granted = deed_asked policy deeds.Granted step
-deeds_in policy known step (verdicts.Denied rule) = deed_asked policy deeds.Denied step
-deeds_in policy known step (verdicts.Filled f) = deed_of known deeds.Filled f.taker ++ deed_of known deeds.Filled f.maker
-deeds_in policy known step (verdicts.Rested number) = deed_of known deeds.Rested number
-deeds_in policy known step (verdicts.Expired number) = deed_of known deeds.Expired number
+deeds_in policy known step Verdict.Granted = deed_asked policy Deed.Granted step
+deeds_in policy known step (Verdict.Denied rule) = deed_asked policy Deed.Denied step
+deeds_in policy known step (Verdict.Filled f) = deed_of known Deed.Filled f.taker ++ deed_of known Deed.Filled f.maker
+deeds_in policy known step (Verdict.Rested number) = deed_of known Deed.Rested number
+deeds_in policy known step (Verdict.Expired number) = deed_of known Deed.Expired number
 
 -- the rows by their accounts, once this is done
 abbrev pub entries_after : List (AccountName × ActivityRow) → AccountName × Deed → List (AccountName × ActivityRow)

@@ -1,20 +1,10 @@
 -- What one more fill changes in the table of positions.
-use Rattle.std.specs.Prelude.{◌≡◌, List, ◌++◌, map, fold, Option, unwrap_or}
-use Rattle.std.specs.Option.{option_map_or}
-use Rattle.std.specs.Map.{lookup}
+use Rattle.std.specs.{Prelude.{◌≡◌, List, ◌++◌, map, fold, Option, unwrap_or}, Option.option_map_or, Map.lookup}
 use Rattle.indexmap.specs.IndexMap.{insert_entry}
-use Rattle.gx_policy.specs.declared.policy.PolicyData.{PolicyData}
-use Rattle.gx_policy.specs.Lists.{once}
-use Rattle.gx_history.specs.declared.record.Fill.{Fill}
-use Rattle.gx_history.specs.declared.record.RecordData.{RecordData}
-use Rattle.gx_history.specs.Executions.{Execution, executions, sides_in}
-use Rattle.gx_history.specs.Orders.{Order, orders_added}
-use Rattle.gx_overview.specs.declared.owners.Owner.{Owner}
-use Rattle.gx_overview.specs.declared.owners.Owners.{Owners}
-use Rattle.gx_overview.specs.Executed.{KnowOrders, owner_of}
-use Rattle.gx_activity.specs.declared.positions.Position.{Position}
-use Rattle.gx_activity.specs.declared.positions.PositionRow.{PositionRow}
-use Rattle.gx_activity.specs.Positions.{no_position, position_of, position_row, position_with, same_position}
+use Rattle.gx_policy.specs.{declared.policy.PolicyData.PolicyData, Lists.once}
+use Rattle.gx_history.specs.{declared.record.{Fill.Fill, RecordData.RecordData}, Executions.{Execution, executions, sides_in}, Orders.{Order, orders_added}}
+use Rattle.gx_overview.specs.{declared.owners.{Owner.Owner, Owners.Owners}, Executed.{KnowOrders, owner_of}}
+use Rattle.gx_activity.specs.{declared.positions.{Position.Position, PositionRow.PositionRow}, Positions.{no_position, position_of, position_row, position_with, same_position}}
 
 -- the account and the stock of an order of this owner
 abbrev pub owned_position : Owner → Position

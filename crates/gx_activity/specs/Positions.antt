@@ -1,19 +1,11 @@
 -- What each account bought and sold in each stock.
 use Rattle.std.specs.Prelude.{Bool, true, false, ◌&&◌, List, find, map, unwrap_or}
-use Rattle.gx_units.specs.Names.{same_account, same_stock}
-use Rattle.gx_units.specs.declared.names.AccountName.{AccountName}
+use Rattle.gx_units.specs.{Names.{same_account, same_stock}, declared.names.AccountName.AccountName}
 use Rattle.gx_ouch.specs.declared.outbound.OrderTerms.{OrderTerms}
-use Rattle.gx_policy.specs.declared.policy.PolicyData.{PolicyData}
-use Rattle.gx_policy.specs.Lists.{once}
-use Rattle.gx_history.specs.declared.record.Fill.{Fill}
-use Rattle.gx_history.specs.declared.record.RecordData.{RecordData}
-use Rattle.gx_history.specs.Executions.{Execution, executions}
-use Rattle.gx_history.specs.Figures.{done_of_chosen, on_side}
-use Rattle.gx_overview.specs.declared.executed.Executed.{Executed}
-use Rattle.gx_overview.specs.Accounts.{capped}
-use Rattle.gx_overview.specs.Executed.{value_of_chosen, with_fill}
-use Rattle.gx_activity.specs.declared.positions.Position.{Position}
-use Rattle.gx_activity.specs.declared.positions.PositionRow.{PositionRow}
+use Rattle.gx_policy.specs.{declared.policy.PolicyData.PolicyData, Lists.once}
+use Rattle.gx_history.specs.{declared.record.{Fill.Fill, RecordData.RecordData}, Executions.{Execution, executions}, Figures.{done_of_chosen, on_side}}
+use Rattle.gx_overview.specs.{declared.executed.Executed.Executed, Accounts.capped, Executed.{value_of_chosen, with_fill}}
+use Rattle.gx_activity.specs.declared.positions.{Position.Position, PositionRow.PositionRow}
 
 -- the same account and the same stock
 abbrev pub same_position : Position → Position → Bool

@@ -3,10 +3,7 @@ use Rattle.std.specs.Prelude.{◌≡◌, ℕ, List, Some, slice_get, if◌then�
 use Rattle.gx_history.specs.declared.record.RecordData.{RecordData}
 use Rattle.gx_history_laws.specs.Laws.{grants_order}
 use Rattle.gx_overview.specs.Accounts.{capped_count}
-use Rattle.gx_activity.specs.declared.spans.SpanRow.{SpanRow}
-use Rattle.gx_activity.specs.Activity.{is_denied}
-use Rattle.gx_activity.specs.Noting.{one_more}
-use Rattle.gx_activity.specs.Spans.{is_filled, is_in_span, span_row}
+use Rattle.gx_activity.specs.{declared.spans.SpanRow.SpanRow, Activity.is_denied, Noting.one_more, Spans.{is_filled, is_in_span, span_row}}
 
 -- before any record
 abbrev pub no_records : SpanRow

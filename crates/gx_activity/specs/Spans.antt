@@ -1,15 +1,12 @@
 -- What there was in spans of time.
 use Rattle.std.specs.Prelude.{ℕ, ◌+◌, ◌*◌, Bool, true, false, ◌&&◌, nat_le, nat_lt, List, count_by}
-use Rattle.gx_history.specs.declared.record.RecordData.{RecordData}
-use Rattle.gx_history.specs.declared.record.Verdict.{Verdict}
-use Rattle.gx_history.specs.declared.record.Verdict.TheVariants as verdicts
+use Rattle.gx_history.specs.declared.record.{RecordData.RecordData, Verdict.Verdict}
 use Rattle.gx_history_laws.specs.Laws.{grants_order}
-use Rattle.gx_activity.specs.declared.spans.SpanRow.{SpanRow}
-use Rattle.gx_activity.specs.Activity.{is_denied}
+use Rattle.gx_activity.specs.{declared.spans.SpanRow.SpanRow, Activity.is_denied}
 
 -- two orders traded
 abbrev pub is_filled : Verdict → Bool
-is_filled (verdicts.Filled f) = true
+is_filled (Verdict.Filled f) = true
 is_filled other = false
 
 -- the moment lies in span k, where each is so wide, and the first begins here

@@ -1,10 +1,7 @@
 //! What each account asked for, and what became of its orders: one pass over the records.
 
-ghost use Rattle.std.specs.Prelude.{◌≡◌, map, nat_eq, IfOk, OnOk};
-ghost use Rattle.std.specs.Map.{lookup};
-ghost use Rattle.gx_activity.specs.Activity.{activity_row, idle};
-ghost use Rattle.gx_activity.specs.Noting.{entries_done, entries_of_number, entries_told};
-ghost use Rattle.gx_activity.specs.Noting.{requests_with, row_in, row_with, so_far, NoteRecord};
+ghost use Rattle.std.specs.{Prelude.{◌≡◌, map, nat_eq, IfOk, OnOk}, Map.lookup};
+ghost use Rattle.gx_activity.specs.{Activity.{activity_row, idle}, Noting.{entries_done, entries_of_number, entries_told, requests_with, row_in, row_with, so_far, NoteRecord}};
 ghost use Rattle.gx_policy.specs.declared.policy.Account.{Account};
 
 use crate::deeds::Deed;

@@ -1,12 +1,9 @@
 //! How often each rule denied what an account's users asked for: one pass over the records.
 
 ghost use Rattle.std.specs.Prelude.{◌≡◌, IfOk, OnOk};
-ghost use Rattle.gx_activity.specs.Denials.{denial_in, denial_row, denial_rows, denials, row_of};
-ghost use Rattle.gx_activity.specs.declared.denials.Denial.{Denial};
-ghost use Rattle.gx_activity.specs.Denying.{counted_in, counted_once, denial_table, once_more};
+ghost use Rattle.gx_activity.specs.{Denials.{denial_in, denial_row, denial_rows, denials, row_of}, declared.denials.Denial.Denial, Denying.{counted_in, counted_once, denial_table, once_more}};
 
 use crate::listing::rows_in;
-use gx_audit_bytes::rule_bytes;
 use gx_history::record::{Record, Step, Verdict};
 use gx_people::people::People;
 use gx_policy::Policy;
@@ -50,9 +47,7 @@ fn denial_in(policy: &Policy, people: &People, left: &Record) -> Option<Denial>
     let shown = left.content();
     match (&shown.verdict, &shown.step) {
         (Verdict::Denied(rule), Step::Asked(asked)) => Some(Denial {
-            rule: RuleId {
-                bytes: rule_bytes(*rule),
-            },
+            rule: rule.id(),
             account: people.account_of(asked.user),
         }),
         _ => None,

@@ -1,12 +1,8 @@
 //! What each account bought and sold in each stock: one pass over the records.
 
-ghost use Rattle.std.specs.Prelude.{◌≡◌, nat_eq, IfOk, OnOk};
-ghost use Rattle.std.specs.Map.{lookup};
-ghost use Rattle.gx_activity.specs.Positions.{no_position, position_row, position_rows, position_with, row_of};
-ghost use Rattle.gx_activity.specs.declared.positions.Position.{Position};
+ghost use Rattle.std.specs.{Prelude.{◌≡◌, nat_eq, IfOk, OnOk}, Map.lookup};
+ghost use Rattle.gx_activity.specs.{Positions.{no_position, position_row, position_rows, position_with, row_of}, declared.positions.Position.Position, Positioning.{entries_filled, entries_with, position_table, NotePositions}};
 ghost use Rattle.gx_history.specs.Executions.{executions};
-ghost use Rattle.gx_activity.specs.Positioning.{entries_filled, entries_with};
-ghost use Rattle.gx_activity.specs.Positioning.{position_table, NotePositions};
 
 use crate::listing::rows_in;
 use gx_history::record::{Fill, Record, Step, Verdict};

@@ -1,10 +1,8 @@
 //! How many orders, fills and denials there were in each of some spans of time: one pass over the records.
 
-ghost use Rattle.std.specs.Prelude.{◌≡◌, ℕ, ◌<◌, Some, length, slice_get, vec_len};
-ghost use Rattle.std.specs.Prelude.{IfNone, IfOk, IfSome, IsFalse, IsTrue};
+ghost use Rattle.std.specs.Prelude.{◌≡◌, ℕ, ◌<◌, Some, length, slice_get, vec_len, IfNone, IfOk, IfSome, IsFalse, IsTrue};
 ghost use Rattle.gx_history.specs.Requests.{is_order};
-ghost use Rattle.gx_activity.specs.Spans.{is_in_span, span_row};
-ghost use Rattle.gx_activity.specs.Spanning.{no_records, span_with, IsNoted};
+ghost use Rattle.gx_activity.specs.{Spans.{is_in_span, span_row}, Spanning.{no_records, span_with, IsNoted}};
 
 use gx_history::record::{Asked, Record, RecordData, Request, Step, Verdict};
 use gx_units::{Moment, OutOfMemory};

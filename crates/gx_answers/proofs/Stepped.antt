@@ -1,15 +1,9 @@
 -- What a step and a pull make of a gate.
-use Rattle.std.proofs.Common.{◌≡◌, ℕ, ◌<◌, List, [], ◌∷◌, ◌++◌, length, take, Option, Some, refl, sym, ap, ◌∙◌, arith, length-take}
+use Rattle.std.proofs.{Common.{◌≡◌, ℕ, ◌<◌, List, [], ◌∷◌, ◌++◌, length, take, Option, Some, refl, sym, ap, ◌∙◌, arith, length-take}, lemmas.List.take_all}
 use Rattle.std.specs.Option.{option_map_or}
-use Rattle.std.proofs.lemmas.List.{take_all}
-use Rattle.gx_history.specs.declared.record.Asked.{Asked}
-use Rattle.gx_history.specs.declared.record.RecordData.{RecordData}
-use Rattle.gx_history.specs.declared.record.Step.TheVariants as steps
+use Rattle.gx_history.specs.{declared.record.{Asked.Asked, RecordData.RecordData, Step.Step}, Verdicts.{next, after_step}}
 use Rattle.gx_policy.specs.declared.policy.PolicyData.{PolicyData}
-use Rattle.gx_history.specs.Verdicts.{next, after_step}
-use Rattle.gx_answers.specs.Asking.{stepped}
-use Rattle.gx_answers.specs.Gates.{GateData, left_by}
-use Rattle.gx_answers.specs.declared.outcome.Outcome.{Outcome}
+use Rattle.gx_answers.specs.{Asking.stepped, Gates.{GateData, left_by}, declared.outcome.Outcome.Outcome}
 
 same_gate : (p q : PolicyData) (r s : List RecordData) (after : GateData) → after ≡ record { policy = p; records = r } → p ≡ q → r ≡ s → after ≡ record { policy = q; records = s }
 same_gate p q r s after h e f =
@@ -18,12 +12,12 @@ same_gate p q r s after h e f =
     h ∙ (ap policied e ∙ ap recorded f)
 
 -- a step's gate
-pub stepped_is : (gate after : GateData) (a : Asked) (o : Outcome) → after.policy ≡ gate.policy → next gate.policy gate.records (steps.Asked a) ≡ Some (left_by a o)
+pub stepped_is : (gate after : GateData) (a : Asked) (o : Outcome) → after.policy ≡ gate.policy → next gate.policy gate.records (Step.Asked a) ≡ Some (left_by a o)
     → after.records ≡ gate.records ++ left_by a o ∷ [] → after ≡ stepped gate a
 stepped_is gate after a o p n r =
-    let e : after.records ≡ after_step gate.policy gate.records (steps.Asked a) =
+    let e : after.records ≡ after_step gate.policy gate.records (Step.Asked a) =
     r ∙ sym (ap (λ (x : Option RecordData). option_map_or (λ (y : RecordData). gate.records ++ y ∷ []) x gate.records) n) in
-    same_gate after.policy gate.policy after.records (after_step gate.policy gate.records (steps.Asked a)) after refl p e
+    same_gate after.policy gate.policy after.records (after_step gate.policy gate.records (Step.Asked a)) after refl p e
 
 -- fewer than were asked for are all
 pub all_taken : {X : Type 0} (xs : List X) (most : ℕ) → length (take most xs) < most → take most xs ≡ xs

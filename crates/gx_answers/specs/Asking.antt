@@ -1,11 +1,7 @@
 -- What is asked of a gate on the one line that there is, and what its step makes of the gate.
 use Rattle.std.specs.Prelude.{ℕ}
-use Rattle.gx_units.specs.Spelling.{folded_user}
-use Rattle.gx_units.specs.declared.names.UserName.{UserName}
-use Rattle.gx_history.specs.declared.record.Asked.{Asked}
-use Rattle.gx_history.specs.declared.record.Request.{Request}
-use Rattle.gx_history.specs.declared.record.Step.TheVariants as steps
-use Rattle.gx_history.specs.Verdicts.{after_step}
+use Rattle.gx_units.specs.{Spelling.folded_user, declared.names.UserName.UserName}
+use Rattle.gx_history.specs.{declared.record.{Asked.Asked, Request.Request, Step.Step}, Verdicts.after_step}
 use Rattle.gx_answers.specs.Gates.{GateData}
 
 -- a request of the user, on the one line that there is
@@ -14,4 +10,4 @@ asked_by user request moment = record { line = 1; user = folded_user user; reque
 
 -- the gate after the request's step
 abbrev pub stepped : GateData → Asked → GateData
-stepped gate a = record { policy = gate.policy; records = after_step gate.policy gate.records (steps.Asked a) }
+stepped gate a = record { policy = gate.policy; records = after_step gate.policy gate.records (Step.Asked a) }

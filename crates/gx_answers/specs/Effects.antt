@@ -1,13 +1,8 @@
 -- What a step changes.
 use Rattle.std.specs.Prelude.{◌≡◌, Bool, IsTrue, IsFalse}
 use Rattle.gx_units.specs.declared.names.AccountName.{AccountName}
-use Rattle.gx_history.specs.declared.facts.StockSide.{StockSide}
-use Rattle.gx_history.specs.declared.record.RecordData.{RecordData}
+use Rattle.gx_history.specs.{declared.{facts.StockSide.StockSide, «record».RecordData.RecordData}, MayMove.MayMove, World.{World, move_of, stepped, world}, Figures.{of_accounts, on_side}, InForce.is_killed}
 use Rattle.gx_effects.specs.Lifts.{EndsKill}
-use Rattle.gx_history.specs.MayMove.{MayMove}
-use Rattle.gx_history.specs.World.{World, move_of, stepped, world}
-use Rattle.gx_history.specs.Figures.{of_accounts, on_side}
-use Rattle.gx_history.specs.InForce.{is_killed}
 use Rattle.gx_exposure.specs.Exposure.{HasNothing, NoneIsGranted, side_shares}
 use Rattle.gx_answers.specs.Gates.{GateData}
 

@@ -1,17 +1,11 @@
 -- What a matching step answers for: its verdict, and what it changes.
 use Rattle.std.specs.Prelude.{◌≡◌, ℕ, [], ◌∷◌, ◌++◌, Option, Some, None}
-use Rattle.gx_history.specs.declared.record.RecordData.{RecordData}
-use Rattle.gx_history.specs.declared.record.Step.TheVariants as steps
-use Rattle.gx_history.specs.declared.record.Verdict.{Verdict}
-use Rattle.gx_history.specs.Matching.{matching}
-use Rattle.gx_history.specs.Settling.{AddsMatches, most_matches, settled}
-use Rattle.gx_history.specs.Verdicts.{next}
-use Rattle.gx_answers.specs.declared.outcome.Outcome.{Outcome}
-use Rattle.gx_answers.specs.Gates.{GateData, matched_by}
+use Rattle.gx_history.specs.{declared.record.{RecordData.RecordData, Step.Step, Verdict.Verdict}, Matching.matching, Settling.{AddsMatches, most_matches, settled}, Verdicts.next}
+use Rattle.gx_answers.specs.{declared.outcome.Outcome.Outcome, Gates.{GateData, matched_by}}
 
 -- the record that a matching step leaves, unless no order waits
 abbrev pub next_match : GateData → ℕ → Option RecordData
-next_match gate handed = next gate.policy gate.records (steps.Matching handed)
+next_match gate handed = next gate.policy gate.records (Step.Matching handed)
 
 -- what is matched next, if an order waits
 abbrev pub matching_of : GateData → Option Verdict

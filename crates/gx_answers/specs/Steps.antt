@@ -1,16 +1,9 @@
 -- What a step answers for: its record and its verdict.
 use Rattle.std.specs.Prelude.{◌≡◌, ◌≤◌, Bool, ◌++◌, ◌∷◌, [], length, List, Option, None, ◌↔◌}
-use Rattle.gx_history.specs.declared.record.Asked.{Asked}
-use Rattle.gx_history.specs.declared.record.RecordData.{RecordData}
+use Rattle.gx_history.specs.{declared.record.{Asked.Asked, RecordData.RecordData, Step.Step, Verdict.Verdict}, Rules.{first_forbidding, IsFirstForbidding}, Verdicts.{day_limit, facts_now, next, rules_now, verdict}}
 use Rattle.gx_policy.specs.declared.rule_name.RuleName.{RuleName}
-use Rattle.gx_history.specs.declared.record.Step.TheVariants as steps
-use Rattle.gx_history.specs.declared.record.Verdict.{Verdict}
-use Rattle.gx_history.specs.declared.record.Verdict.TheVariants as verdicts
-use Rattle.gx_history.specs.Rules.{first_forbidding, IsFirstForbidding}
-use Rattle.gx_history.specs.Verdicts.{day_limit, facts_now, next, rules_now, verdict}
 use Rattle.gx_places.specs.Places.{has_kept_places}
-use Rattle.gx_answers.specs.declared.outcome.Outcome.{Outcome}
-use Rattle.gx_answers.specs.Gates.{GateData, left_by}
+use Rattle.gx_answers.specs.{declared.outcome.Outcome.Outcome, Gates.{GateData, left_by}}
 
 -- the records with that of a request last
 abbrev pub with_record : GateData → Asked → Outcome → List RecordData
@@ -30,7 +23,7 @@ has_its_places gate a = has_kept_places a.request (verdict_of gate a)
 
 -- the record that the request leaves
 abbrev pub next_of : GateData → Asked → Option RecordData
-next_of gate a = next gate.policy gate.records (steps.Asked a)
+next_of gate a = next gate.policy gate.records (Step.Asked a)
 
 -- the first rule that forbids the request, on all earlier records
 abbrev pub forbidding : GateData → Asked → Option RuleName
@@ -38,6 +31,6 @@ forbidding gate a = first_forbidding (rules_now gate.policy gate.records a) (fac
 
 -- granted exactly where no rule forbids the request, else denied by the first of the written order that does
 pub record IsJudged (gate : GateData) (a : Asked) (given : Verdict) : Type 0 where
-  pub granted : given ≡ verdicts.Granted ↔ forbidding gate a ≡ None
-  pub denied : (name : RuleName) → given ≡ verdicts.Denied name
+  pub granted : given ≡ Verdict.Granted ↔ forbidding gate a ≡ None
+  pub denied : (name : RuleName) → given ≡ Verdict.Denied name
       → IsFirstForbidding (rules_now gate.policy gate.records a) (facts_now gate.policy gate.records a) a.request name

@@ -1,15 +1,8 @@
 -- What a gate tells its users.
 use Rattle.std.specs.Prelude.{ℕ, Bool, ◌&&◌, nat_lt, List, length}
-use Rattle.gx_units.specs.Spelling.{folded_password, folded_session, folded_user}
-use Rattle.gx_units.specs.declared.names.Password.{Password}
-use Rattle.gx_units.specs.declared.names.SessionName.{SessionName}
-use Rattle.gx_units.specs.declared.names.UserName.{UserName}
-use Rattle.gx_history.specs.declared.record.Request.{Request}
-use Rattle.gx_history.specs.declared.report.Report.{Report}
-use Rattle.gx_history.specs.InForce.{is_closed}
-use Rattle.gx_history.specs.Logins.{login_asked}
+use Rattle.gx_units.specs.{Spelling.{folded_password, folded_session, folded_user}, declared.names.{Password.Password, SessionName.SessionName, UserName.UserName}}
+use Rattle.gx_history.specs.{declared.{«record».Request.Request, report.Report.Report}, InForce.is_closed, Logins.login_asked, Streams.{copies, stream}}
 use Rattle.gx_policy.specs.People.{is_reader, role_in}
-use Rattle.gx_history.specs.Streams.{copies, stream}
 use Rattle.gx_answers.specs.Gates.{GateData}
 
 -- all that the user was told

@@ -2,19 +2,10 @@
 
 ghost use Rattle.std.specs.Prelude.{◌≡◌, ◌+◌, ◌<◌, ◌^◌, max, [], length, IsFalse, IsOk, IsTrue, IfOk, IfErr, IfSome, OnErr, None, Some, is_some, option_map};
 ghost use Rattle.gx_exposure.specs.Exposure.{NetStaysWithin, SharesStayWithin, ValuesStayWithin};
-ghost use Rattle.gx_history.specs.InForce.{is_killed, line_of};
-ghost use Rattle.gx_history.specs.Matched.{AreUncrossed, HasNoOrders};
-ghost use Rattle.gx_history.specs.Showing.{is_askable};
-ghost use Rattle.gx_history.specs.Verdicts.{IsLegal};
-ghost use Rattle.gx_policy.specs.Lists.{slice};
-ghost use Rattle.gx_policy.specs.People.{user_in};
+ghost use Rattle.gx_history.specs.{InForce.{is_killed, line_of}, Matched.{AreUncrossed, HasNoOrders}, Showing.is_askable, Verdicts.IsLegal};
+ghost use Rattle.gx_policy.specs.{Lists.slice, People.user_in};
 ghost use Rattle.gx_answers.specs.declared.outcome.StepFault.TheVariants as faults;
-ghost use Rattle.gx_answers.specs.Effects.{moved_by, world_of, EndsKills, MayMoveBy, NoneHeldWhereNoneAsked, NoneOnSideWhereNoneAsked};
-ghost use Rattle.gx_answers.specs.Gates.{left_by, matched_by};
-ghost use Rattle.gx_answers.specs.Logins.{login_answered};
-ghost use Rattle.gx_answers.specs.Matches.{matches_left, matching_of, next_match, settled_gate, with_match};
-ghost use Rattle.gx_answers.specs.Steps.{has_its_places, next_of, verdict_of, with_record, IsFull, IsJudged};
-ghost use Rattle.gx_answers.specs.Told.{copies_of, ends_before, login_of, reads, stream_of};
+ghost use Rattle.gx_answers.specs.{Effects.{moved_by, world_of, EndsKills, MayMoveBy, NoneHeldWhereNoneAsked, NoneOnSideWhereNoneAsked}, Gates.{left_by, matched_by}, Logins.login_answered, Matches.{matches_left, matching_of, next_match, settled_gate, with_match}, Steps.{has_its_places, next_of, verdict_of, with_record, IsFull, IsJudged}, Told.{copies_of, ends_before, login_of, reads, stream_of}};
 
 use crate::outcome::{LoginAnswer, Outcome, StepFault};
 use crate::pulled::Pulled;

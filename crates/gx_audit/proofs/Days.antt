@@ -1,17 +1,11 @@
 -- What a file holds.
-use Rattle.std.proofs.Common.{◌≡◌, ℕ, ◌+◌, ◌<◌, Bool, true, List, length, take, drop, nat_eq, inr, sym, ap, ◌∙◌, arith, length-append}
+use Rattle.std.proofs.{Common.{◌≡◌, ℕ, ◌+◌, ◌<◌, Bool, true, List, length, take, drop, nat_eq, inr, sym, ap, ◌∙◌, arith, length-append}, lemmas.{List.take_at, Slice.Eq.starts_is, Bool.Decides.Decides-eqb}}
 use Rattle.std.specs.List.{starts_with}
-use Rattle.std.proofs.lemmas.List.{take_at}
-use Rattle.std.proofs.lemmas.Slice.Eq.{starts_is}
-use Rattle.std.proofs.lemmas.Bool.Decides.{Decides-eqb}
 use Rattle.gx_policy.specs.declared.policy.PolicyData.{PolicyData}
 use Rattle.gx_history.specs.declared.record.RecordData.{RecordData}
-use Rattle.gx_audit_bytes.specs.Audits.{whole_audit}
-use Rattle.gx_audit_bytes.specs.Headers.{header_in}
-use Rattle.gx_audit.specs.Replaying.{journal_size, HoldsRecords}
-use Rattle.gx_audit_bytes.specs.Versions.{version_of}
+use Rattle.gx_audit_bytes.specs.{Audits.whole_audit, Headers.header_in, Versions.version_of}
+use Rattle.gx_audit.specs.{Replaying.{journal_size, HoldsRecords}, Resuming.{IsNew, Stands}}
 use Rattle.gx_audit.proofs.Journals.{audit_size}
-use Rattle.gx_audit.specs.Resuming.{IsNew, Stands}
 
 -- the file is a front of the header
 pub begins_header : (policy : PolicyData) (file header : List ℕ) (answer : Bool) → length file < 128 → header ≡ header_in (version_of file) policy → answer ≡ starts_with nat_eq header file → answer ≡ true → IsNew policy file

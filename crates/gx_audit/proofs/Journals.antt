@@ -3,15 +3,10 @@ use Rattle.std.proofs.Common.{◌≡◌, ℕ, ◌+◌, ◌*◌, ◌≤◌, List,
 use Rattle.std.specs.Prelude.{IsTrue}
 use Rattle.gx_policy.specs.declared.policy.PolicyData.{PolicyData}
 use Rattle.gx_history.specs.declared.record.RecordData.{RecordData}
-use Rattle.gx_audit_bytes.specs.declared.version.AuditVersion.{AuditVersion}
-use Rattle.gx_audit_bytes.specs.Audits.{all_bytes, whole_audit, AreShown}
-use Rattle.gx_audit_bytes.specs.Headers.{front_of}
-use Rattle.gx_audit_bytes.specs.Records.{record_bytes}
-use Rattle.gx_audit_bytes.specs.Versions.{has_header, version_of}
+use Rattle.gx_audit_bytes.specs.{declared.version.AuditVersion.AuditVersion, Audits.{all_bytes, whole_audit, AreShown}, Headers.front_of, Records.record_bytes, Versions.{has_header, version_of}}
 use Rattle.gx_audit.specs.Replaying.{EndsAt, HoldsRecords, journal_size}
 use Rattle.gx_audit_bytes.proofs.HeaderParts.{size_in}
-use Rattle.gx_audit.proofs.Fronts.{front_is}
-use Rattle.gx_audit.proofs.Only.{shown_size}
+use Rattle.gx_audit.proofs.{Fronts.front_is, Only.shown_size}
 
 held : (policy : PolicyData) (journal : List ℕ) (records : List RecordData) (end : ℕ) → IsTrue (has_header (version_of journal))
     → EndsAt (version_of journal) policy journal records end → HoldsRecords policy journal records

@@ -1,24 +1,11 @@
 -- Of what can be said of some bytes one thing alone is so.
-use Rattle.std.proofs.Common.{◌≡◌, ℕ, ◌+◌, ◌==◌, true, inl, inr, List, [], ◌∷◌, ◌++◌, length, take, drop, slice_index, refl, sym, ap, ◌∙◌, append_assoc, subst, arith}
-use Rattle.std.specs.Prelude.{Some, Result, Ok, Err}
-use Rattle.std.specs.List.{AllByRecursion}
-use Rattle.std.proofs.lemmas.List.{take_at, drop_at, append-nil, append_cancel_left, length-append}
-use Rattle.std.proofs.lemmas.Bool.Decides.{nat_tests}
-use Rattle.gx_history.specs.declared.record.RecordData.{RecordData}
-use Rattle.gx_policy.specs.declared.policy.PolicyData.{PolicyData}
-use Rattle.gx_policy.specs.Lists.{each_after, each_with_earlier}
-use Rattle.gx_history.specs.Verdicts.{Follows, IsLegal, moment_of, next, step_verdict}
-use Rattle.gx_history_laws.proofs.Legality.{some_number}
-use Rattle.gx_history_laws.proofs.Order.{some_same}
-use Rattle.gx_audit.specs.declared.fault.AuditFault.{AuditFault}
-use Rattle.gx_audit.specs.declared.fault.AuditFault.TheVariants as faults
-use Rattle.gx_audit_bytes.specs.declared.version.AuditVersion.{AuditVersion}
-use Rattle.gx_audit_bytes.specs.Versions.{version_of}
-use Rattle.gx_audit_bytes.specs.Headers.{front_of}
-use Rattle.gx_audit_bytes.specs.Records.{record_bytes}
-use Rattle.gx_audit_bytes.specs.Reading.{record_of, IsShown}
-use Rattle.gx_audit_bytes.specs.Audits.{all_bytes, whole_audit, AreShown}
-use Rattle.gx_audit.specs.Auditing.{HasCutHeader, HasOtherHeader, IsAnswer, IsFaultAt, IsFirstFault, IsJudgement, IsOnlyAnswer}
+use Rattle.std.proofs.{Common.{◌≡◌, ℕ, ◌+◌, ◌==◌, true, inl, inr, List, [], ◌∷◌, ◌++◌, length, take, drop, slice_index, refl, sym, ap, ◌∙◌, append_assoc, subst, arith}, lemmas.{List.{take_at, drop_at, append-nil, append_cancel_left, length-append}, Bool.Decides.nat_tests}}
+use Rattle.std.specs.{Prelude.{Some, Result, Ok, Err}, List.AllByRecursion}
+use Rattle.gx_history.specs.{declared.record.RecordData.RecordData, Verdicts.{Follows, IsLegal, moment_of, next, step_verdict}}
+use Rattle.gx_policy.specs.{declared.policy.PolicyData.PolicyData, Lists.{each_after, each_with_earlier}}
+use Rattle.gx_history_laws.proofs.{Legality.some_number, Order.some_same}
+use Rattle.gx_audit.specs.{declared.fault.AuditFault.AuditFault, Auditing.{HasCutHeader, HasOtherHeader, IsAnswer, IsFaultAt, IsFirstFault, IsJudgement, IsOnlyAnswer}}
+use Rattle.gx_audit_bytes.specs.{declared.version.AuditVersion.AuditVersion, Versions.version_of, Headers.front_of, Records.record_bytes, Reading.{record_of, IsShown}, Audits.{all_bytes, whole_audit, AreShown}}
 use Rattle.gx_audit_bytes.proofs.ReadBack.{both_true, fields_lie}
 use Rattle.gx_audit.proofs.Fronts.{begins_so, long_enough, same_header}
 
@@ -82,17 +69,17 @@ stops version policy before left r bytes (Ok n) follows shown is judges ends =
     let size : length left ≡ 128 + length bytes = ap length is ∙ length-append (record_bytes version r) bytes ∙ ap (λ (n : ℕ). n + length bytes) (shown_size version r shown) in
     let none : length left ≡ 0 = ap length ends.0 in
     omega (arith, size, none)
-stops version policy before left r bytes (Err faults.Truncated) follows shown is judges ends =
+stops version policy before left r bytes (Err AuditFault.Truncated) follows shown is judges ends =
     let size : length left ≡ 128 + length bytes = ap length is ∙ length-append (record_bytes version r) bytes ∙ ap (λ (n : ℕ). n + length bytes) (shown_size version r shown) in
     omega (arith, size, ends.1)
-stops version policy before left r bytes (Err (faults.BadRecord n)) follows shown is judges ends =
+stops version policy before left r bytes (Err (AuditFault.BadRecord n)) follows shown is judges ends =
     let found : record_of version (take 128 left) ≡ Some r = ap (λ (bs : List ℕ). record_of version (take 128 bs)) is ∙ ap (record_of version) (take_at (record_bytes version r) bytes 128 (shown_size version r shown)) ∙ shown.read_back in
     ends.1.1 r found (number_of policy before r follows ∙ sym ends.1.0)
-stops version policy before left r bytes (Err (faults.IllegalVerdict n)) follows shown is judges ends =
+stops version policy before left r bytes (Err (AuditFault.IllegalVerdict n)) follows shown is judges ends =
     let found : record_of version (take 128 left) ≡ Some r = ap (λ (bs : List ℕ). record_of version (take 128 bs)) is ∙ ap (record_of version) (take_at (record_bytes version r) bytes 128 (shown_size version r shown)) ∙ shown.read_back in
     ends.1.1.does_not_follow (subst (λ (x : RecordData). Follows policy (before, x)) (some_same (sym found ∙ ends.1.1.shown_is)) follows)
-stops version policy before left r bytes (Err faults.OutOfMemory) follows shown is judges ends = judges
-stops version policy before left r bytes (Err faults.OtherPolicy) follows shown is judges ends = ends.1
+stops version policy before left r bytes (Err AuditFault.OutOfMemory) follows shown is judges ends = judges
+stops version policy before left r bytes (Err AuditFault.OtherPolicy) follows shown is judges ends = ends.1
 
 none_left : (left : List ℕ) → left ≡ [] → length left ≡ 0
 none_left left none = ap length none
@@ -100,33 +87,33 @@ none_left left none = ap length none
 -- two answers that end at one place
 same_end : (version : AuditVersion) (policy : PolicyData) (before : List RecordData) (left : List ℕ) (a b : Result ℕ AuditFault) → IsJudgement a → IsJudgement b → EndsAt version policy before left a → EndsAt version policy before left b → a ≡ b
 same_end version policy before left (Ok n) (Ok m) ja jb ends other = ap (λ (n : ℕ). Ok n) (sym ends.1 ∙ other.1)
-same_end version policy before left (Ok n) (Err faults.Truncated) ja jb ends other = absurd (omega (arith, none_left left ends.0, other.0))
-same_end version policy before left (Ok n) (Err (faults.BadRecord m)) ja jb ends other = absurd (omega (arith, none_left left ends.0, other.0))
-same_end version policy before left (Ok n) (Err (faults.IllegalVerdict m)) ja jb ends other = absurd (omega (arith, none_left left ends.0, other.0))
-same_end version policy before left (Ok n) (Err faults.OtherPolicy) ja jb ends other = absurd other.1
-same_end version policy before left (Ok n) (Err faults.OutOfMemory) ja jb ends other = absurd jb
-same_end version policy before left (Err faults.Truncated) (Ok m) ja jb ends other = absurd (omega (arith, none_left left other.0, ends.0))
-same_end version policy before left (Err faults.Truncated) (Err faults.Truncated) ja jb ends other = refl
-same_end version policy before left (Err faults.Truncated) (Err (faults.BadRecord m)) ja jb ends other = absurd (omega (arith, ends.1, other.0))
-same_end version policy before left (Err faults.Truncated) (Err (faults.IllegalVerdict m)) ja jb ends other = absurd (omega (arith, ends.1, other.0))
-same_end version policy before left (Err faults.Truncated) (Err faults.OtherPolicy) ja jb ends other = absurd other.1
-same_end version policy before left (Err faults.Truncated) (Err faults.OutOfMemory) ja jb ends other = absurd jb
-same_end version policy before left (Err (faults.BadRecord n)) (Ok m) ja jb ends other = absurd (omega (arith, none_left left other.0, ends.0))
-same_end version policy before left (Err (faults.BadRecord n)) (Err faults.Truncated) ja jb ends other = absurd (omega (arith, other.1, ends.0))
-same_end version policy before left (Err (faults.BadRecord n)) (Err (faults.BadRecord m)) ja jb ends other = ap (λ (n : ℕ). Err (faults.BadRecord n)) (ends.1.0 ∙ sym other.1.0)
-same_end version policy before left (Err (faults.BadRecord n)) (Err (faults.IllegalVerdict m)) ja jb ends other =
+same_end version policy before left (Ok n) (Err AuditFault.Truncated) ja jb ends other = absurd (omega (arith, none_left left ends.0, other.0))
+same_end version policy before left (Ok n) (Err (AuditFault.BadRecord m)) ja jb ends other = absurd (omega (arith, none_left left ends.0, other.0))
+same_end version policy before left (Ok n) (Err (AuditFault.IllegalVerdict m)) ja jb ends other = absurd (omega (arith, none_left left ends.0, other.0))
+same_end version policy before left (Ok n) (Err AuditFault.OtherPolicy) ja jb ends other = absurd other.1
+same_end version policy before left (Ok n) (Err AuditFault.OutOfMemory) ja jb ends other = absurd jb
+same_end version policy before left (Err AuditFault.Truncated) (Ok m) ja jb ends other = absurd (omega (arith, none_left left other.0, ends.0))
+same_end version policy before left (Err AuditFault.Truncated) (Err AuditFault.Truncated) ja jb ends other = refl
+same_end version policy before left (Err AuditFault.Truncated) (Err (AuditFault.BadRecord m)) ja jb ends other = absurd (omega (arith, ends.1, other.0))
+same_end version policy before left (Err AuditFault.Truncated) (Err (AuditFault.IllegalVerdict m)) ja jb ends other = absurd (omega (arith, ends.1, other.0))
+same_end version policy before left (Err AuditFault.Truncated) (Err AuditFault.OtherPolicy) ja jb ends other = absurd other.1
+same_end version policy before left (Err AuditFault.Truncated) (Err AuditFault.OutOfMemory) ja jb ends other = absurd jb
+same_end version policy before left (Err (AuditFault.BadRecord n)) (Ok m) ja jb ends other = absurd (omega (arith, none_left left other.0, ends.0))
+same_end version policy before left (Err (AuditFault.BadRecord n)) (Err AuditFault.Truncated) ja jb ends other = absurd (omega (arith, other.1, ends.0))
+same_end version policy before left (Err (AuditFault.BadRecord n)) (Err (AuditFault.BadRecord m)) ja jb ends other = ap (λ (n : ℕ). Err (AuditFault.BadRecord n)) (ends.1.0 ∙ sym other.1.0)
+same_end version policy before left (Err (AuditFault.BadRecord n)) (Err (AuditFault.IllegalVerdict m)) ja jb ends other =
     absurd (ends.1.1 other.1.1.shown other.1.1.shown_is (other.1.1.number_is ∙ other.1.0 ∙ sym ends.1.0))
-same_end version policy before left (Err (faults.BadRecord n)) (Err faults.OtherPolicy) ja jb ends other = absurd other.1
-same_end version policy before left (Err (faults.BadRecord n)) (Err faults.OutOfMemory) ja jb ends other = absurd jb
-same_end version policy before left (Err (faults.IllegalVerdict n)) (Ok m) ja jb ends other = absurd (omega (arith, none_left left other.0, ends.0))
-same_end version policy before left (Err (faults.IllegalVerdict n)) (Err faults.Truncated) ja jb ends other = absurd (omega (arith, other.1, ends.0))
-same_end version policy before left (Err (faults.IllegalVerdict n)) (Err (faults.BadRecord m)) ja jb ends other =
+same_end version policy before left (Err (AuditFault.BadRecord n)) (Err AuditFault.OtherPolicy) ja jb ends other = absurd other.1
+same_end version policy before left (Err (AuditFault.BadRecord n)) (Err AuditFault.OutOfMemory) ja jb ends other = absurd jb
+same_end version policy before left (Err (AuditFault.IllegalVerdict n)) (Ok m) ja jb ends other = absurd (omega (arith, none_left left other.0, ends.0))
+same_end version policy before left (Err (AuditFault.IllegalVerdict n)) (Err AuditFault.Truncated) ja jb ends other = absurd (omega (arith, other.1, ends.0))
+same_end version policy before left (Err (AuditFault.IllegalVerdict n)) (Err (AuditFault.BadRecord m)) ja jb ends other =
     absurd (other.1.1 ends.1.1.shown ends.1.1.shown_is (ends.1.1.number_is ∙ ends.1.0 ∙ sym other.1.0))
-same_end version policy before left (Err (faults.IllegalVerdict n)) (Err (faults.IllegalVerdict m)) ja jb ends other = ap (λ (n : ℕ). Err (faults.IllegalVerdict n)) (ends.1.0 ∙ sym other.1.0)
-same_end version policy before left (Err (faults.IllegalVerdict n)) (Err faults.OtherPolicy) ja jb ends other = absurd other.1
-same_end version policy before left (Err (faults.IllegalVerdict n)) (Err faults.OutOfMemory) ja jb ends other = absurd jb
-same_end version policy before left (Err faults.OtherPolicy) other_answer ja jb ends other = absurd ends.1
-same_end version policy before left (Err faults.OutOfMemory) other_answer ja jb ends other = absurd ja
+same_end version policy before left (Err (AuditFault.IllegalVerdict n)) (Err (AuditFault.IllegalVerdict m)) ja jb ends other = ap (λ (n : ℕ). Err (AuditFault.IllegalVerdict n)) (ends.1.0 ∙ sym other.1.0)
+same_end version policy before left (Err (AuditFault.IllegalVerdict n)) (Err AuditFault.OtherPolicy) ja jb ends other = absurd other.1
+same_end version policy before left (Err (AuditFault.IllegalVerdict n)) (Err AuditFault.OutOfMemory) ja jb ends other = absurd jb
+same_end version policy before left (Err AuditFault.OtherPolicy) other_answer ja jb ends other = absurd ends.1
+same_end version policy before left (Err AuditFault.OutOfMemory) other_answer ja jb ends other = absurd ja
 
 -- where an answer ends behind the front
 record Ends (version : AuditVersion) (policy : PolicyData) (bytes : List ℕ) (answer : Result ℕ AuditFault) : Type 0 where
@@ -139,8 +126,8 @@ record Ends (version : AuditVersion) (policy : PolicyData) (bytes : List ℕ) (a
 
 -- what an answer is about
 data Stands (policy : PolicyData) (bytes : List ℕ) (answer : Result ℕ AuditFault) : Type 0 where
-  Cut : HasCutHeader bytes → answer ≡ Err faults.Truncated → Stands policy bytes answer
-  Other : HasOtherHeader policy bytes → answer ≡ Err faults.OtherPolicy → Stands policy bytes answer
+  Cut : HasCutHeader bytes → answer ≡ Err AuditFault.Truncated → Stands policy bytes answer
+  Other : HasOtherHeader policy bytes → answer ≡ Err AuditFault.OtherPolicy → Stands policy bytes answer
   Behind : Ends (version_of bytes) policy bytes answer → Stands policy bytes answer
 
 at_fault : (policy : PolicyData) (bytes : List ℕ) (fault : AuditFault) → IsFirstFault policy bytes fault → Ends (version_of bytes) policy bytes (Err fault)
@@ -159,12 +146,12 @@ where_it_stands policy bytes (Ok n) judges found =
       bytes_are = append-nil (whole_audit found.version policy found.records) ∙ found.bytes_are;
       ends = (refl, found.count_is);
     }))
-where_it_stands policy bytes (Err faults.Truncated) judges (inl cut) = Cut cut refl
-where_it_stands policy bytes (Err faults.Truncated) judges (inr found) = Behind (at_fault policy bytes faults.Truncated found)
-where_it_stands policy bytes (Err (faults.BadRecord n)) judges found = Behind (at_fault policy bytes (faults.BadRecord n) found)
-where_it_stands policy bytes (Err (faults.IllegalVerdict n)) judges found = Behind (at_fault policy bytes (faults.IllegalVerdict n) found)
-where_it_stands policy bytes (Err faults.OutOfMemory) judges found = absurd judges
-where_it_stands policy bytes (Err faults.OtherPolicy) judges found = Other found refl
+where_it_stands policy bytes (Err AuditFault.Truncated) judges (inl cut) = Cut cut refl
+where_it_stands policy bytes (Err AuditFault.Truncated) judges (inr found) = Behind (at_fault policy bytes AuditFault.Truncated found)
+where_it_stands policy bytes (Err (AuditFault.BadRecord n)) judges found = Behind (at_fault policy bytes (AuditFault.BadRecord n) found)
+where_it_stands policy bytes (Err (AuditFault.IllegalVerdict n)) judges found = Behind (at_fault policy bytes (AuditFault.IllegalVerdict n) found)
+where_it_stands policy bytes (Err AuditFault.OutOfMemory) judges found = absurd judges
+where_it_stands policy bytes (Err AuditFault.OtherPolicy) judges found = Other found refl
 
 same_behind : (version : AuditVersion) (policy : PolicyData) (bytes : List ℕ) (a b : Result ℕ AuditFault) → IsJudgement a → IsJudgement b
     → (x : Ends version policy bytes a) (y : Ends version policy bytes b) → Compared version x.before y.before x.left y.left → a ≡ b

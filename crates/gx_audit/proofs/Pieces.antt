@@ -1,18 +1,11 @@
 -- An audit, written piece by piece.
-use Rattle.std.proofs.Common.{◌≡◌, ℕ, ◌+◌, ◌≤◌, false, List, [], ◌∷◌, ◌++◌, Option, length, take, drop, refl, sym, ap, ◌∙◌, subst, append_assoc}
+use Rattle.std.proofs.{Common.{◌≡◌, ℕ, ◌+◌, ◌≤◌, false, List, [], ◌∷◌, ◌++◌, Option, length, take, drop, refl, sym, ap, ◌∙◌, subst, append_assoc}, KnownBytes.{Appends-nil, Appends-trans}, Math.Seq.take-add, lemmas.List.{take_all, take-append-drop}}
 use Rattle.std.specs.Io.KnownBytes.{Appends}
-use Rattle.std.proofs.KnownBytes.{Appends-nil, Appends-trans}
-use Rattle.std.proofs.Math.Seq.{take-add}
-use Rattle.std.proofs.lemmas.List.{take_all, take-append-drop}
 use Rattle.gx_devices.specs.Devices.{IsFront}
 use Rattle.gx_policy.specs.declared.policy.PolicyData.{PolicyData}
-use Rattle.gx_audit_bytes.specs.Headers.{front_of}
-use Rattle.gx_audit_bytes.specs.Versions.{has_header}
+use Rattle.gx_audit_bytes.specs.{Headers.front_of, Versions.has_header, declared.version.AuditVersion.AuditVersion, Audits.all_bytes, Records.record_bytes}
 use Rattle.gx_audit.proofs.Fronts.{no_front}
 use Rattle.gx_history.specs.declared.record.RecordData.{RecordData}
-use Rattle.gx_audit_bytes.specs.declared.version.AuditVersion.{AuditVersion}
-use Rattle.gx_audit_bytes.specs.Audits.{all_bytes}
-use Rattle.gx_audit_bytes.specs.Records.{record_bytes}
 
 no_bytes : (version : AuditVersion) → all_bytes version [] ≡ []
 unfolding all_bytes

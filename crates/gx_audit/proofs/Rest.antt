@@ -1,6 +1,5 @@
 -- What is left behind a place.
-use Rattle.std.proofs.Common.{◌≡◌, ◌-◌, ◌≤◌, ℕ, List, length, take, drop, arith}
-use Rattle.std.proofs.lemmas.List.{take_all, length-drop}
+use Rattle.std.proofs.{Common.{◌≡◌, ◌-◌, ◌≤◌, ℕ, List, length, take, drop, arith}, lemmas.List.{take_all, length-drop}}
 
 -- all that is left
 pub take_the_rest : (bytes : List ℕ) (at : ℕ) → take (length bytes - at) (drop at bytes) ≡ drop at bytes

@@ -1,22 +1,12 @@
 -- From a record of an audit to the whole.
-use Rattle.std.proofs.Common.{◌≡◌, ℕ, ◌+◌, ◌≤◌, ◌<◌, List, [], ◌∷◌, ◌++◌, length, take, drop, sym, ap, ◌∙◌, append_assoc, subst, arith, inr}
+use Rattle.std.proofs.{Common.{◌≡◌, ℕ, ◌+◌, ◌≤◌, ◌<◌, List, [], ◌∷◌, ◌++◌, length, take, drop, sym, ap, ◌∙◌, append_assoc, subst, arith, inr}, lemmas.List.{take-append-drop, drop-drop, drop_all, append-nil, length-drop}}
 use Rattle.std.specs.Prelude.{Result, Ok, Err}
-use Rattle.std.proofs.lemmas.List.{take-append-drop, drop-drop, drop_all, append-nil, length-drop}
-use Rattle.gx_history.specs.declared.record.RecordData.{RecordData}
+use Rattle.gx_history.specs.{declared.record.RecordData.RecordData, Verdicts.IsLegal}
 use Rattle.gx_policy.specs.declared.policy.PolicyData.{PolicyData}
-use Rattle.gx_history.specs.Verdicts.{IsLegal}
 use Rattle.gx_history_laws.proofs.Pushing.{all_next}
-use Rattle.gx_audit.specs.declared.fault.AuditFault.{AuditFault}
-use Rattle.gx_audit.specs.declared.fault.AuditFault.TheVariants as faults
-use Rattle.gx_audit_bytes.specs.declared.version.AuditVersion.{AuditVersion}
-use Rattle.gx_audit_bytes.specs.Versions.{version_of}
-use Rattle.gx_audit_bytes.specs.Headers.{front_of}
-use Rattle.gx_audit_bytes.specs.Records.{record_bytes}
-use Rattle.gx_audit_bytes.specs.Reading.{IsShown}
-use Rattle.gx_audit.specs.Replaying.{EndsAt, IsRecordsFault}
-use Rattle.gx_audit_bytes.specs.Audits.{all_bytes, whole_audit, AreShown}
+use Rattle.gx_audit.specs.{declared.fault.AuditFault.AuditFault, Replaying.{EndsAt, IsRecordsFault}, Auditing.{IsAnswer, IsFaultAt, IsRecordFault, IsFirstFault, IsOneMore}}
+use Rattle.gx_audit_bytes.specs.{declared.version.AuditVersion.AuditVersion, Versions.version_of, Headers.front_of, Records.record_bytes, Reading.IsShown, Audits.{all_bytes, whole_audit, AreShown}}
 use Rattle.gx_audit_bytes.proofs.Joined.{no_bytes, more_bytes}
-use Rattle.gx_audit.specs.Auditing.{IsAnswer, IsFaultAt, IsRecordFault, IsFirstFault, IsOneMore}
 
 whole_more : (version : AuditVersion) (policy : PolicyData) (records : List RecordData) (r : RecordData)
     → whole_audit version policy (records ++ r ∷ []) ≡ whole_audit version policy records ++ record_bytes version r
@@ -71,15 +61,15 @@ first_fault version policy records bytes at fault is legal shown are stands =
 fault_of : (version : AuditVersion) (policy : PolicyData) (records : List RecordData) (piece bytes : List ℕ) (at : ℕ) (fault : AuditFault) → version_of bytes ≡ version
     → IsLegal policy records → AreShown version records → whole_audit version policy records ++ drop at bytes ≡ bytes → 128 ≤ length (drop at bytes)
     → piece ≡ take 128 (drop at bytes) → IsRecordFault version policy records piece fault → IsRecordsFault policy bytes fault
-fault_of version policy records piece bytes at faults.Truncated is legal shown are whole cut stands = stands
-fault_of version policy records piece bytes at (faults.BadRecord n) is legal shown are whole cut stands =
-    first_fault version policy records bytes at (faults.BadRecord n) is legal shown are
-    (whole, subst (λ (bs : List ℕ). IsRecordFault version policy records bs (faults.BadRecord n)) cut stands)
-fault_of version policy records piece bytes at (faults.IllegalVerdict n) is legal shown are whole cut stands =
-    first_fault version policy records bytes at (faults.IllegalVerdict n) is legal shown are
-    (whole, subst (λ (bs : List ℕ). IsRecordFault version policy records bs (faults.IllegalVerdict n)) cut stands)
-fault_of version policy records piece bytes at faults.OutOfMemory is legal shown are whole cut stands = tt
-fault_of version policy records piece bytes at faults.OtherPolicy is legal shown are whole cut stands = stands
+fault_of version policy records piece bytes at AuditFault.Truncated is legal shown are whole cut stands = stands
+fault_of version policy records piece bytes at (AuditFault.BadRecord n) is legal shown are whole cut stands =
+    first_fault version policy records bytes at (AuditFault.BadRecord n) is legal shown are
+    (whole, subst (λ (bs : List ℕ). IsRecordFault version policy records bs (AuditFault.BadRecord n)) cut stands)
+fault_of version policy records piece bytes at (AuditFault.IllegalVerdict n) is legal shown are whole cut stands =
+    first_fault version policy records bytes at (AuditFault.IllegalVerdict n) is legal shown are
+    (whole, subst (λ (bs : List ℕ). IsRecordFault version policy records bs (AuditFault.IllegalVerdict n)) cut stands)
+fault_of version policy records piece bytes at AuditFault.OutOfMemory is legal shown are whole cut stands = tt
+fault_of version policy records piece bytes at AuditFault.OtherPolicy is legal shown are whole cut stands = stands
 
 -- what is told of the record at hand is told of the bytes
 pub fault_told : (version : AuditVersion) (policy held : PolicyData) (records : List RecordData) (piece bytes : List ℕ) (at : ℕ) (fault : AuditFault) → held ≡ policy
@@ -91,18 +81,18 @@ fault_told version policy held records piece bytes at fault same is legal shown 
 
 -- a fault among the records is an answer
 pub answer_of_records : (policy : PolicyData) (bytes : List ℕ) (fault : AuditFault) → IsRecordsFault policy bytes fault → IsAnswer policy bytes (Err fault)
-answer_of_records policy bytes faults.Truncated none = absurd none
-answer_of_records policy bytes (faults.BadRecord n) found = found
-answer_of_records policy bytes (faults.IllegalVerdict n) found = found
-answer_of_records policy bytes faults.OutOfMemory found = tt
-answer_of_records policy bytes faults.OtherPolicy none = absurd none
+answer_of_records policy bytes AuditFault.Truncated none = absurd none
+answer_of_records policy bytes (AuditFault.BadRecord n) found = found
+answer_of_records policy bytes (AuditFault.IllegalVerdict n) found = found
+answer_of_records policy bytes AuditFault.OutOfMemory found = tt
+answer_of_records policy bytes AuditFault.OtherPolicy none = absurd none
 
 -- some bytes are left
 pub left_told : (version : AuditVersion) (policy : PolicyData) (records : List RecordData) (bytes : List ℕ) (end : ℕ) → version_of bytes ≡ version → IsLegal policy records
-    → EndsAt version policy bytes records end → end < length bytes → IsAnswer policy bytes (Err faults.Truncated)
+    → EndsAt version policy bytes records end → end < length bytes → IsAnswer policy bytes (Err AuditFault.Truncated)
 left_told version policy records bytes end is legal ends some =
     let short = ends.short in
-    inr (first_fault version policy records bytes end faults.Truncated is legal ends.shown ends.bytes_are
+    inr (first_fault version policy records bytes end AuditFault.Truncated is legal ends.shown ends.bytes_are
     (omega (arith, some, length-drop end bytes), omega (arith, short, length-drop end bytes)))
 
 -- no bytes are left

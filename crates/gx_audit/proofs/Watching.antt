@@ -1,12 +1,9 @@
 -- What a watcher is shown behind a step.
-use Rattle.std.proofs.Common.{◌≡◌, ℕ, ◌-◌, List, [], ◌∷◌, ◌++◌, length, take, sym, ap, ◌∙◌, subst, arith}
+use Rattle.std.proofs.{Common.{◌≡◌, ℕ, ◌-◌, List, [], ◌∷◌, ◌++◌, length, take, sym, ap, ◌∙◌, subst, arith}, Math.Seq.take-append_seam, lemmas.List.length-append}
 use Rattle.std.specs.Prelude.{Some}
-use Rattle.std.proofs.Math.Seq.{take-append_seam}
-use Rattle.std.proofs.lemmas.List.{length-append}
 use Rattle.gx_policy.specs.declared.policy.PolicyData.{PolicyData}
 use Rattle.gx_history.specs.declared.record.RecordData.{RecordData}
-use Rattle.gx_audit_bytes.specs.declared.version.AuditVersion.{AuditVersion}
-use Rattle.gx_audit_bytes.specs.Reading.{record_of}
+use Rattle.gx_audit_bytes.specs.{declared.version.AuditVersion.AuditVersion, Reading.record_of}
 use Rattle.gx_records.specs.Watching.{earlier_of}
 use Rattle.gx_history_laws.proofs.Order.{some_same}
 use Rattle.gx_audit.specs.Auditing.{IsOneMore}

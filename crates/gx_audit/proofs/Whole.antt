@@ -1,14 +1,8 @@
 -- The records of a day, and the audit of them.
-use Rattle.std.proofs.Common.{◌≡◌, ℕ, List, ◌++◌, length, refl, sym, ap, ◌∙◌, subst, arith}
-use Rattle.std.proofs.lemmas.List.{take_all}
-use Rattle.gx_history.specs.declared.record.RecordData.{RecordData}
-use Rattle.gx_policy.specs.declared.policy.PolicyData.{PolicyData}
-use Rattle.gx_policy.specs.Lists.{slice}
-use Rattle.gx_history.specs.Verdicts.{IsLegal}
-use Rattle.gx_audit_bytes.specs.declared.version.AuditVersion.{AuditVersion}
-use Rattle.gx_audit_bytes.specs.Headers.{front_of}
-use Rattle.gx_audit_bytes.specs.Audits.{all_bytes, whole_audit, AreShown}
-use Rattle.gx_audit_bytes.specs.Versions.{version_of, DayFits}
+use Rattle.std.proofs.{Common.{◌≡◌, ℕ, List, ◌++◌, length, refl, sym, ap, ◌∙◌, subst, arith}, lemmas.List.take_all}
+use Rattle.gx_history.specs.{declared.record.RecordData.RecordData, Verdicts.IsLegal}
+use Rattle.gx_policy.specs.{declared.policy.PolicyData.PolicyData, Lists.slice}
+use Rattle.gx_audit_bytes.specs.{declared.version.AuditVersion.AuditVersion, Headers.front_of, Audits.{all_bytes, whole_audit, AreShown}, Versions.{version_of, DayFits}}
 use Rattle.gx_audit.specs.Auditing.{IsLegalAudit}
 use Rattle.gx_audit.proofs.Fronts.{version_known}
 

@@ -1,17 +1,9 @@
 -- What the check of an audit answers.
 use Rattle.std.specs.Prelude.{◌≡◌, ◌≢◌, ℕ, ◌+◌, ◌<◌, ◌≤◌, List, [], ◌∷◌, ◌++◌, take, length, ◌⊎◌, Option, Some, Result, Ok, Err, IsTrue}
 use Rattle.gx_policy.specs.declared.policy.PolicyData.{PolicyData}
-use Rattle.gx_history.specs.declared.record.RecordData.{RecordData}
-use Rattle.gx_history.specs.declared.record.Step.{Step}
-use Rattle.gx_history.specs.Verdicts.{IsLegal, Follows}
+use Rattle.gx_history.specs.{declared.record.{RecordData.RecordData, Step.Step}, Verdicts.{IsLegal, Follows}}
 use Rattle.gx_audit.specs.declared.fault.AuditFault.{AuditFault}
-use Rattle.gx_audit.specs.declared.fault.AuditFault.TheVariants as faults
-use Rattle.gx_audit_bytes.specs.declared.version.AuditVersion.{AuditVersion}
-use Rattle.gx_audit_bytes.specs.Versions.{has_header, version_of}
-use Rattle.gx_audit_bytes.specs.Audits.{record_size, whole_audit, AreShown}
-use Rattle.gx_audit_bytes.specs.Headers.{header_in}
-use Rattle.gx_audit_bytes.specs.Records.{record_bytes}
-use Rattle.gx_audit_bytes.specs.Reading.{record_of, IsShown}
+use Rattle.gx_audit_bytes.specs.{declared.version.AuditVersion.AuditVersion, Versions.{has_header, version_of}, Audits.{record_size, whole_audit, AreShown}, Headers.header_in, Records.record_bytes, Reading.{record_of, IsShown}}
 
 -- the bytes are the audit of a legal day, in one of the versions, with so many records
 pub record IsLegalAudit (policy : PolicyData) (bytes : List ℕ) (count : ℕ) : Type 0 where
@@ -40,15 +32,15 @@ NoneFollows policy before step = (r : RecordData) → r.step ≡ step → ¬ (Fo
 
 -- the fault is that of these bytes as the next record
 abbrev pub IsRecordFault : AuditVersion → PolicyData → List RecordData → List ℕ → AuditFault → Type 0
-IsRecordFault version policy before bytes faults.Truncated = ⊥
-IsRecordFault version policy before bytes (faults.BadRecord n) = (n ≡ length before + 1) × IsBad version n bytes
-IsRecordFault version policy before bytes (faults.IllegalVerdict n) = (n ≡ length before + 1) × IsIllegal version policy before n bytes
-IsRecordFault version policy before bytes faults.OutOfMemory = Unit {0}
-IsRecordFault version policy before bytes faults.OtherPolicy = ⊥
+IsRecordFault version policy before bytes AuditFault.Truncated = ⊥
+IsRecordFault version policy before bytes (AuditFault.BadRecord n) = (n ≡ length before + 1) × IsBad version n bytes
+IsRecordFault version policy before bytes (AuditFault.IllegalVerdict n) = (n ≡ length before + 1) × IsIllegal version policy before n bytes
+IsRecordFault version policy before bytes AuditFault.OutOfMemory = Unit {0}
+IsRecordFault version policy before bytes AuditFault.OtherPolicy = ⊥
 
 -- the fault stands at these bytes, behind the records before
 abbrev pub IsFaultAt : AuditVersion → PolicyData → List RecordData → List ℕ → AuditFault → Type 0
-IsFaultAt version policy before left faults.Truncated = (0 < length left) × (length left < record_size)
+IsFaultAt version policy before left AuditFault.Truncated = (0 < length left) × (length left < record_size)
 IsFaultAt version policy before left fault = (record_size ≤ length left) × IsRecordFault version policy before (take record_size left) fault
 
 -- behind the front and the records of a legal day the fault stands at what is left of the bytes
@@ -76,14 +68,14 @@ pub record HasOtherHeader (policy : PolicyData) (bytes : List ℕ) : Type 0 wher
 -- what the answer says is so; where memory ran out nothing is said
 abbrev pub IsAnswer : PolicyData → List ℕ → Result ℕ AuditFault → Type 0
 IsAnswer policy bytes (Ok count) = IsLegalAudit policy bytes count
-IsAnswer policy bytes (Err faults.OutOfMemory) = Unit {0}
-IsAnswer policy bytes (Err faults.OtherPolicy) = HasOtherHeader policy bytes
-IsAnswer policy bytes (Err faults.Truncated) = HasCutHeader bytes ⊎ IsFirstFault policy bytes faults.Truncated
+IsAnswer policy bytes (Err AuditFault.OutOfMemory) = Unit {0}
+IsAnswer policy bytes (Err AuditFault.OtherPolicy) = HasOtherHeader policy bytes
+IsAnswer policy bytes (Err AuditFault.Truncated) = HasCutHeader bytes ⊎ IsFirstFault policy bytes AuditFault.Truncated
 IsAnswer policy bytes (Err fault) = IsFirstFault policy bytes fault
 
 -- the answer says what the bytes are: memory did not run out
 abbrev pub IsJudgement : Result ℕ AuditFault → Type 0
-IsJudgement (Err faults.OutOfMemory) = ⊥
+IsJudgement (Err AuditFault.OutOfMemory) = ⊥
 IsJudgement other = Unit {0}
 
 -- no other answer says what is so

@@ -2,8 +2,7 @@
 use Rattle.std.specs.Prelude.{◌≡◌, ◌≤◌, ◌<◌, ℕ, List, ◌++◌, length, ◌⊎◌}
 use Rattle.gx_policy.specs.declared.policy.PolicyData.{PolicyData}
 use Rattle.gx_history.specs.declared.record.RecordData.{RecordData}
-use Rattle.gx_audit_bytes.specs.Audits.{record_size, whole_audit, AreShown}
-use Rattle.gx_audit_bytes.specs.Versions.{version_of}
+use Rattle.gx_audit_bytes.specs.{Audits.{record_size, whole_audit, AreShown}, Versions.version_of}
 
 -- these are the audit's first records, so many of them, or all where it has fewer, behind which too few bytes are left for
 -- another

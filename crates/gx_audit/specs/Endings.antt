@@ -1,14 +1,9 @@
 -- What the Kills and Close Days of an audit ended.
 use Rattle.std.specs.Prelude.{◌≡◌, ◌-◌, ◌^◌, ℕ, List, [], ◌⊎◌, Err}
 use Rattle.gx_policy.specs.declared.policy.PolicyData.{PolicyData}
-use Rattle.gx_history.specs.declared.record.RecordData.{RecordData}
-use Rattle.gx_history.specs.Verdicts.{IsLegal}
-use Rattle.gx_endings.specs.declared.endings.Ending.{Ending}
-use Rattle.gx_endings.specs.declared.order_ends.OrderEnd.{OrderEnd}
-use Rattle.gx_endings.specs.Endings.{endings, order_ends}
-use Rattle.gx_audit.specs.declared.fault.AuditFault.{AuditFault}
-use Rattle.gx_audit.specs.Auditing.{IsAnswer, IsJudgement}
-use Rattle.gx_audit.specs.Beginning.{AreFirst}
+use Rattle.gx_history.specs.{declared.record.RecordData.RecordData, Verdicts.IsLegal}
+use Rattle.gx_endings.specs.{declared.{endings.Ending.Ending, order_ends.OrderEnd.OrderEnd}, Endings.{endings, order_ends}}
+use Rattle.gx_audit.specs.{declared.fault.AuditFault.AuditFault, Auditing.{IsAnswer, IsJudgement}, Beginning.AreFirst}
 
 -- all whole records of the audit are those of a legal day, and they are so
 pub record IsOfDay (policy : PolicyData) (audit : List ℕ) (IsSo : List RecordData → Type 0) : Type 0 where

@@ -2,13 +2,8 @@
 use Rattle.std.specs.Prelude.{◌≡◌, ◌≢◌, ℕ, ◌+◌, ◌*◌, ◌<◌, ◌≤◌, List, ◌++◌, take, drop, length, ◌⊎◌, IsTrue}
 use Rattle.gx_policy.specs.declared.policy.PolicyData.{PolicyData}
 use Rattle.gx_history.specs.declared.record.RecordData.{RecordData}
-use Rattle.gx_audit.specs.declared.fault.AuditFault.{AuditFault}
-use Rattle.gx_audit.specs.declared.fault.AuditFault.TheVariants as faults
-use Rattle.gx_audit_bytes.specs.declared.version.AuditVersion.{AuditVersion}
-use Rattle.gx_audit_bytes.specs.Versions.{has_header, version_of}
-use Rattle.gx_audit_bytes.specs.Audits.{record_size, whole_audit, AreShown}
-use Rattle.gx_audit.specs.Auditing.{IsFirstFault}
-use Rattle.gx_audit_bytes.specs.Headers.{header_in}
+use Rattle.gx_audit.specs.{declared.fault.AuditFault.AuditFault, Auditing.IsFirstFault}
+use Rattle.gx_audit_bytes.specs.{declared.version.AuditVersion.AuditVersion, Versions.{has_header, version_of}, Audits.{record_size, whole_audit, AreShown}, Headers.header_in}
 
 -- the bytes are the audit of these records up to this place, behind which too few are left for another record
 pub record EndsAt (version : AuditVersion) (policy : PolicyData) (bytes : List ℕ) (records : List RecordData) (end : ℕ) : Type 0 where
@@ -31,15 +26,15 @@ journal_size count = record_size + record_size * count
 
 -- the bytes do not begin with the policy's header: they are too few for one, or begin otherwise
 abbrev pub IsHeaderFault : PolicyData → List ℕ → AuditFault → Type 0
-IsHeaderFault policy bytes faults.Truncated = length bytes < record_size
-IsHeaderFault policy bytes faults.OtherPolicy = (record_size ≤ length bytes) × (take record_size bytes ≢ header_in (version_of bytes) policy)
+IsHeaderFault policy bytes AuditFault.Truncated = length bytes < record_size
+IsHeaderFault policy bytes AuditFault.OtherPolicy = (record_size ≤ length bytes) × (take record_size bytes ≢ header_in (version_of bytes) policy)
 IsHeaderFault policy bytes other = ⊥
 
 -- behind the front and the records of a legal day the next record's bytes have the fault; where memory ran out nothing is said
 abbrev pub IsRecordsFault : PolicyData → List ℕ → AuditFault → Type 0
-IsRecordsFault policy bytes faults.Truncated = ⊥
-IsRecordsFault policy bytes faults.OtherPolicy = ⊥
-IsRecordsFault policy bytes faults.OutOfMemory = Unit {0}
+IsRecordsFault policy bytes AuditFault.Truncated = ⊥
+IsRecordsFault policy bytes AuditFault.OtherPolicy = ⊥
+IsRecordsFault policy bytes AuditFault.OutOfMemory = Unit {0}
 IsRecordsFault policy bytes fault = IsFirstFault policy bytes fault
 
 -- why bytes are no journal

@@ -2,9 +2,7 @@
 use Rattle.std.specs.Prelude.{◌≡◌, ℕ, ◌+◌, ◌<◌, List, [], ◌++◌, take, length, ◌⊎◌, IsTrue}
 use Rattle.gx_policy.specs.declared.policy.PolicyData.{PolicyData}
 use Rattle.gx_history.specs.declared.record.RecordData.{RecordData}
-use Rattle.gx_audit_bytes.specs.Versions.{has_header, version_of}
-use Rattle.gx_audit_bytes.specs.Audits.{record_size, whole_audit}
-use Rattle.gx_audit_bytes.specs.Headers.{header_in}
+use Rattle.gx_audit_bytes.specs.{Versions.{has_header, version_of}, Audits.{record_size, whole_audit}, Headers.header_in}
 
 -- the file holds a front of the policy's header, or nothing: no day was begun in it
 pub record IsNew (policy : PolicyData) (file : List ℕ) : Type 0 where

@@ -1,16 +1,15 @@
 -- What is told of an audit.
 use Rattle.std.specs.Prelude.{ℕ, List, [], ◌++◌, codes, decimal, Result, Ok, Err}
 use Rattle.gx_audit.specs.declared.fault.AuditFault.{AuditFault}
-use Rattle.gx_audit.specs.declared.fault.AuditFault.TheVariants as faults
 use Rattle.gx_script.specs.Printing.{line_end}
 
 -- how many records a legal audit has, or the first fault; want of memory is no answer of an audit
 abbrev pub answer_words : Result ℕ AuditFault → List ℕ
 answer_words (Ok count) = codes "legal " ++ decimal count
-answer_words (Err faults.Truncated) = codes "truncated"
-answer_words (Err (faults.BadRecord number)) = codes "bad record " ++ decimal number
-answer_words (Err (faults.IllegalVerdict number)) = codes "illegal verdict " ++ decimal number
-answer_words (Err faults.OtherPolicy) = codes "other policy"
+answer_words (Err AuditFault.Truncated) = codes "truncated"
+answer_words (Err (AuditFault.BadRecord number)) = codes "bad record " ++ decimal number
+answer_words (Err (AuditFault.IllegalVerdict number)) = codes "illegal verdict " ++ decimal number
+answer_words (Err AuditFault.OtherPolicy) = codes "other policy"
 answer_words (Err other) = []
 
 -- the line on standard output

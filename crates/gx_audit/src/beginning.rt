@@ -2,11 +2,8 @@
 
 ghost use Rattle.std.specs.Prelude.{◌≡◌, ◌++◌, ◌≤◌, [], drop, length, Err, IfErr, IfOk, OnOk};
 ghost use Rattle.gx_history.specs.Verdicts.{IsLegal};
-ghost use Rattle.gx_audit.specs.Auditing.{IsAnswer};
-ghost use Rattle.gx_audit.specs.Beginning.{AreFirst};
-ghost use Rattle.gx_audit.specs.Replaying.{IsRecordsFault};
-ghost use Rattle.gx_audit_bytes.specs.Headers.{front_of};
-ghost use Rattle.gx_audit_bytes.specs.Versions.{version_of};
+ghost use Rattle.gx_audit.specs.{Auditing.IsAnswer, Beginning.AreFirst, Replaying.IsRecordsFault};
+ghost use Rattle.gx_audit_bytes.specs.{Headers.front_of, Versions.version_of};
 
 use crate::checking::{check_watched, record_at, records_start};
 use crate::fault::AuditFault;

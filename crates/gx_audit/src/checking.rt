@@ -4,12 +4,8 @@ ghost use Rattle.std.specs.Prelude.{◌≡◌, ◌≢◌, ◌+◌, ◌-◌, ◌<
 ghost use Rattle.gx_history.specs.Verdicts.{next, IsLegal};
 ghost use Rattle.gx_answers.specs.declared.outcome.StepFault.TheVariants as stepping;
 ghost use Rattle.gx_audit.specs.declared.fault.AuditFault.TheVariants as faults;
-ghost use Rattle.gx_audit.specs.Auditing.{with_left, HasOtherHeader, IsAnswer, IsOneMore, IsOnlyAnswer, IsRecordFault, NoneFollows};
-ghost use Rattle.gx_audit_bytes.specs.Reading.{record_of, IsAskableStep, IsShown};
-ghost use Rattle.gx_audit.specs.Replaying.{EndsAt, IsHeaderFault, IsRecordsFault};
-ghost use Rattle.gx_audit_bytes.specs.Headers.{front_of};
-ghost use Rattle.gx_audit_bytes.specs.Records.{record_bytes};
-ghost use Rattle.gx_audit_bytes.specs.Versions.{has_header, version_of};
+ghost use Rattle.gx_audit.specs.{Auditing.{with_left, HasOtherHeader, IsAnswer, IsOneMore, IsOnlyAnswer, IsRecordFault, NoneFollows}, Replaying.{EndsAt, IsHeaderFault, IsRecordsFault}};
+ghost use Rattle.gx_audit_bytes.specs.{Reading.{record_of, IsAskableStep, IsShown}, Headers.front_of, Records.record_bytes, Versions.{has_header, version_of}};
 
 use crate::fault::AuditFault;
 use gx_answers::{AccessGate, Outcome, StepFault};

@@ -16,7 +16,6 @@ mod places;
 mod replaying;
 mod resuming;
 mod telling;
-mod writing_fault;
 
 pub use beginning::{replay_first, replay_watched};
 pub use checking::{check_audit, check_record, is_of_other_policy, record_at};
@@ -29,4 +28,3 @@ pub use places::{count_of, count_until, moment_at};
 pub use replaying::replay;
 pub use resuming::{Resumed, resume};
 pub use telling::{AuditAnswer, told_of_audit, told_of_fault};
-pub use writing_fault::AuditingFault;

@@ -3,8 +3,7 @@
 ghost use Rattle.std.specs.Prelude.{◌≡◌, ◌≢◌, ◌<◌, ◌≤◌, ◌^◌, [], length, IfErr, IfOk, IsTrue};
 ghost use Rattle.gx_audit.specs.declared.fault.AuditFault.TheVariants as faults;
 ghost use Rattle.gx_history.specs.Verdicts.{IsLegal};
-ghost use Rattle.gx_audit.specs.Replaying.{journal_size, IsReplayFault};
-ghost use Rattle.gx_audit.specs.Resuming.{IsNew, Stands};
+ghost use Rattle.gx_audit.specs.{Replaying.{journal_size, IsReplayFault}, Resuming.{IsNew, Stands}};
 
 use crate::fault::AuditFault;
 use crate::replaying::replay;

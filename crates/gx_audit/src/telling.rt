@@ -1,14 +1,13 @@
 //! What is told of an audit.
 
 ghost use Rattle.std.specs.Prelude.{◌≡◌, ◌++◌, decimal, Err, IfOk, OnOk};
-ghost use Rattle.gx_audit.specs.Auditing.{IsAnswer, IsJudgement, IsOnlyAnswer};
-ghost use Rattle.gx_audit.specs.Telling.{answer_line, answer_status};
+ghost use Rattle.gx_audit.specs.{Auditing.{IsAnswer, IsJudgement, IsOnlyAnswer}, Telling.{answer_line, answer_status}};
 ghost use Rattle.gx_script.specs.Printing.{line_end};
 
 use crate::checking::check_audit;
 use crate::fault::AuditFault;
-use crate::writing_fault::AuditingFault;
 use gx_answers::AccessGate;
+use gx_devices::WriteFault;
 use gx_policy::Policy;
 use gx_script::{append, with_number};
 use gx_units::OutOfMemory;
@@ -38,7 +37,7 @@ pub fn told_of_audit<G: AccessGate>(
     alloc: Global,
     policy: &Policy,
     audit: &[u8],
-) -> Result<AuditAnswer, AuditingFault>
+) -> Result<AuditAnswer, WriteFault>
     ensures answer { IfOk result (λ told. IsAnswer policy.now audit.now told.answer) }
     ensures only { IfOk result (λ told. IsOnlyAnswer policy.now audit.now told.answer) }
     ensures judged { IfOk result (λ told. IsJudgement told.answer) }
@@ -54,7 +53,7 @@ pub fn told_of_audit<G: AccessGate>(
 /// # Errors
 ///
 /// `OutOfMemory` where that is the fault, or where memory was refused.
-pub fn told_of_fault(alloc: Global, fault: AuditFault) -> Result<AuditAnswer, AuditingFault>
+pub fn told_of_fault(alloc: Global, fault: AuditFault) -> Result<AuditAnswer, WriteFault>
     ensures answer { IfOk result (λ told. told.answer ≡ Err fault) }
     ensures line { IfOk result (λ told. told.line.items ≡ answer_line (Err fault)) }
 {
@@ -64,7 +63,7 @@ pub fn told_of_fault(alloc: Global, fault: AuditFault) -> Result<AuditAnswer, Au
 }
 
 /// The line that tells the answer.
-fn line_of(alloc: Global, answer: Result<u64, AuditFault>) -> Result<Vec<u8>, AuditingFault>
+fn line_of(alloc: Global, answer: Result<u64, AuditFault>) -> Result<Vec<u8>, WriteFault>
     ensures line { IfOk result (λ text. text.items ≡ answer_line answer) }
     ensures judged { OnOk result (IsJudgement answer) }
 {
@@ -75,7 +74,7 @@ fn line_of(alloc: Global, answer: Result<u64, AuditFault>) -> Result<Vec<u8>, Au
         Err(AuditFault::IllegalVerdict(number)) => {
             Ok(numbered(alloc, b"illegal verdict ", number)?)
         }
-        Err(AuditFault::OutOfMemory) => Err(AuditingFault::OutOfMemory),
+        Err(AuditFault::OutOfMemory) => Err(WriteFault::OutOfMemory),
         Err(AuditFault::OtherPolicy) => Ok(words(alloc, b"other policy\n")?),
     }
 }

@@ -1,9 +1,7 @@
 -- What a policy counts has room in two bytes.
-use Rattle.std.proofs.Common.{◌≡◌, ℕ, ◌<◌, ◌^◌, true, nat_le, length, arith}
+use Rattle.std.proofs.{Common.{◌≡◌, ℕ, ◌<◌, ◌^◌, true, nat_le, length, arith}, lemmas.Bool.Decides.nat_tests}
 use Rattle.std.specs.Prelude.{IsTrue}
-use Rattle.std.proofs.lemmas.Bool.Decides.{nat_tests}
-use Rattle.gx_policy.specs.declared.policy.PolicyData.{PolicyData}
-use Rattle.gx_policy.specs.Soundness.{is_sound, is_within_limits}
+use Rattle.gx_policy.specs.{declared.policy.PolicyData.PolicyData, Soundness.{is_sound, is_within_limits}}
 use Rattle.gx_audit_bytes.proofs.ReadBack.{both_true, is_true}
 
 limits_of : (policy : PolicyData) → IsTrue (is_sound policy) → is_within_limits policy ≡ true

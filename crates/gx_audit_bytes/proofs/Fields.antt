@@ -1,6 +1,5 @@
 -- Fields cut out of bytes.
-use Rattle.std.proofs.Common.{◌≡◌, ℕ, ◌<◌, List, ◌++◌, length, take, sym, ap, arith}
-use Rattle.std.proofs.lemmas.List.{take_all, take_at}
+use Rattle.std.proofs.{Common.{◌≡◌, ℕ, ◌<◌, List, ◌++◌, length, take, sym, ap, arith}, lemmas.List.{take_all, take_at}}
 use Rattle.gx_audit_bytes.specs.Bodies.{zero_padded}
 
 -- all of a name of eight bytes

@@ -1,26 +1,13 @@
 -- The parts of a header.
-use Rattle.std.proofs.Common.{◌≡◌, ℕ, ◌<◌, ◌^◌, ◌-◌, ◌==◌, true, List, [], ◌∷◌, ◌++◌, length, replicate, get_or, slice_index, refl, ap, ◌∙◌, arith}
-use Rattle.std.specs.Prelude.{codes}
-use Rattle.std.specs.Int.{w8, w16, w32, from_be_bytes, to_be_bytes}
-use Rattle.std.proofs.lemmas.List.{append-nil, length-append, length-take, take_at}
-use Rattle.std.proofs.lemmas.Nat.{from_be_bytes-to_be_bytes_2, from_be_bytes-to_be_bytes_4}
-use Rattle.std.proofs.lemmas.Bool.Decides.{nat_tests}
+use Rattle.std.proofs.{Common.{◌≡◌, ℕ, ◌<◌, ◌^◌, ◌-◌, ◌==◌, true, List, [], ◌∷◌, ◌++◌, length, replicate, get_or, slice_index, refl, ap, ◌∙◌, arith}, lemmas.{List.{append-nil, length-append, length-take, take_at}, Nat.{from_be_bytes-to_be_bytes_2, from_be_bytes-to_be_bytes_4}, Bool.Decides.nat_tests}}
+use Rattle.std.specs.{Prelude.codes, Int.{w8, w16, w32, from_be_bytes, to_be_bytes}}
 use Rattle.gx_ouch.proofs.Places.{known_to_lie}
 use Rattle.sha2.proofs.Facts256.{length-sha256}
-use Rattle.gx_ouch.specs.Layout.{HasSizes, LiesIn}
-use Rattle.gx_ouch.specs.Writing.{letter}
-use Rattle.gx_clock.specs.Offsets.{minutes_in}
-use Rattle.gx_clock.specs.declared.offset.UtcOffset.{UtcOffset}
-use Rattle.gx_clock.specs.declared.offset.UtcOffset.TheVariants as offsets
+use Rattle.gx_ouch.specs.{Layout.{HasSizes, LiesIn}, Writing.letter}
+use Rattle.gx_clock.specs.{Offsets.minutes_in, declared.offset.UtcOffset.UtcOffset}
 use Rattle.gx_digest.specs.PolicyText.{policy_text}
 use Rattle.gx_policy.specs.declared.policy.PolicyData.{PolicyData}
-use Rattle.gx_audit_bytes.specs.declared.day.AuditDay.{AuditDay}
-use Rattle.gx_audit_bytes.specs.declared.version.AuditVersion.{AuditVersion}
-use Rattle.gx_audit_bytes.specs.declared.version.AuditVersion.TheVariants as versions
-use Rattle.gx_audit_bytes.specs.Bodies.{zero_padded}
-use Rattle.gx_audit_bytes.specs.Days.{day_in, day_shown, offset_shown, sign_shown}
-use Rattle.gx_audit_bytes.specs.Headers.{audit_header, dated_header, dated_bytes, dated_contents, header_bytes, header_contents, header_in, session_shown}
-use Rattle.gx_audit_bytes.specs.Versions.{version_of, DayFits}
+use Rattle.gx_audit_bytes.specs.{declared.{day.AuditDay.AuditDay, version.AuditVersion.AuditVersion}, Bodies.zero_padded, Days.{day_in, day_shown, offset_shown, sign_shown}, Headers.{audit_header, dated_header, dated_bytes, dated_contents, header_bytes, header_contents, header_in, session_shown}, Versions.{version_of, DayFits}}
 use Rattle.gx_audit_bytes.proofs.ReadBack.{both_true}
 
 session_size : (policy : PolicyData) → length (session_shown policy) ≡ 10
@@ -67,8 +54,8 @@ day_of parts = record {
 
 offset_back : (offset : UtcOffset) → minutes_in offset < 2 ^ 16
     → offset_shown (from_be_bytes w8 (letter (sign_shown offset))) (from_be_bytes w16 (to_be_bytes w16 (minutes_in offset))) ≡ offset
-offset_back (offsets.Ahead minutes) fits = ap (λ (n : ℕ). offsets.Ahead n) (from_be_bytes-to_be_bytes_2 minutes fits)
-offset_back (offsets.Behind minutes) fits = ap (λ (n : ℕ). offsets.Behind n) (from_be_bytes-to_be_bytes_2 minutes fits)
+offset_back (UtcOffset.Ahead minutes) fits = ap (λ (n : ℕ). UtcOffset.Ahead n) (from_be_bytes-to_be_bytes_2 minutes fits)
+offset_back (UtcOffset.Behind minutes) fits = ap (λ (n : ℕ). UtcOffset.Behind n) (from_be_bytes-to_be_bytes_2 minutes fits)
 
 day_back : (policy : PolicyData) (day : AuditDay) → day.date < 2 ^ 32 → minutes_in day.offset < 2 ^ 16 → day_of (dated_contents policy day) ≡ day
 day_back policy day date minutes = λ i. record { date = from_be_bytes-to_be_bytes_4 day.date date i; offset = offset_back day.offset minutes i }
@@ -81,25 +68,25 @@ whole_header header behind size =
     ∙ ap (λ (n : ℕ). day_shown (header ++ replicate (128 - n) 0)) size
     ∙ ap day_shown (append-nil header)
 
-is_third : (policy : PolicyData) (day : AuditDay) (behind : List ℕ) → version_of (dated_bytes policy day ++ behind) ≡ versions.Three (day_in (dated_bytes policy day ++ behind))
+is_third : (policy : PolicyData) (day : AuditDay) (behind : List ℕ) → version_of (dated_bytes policy day ++ behind) ≡ AuditVersion.Three (day_in (dated_bytes policy day ++ behind))
 unfolding dated_bytes
 is_third policy day behind = refl
 
 -- the version and the day of an audit are found in its header
-pub day_known : (policy : PolicyData) (day : AuditDay) (behind : List ℕ) → DayFits (versions.Three day) → version_of (dated_bytes policy day ++ behind) ≡ versions.Three day
+pub day_known : (policy : PolicyData) (day : AuditDay) (behind : List ℕ) → DayFits (AuditVersion.Three day) → version_of (dated_bytes policy day ++ behind) ≡ AuditVersion.Three day
 day_known policy day behind fits =
     is_third policy day behind
-    ∙ ap (λ (d : AuditDay). versions.Three d)
+    ∙ ap (λ (d : AuditDay). AuditVersion.Three d)
     (whole_header (dated_bytes policy day) behind (dated_size policy day)
     ∙ ap day_of (dated_lie policy day (dated_bytes policy day) refl).fields
     ∙ day_back policy day fits.0 fits.1)
 
-pub day_read : (policy : PolicyData) (day : AuditDay) (bytes : List ℕ) → bytes ≡ dated_bytes policy day → DayFits (versions.Three day)
-    → (behind : List ℕ) → version_of (bytes ++ behind) ≡ versions.Three day
+pub day_read : (policy : PolicyData) (day : AuditDay) (bytes : List ℕ) → bytes ≡ dated_bytes policy day → DayFits (AuditVersion.Three day)
+    → (behind : List ℕ) → version_of (bytes ++ behind) ≡ AuditVersion.Three day
 day_read policy day bytes known fits behind = ap (λ (bs : List ℕ). version_of (bs ++ behind)) known ∙ day_known policy day behind fits
 
 -- a header has 128 bytes in each version
 pub size_in : (version : AuditVersion) (policy : PolicyData) → length (header_in version policy) ≡ 128
-size_in versions.One policy = header_size policy
-size_in versions.Two policy = header_size policy
-size_in (versions.Three day) policy = dated_size policy day
+size_in AuditVersion.One policy = header_size policy
+size_in AuditVersion.Two policy = header_size policy
+size_in (AuditVersion.Three day) policy = dated_size policy day

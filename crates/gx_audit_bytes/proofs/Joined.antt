@@ -1,12 +1,8 @@
 -- Records, written one behind the other.
-use Rattle.std.proofs.Common.{◌≡◌, ℕ, ◌+◌, ◌<◌, List, [], ◌∷◌, ◌++◌, length, take, get_or, refl, sym, ap, ◌∙◌, append_assoc, subst}
-use Rattle.std.proofs.lemmas.List.{append-nil, take_more}
+use Rattle.std.proofs.{Common.{◌≡◌, ℕ, ◌+◌, ◌<◌, List, [], ◌∷◌, ◌++◌, length, take, get_or, refl, sym, ap, ◌∙◌, append_assoc, subst}, lemmas.List.{append-nil, take_more}}
 use Rattle.gx_history.specs.declared.record.RecordData.{RecordData}
 use Rattle.gx_history_laws.proofs.Pushing.{all_next}
-use Rattle.gx_audit_bytes.specs.declared.version.AuditVersion.{AuditVersion}
-use Rattle.gx_audit_bytes.specs.Audits.{all_bytes, AreShown}
-use Rattle.gx_audit_bytes.specs.Reading.{IsShown}
-use Rattle.gx_audit_bytes.specs.Records.{record_bytes}
+use Rattle.gx_audit_bytes.specs.{declared.version.AuditVersion.AuditVersion, Audits.{all_bytes, AreShown}, Reading.IsShown, Records.record_bytes}
 
 pub no_bytes : (version : AuditVersion) → all_bytes version [] ≡ []
 unfolding all_bytes

@@ -1,23 +1,12 @@
 -- A record is read from its bytes as itself.
-use Rattle.std.proofs.Common.{◌≡◌, ℕ, ◌<◌, ◌^◌, ◌&&◌, Bool, true, false, List, [], get_or, refl, sym, ap, ◌∙◌}
-use Rattle.std.specs.Prelude.{Option, Some, None, option_map, option_and_then, if◌then◌else◌, bytes_eq, IsTrue}
-use Rattle.std.specs.Int.{w8, w16, w32, w64, from_be_bytes}
-use Rattle.std.proofs.lemmas.Nat.{from_be_bytes-to_be_bytes_2, from_be_bytes-to_be_bytes_4, from_be_bytes-to_be_bytes_8}
-use Rattle.std.proofs.lemmas.Slice.Eq.{bytes_eq-Decides}
+use Rattle.std.proofs.{Common.{◌≡◌, ℕ, ◌<◌, ◌^◌, ◌&&◌, Bool, true, false, List, [], get_or, refl, sym, ap, ◌∙◌}, lemmas.{Nat.{from_be_bytes-to_be_bytes_2, from_be_bytes-to_be_bytes_4, from_be_bytes-to_be_bytes_8}, Slice.Eq.bytes_eq-Decides}}
+use Rattle.std.specs.{Prelude.{Option, Some, None, option_map, option_and_then, if◌then◌else◌, bytes_eq, IsTrue}, Int.{w8, w16, w32, w64, from_be_bytes}}
 use Rattle.gx_ouch.proofs.Places.{known_to_lie}
 use Rattle.gx_ouch.specs.Layout.{LiesIn, cut}
-use Rattle.gx_history.specs.Requests.{handed_moment}
-use Rattle.gx_history.specs.Showing.{is_showable}
-use Rattle.gx_history.specs.declared.record.RecordData.{RecordData}
-use Rattle.gx_history.specs.declared.record.Step.{Step}
-use Rattle.gx_history.specs.declared.record.Verdict.{Verdict}
-use Rattle.gx_audit_bytes.specs.declared.version.AuditVersion.{AuditVersion}
-use Rattle.gx_audit_bytes.specs.Bodies.{zero_padded}
-use Rattle.gx_audit_bytes.specs.Records.{audit_record, record_contents, record_bytes, HasPlaces, line_shown, user_shown, kind_shown, body_shown, verdict_letter, rule_shown, order_shown, maker_shown, shares_shown, price_shown}
-use Rattle.gx_audit_bytes.specs.Reading.{step_in, verdict_in, step_shown, verdict_shown, content_in, record_of, is_record_of, NumbersFit, StepIsRead, VerdictIsRead, shows_rule, IsShown}
-use Rattle.gx_audit_bytes.proofs.Rules.{shown_names_rule}
+use Rattle.gx_history.specs.{Requests.handed_moment, Showing.is_showable, declared.record.{RecordData.RecordData, Step.Step, Verdict.Verdict}}
+use Rattle.gx_audit_bytes.specs.{declared.version.AuditVersion.AuditVersion, Bodies.zero_padded, Records.{audit_record, record_contents, record_bytes, HasPlaces, line_shown, user_shown, kind_shown, body_shown, verdict_letter, rule_shown, order_shown, maker_shown, shares_shown, price_shown}, Reading.{step_in, verdict_in, step_shown, verdict_shown, content_in, record_of, is_record_of, NumbersFit, StepIsRead, VerdictIsRead, shows_rule, IsShown}}
+use Rattle.gx_audit_bytes.proofs.{Rules.shown_names_rule, Messages.one_byte}
 use Rattle.gx_history_laws.proofs.Order.{some_same}
-use Rattle.gx_audit_bytes.proofs.Messages.{one_byte}
 
 pub is_true : (b : Bool) → IsTrue b → b ≡ true
 is_true true h = refl

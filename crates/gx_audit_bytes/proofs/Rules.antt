@@ -1,20 +1,10 @@
 -- A rule is read from its name as itself, and a verdict from its parts.
 use Rattle.std.proofs.Common.{◌≡◌, ℕ, Bool, true, false, ◌||◌, ◌&&◌, not, List, [], ◌∷◌, ◌++◌, refl, ap, ◌∙◌}
-use Rattle.std.specs.Prelude.{Option, Some, None, IsTrue, codes, cond, bytes_eq, unwrap_or}
-use Rattle.std.specs.List.{find, list_any}
+use Rattle.std.specs.{Prelude.{Option, Some, None, IsTrue, codes, cond, bytes_eq, unwrap_or}, List.{find, list_any}}
 use Rattle.gx_units.specs.declared.names.RuleId.{RuleId}
-use Rattle.gx_policy.specs.RuleNames.{rule_id, rules_before, rules_behind, is_built_in}
-use Rattle.gx_history.specs.Showing.{is_showable, is_verdict_of, is_rule_shown, answers}
-use Rattle.gx_history.specs.declared.record.RecordData.{RecordData}
-use Rattle.gx_history.specs.declared.record.Request.{Request}
-use Rattle.gx_history.specs.declared.record.Step.{Step}
-use Rattle.gx_history.specs.declared.record.Step.TheVariants as steps
-use Rattle.gx_policy.specs.declared.rule_name.RuleName.{RuleName}
-use Rattle.gx_policy.specs.declared.rule_name.RuleName.TheVariants.{L1, L2, L3, G1, G2, G3, I1, I2, I3, P1, P2, P3, P4, P5, P6, P7, P8, P9, P10, P11, P12, Q1, Q2, Q3, Q4, File}
-use Rattle.gx_history.specs.declared.record.Verdict.{Verdict}
-use Rattle.gx_history.specs.declared.record.Verdict.TheVariants as verdicts
-use Rattle.gx_history.specs.declared.record.Fill.{Fill}
-use Rattle.gx_audit_bytes.specs.Reading.{rule_in, verdict_in, VerdictIsRead, NameFits, shows_rule}
+use Rattle.gx_policy.specs.{RuleNames.{NameFits, rule_id, rules_before, rules_behind, is_built_in}, declared.rule_name.RuleName.{RuleName, TheVariants.{L1, L2, L3, G1, G2, G3, I1, I2, I3, P1, P2, P3, P4, P5, P6, P7, P8, P9, P10, P11, P12, Q1, Q2, Q3, Q4, File}}}
+use Rattle.gx_history.specs.{Showing.{is_showable, is_verdict_of, is_rule_shown, answers}, declared.record.{RecordData.RecordData, Request.Request, Step.Step, Verdict.Verdict, Fill.Fill}}
+use Rattle.gx_audit_bytes.specs.Reading.{rule_in, verdict_in, VerdictIsRead, shows_rule}
 use Rattle.gx_audit_bytes.proofs.Fields.{take_whole}
 
 none_of : {X : Type 0} (passes : Bool) (x : X) (rest : Option X) (any : Bool) → (passes || any) ≡ false → (any ≡ false → rest ≡ None) → cond passes (Some x) rest ≡ None
@@ -68,23 +58,23 @@ rule_read (File name) fits shown =
     ap rule_in (take_whole name.bytes (codes "        ") fits) ∙ file_read name (not_built_in (is_built_in name) _ shown)
 
 -- a denial, by its rule
-pub denial_read : (rule : RuleName) → NameFits rule → IsTrue (is_rule_shown rule) → VerdictIsRead (verdicts.Denied rule)
+pub denial_read : (rule : RuleName) → NameFits rule → IsTrue (is_rule_shown rule) → VerdictIsRead (Verdict.Denied rule)
 unfolding verdict_in
-denial_read rule fits shown = ap (λ (r : RuleName). Some (verdicts.Denied r)) (rule_read rule fits shown)
+denial_read rule fits shown = ap (λ (r : RuleName). Some (Verdict.Denied r)) (rule_read rule fits shown)
 
-pub grant_read : VerdictIsRead verdicts.Granted
+pub grant_read : VerdictIsRead Verdict.Granted
 unfolding verdict_in
 grant_read = refl
 
-pub fill_read : (fill : Fill) → VerdictIsRead (verdicts.Filled fill)
+pub fill_read : (fill : Fill) → VerdictIsRead (Verdict.Filled fill)
 unfolding verdict_in
 fill_read fill = refl
 
-pub rest_read : (order : ℕ) → VerdictIsRead (verdicts.Rested order)
+pub rest_read : (order : ℕ) → VerdictIsRead (Verdict.Rested order)
 unfolding verdict_in
 rest_read order = refl
 
-pub expiry_read : (order : ℕ) → VerdictIsRead (verdicts.Expired order)
+pub expiry_read : (order : ℕ) → VerdictIsRead (Verdict.Expired order)
 unfolding verdict_in
 expiry_read order = refl
 
@@ -94,19 +84,19 @@ second true b h = h
 second false b h = cc
 
 denied_by : (q : Request) (v : Verdict) → IsTrue (answers q v) → IsTrue (shows_rule v)
-denied_by q verdicts.Granted h = refl
-denied_by q (verdicts.Denied rule) h = h
-denied_by q (verdicts.Filled fill) h = refl
-denied_by q (verdicts.Rested order) h = refl
-denied_by q (verdicts.Expired order) h = refl
+denied_by q Verdict.Granted h = refl
+denied_by q (Verdict.Denied rule) h = h
+denied_by q (Verdict.Filled fill) h = refl
+denied_by q (Verdict.Rested order) h = refl
+denied_by q (Verdict.Expired order) h = refl
 
 named_by : (s : Step) (v : Verdict) → IsTrue (is_verdict_of s v) → IsTrue (shows_rule v)
-named_by (steps.Asked a) v h = denied_by a.request v (second _ (answers a.request v) h)
-named_by (steps.Matching handed) verdicts.Granted h = refl
-named_by (steps.Matching handed) (verdicts.Denied rule) h = cc
-named_by (steps.Matching handed) (verdicts.Filled fill) h = refl
-named_by (steps.Matching handed) (verdicts.Rested order) h = refl
-named_by (steps.Matching handed) (verdicts.Expired order) h = refl
+named_by (Step.Asked a) v h = denied_by a.request v (second _ (answers a.request v) h)
+named_by (Step.Matching handed) Verdict.Granted h = refl
+named_by (Step.Matching handed) (Verdict.Denied rule) h = cc
+named_by (Step.Matching handed) (Verdict.Filled fill) h = refl
+named_by (Step.Matching handed) (Verdict.Rested order) h = refl
+named_by (Step.Matching handed) (Verdict.Expired order) h = refl
 
 pub shown_names_rule : (r : RecordData) → IsTrue (is_showable r) → IsTrue (shows_rule r.verdict)
 shown_names_rule r h = named_by r.step r.verdict (second _ (is_verdict_of r.step r.verdict) h)

@@ -1,12 +1,8 @@
 -- The bytes of a day's records.
-use Rattle.std.specs.Prelude.{ℕ, List, ◌++◌, map}
-use Rattle.std.specs.List.{concat, AllByRecursion}
+use Rattle.std.specs.{Prelude.{ℕ, List, ◌++◌, map}, List.{concat, AllByRecursion}}
 use Rattle.gx_policy.specs.declared.policy.PolicyData.{PolicyData}
 use Rattle.gx_history.specs.declared.record.RecordData.{RecordData}
-use Rattle.gx_audit_bytes.specs.declared.version.AuditVersion.{AuditVersion}
-use Rattle.gx_audit_bytes.specs.Headers.{front_of}
-use Rattle.gx_audit_bytes.specs.Records.{record_bytes}
-use Rattle.gx_audit_bytes.specs.Reading.{IsShown}
+use Rattle.gx_audit_bytes.specs.{declared.version.AuditVersion.AuditVersion, Headers.front_of, Records.record_bytes, Reading.IsShown}
 
 -- how many bytes a record has, and a header
 abbrev pub record_size : ℕ

@@ -1,11 +1,8 @@
 -- The day that a header of version 3 shows.
-use Rattle.std.specs.Prelude.{ℕ, List, take, ◌==◌, if◌then◌else◌}
-use Rattle.std.specs.Int.{w8, w16, w32, from_be_bytes}
+use Rattle.std.specs.{Prelude.{ℕ, List, take, ◌==◌, if◌then◌else◌}, Int.{w8, w16, w32, from_be_bytes}}
 use Rattle.gx_ouch.specs.Layout.{Field, field, bytes_at}
 use Rattle.gx_clock.specs.declared.offset.UtcOffset.{UtcOffset}
-use Rattle.gx_clock.specs.declared.offset.UtcOffset.TheVariants as offsets
-use Rattle.gx_audit_bytes.specs.declared.day.AuditDay.{AuditDay}
-use Rattle.gx_audit_bytes.specs.Bodies.{zero_padded}
+use Rattle.gx_audit_bytes.specs.{declared.day.AuditDay.AuditDay, Bodies.zero_padded}
 
 -- where the date stands, and the sign and the minutes of the offset
 abbrev pub date_place : Field
@@ -19,12 +16,12 @@ minutes_place = field 60 2
 
 -- `+` ahead of UTC, `-` behind
 abbrev pub sign_shown : UtcOffset → ℕ
-sign_shown (offsets.Ahead minutes) = 43
-sign_shown (offsets.Behind minutes) = 45
+sign_shown (UtcOffset.Ahead minutes) = 43
+sign_shown (UtcOffset.Behind minutes) = 45
 
 -- the offset with this sign and so many minutes
 abbrev pub offset_shown : ℕ → ℕ → UtcOffset
-offset_shown sign minutes = if sign == 45 then offsets.Behind minutes else offsets.Ahead minutes
+offset_shown sign minutes = if sign == 45 then UtcOffset.Behind minutes else UtcOffset.Ahead minutes
 
 -- the day that a whole header shows
 abbrev pub day_shown : List ℕ → AuditDay

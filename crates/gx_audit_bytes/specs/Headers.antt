@@ -1,17 +1,12 @@
 -- The 128 bytes of a header, which says whose audit it is.
-use Rattle.std.specs.Prelude.{ℕ, List, [], ◌∷◌, ◌++◌, length, take, replicate, codes}
-use Rattle.std.specs.Int.{w16, w32, to_be_bytes}
+use Rattle.std.specs.{Prelude.{ℕ, List, [], ◌∷◌, ◌++◌, length, take, replicate, codes}, Int.{w16, w32, to_be_bytes}}
 use Rattle.sha2.specs.Sha256.{sha256}
-use Rattle.gx_ouch.specs.Layout.{Field, Layout, field, laid_out}
-use Rattle.gx_ouch.specs.Writing.{letter}
+use Rattle.gx_ouch.specs.{Layout.{Field, Layout, field, laid_out}, Writing.letter}
 use Rattle.gx_policy.specs.declared.policy.PolicyData.{PolicyData}
 use Rattle.gx_history.specs.InForce.{lifters_asked}
 use Rattle.gx_clock.specs.Offsets.{minutes_in}
 use Rattle.gx_digest.specs.PolicyText.{policy_text}
-use Rattle.gx_audit_bytes.specs.declared.day.AuditDay.{AuditDay}
-use Rattle.gx_audit_bytes.specs.declared.version.AuditVersion.{AuditVersion}
-use Rattle.gx_audit_bytes.specs.declared.version.AuditVersion.TheVariants as versions
-use Rattle.gx_audit_bytes.specs.Days.{date_place, sign_place, minutes_place, sign_shown}
+use Rattle.gx_audit_bytes.specs.{declared.{day.AuditDay.AuditDay, version.AuditVersion.AuditVersion}, Days.{date_place, sign_place, minutes_place, sign_shown}}
 
 -- where the session stands, the lifters, and how many accounts, stocks, users and rules there are
 abbrev pub policy_places : List Field
@@ -76,11 +71,11 @@ dated_bytes policy day = laid_out dated_header (dated_contents policy day)
 
 -- the policy's header in a version that has one
 abbrev pub header_in : AuditVersion → PolicyData → List ℕ
-header_in (versions.Three day) policy = dated_bytes policy day
+header_in (AuditVersion.Three day) policy = dated_bytes policy day
 header_in other policy = header_bytes policy
 
 -- what stands in front of the records
 abbrev pub front_of : AuditVersion → PolicyData → List ℕ
-front_of versions.One policy = []
-front_of versions.Two policy = header_bytes policy
-front_of (versions.Three day) policy = dated_bytes policy day
+front_of AuditVersion.One policy = []
+front_of AuditVersion.Two policy = header_bytes policy
+front_of (AuditVersion.Three day) policy = dated_bytes policy day

@@ -1,26 +1,10 @@
 -- The record that some bytes show.
-use Rattle.std.specs.Prelude.{◌≡◌, ◌<◌, ◌^◌, ℕ, Bool, true, ◌==◌, ◌&&◌, List, ◌++◌, length, take, drop, Option, Some, None, option_map, option_and_then, unwrap_or, if◌then◌else◌, bytes_eq, IsTrue}
-use Rattle.std.specs.Int.{w8, w16, w32, w64, from_be_bytes}
-use Rattle.std.specs.List.{find}
-use Rattle.gx_ouch.specs.Layout.{bytes_at}
-use Rattle.gx_ouch.specs.Messages.{enter_order, replace_order, cancel_order}
+use Rattle.std.specs.{Prelude.{◌≡◌, ◌<◌, ◌^◌, ℕ, Bool, true, ◌==◌, ◌&&◌, List, ◌++◌, length, take, drop, Option, Some, None, option_map, option_and_then, unwrap_or, if◌then◌else◌, bytes_eq, IsTrue}, Int.{w8, w16, w32, w64, from_be_bytes}, List.find}
+use Rattle.gx_ouch.specs.{Layout.bytes_at, Messages.{enter_order, replace_order, cancel_order}}
 use Rattle.gx_desk.specs.Messages.{kill, lift, set_limit, restrict, unrestrict, grant, revoke, close_day}
-use Rattle.gx_history.specs.declared.record.Request.{Request}
-use Rattle.gx_history.specs.declared.record.Request.TheVariants as requests
-use Rattle.gx_policy.specs.declared.rule_name.RuleName.{RuleName}
-use Rattle.gx_policy.specs.declared.rule_name.RuleName.TheVariants as rules
-use Rattle.gx_history.specs.declared.record.Step.{Step}
-use Rattle.gx_history.specs.declared.record.Step.TheVariants as steps
-use Rattle.gx_history.specs.declared.record.Verdict.{Verdict}
-use Rattle.gx_history.specs.declared.record.Verdict.TheVariants as verdicts
-use Rattle.gx_history.specs.declared.record.RecordData.{RecordData}
-use Rattle.gx_history.specs.Payloads.{request_of}
-use Rattle.gx_policy.specs.RuleNames.{rule_id, rules_before, rules_behind}
-use Rattle.gx_history.specs.Showing.{is_askable, is_showable, is_rule_shown}
-use Rattle.gx_audit_bytes.specs.declared.version.AuditVersion.{AuditVersion}
-use Rattle.gx_audit_bytes.specs.Records.{number_place, handed_place, moment_place, line_place, user_place, kind_place, body_place, verdict_place, rule_place, order_place, maker_place, shares_place, price_place, record_bytes, HasPlaces, line_shown, user_shown, kind_shown, body_shown, verdict_letter, rule_shown, order_shown, maker_shown, shares_shown, price_shown}
-use Rattle.gx_audit_bytes.specs.Bodies.{zero_padded}
-use Rattle.gx_history.specs.Requests.{handed_moment}
+use Rattle.gx_history.specs.{declared.record.{Request.Request, Step.Step, Verdict.Verdict, RecordData.RecordData}, Payloads.request_of, Showing.{is_askable, is_showable, is_rule_shown}, Requests.handed_moment}
+use Rattle.gx_policy.specs.{declared.rule_name.RuleName.RuleName, RuleNames.{rule_id, rules_before, rules_behind}}
+use Rattle.gx_audit_bytes.specs.{declared.version.AuditVersion.AuditVersion, Records.{number_place, handed_place, moment_place, line_place, user_place, kind_place, body_place, verdict_place, rule_place, order_place, maker_place, shares_place, price_place, record_bytes, HasPlaces, line_shown, user_shown, kind_shown, body_shown, verdict_letter, rule_shown, order_shown, maker_shown, shares_shown, price_shown}, Bodies.zero_padded}
 
 -- the bytes from an offset on, so many of them
 abbrev pub part : ℕ → ℕ → List ℕ → List ℕ
@@ -43,41 +27,41 @@ message_size kind =
     else None))))))))))
 
 abbrev pub login_in : List ℕ → Request
-login_in body = requests.Login (record {
+login_in body = Request.Login (record {
   password_is_right = from_be_bytes w8 (part 0 1 body) == 89;
   session_is_right = from_be_bytes w8 (part 1 1 body) == 89;
   wanted = from_be_bytes w64 (part 2 8 body);
 })
 
 abbrev pub unreadable_in : List ℕ → Request
-unreadable_in body = requests.Unreadable (record { length = from_be_bytes w16 (part 0 2 body); first = from_be_bytes w8 (part 2 1 body) })
+unreadable_in body = Request.Unreadable (record { length = from_be_bytes w16 (part 0 2 body); first = from_be_bytes w8 (part 2 1 body) })
 
 -- the request in the body, by its kind: what a message asks for is read as it is from a payload
 unfoldable pub request_in : ℕ → List ℕ → Option Request
 request_in kind body =
     if kind == 49 then Some (login_in body)
-    else (if kind == 50 then Some requests.Logout
+    else (if kind == 50 then Some Request.Logout
     else (if kind == 51 then Some (unreadable_in body)
     else option_map (λ (size : ℕ). request_of (take size body)) (message_size kind)))
 
 -- the step, by its kind: the bytes of its other parts
 unfoldable pub step_in : ℕ → ℕ → ℕ → List ℕ → List ℕ → Option Step
 step_in kind handed line user body =
-    if kind == 52 then Some (steps.Matching handed)
-    else option_map (λ (q : Request). steps.Asked (record { line = line; user = record { bytes = user }; request = q; handed = handed })) (request_in kind body)
+    if kind == 52 then Some (Step.Matching handed)
+    else option_map (λ (q : Request). Step.Asked (record { line = line; user = record { bytes = user }; request = q; handed = handed })) (request_in kind body)
 
 -- the built-in rule of this name, else the file's
 unfoldable pub rule_in : List ℕ → RuleName
-rule_in name = unwrap_or (find (λ rule. bytes_eq (rule_id rule).bytes name) (rules_before ++ rules_behind)) (rules.File (record { bytes = name }))
+rule_in name = unwrap_or (find (λ rule. bytes_eq (rule_id rule).bytes name) (rules_before ++ rules_behind)) (RuleName.File (record { bytes = name }))
 
 -- the verdict, by its letter: the rule, and the numbers of its other parts
 unfoldable pub verdict_in : ℕ → List ℕ → ℕ → ℕ → ℕ → ℕ → Option Verdict
 verdict_in letter rule order maker shares price =
-    if letter == 71 then Some verdicts.Granted
-    else (if letter == 68 then Some (verdicts.Denied (rule_in rule))
-    else (if letter == 70 then Some (verdicts.Filled (record { taker = order; maker = maker; shares = shares; price = price }))
-    else (if letter == 82 then Some (verdicts.Rested order)
-    else (if letter == 69 then Some (verdicts.Expired order)
+    if letter == 71 then Some Verdict.Granted
+    else (if letter == 68 then Some (Verdict.Denied (rule_in rule))
+    else (if letter == 70 then Some (Verdict.Filled (record { taker = order; maker = maker; shares = shares; price = price }))
+    else (if letter == 82 then Some (Verdict.Rested order)
+    else (if letter == 69 then Some (Verdict.Expired order)
     else None))))
 
 -- the step that the bytes show
@@ -142,17 +126,12 @@ StepIsRead s = step_in (kind_shown s) (handed_moment s) (line_shown s) (user_sho
 abbrev pub VerdictIsRead : Verdict → Type 0
 VerdictIsRead v = verdict_in (verdict_letter v) (rule_shown v) (order_shown v) (maker_shown v) (shares_shown v) (price_shown v) ≡ Some v
 
--- the name of a file's rule has eight bytes
-abbrev pub NameFits : RuleName → Type 0
-NameFits (rules.File name) = length name.bytes ≡ 8
-NameFits other = Unit {0}
-
 -- a denial names a rule that a record can show
 abbrev pub shows_rule : Verdict → Bool
-shows_rule (verdicts.Denied rule) = is_rule_shown rule
+shows_rule (Verdict.Denied rule) = is_rule_shown rule
 shows_rule other = true
 
 -- what a request is asked by has a line and a name
 abbrev pub IsAskableStep : Step → Type 0
-IsAskableStep (steps.Asked a) = IsTrue (is_askable a)
-IsAskableStep (steps.Matching handed) = Unit {0}
+IsAskableStep (Step.Asked a) = IsTrue (is_askable a)
+IsAskableStep (Step.Matching handed) = Unit {0}

@@ -1,18 +1,9 @@
 -- The 128 bytes of a record.
-use Rattle.std.specs.Prelude.{ℕ, List, [], ◌∷◌, codes}
-use Rattle.std.specs.Int.{w16, w32, w64, to_be_bytes}
-use Rattle.gx_ouch.specs.Layout.{Field, HasSizes, Layout, field, laid_out}
-use Rattle.gx_ouch.specs.Writing.{letter}
-use Rattle.gx_history.specs.declared.record.Step.{Step}
-use Rattle.gx_history.specs.declared.record.Step.TheVariants as steps
-use Rattle.gx_history.specs.declared.record.Verdict.{Verdict}
-use Rattle.gx_history.specs.declared.record.Verdict.TheVariants as verdicts
-use Rattle.gx_history.specs.declared.record.RecordData.{RecordData}
-use Rattle.gx_history.specs.Requests.{handed_moment}
+use Rattle.std.specs.{Prelude.{ℕ, List, [], ◌∷◌, codes}, Int.{w16, w32, w64, to_be_bytes}}
+use Rattle.gx_ouch.specs.{Layout.{Field, HasSizes, Layout, field, laid_out}, Writing.letter}
+use Rattle.gx_history.specs.{declared.record.{Step.Step, Verdict.Verdict, RecordData.RecordData}, Requests.handed_moment}
 use Rattle.gx_policy.specs.RuleNames.{rule_id}
-use Rattle.gx_audit_bytes.specs.declared.version.AuditVersion.{AuditVersion}
-use Rattle.gx_audit_bytes.specs.Versions.{mark_of}
-use Rattle.gx_audit_bytes.specs.Bodies.{request_kind, request_body, zero_padded}
+use Rattle.gx_audit_bytes.specs.{declared.version.AuditVersion.AuditVersion, Versions.mark_of, Bodies.{request_kind, request_body, zero_padded}}
 
 -- where each part of a record stands behind the first letter of its mark, and how many bytes it has
 abbrev pub mark_place : Field
@@ -82,52 +73,52 @@ audit_record = record {
 
 -- a matching step has no line and no user
 abbrev pub line_shown : Step → ℕ
-line_shown (steps.Asked a) = a.line
-line_shown (steps.Matching handed) = 0
+line_shown (Step.Asked a) = a.line
+line_shown (Step.Matching handed) = 0
 
 abbrev pub user_shown : Step → List ℕ
-user_shown (steps.Asked a) = a.user.bytes
-user_shown (steps.Matching handed) = codes "      "
+user_shown (Step.Asked a) = a.user.bytes
+user_shown (Step.Matching handed) = codes "      "
 
 -- the kind of a matching step is `4`
 abbrev pub kind_shown : Step → ℕ
-kind_shown (steps.Asked a) = request_kind a.request
-kind_shown (steps.Matching handed) = 52
+kind_shown (Step.Asked a) = request_kind a.request
+kind_shown (Step.Matching handed) = 52
 
 abbrev pub body_shown : Step → List ℕ
-body_shown (steps.Asked a) = request_body a.request
-body_shown (steps.Matching handed) = []
+body_shown (Step.Asked a) = request_body a.request
+body_shown (Step.Matching handed) = []
 
 -- `G`, `D`, `F`, `R`, `E`
 abbrev pub verdict_letter : Verdict → ℕ
-verdict_letter verdicts.Granted = 71
-verdict_letter (verdicts.Denied rule) = 68
-verdict_letter (verdicts.Filled fill) = 70
-verdict_letter (verdicts.Rested order) = 82
-verdict_letter (verdicts.Expired order) = 69
+verdict_letter Verdict.Granted = 71
+verdict_letter (Verdict.Denied rule) = 68
+verdict_letter (Verdict.Filled fill) = 70
+verdict_letter (Verdict.Rested order) = 82
+verdict_letter (Verdict.Expired order) = 69
 
 -- the rule that denies
 abbrev pub rule_shown : Verdict → List ℕ
-rule_shown (verdicts.Denied rule) = (rule_id rule).bytes
+rule_shown (Verdict.Denied rule) = (rule_id rule).bytes
 rule_shown other = codes "        "
 
 -- the taker, or the order that rests or expires
 abbrev pub order_shown : Verdict → ℕ
-order_shown (verdicts.Filled fill) = fill.taker
-order_shown (verdicts.Rested order) = order
-order_shown (verdicts.Expired order) = order
+order_shown (Verdict.Filled fill) = fill.taker
+order_shown (Verdict.Rested order) = order
+order_shown (Verdict.Expired order) = order
 order_shown other = 0
 
 abbrev pub maker_shown : Verdict → ℕ
-maker_shown (verdicts.Filled fill) = fill.maker
+maker_shown (Verdict.Filled fill) = fill.maker
 maker_shown other = 0
 
 abbrev pub shares_shown : Verdict → ℕ
-shares_shown (verdicts.Filled fill) = fill.shares
+shares_shown (Verdict.Filled fill) = fill.shares
 shares_shown other = 0
 
 abbrev pub price_shown : Verdict → ℕ
-price_shown (verdicts.Filled fill) = fill.price
+price_shown (Verdict.Filled fill) = fill.price
 price_shown other = 0
 
 -- what stands at each place

@@ -1,13 +1,10 @@
 //! What a record's body shows of a request.
 
 ghost use Rattle.std.specs.Prelude.{◌≡◌, ◌≤◌, Some, [], ◌∷◌, length};
-ghost use Rattle.gx_ouch.specs.Layout.{laid_out, HasSizes};
-ghost use Rattle.gx_ouch.specs.Messages.{enter_order, replace_order, cancel_order};
+ghost use Rattle.gx_ouch.specs.{Layout.{laid_out, HasSizes}, Messages.{enter_order, replace_order, cancel_order}};
 ghost use Rattle.gx_history.specs.Payloads.{request_of};
 ghost use Rattle.gx_history.specs.declared.record.Request.TheVariants as requests;
-ghost use Rattle.gx_audit_bytes.specs.Bodies.{request_body, request_kind, yes_or_no, zero_padded};
-ghost use Rattle.gx_audit_bytes.specs.Reading.{request_in};
-ghost use Rattle.gx_audit_bytes.specs.Contents.{enter_contents, replace_contents, cancel_contents, command_contents, command_layout, LimitFits};
+ghost use Rattle.gx_audit_bytes.specs.{Bodies.{request_body, request_kind, yes_or_no, zero_padded}, Reading.request_in, Contents.{enter_contents, replace_contents, cancel_contents, command_contents, command_layout, LimitFits}};
 
 use crate::draft::Draft;
 use gx_desk::{Action, Command};

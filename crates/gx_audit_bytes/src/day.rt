@@ -2,8 +2,7 @@
 
 ghost use Rattle.std.specs.Prelude.{◌≡◌, ◌<◌, ◌≤◌, ◌^◌, length, take};
 ghost use Rattle.gx_clock.specs.Offsets.{minutes_in};
-ghost use Rattle.gx_audit_bytes.specs.Bodies.{zero_padded};
-ghost use Rattle.gx_audit_bytes.specs.Days.{day_in, day_shown, offset_shown, sign_shown};
+ghost use Rattle.gx_audit_bytes.specs.{Bodies.zero_padded, Days.{day_in, day_shown, offset_shown, sign_shown}};
 
 use crate::draft::{RECORD_SIZE, zero_padded};
 use crate::reading::{byte, number, short};

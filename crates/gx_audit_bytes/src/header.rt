@@ -4,8 +4,7 @@ ghost use Rattle.std.specs.Prelude.{◌≡◌, ◌≤◌, ◌^◌, ◌<◌, ℕ,
 ghost use Rattle.gx_ouch.specs.Layout.{LiesIn, with_fields};
 ghost use Rattle.gx_history.specs.InForce.{lifters_asked};
 ghost use Rattle.gx_audit_bytes.specs.declared.version.AuditVersion.TheVariants as versions;
-ghost use Rattle.gx_audit_bytes.specs.Headers.{audit_header, dated_bytes, dated_contents, dated_header, header_bytes, header_contents, header_in, policy_shown, session_shown};
-ghost use Rattle.gx_audit_bytes.specs.Versions.{version_of, DayFits};
+ghost use Rattle.gx_audit_bytes.specs.{Headers.{audit_header, dated_bytes, dated_contents, dated_header, header_bytes, header_contents, header_in, policy_shown, session_shown}, Versions.{version_of, DayFits}};
 
 use crate::day::{AuditDay, minutes, sign};
 use crate::draft::{Draft, RECORD_SIZE, whole};

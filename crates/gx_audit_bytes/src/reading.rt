@@ -1,57 +1,23 @@
 //! A record, read from bytes.
 
-ghost use Rattle.std.specs.Prelude.{◌≡◌, ◌≢◌, ◌≤◌, IsTrue, IsFalse, IfSome, length, Some, None, bytes_eq, option_map, ◌++◌};
-ghost use Rattle.std.specs.Int.{w8, w16, w32, w64, from_be_bytes};
-ghost use Rattle.std.specs.List.{find, list_any};
-ghost use Rattle.gx_units.specs.Names.{has_no_lower_case};
-ghost use Rattle.gx_units.specs.Spelling.{is_blank};
+ghost use Rattle.std.specs.{Prelude.{◌≡◌, ◌≢◌, ◌≤◌, IsTrue, IsFalse, IfSome, length, Some, None, bytes_eq, option_map, ◌++◌}, Int.{w8, w16, w32, w64, from_be_bytes}, List.{find}};
+ghost use Rattle.gx_units.specs.{Names.has_no_lower_case, Spelling.is_blank};
 ghost use Rattle.gx_history.specs.declared.record.Request.TheVariants as requests;
-ghost use Rattle.gx_history.specs.Payloads.{request_of};
-ghost use Rattle.gx_policy.specs.RuleNames.{rule_id, is_built_in};
-ghost use Rattle.gx_history.specs.Showing.{is_showable, is_verdict_of, is_askable, answers, is_rule_shown, has_its_first};
+ghost use Rattle.gx_history.specs.{Payloads.request_of, Showing.{is_showable, is_verdict_of, is_askable, answers, is_rule_shown, has_its_first}};
+ghost use Rattle.gx_policy.specs.RuleNames.{rule_id};
 ghost use Rattle.gx_audit_bytes.specs.declared.version.AuditVersion.TheVariants as versions;
-ghost use Rattle.gx_audit_bytes.specs.Records.{record_bytes};
-ghost use Rattle.gx_audit_bytes.specs.Reading.{record_of, IsShown, content_in, step_in, verdict_in, rule_in, request_in, login_in, unreadable_in, message_size, step_shown, verdict_shown};
+ghost use Rattle.gx_audit_bytes.specs.{Records.record_bytes, Reading.{record_of, IsShown, content_in, step_in, verdict_in, rule_in, request_in, login_in, unreadable_in, message_size, step_shown, verdict_shown}};
 
 use crate::draft::{RECORD_SIZE, same_bytes, whole};
 use crate::version::AuditVersion;
-use crate::writing::{rule_bytes, write_content, write_record_in};
+use crate::writing::{write_content, write_record_in};
 use gx_desk::{Action, Command, Tag, WrittenName};
 use gx_history::record::{
     Asked, Fill, Login, Record, RecordData, Request, Step, Unreadable, Verdict,
 };
 use gx_ouch::Inbound;
-use gx_policy::RuleName;
+use gx_policy::{BUILT_IN, RuleName, is_built_in};
 use gx_units::{AccountName, RuleId, Symbol, UserName};
-
-/// The built-in rules.
-const BUILT_IN: [RuleName; 25] = [
-    RuleName::L1,
-    RuleName::L2,
-    RuleName::L3,
-    RuleName::G1,
-    RuleName::G2,
-    RuleName::G3,
-    RuleName::I1,
-    RuleName::I2,
-    RuleName::I3,
-    RuleName::P1,
-    RuleName::P2,
-    RuleName::P3,
-    RuleName::P4,
-    RuleName::P5,
-    RuleName::P6,
-    RuleName::P7,
-    RuleName::P8,
-    RuleName::P9,
-    RuleName::P10,
-    RuleName::P11,
-    RuleName::P12,
-    RuleName::Q1,
-    RuleName::Q2,
-    RuleName::Q3,
-    RuleName::Q4,
-];
 
 /// The record whose bytes these are in version 1; None where they are no record's. Takes no memory.
 pub fn read_record(bytes: &[u8; RECORD_SIZE]) -> Option<Record>
@@ -240,7 +206,7 @@ fn rule_named(name: [u8; 8]) -> RuleName
 fn found(rules: &[RuleName], name: [u8; 8]) -> Option<RuleName>
     ensures { result ≡ find (λ rule. bytes_eq (rule_id rule).bytes name) rules.now }
 {
-    rules.iter().copied().find(|rule| rule_bytes(*rule) == name)
+    rules.iter().copied().find(|rule| rule.id().bytes == name)
 }
 
 pub(crate) fn is_showable(content: &RecordData) -> bool
@@ -297,23 +263,9 @@ fn is_rule_shown(rule: &RuleName) -> bool
     ensures { result ≡ is_rule_shown rule.now }
 {
     match rule {
-        RuleName::File(name) => !is_built_in(name) && !is_blank(&name.bytes),
+        RuleName::File(name) => !is_built_in(*name) && !is_blank(&name.bytes),
         _ => true,
     }
-}
-
-/// Whether the name is that of a built-in rule.
-#[tactic(auto, unfolding(gx_policy::specs::RuleNames::rules_before, gx_policy::specs::RuleNames::rules_behind))]
-pub fn is_built_in(name: &RuleId) -> bool
-    ensures { result ≡ is_built_in name.now }
-{
-    is_listed(&BUILT_IN, name.bytes)
-}
-
-fn is_listed(rules: &[RuleName], name: [u8; 8]) -> bool
-    ensures { result ≡ list_any (λ rule. bytes_eq (rule_id rule).bytes name) rules.now }
-{
-    rules.iter().any(|rule| rule_bytes(*rule) == name)
 }
 
 fn is_blank(name: &[u8]) -> bool

@@ -1,9 +1,7 @@
 //! Records, one behind the other.
 
 ghost use Rattle.std.specs.Prelude.{◌≡◌, ◌++◌, IfOk, OnOk};
-ghost use Rattle.gx_audit_bytes.specs.Audits.{all_bytes, AreShown};
-ghost use Rattle.gx_audit_bytes.specs.Reading.{IsShown};
-ghost use Rattle.gx_audit_bytes.specs.Records.{record_bytes};
+ghost use Rattle.gx_audit_bytes.specs.{Audits.{all_bytes, AreShown}, Reading.IsShown, Records.record_bytes};
 
 use crate::version::AuditVersion;
 use crate::writing::write_record_in;

@@ -3,13 +3,9 @@
 ghost use Rattle.std.specs.Prelude.{◌≡◌, ◌++◌, ◌∷◌, Some, length, take, codes, IsTrue};
 ghost use Rattle.gx_ouch.specs.Layout.{LiesIn};
 ghost use Rattle.gx_policy.specs.RuleNames.{rule_id};
-ghost use Rattle.gx_history.specs.Requests.{handed_moment};
-ghost use Rattle.gx_history.specs.Showing.{is_showable};
+ghost use Rattle.gx_history.specs.{Requests.handed_moment, Showing.is_showable};
 ghost use Rattle.gx_audit_bytes.specs.declared.version.AuditVersion.TheVariants as versions;
-ghost use Rattle.gx_audit_bytes.specs.Bodies.{zero_padded};
-ghost use Rattle.gx_audit_bytes.specs.Reading.{record_of, shows_rule, IsShown, NameFits, NumbersFit, StepIsRead, VerdictIsRead};
-ghost use Rattle.gx_audit_bytes.specs.Records.{audit_record, record_contents, record_bytes, line_shown, user_shown, kind_shown, body_shown, verdict_letter, rule_shown, order_shown, maker_shown, shares_shown, price_shown, HasPlaces};
-ghost use Rattle.gx_audit_bytes.specs.Versions.{mark_of};
+ghost use Rattle.gx_audit_bytes.specs.{Bodies.zero_padded, Reading.{record_of, shows_rule, IsShown, NumbersFit, StepIsRead, VerdictIsRead}, Records.{audit_record, record_contents, record_bytes, line_shown, user_shown, kind_shown, body_shown, verdict_letter, rule_shown, order_shown, maker_shown, shares_shown, price_shown, HasPlaces}, Versions.mark_of};
 
 use crate::bodies::{request_body, request_kind};
 use crate::draft::{Draft, RECORD_SIZE, whole, zero_padded};
@@ -168,52 +164,9 @@ fn rule(verdict: &Verdict) -> [u8; 8]
     ensures read { IsTrue (shows_rule verdict.now) → VerdictIsRead verdict.now }
 {
     match verdict {
-        Verdict::Denied(rule) => rule_bytes(*rule),
+        Verdict::Denied(rule) => rule.id().bytes,
         _ => NO_RULE,
     }
-}
-
-/// The name of a rule, padded with spaces.
-pub fn rule_bytes(rule: RuleName) -> [u8; 8]
-    ensures bytes { result ≡ (rule_id rule).bytes }
-    ensures fits { NameFits rule }
-{
-    match rule {
-        RuleName::L1 => *b"L1      ",
-        RuleName::L2 => *b"L2      ",
-        RuleName::L3 => *b"L3      ",
-        RuleName::G1 => *b"G1      ",
-        RuleName::G2 => *b"G2      ",
-        RuleName::G3 => *b"G3      ",
-        RuleName::I1 => *b"I1      ",
-        RuleName::I2 => *b"I2      ",
-        RuleName::I3 => *b"I3      ",
-        RuleName::P1 => *b"P1      ",
-        RuleName::P2 => *b"P2      ",
-        RuleName::P3 => *b"P3      ",
-        RuleName::P4 => *b"P4      ",
-        RuleName::P5 => *b"P5      ",
-        RuleName::P6 => *b"P6      ",
-        RuleName::P7 => *b"P7      ",
-        RuleName::P8 => *b"P8      ",
-        RuleName::P9 => *b"P9      ",
-        RuleName::P10 => *b"P10     ",
-        RuleName::P11 => *b"P11     ",
-        RuleName::P12 => *b"P12     ",
-        RuleName::Q1 => *b"Q1      ",
-        RuleName::Q2 => *b"Q2      ",
-        RuleName::Q3 => *b"Q3      ",
-        RuleName::Q4 => *b"Q4      ",
-        RuleName::File(name) => file_rule_bytes(name),
-    }
-}
-
-#[tactic(auto, using(crate::proofs::Fields::take_whole))]
-fn file_rule_bytes(name: RuleId) -> [u8; 8]
-    ensures bytes { result ≡ take 8 (name.bytes ++ codes "        ") }
-    ensures fits { length name.bytes ≡ 8 }
-{
-    name.bytes
 }
 
 fn order(verdict: &Verdict) -> u64

@@ -1,19 +1,8 @@
 -- What stands under the rank of its price and its number is in price-time priority.
-use Rattle.std.proofs.Common.{◌≡◌, ℕ, ◌+◌, ◌<◌, ◌≤◌, inl, inr, Bool, true, false, cond, not, ◌||◌, List, [], ◌∷◌, refl, ◌∙◌, sym, ap, subst, arith, eq-eqb, if◌then◌else◌}
-use Rattle.std.specs.Prelude.{nat_lt, Some, is_some, option_map, slice_get}
-use Rattle.std.specs.BTreeMap.{insert_entry, is_at}
-use Rattle.std.specs.List.{AllByRecursion, list_all, list_any}
-use Rattle.std.specs.List.Sorted.{IsStrictlySortedBy}
-use Rattle.std.specs.Map.{keys_of, values_of, lookup, remove_entry}
-use Rattle.std.specs.Ordering.{is_eq, nat_cmp, match_ordering, ordering_then, MatchOrdering}
-use Rattle.std.specs.declared.cmp.Ordering.{Ordering}
-use Rattle.std.specs.declared.cmp.Ordering.TheVariants.{Less, Equal, Greater}
-use Rattle.std.proofs.lemmas.Bool.{and_from, and_parts, cases_eq, eqb-true, lt-ltb, le-ltb, false_from_ne_true}
-use Rattle.std.proofs.lemmas.Cmp.{ranked}
+use Rattle.std.proofs.{Common.{◌≡◌, ℕ, ◌+◌, ◌<◌, ◌≤◌, inl, inr, Bool, true, false, cond, not, ◌||◌, List, [], ◌∷◌, refl, ◌∙◌, sym, ap, subst, arith, eq-eqb, if◌then◌else◌}, lemmas.{Bool.{and_from, and_parts, cases_eq, eqb-true, lt-ltb, le-ltb, false_from_ne_true}, Cmp.ranked}}
+use Rattle.std.specs.{Prelude.{nat_lt, Some, is_some, option_map, slice_get}, BTreeMap.{insert_entry, is_at}, List.{AllByRecursion, list_all, list_any, Sorted.IsStrictlySortedBy}, Map.{keys_of, values_of, lookup, remove_entry}, Ordering.{is_eq, nat_cmp, match_ordering, ordering_then, MatchOrdering}, declared.cmp.Ordering.{Ordering, TheVariants.{Less, Equal, Greater}}}
 use Rattle.gx_units.specs.declared.names.AccountName.{AccountName}
-use Rattle.gx_book.specs.declared.resting.Resting.{Resting}
-use Rattle.gx_book.specs.Keys.{are_keyed, is_keyed, is_rank, order_at, orders_at, price_at}
-use Rattle.gx_book.specs.Queue.{IsLatest, is_better, is_numbered, is_same, with_order, without_order}
+use Rattle.gx_book.specs.{declared.resting.Resting.Resting, Keys.{are_keyed, is_keyed, is_rank, order_at, orders_at, price_at}, Queue.{IsLatest, is_better, is_numbered, is_same, with_order, without_order}}
 use Rattle.gx_book.proofs.Order.{ahead_of_all, all_pass, behind_first}
 
 -- ---- keys

@@ -1,22 +1,11 @@
 -- A book that opens on the policy's stocks.
-use Rattle.std.proofs.Common.{◌≡◌, ℕ, ◌+◌, ◌<◌, Bool, true, not, ◌||◌, List, [], ◌∷◌, ◌++◌, map, refl, ◌∙◌, sym, ap, subst, length, take, drop, zero, suc, get_or, append_assoc, if◌then◌else◌}
+use Rattle.std.proofs.{Common.{◌≡◌, ℕ, ◌+◌, ◌<◌, Bool, true, not, ◌||◌, List, [], ◌∷◌, ◌++◌, map, refl, ◌∙◌, sym, ap, subst, length, take, drop, zero, suc, get_or, append_assoc, if◌then◌else◌}, lemmas.{Bool.{and_from, and_parts, or_parts}, List.{get_or-map, length-map, take_more, take-append-drop, Folds.list_any-append}}}
 use Rattle.std.specs.List.{list_any}
-use Rattle.std.proofs.lemmas.Bool.{and_from, and_parts, or_parts}
-use Rattle.std.proofs.lemmas.List.{get_or-map, length-map, take_more, take-append-drop}
-use Rattle.std.proofs.lemmas.List.Folds.{list_any-append}
 use Rattle.indexmap.specs.IndexMap.{insert_entry}
-use Rattle.gx_units.specs.Names.{same_stock}
-use Rattle.gx_units.specs.declared.names.Symbol.{Symbol}
-use Rattle.gx_policy.specs.declared.policy.Stock.{Stock}
-use Rattle.gx_policy.specs.declared.policy.PolicyData.{PolicyData}
-use Rattle.gx_policy.specs.Lists.{are_distinct}
-use Rattle.gx_policy.specs.Soundness.{is_sound, names_differ}
-use Rattle.gx_book.specs.declared.resting.Resting.{Resting}
-use Rattle.gx_book.specs.declared.sides.Sides.{Sides}
-use Rattle.gx_book.specs.Books.{StockOrders, is_same_stock, is_sound_book, without_orders}
-use Rattle.gx_book.specs.Table.{book_of, stock_of}
-use Rattle.gx_book.proofs.Order.{is_false}
-use Rattle.gx_book.proofs.Stocks.{stocks_equiv}
+use Rattle.gx_units.specs.{Names.same_stock, declared.names.Symbol.Symbol}
+use Rattle.gx_policy.specs.{declared.policy.{Stock.Stock, PolicyData.PolicyData}, Lists.are_distinct, Soundness.{is_sound, names_differ}}
+use Rattle.gx_book.specs.{declared.{resting.Resting.Resting, sides.Sides.Sides}, Books.{StockOrders, is_same_stock, is_sound_book, without_orders}, Table.{book_of, stock_of}}
+use Rattle.gx_book.proofs.{Order.is_false, Stocks.stocks_equiv}
 
 -- a stock of a new name goes last
 added : (es : List (Symbol × Sides)) (name : Symbol) (sides : Sides) (rest : List StockOrders) → are_distinct is_same_stock (book_of es ++ stock_of (name, sides) ∷ rest) ≡ true

@@ -1,13 +1,8 @@
 -- A side stays in the order of its prices, whatever is done to it.
-use Rattle.std.proofs.Common.{◌≡◌, Bool, true, false, cond, not, List, [], ◌∷◌, ◌++◌, refl, ◌∙◌, sym, ap, true≢false, arith}
+use Rattle.std.proofs.{Common.{◌≡◌, Bool, true, false, cond, not, List, [], ◌∷◌, ◌++◌, refl, ◌∙◌, sym, ap, true≢false, arith}, lemmas.{Bool.{and_from, and_parts}, List.{Elements.All-filter, Folds.list_all-append, Sums.{AllPass-from_list_all, list_all-from_AllPass}}}}
 use Rattle.std.specs.List.{filter, list_all}
-use Rattle.std.proofs.lemmas.Bool.{and_from, and_parts}
-use Rattle.std.proofs.lemmas.List.Elements.{All-filter}
-use Rattle.std.proofs.lemmas.List.Folds.{list_all-append}
-use Rattle.std.proofs.lemmas.List.Sums.{AllPass-from_list_all, list_all-from_AllPass}
 use Rattle.gx_policy.specs.Lists.{placed}
-use Rattle.gx_book.specs.declared.resting.Resting.{Resting}
-use Rattle.gx_book.specs.Queue.{is_better, is_in_order, with_order}
+use Rattle.gx_book.specs.{declared.resting.Resting.Resting, Queue.{is_better, is_in_order, with_order}}
 
 -- ---- any list
 

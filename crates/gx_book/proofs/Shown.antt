@@ -1,12 +1,8 @@
 -- Where a change of the book is seen.
 use Rattle.std.proofs.Common.{◌≡◌, Bool, true, false, cond, not, List, [], ◌∷◌, map, refl, ◌∙◌, sym, ap, true≢false, if◌then◌else◌}
-use Rattle.std.specs.Prelude.{Option, Some, None, is_some}
-use Rattle.std.specs.Option.{option_map_or}
-use Rattle.gx_units.specs.Names.{same_stock}
-use Rattle.gx_units.specs.declared.names.Symbol.{Symbol}
-use Rattle.gx_book.specs.declared.resting.Resting.{Resting}
-use Rattle.gx_book.specs.Books.{StockOrders, resting_in, side_of, stock_in, with_side}
-use Rattle.gx_book.specs.Laws.{EachSideShows, OtherSideStays, OtherStocksStay, OwnSideShows}
+use Rattle.std.specs.{Prelude.{Option, Some, None, is_some}, Option.option_map_or}
+use Rattle.gx_units.specs.{Names.same_stock, declared.names.Symbol.Symbol}
+use Rattle.gx_book.specs.{declared.resting.Resting.Resting, Books.{StockOrders, resting_in, side_of, stock_in, with_side}, Laws.{EachSideShows, OtherSideStays, OtherStocksStay, OwnSideShows}}
 use Rattle.gx_book.proofs.Stocks.{stock_is}
 
 -- what a change of every row makes of one side of a stock

@@ -1,25 +1,9 @@
 -- What the table of stocks says of the book that it stands for.
-use Rattle.std.proofs.Common.{◌≡◌, ℕ, Bool, true, false, cond, not, ◌||◌, List, [], ◌∷◌, map, refl, ◌∙◌, sym, ap, subst, if◌then◌else◌}
-use Rattle.std.specs.Prelude.{OnErr, Option, Some, None, is_some, Result, Ok, Err}
-use Rattle.std.specs.Cmp.{IsEquivalence, on_equiv}
-use Rattle.std.specs.Cmp.Lexicographic.{nat_list_eq_equiv}
-use Rattle.std.specs.Option.{option_map_or}
-use Rattle.std.specs.List.{list_any, AllByRecursion, IsDistinct}
-use Rattle.std.specs.Map.{keys_of, lookup, set_value}
-use Rattle.std.proofs.lemmas.Bool.{and_from, and_parts}
-use Rattle.std.proofs.lemmas.List.Folds.{list_all-map}
-use Rattle.std.proofs.lemmas.Map.{NonePasses, none_passes_from_lookup}
-use Rattle.std.proofs.lemmas.Map.Entries.{none_past_head}
-use Rattle.std.proofs.lemmas.Map.Steps.{set_value_same}
-use Rattle.std.proofs.lemmas.Slice.Eq.{bytes_eq-Decides}
-use Rattle.gx_units.specs.Names.{same_stock}
-use Rattle.gx_units.specs.declared.names.Symbol.{Symbol}
+use Rattle.std.proofs.{Common.{◌≡◌, ℕ, Bool, true, false, cond, not, ◌||◌, List, [], ◌∷◌, map, refl, ◌∙◌, sym, ap, subst, if◌then◌else◌}, lemmas.{Bool.{and_from, and_parts}, List.Folds.list_all-map, Map.{NonePasses, none_passes_from_lookup, Entries.none_past_head, Steps.set_value_same}, Slice.Eq.bytes_eq-Decides}}
+use Rattle.std.specs.{Prelude.{OnErr, Option, Some, None, is_some, Result, Ok, Err}, Cmp.{IsEquivalence, on_equiv, Lexicographic.nat_list_eq_equiv}, Option.option_map_or, List.{list_any, AllByRecursion, IsDistinct}, Map.{keys_of, lookup, set_value}}
+use Rattle.gx_units.specs.{Names.same_stock, declared.names.Symbol.Symbol}
 use Rattle.gx_policy.specs.Lists.{are_distinct}
-use Rattle.gx_book.specs.declared.resting.Resting.{Resting}
-use Rattle.gx_book.specs.declared.sides.Sides.{Sides}
-use Rattle.gx_book.specs.Books.{IsSound, StockOrders, is_same_stock, is_sound_book, is_sound_stock, on_each_side, on_side, resting_in, side_of, stock_in, with_side}
-use Rattle.gx_book.specs.Queue.{is_in_order}
-use Rattle.gx_book.specs.Table.{book_of, both_changed, changed, side_in, stock_of}
+use Rattle.gx_book.specs.{declared.{resting.Resting.Resting, sides.Sides.Sides}, Books.{IsSound, StockOrders, is_same_stock, is_sound_book, is_sound_stock, on_each_side, on_side, resting_in, side_of, stock_in, with_side}, Queue.is_in_order, Table.{book_of, both_changed, changed, side_in, stock_of}}
 use Rattle.gx_book.proofs.Order.{all_so}
 
 pub some_is : {X : Type 0} {x y : X} → Some x ≡ Some y → x ≡ y

@@ -1,14 +1,8 @@
 -- A book: for each listed stock the orders that rest, buys and sells apart.
-use Rattle.std.specs.Prelude.{ℕ, Bool, true, false, IsTrue, ◌&&◌, List, [], ◌++◌, Option, map, slice_get, if◌then◌else◌}
-use Rattle.std.specs.Option.{option_map_or}
-use Rattle.std.specs.List.{find, flat_map, list_all}
-use Rattle.gx_units.specs.Names.{same_stock}
-use Rattle.gx_units.specs.declared.names.Symbol.{Symbol}
-use Rattle.gx_policy.specs.Lists.{are_distinct}
-use Rattle.gx_policy.specs.declared.policy.Stock.{Stock}
-use Rattle.gx_policy.specs.declared.policy.PolicyData.{PolicyData}
-use Rattle.gx_book.specs.declared.resting.Resting.{Resting}
-use Rattle.gx_book.specs.Queue.{is_in_order, is_numbered, with_order}
+use Rattle.std.specs.{Prelude.{ℕ, Bool, true, false, IsTrue, ◌&&◌, List, [], ◌++◌, Option, map, slice_get, if◌then◌else◌}, Option.option_map_or, List.{find, flat_map, list_all}}
+use Rattle.gx_units.specs.{Names.same_stock, declared.names.Symbol.Symbol}
+use Rattle.gx_policy.specs.{Lists.are_distinct, declared.policy.{Stock.Stock, PolicyData.PolicyData}}
+use Rattle.gx_book.specs.{declared.resting.Resting.Resting, Queue.{is_in_order, is_numbered, with_order}}
 
 -- the orders that rest in one stock, each side with the better price first
 pub record StockOrders : Type 0 where

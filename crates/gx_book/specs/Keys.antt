@@ -1,9 +1,7 @@
 -- What the orders of a side stand under.
-use Rattle.std.specs.Prelude.{ℕ, Bool, ◌+◌, ◌-◌, ◌&&◌, ◌==◌, List, map, if◌then◌else◌}
-use Rattle.std.specs.List.{list_all}
+use Rattle.std.specs.{Prelude.{ℕ, Bool, ◌+◌, ◌-◌, ◌&&◌, ◌==◌, List, map, if◌then◌else◌}, List.list_all}
 use Rattle.gx_units.specs.declared.names.AccountName.{AccountName}
-use Rattle.gx_book.specs.declared.resting.Resting.{Resting}
-use Rattle.gx_book.specs.Queue.{is_numbered}
+use Rattle.gx_book.specs.{declared.resting.Resting.Resting, Queue.is_numbered}
 
 -- the rank of a price on a side, true for buys: the better the price, the lower the rank
 abbrev pub is_rank : Bool → ℕ → ℕ → Bool

@@ -1,9 +1,7 @@
 -- Where a change is seen.
 use Rattle.std.specs.Prelude.{◌≡◌, Bool, not, IsFalse, IsSome, List, []}
-use Rattle.gx_units.specs.Names.{same_stock}
-use Rattle.gx_units.specs.declared.names.Symbol.{Symbol}
-use Rattle.gx_book.specs.declared.resting.Resting.{Resting}
-use Rattle.gx_book.specs.Books.{StockOrders, on_each_side, on_side, resting_in, stock_in}
+use Rattle.gx_units.specs.{Names.same_stock, declared.names.Symbol.Symbol}
+use Rattle.gx_book.specs.{declared.resting.Resting.Resting, Books.{StockOrders, on_each_side, on_side, resting_in, stock_in}}
 
 -- a change of each side is seen on each side, where it makes nothing of nothing
 abbrev pub EachSideShows : Type 0

@@ -1,9 +1,7 @@
 -- The book that a table of stocks stands for.
 use Rattle.std.specs.Prelude.{Bool, List, map, if◌then◌else◌}
 use Rattle.gx_units.specs.declared.names.Symbol.{Symbol}
-use Rattle.gx_book.specs.declared.resting.Resting.{Resting}
-use Rattle.gx_book.specs.declared.sides.Sides.{Sides}
-use Rattle.gx_book.specs.Books.{StockOrders}
+use Rattle.gx_book.specs.{declared.{resting.Resting.Resting, sides.Sides.Sides}, Books.StockOrders}
 
 -- one of two sides, true for buys
 abbrev pub side_in : Bool → Sides → List Resting

@@ -2,8 +2,7 @@
 
 ghost use Rattle.std.specs.Prelude.{◌≡◌, is_some, IfOk, OnOk, OnErr};
 ghost use Rattle.gx_history.specs.Book.{is_buy};
-ghost use Rattle.gx_book.specs.Books.{IsSound, best_in, empty_book, on_each_side, on_side, resting_in, stock_in, with_rested};
-ghost use Rattle.gx_book.specs.Queue.{IsLatest, is_among, no_orders, without_order};
+ghost use Rattle.gx_book.specs.{Books.{IsSound, best_in, empty_book, on_each_side, on_side, resting_in, stock_in, with_rested}, Queue.{IsLatest, is_among, no_orders, without_order}};
 
 use crate::resting::{Resting, is_buy};
 use crate::sides::Sides;

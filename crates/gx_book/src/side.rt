@@ -2,8 +2,7 @@
 
 ghost use Rattle.std.specs.Prelude.{◌≡◌, [], IsTrue, OnOk, OnErr, slice_get};
 ghost use Rattle.gx_history.specs.Book.{is_buy};
-ghost use Rattle.gx_book.specs.Queue.{IsLatest, is_among, with_order, without_order};
-ghost use Rattle.gx_book.specs.Keys.{is_keyed, order_at, price_at};
+ghost use Rattle.gx_book.specs.{Queue.{IsLatest, is_among, with_order, without_order}, Keys.{is_keyed, order_at, price_at}};
 
 use crate::resting::{Resting, is_buy};
 use gx_units::{AccountName, OutOfMemory};

@@ -1,8 +1,7 @@
 //! The two sides of a stock.
 
 ghost use Rattle.std.specs.Prelude.{◌≡◌, [], OnOk, OnErr, slice_get};
-ghost use Rattle.gx_book.specs.Queue.{IsLatest, is_among, no_orders, with_order, without_order};
-ghost use Rattle.gx_book.specs.Table.{both_changed, changed, side_in};
+ghost use Rattle.gx_book.specs.{Queue.{IsLatest, is_among, no_orders, with_order, without_order}, Table.{both_changed, changed, side_in}};
 
 use crate::resting::Resting;
 use crate::side::Side;

@@ -1,18 +1,9 @@
 -- A session that hears one more packet.
-use Rattle.std.proofs.Common.{◌≡◌, ℕ, ◌+◌, ◌≤◌, ◌<◌, min, nat_lt, Bool, true, false, List, [], ◌∷◌, ◌++◌, refl, sym, ap, ◌∙◌, arith}
-use Rattle.std.specs.Prelude.{◌||◌, if◌then◌else◌}
-use Rattle.std.specs.List.{list_any}
-use Rattle.std.proofs.lemmas.Bool.Decides.{nat_tests}
-use Rattle.std.proofs.lemmas.List.Folds.{list_any-append}
+use Rattle.std.proofs.{Common.{◌≡◌, ℕ, ◌+◌, ◌≤◌, ◌<◌, min, nat_lt, Bool, true, false, List, [], ◌∷◌, ◌++◌, refl, sym, ap, ◌∙◌, arith}, lemmas.{Bool.Decides.nat_tests, List.Folds.list_any-append}}
+use Rattle.std.specs.{Prelude.{◌||◌, if◌then◌else◌}, List.list_any}
 use Rattle.gx_units.specs.declared.names.SessionName.{SessionName}
-use Rattle.gx_soup.specs.declared.packet.LoginRequest.{LoginRequest}
-use Rattle.gx_soup.specs.declared.packet.ServerPacket.{ServerPacket}
-use Rattle.gx_soup.specs.declared.packet.ServerPacket.TheVariants.{Accepted, Rejected, Sequenced, Heartbeat, EndOfSession}
-use Rattle.gx_soup.specs.Login.{greatest}
-use Rattle.gx_client.specs.declared.heard.Stage.{Stage}
-use Rattle.gx_client.specs.declared.heard.Stage.TheVariants.{On, Over}
-use Rattle.gx_client.specs.declared.heard.Heard.TheVariants as hears
-use Rattle.gx_client.specs.Session.{is_end, reports_in, stage_of, next_of, heard_after, heard_as, Standing, HasHeard, noted}
+use Rattle.gx_soup.specs.{declared.packet.{LoginRequest.LoginRequest, ServerPacket.{ServerPacket, TheVariants.{Accepted, Rejected, Sequenced, Heartbeat, EndOfSession}}}, Login.greatest}
+use Rattle.gx_client.specs.{declared.heard.{Stage.{Stage, TheVariants.{On, Over}}, Heard.Heard}, Session.{is_end, reports_in, stage_of, next_of, heard_after, heard_as, Standing, HasHeard, noted}}
 
 -- once the session has ended, nothing counts
 ended : (packets : List ServerPacket) (p : ServerPacket) → list_any is_end packets ≡ true → (list_any is_end (packets ++ p ∷ []) ≡ true) × (reports_in (packets ++ p ∷ []) ≡ reports_in packets)
@@ -68,7 +59,7 @@ is_over ends e = sym (ap (λ (b : Bool). if b then Over else On) e)
 
 -- a session that is on hears a report
 report_heard : (login : LoginRequest) (first before after : ℕ) (ends b : Bool) → ends ≡ false → after ≡ before + 1 → nat_lt (min (first + before) greatest) greatest ≡ b
-    → noted (standing login On (min (first + before) greatest)) (if b then hears.Report (min (first + before) greatest) else hears.Unexpected) ≡ standing login (if ends then Over else On) (min (first + after) greatest)
+    → noted (standing login On (min (first + before) greatest)) (if b then Heard.Report (min (first + before) greatest) else Heard.Unexpected) ≡ standing login (if ends then Over else On) (min (first + after) greatest)
 report_heard login first before after ends true e f h = same_standing login _ _ _ _ (goes_on ends e) (counted first before after f (less _ h))
 report_heard login first before after ends false e f h = same_standing login _ _ _ _ (goes_on ends e) (used_up first before after f (not_less _ h))
 
@@ -123,22 +114,22 @@ has_heard before after asked packets p h e =
 pub is_heard_as : (before : Standing) (asked : LoginRequest) (packets : List ServerPacket) (p : ServerPacket) → HasHeard before asked packets → heard_as before.stage before.next p ≡ heard_after asked.wanted packets p
 is_heard_as before asked packets p h = λ i. heard_as (h.stage i) (h.next i) p
 
-report_at : (m n : ℕ) → m ≡ n → n < greatest → (if nat_lt m greatest then hears.Report m else hears.Unexpected) ≡ hears.Report n
+report_at : (m n : ℕ) → m ≡ n → n < greatest → (if nat_lt m greatest then Heard.Report m else Heard.Unexpected) ≡ Heard.Report n
 report_at m n e h =
-    ap (λ (x : ℕ). if nat_lt x greatest then hears.Report x else hears.Unexpected) e ∙ ap (λ (t : Bool). if t then hears.Report n else hears.Unexpected) (is_less n h)
+    ap (λ (x : ℕ). if nat_lt x greatest then Heard.Report x else Heard.Unexpected) e ∙ ap (λ (t : Bool). if t then Heard.Report n else Heard.Unexpected) (is_less n h)
 
 not_capped : (first before : ℕ) → first + before < greatest → min (first + before) greatest ≡ first + before
 not_capped first before h = omega arith
 
 -- a report behind a Login Accepted has the number that is its own
 pub reports_are_numbered : (name : SessionName) (first wanted : ℕ) (packets : List ServerPacket) (payload : List ℕ) → list_any is_end packets ≡ false → first + reports_in packets < greatest
-    → heard_after wanted (Accepted name first ∷ packets) (Sequenced payload) ≡ hears.Report (first + reports_in packets)
+    → heard_after wanted (Accepted name first ∷ packets) (Sequenced payload) ≡ Heard.Report (first + reports_in packets)
 reports_are_numbered name first wanted packets payload on fits =
     ap (λ (b : Bool). heard_as (if b then Over else On) (min (first + reports_in packets) greatest) (Sequenced payload)) on
     ∙ report_at (min (first + reports_in packets) greatest) (first + reports_in packets) (not_capped first (reports_in packets) fits) fits
 
 -- a session that is over expects nothing
-pub nothing_expected : (wanted : ℕ) (packets : List ServerPacket) (p : ServerPacket) → stage_of packets ≡ Over → heard_after wanted packets p ≡ hears.Unexpected
+pub nothing_expected : (wanted : ℕ) (packets : List ServerPacket) (p : ServerPacket) → stage_of packets ≡ Over → heard_after wanted packets p ≡ Heard.Unexpected
 nothing_expected wanted packets p h = ap (λ (s : Stage). heard_as s (next_of wanted packets) p) h
 
 any_more : (b : Bool) → (if b then Over else On) ≡ Over → b ≡ true

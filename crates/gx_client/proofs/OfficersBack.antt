@@ -1,27 +1,18 @@
 -- An answer and a drop copy that the gate writes are shown by their bytes.
-use Rattle.std.proofs.Common.{◌≡◌, ℕ, ◌<◌, ◌^◌, List, [], ◌∷◌, Option, Some, refl, ap, ◌∙◌}
-use Rattle.std.specs.Prelude.{option_map, ◌==◌, None, if◌then◌else◌}
-use Rattle.std.specs.Int.{w64, to_be_bytes}
-use Rattle.std.proofs.lemmas.Nat.{from_be_bytes-to_be_bytes_8}
+use Rattle.std.proofs.{Common.{◌≡◌, ℕ, ◌<◌, ◌^◌, List, [], ◌∷◌, Option, Some, refl, ap, ◌∙◌}, lemmas.Nat.from_be_bytes-to_be_bytes_8}
+use Rattle.std.specs.{Prelude.{option_map, ◌==◌, None, if◌then◌else◌}, Int.{w64, to_be_bytes}}
 use Rattle.gx_ouch.specs.Layout.{cut}
-use Rattle.gx_desk.specs.declared.Answer.{Answer}
-use Rattle.gx_desk.specs.declared.AnswerCode.{AnswerCode}
-use Rattle.gx_desk.specs.declared.AnswerCode.TheVariants as answers
-use Rattle.gx_desk.specs.declared.DropCopy.{DropCopy}
-use Rattle.gx_desk.specs.Messages.{answer, drop_copy}
-use Rattle.gx_desk.specs.Writing.{answer_code, answer_contents, answer_bytes, drop_copy_contents, drop_copy_bytes}
-use Rattle.gx_client.specs.Letters.{answer_code_in}
-use Rattle.gx_client.specs.Messages.{IsAnswer, IsDropCopy}
-use Rattle.gx_client.specs.Reading.{moment_shown, message_in, answer_in_parts, answer_shown, drop_copy_in_parts, drop_copy_shown}
+use Rattle.gx_desk.specs.{declared.{Answer.Answer, AnswerCode.AnswerCode, DropCopy.DropCopy}, Messages.{answer, drop_copy}, Writing.{answer_code, answer_contents, answer_bytes, drop_copy_contents, drop_copy_bytes}}
+use Rattle.gx_client.specs.{Letters.answer_code_in, Messages.{IsAnswer, IsDropCopy}, Reading.{moment_shown, message_in, answer_in_parts, answer_shown, drop_copy_in_parts, drop_copy_shown}}
 use Rattle.gx_client.proofs.ReadBack.{one_byte, lies_in, first_back, executed_parts, in_back}
 
 code_back : (code : AnswerCode) → answer_code_in (answer_code code) ≡ Some code
-code_back answers.Done = refl
-code_back answers.PartlyLifted = refl
-code_back answers.UnknownName = refl
-code_back answers.NoPower = refl
-code_back answers.NotHisAccount = refl
-code_back answers.NoChange = refl
+code_back AnswerCode.Done = refl
+code_back AnswerCode.PartlyLifted = refl
+code_back AnswerCode.UnknownName = refl
+code_back AnswerCode.NoPower = refl
+code_back AnswerCode.NotHisAccount = refl
+code_back AnswerCode.NoChange = refl
 
 answer_parts : (timestamp : ℕ) (m : Answer) → m.record_number < 2 ^ 64 → answer_in_parts (answer_contents timestamp m) ≡ Some m
 answer_parts timestamp m fits =

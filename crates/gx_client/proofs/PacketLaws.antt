@@ -1,12 +1,8 @@
 -- The laws of a server's packets, under their functions' names, for proofs of the crates above.
 use Rattle.std.proofs.Common.{◌≡◌, ℕ, ◌<◌, true, List, [], ◌++◌, length, Option, Some, None, is_some, refl, sym, ap, ◌∙◌, append-nil, slice_index, arith}
-use Rattle.gx_soup.specs.declared.packet.ServerPacket.{ServerPacket}
-use Rattle.gx_soup.specs.Standard.{longest_packet}
-use Rattle.gx_client.specs.declared.front.ServerFault.{ServerFault}
-use Rattle.gx_client.specs.ServerPackets.{ServerSoup, server_packets_of}
-use Rattle.gx_client.proofs.ServerSoups.{joined, packets_join}
-use Rattle.gx_client.proofs.ServerSteps.{joined_stuck}
-use Rattle.gx_client.proofs.ServerBounds.{rest_len}
+use Rattle.gx_soup.specs.{declared.packet.ServerPacket.ServerPacket, Standard.longest_packet}
+use Rattle.gx_client.specs.{declared.front.ServerFault.ServerFault, ServerPackets.{ServerSoup, server_packets_of}}
+use Rattle.gx_client.proofs.{ServerSoups.{joined, packets_join}, ServerSteps.joined_stuck, ServerBounds.rest_len}
 
 pub nothing_follows_a_fault : (bytes more : List ℕ) → is_some (server_packets_of bytes).fault ≡ true → server_packets_of (bytes ++ more) ≡ server_packets_of bytes
 nothing_follows_a_fault bytes more h = packets_join bytes more ∙ joined_stuck (server_packets_of bytes) _ more h

@@ -1,36 +1,9 @@
 -- A message that the gate writes is shown by its bytes.
-use Rattle.std.proofs.Common.{◌≡◌, ℕ, ◌<◌, ◌^◌, Bool, true, false, List, [], ◌∷◌, ◌++◌, length, Option, Some, None, refl, sym, ap, subst, ◌∙◌, arith}
-use Rattle.std.specs.Prelude.{option_map, option_and_then, IsTrue, IfSome, IfNone, bytes_eq, slice_index, ◌&&◌, ◌==◌, if◌then◌else◌}
-use Rattle.std.proofs.lemmas.Bool.{eqb-true}
-use Rattle.std.proofs.lemmas.Slice.Eq.{bytes_eq-Decides}
-use Rattle.std.specs.Int.{w64, to_be_bytes}
-use Rattle.std.proofs.lemmas.Nat.{from_be_bytes-to_be_bytes_4, from_be_bytes-to_be_bytes_8}
+use Rattle.std.proofs.{Common.{◌≡◌, ℕ, ◌<◌, ◌^◌, Bool, true, false, List, [], ◌∷◌, ◌++◌, length, Option, Some, None, refl, sym, ap, subst, ◌∙◌, arith}, lemmas.{Bool.eqb-true, Slice.Eq.bytes_eq-Decides, Nat.{from_be_bytes-to_be_bytes_4, from_be_bytes-to_be_bytes_8}}}
+use Rattle.std.specs.{Prelude.{option_map, option_and_then, IsTrue, IfSome, IfNone, bytes_eq, slice_index, ◌&&◌, ◌==◌, if◌then◌else◌}, Int.{w64, to_be_bytes}}
 use Rattle.gx_ouch.proofs.Places.{lies, outbound_known_to_lie}
-use Rattle.gx_ouch.specs.Layout.{LiesIn, Layout, IsWithoutGaps, HasSizes, cut, laid_out}
-use Rattle.gx_ouch.specs.Letters.{event_letter, liquidity_letter, cancel_letter, reject_letter}
-use Rattle.gx_ouch.specs.Messages.{system_event, accepted, replaced, canceled, executed, rejected}
-use Rattle.gx_ouch.specs.Reading.{byte}
-use Rattle.gx_ouch.specs.Writing.{outbound_bytes, outbound_layout, outbound_contents, contents_behind, order_contents}
-use Rattle.gx_ouch.specs.declared.letters.EventCode.{EventCode}
-use Rattle.gx_ouch.specs.declared.letters.EventCode.TheVariants as events
-use Rattle.gx_ouch.specs.declared.letters.Liquidity.{Liquidity}
-use Rattle.gx_ouch.specs.declared.letters.Liquidity.TheVariants as liquidities
-use Rattle.gx_ouch.specs.declared.letters.CancelReason.{CancelReason}
-use Rattle.gx_ouch.specs.declared.letters.CancelReason.TheVariants as cancels
-use Rattle.gx_ouch.specs.declared.letters.RejectReason.{RejectReason}
-use Rattle.gx_ouch.specs.declared.letters.RejectReason.TheVariants as rejects
-use Rattle.gx_ouch.specs.declared.outbound.OrderTerms.{OrderTerms}
-use Rattle.gx_ouch.specs.declared.outbound.Outbound.{Outbound}
-use Rattle.gx_ouch.specs.declared.outbound.Outbound.TheVariants as outbounds
-use Rattle.gx_ouch.specs.declared.outbound.Accepted.{Accepted}
-use Rattle.gx_ouch.specs.declared.outbound.Replaced.{Replaced}
-use Rattle.gx_ouch.specs.declared.outbound.Canceled.{Canceled}
-use Rattle.gx_ouch.specs.declared.outbound.Executed.{Executed}
-use Rattle.gx_ouch.specs.declared.outbound.Rejected.{Rejected}
-use Rattle.gx_client.specs.declared.reading.Stamped.{Stamped}
-use Rattle.gx_client.specs.Letters.{event_in, liquidity_in, cancel_reason_in, reject_reason_in}
-use Rattle.gx_client.specs.Messages.{IsOutbound, HasNone, ReadsBack, TermsFit}
-use Rattle.gx_client.specs.Reading.{long, part, moment_shown, checked, message_in, terms_of, executed_in, event_in_parts, accepted_in_parts, replaced_in_parts, canceled_in_parts, executed_in_parts, rejected_in_parts, outbound_shown}
+use Rattle.gx_ouch.specs.{Layout.{LiesIn, Layout, IsWithoutGaps, HasSizes, cut, laid_out}, Letters.{event_letter, liquidity_letter, cancel_letter, reject_letter}, Messages.{system_event, accepted, replaced, canceled, executed, rejected}, Reading.byte, Writing.{outbound_bytes, outbound_layout, outbound_contents, contents_behind, order_contents}, declared.{letters.{EventCode.EventCode, Liquidity.Liquidity, CancelReason.CancelReason, RejectReason.RejectReason}, outbound.{OrderTerms.OrderTerms, Outbound.Outbound, Accepted.Accepted, Replaced.Replaced, Canceled.Canceled, Executed.Executed, Rejected.Rejected}}}
+use Rattle.gx_client.specs.{declared.reading.Stamped.Stamped, Letters.{event_in, liquidity_in, cancel_reason_in, reject_reason_in}, Messages.{IsOutbound, HasNone, ReadsBack, TermsFit}, Reading.{long, part, moment_shown, checked, message_in, terms_of, executed_in, event_in_parts, accepted_in_parts, replaced_in_parts, canceled_in_parts, executed_in_parts, rejected_in_parts, outbound_shown}}
 
 pub is_true : (b : Bool) → IsTrue b → b ≡ true
 is_true true h = refl
@@ -45,35 +18,35 @@ one_byte n = omega arith
 
 -- each letter stands for its code
 event_back : (code : EventCode) → event_in (event_letter code) ≡ Some code
-event_back events.EndOfDay = refl
+event_back EventCode.EndOfDay = refl
 
 liquidity_back : (flag : Liquidity) → liquidity_in (liquidity_letter flag) ≡ Some flag
-liquidity_back liquidities.Added = refl
-liquidity_back liquidities.Removed = refl
+liquidity_back Liquidity.Added = refl
+liquidity_back Liquidity.Removed = refl
 
 cancel_back : (reason : CancelReason) → cancel_reason_in (cancel_letter reason) ≡ Some reason
-cancel_back cancels.UserRequested = refl
-cancel_back cancels.ImmediateOrCancel = refl
-cancel_back cancels.Supervisory = refl
+cancel_back CancelReason.UserRequested = refl
+cancel_back CancelReason.ImmediateOrCancel = refl
+cancel_back CancelReason.Supervisory = refl
 
 reject_back : (reason : RejectReason) → reject_reason_in (reject_letter reason) ≡ Some reason
-reject_back rejects.Closed = refl
-reject_back rejects.RejectAll = refl
-reject_back rejects.FirmNotAuthorized = refl
-reject_back rejects.InvalidStock = refl
-reject_back rejects.SharesExceedSafety = refl
-reject_back rejects.InvalidPrice = refl
-reject_back rejects.InvalidDisplay = refl
-reject_back rejects.InvalidMinimumQuantity = refl
-reject_back rejects.NotAllowedInCross = refl
-reject_back rejects.Other = refl
-reject_back rejects.Halted = refl
-reject_back rejects.RestrictedStock = refl
-reject_back rejects.ShortSale = refl
-reject_back rejects.IntermarketSweep = refl
-reject_back rejects.OddLot = refl
-reject_back rejects.SharesLimit = refl
-reject_back rejects.DollarLimit = refl
+reject_back RejectReason.Closed = refl
+reject_back RejectReason.RejectAll = refl
+reject_back RejectReason.FirmNotAuthorized = refl
+reject_back RejectReason.InvalidStock = refl
+reject_back RejectReason.SharesExceedSafety = refl
+reject_back RejectReason.InvalidPrice = refl
+reject_back RejectReason.InvalidDisplay = refl
+reject_back RejectReason.InvalidMinimumQuantity = refl
+reject_back RejectReason.NotAllowedInCross = refl
+reject_back RejectReason.Other = refl
+reject_back RejectReason.Halted = refl
+reject_back RejectReason.RestrictedStock = refl
+reject_back RejectReason.ShortSale = refl
+reject_back RejectReason.IntermarketSweep = refl
+reject_back RejectReason.OddLot = refl
+reject_back RejectReason.SharesLimit = refl
+reject_back RejectReason.DollarLimit = refl
 
 -- the fields of an order's terms show the terms
 terms_back : (terms : OrderTerms) (moment token : List ℕ) (order_reference : ℕ) (behind : List (List ℕ)) → TermsFit terms
@@ -94,22 +67,22 @@ terms_back terms moment token order_reference behind fit =
     }
 
 -- the fields of each kind of message show it
-event_parts : (timestamp : ℕ) (code : EventCode) → event_in_parts (outbound_contents timestamp (outbounds.SystemEvent code)) ≡ Some (outbounds.SystemEvent code)
-event_parts timestamp code = ap (option_map outbounds.SystemEvent) (ap event_in (one_byte (event_letter code)) ∙ event_back code)
+event_parts : (timestamp : ℕ) (code : EventCode) → event_in_parts (outbound_contents timestamp (Outbound.SystemEvent code)) ≡ Some (Outbound.SystemEvent code)
+event_parts timestamp code = ap (option_map Outbound.SystemEvent) (ap event_in (one_byte (event_letter code)) ∙ event_back code)
 
 accepted_parts : (timestamp : ℕ) (m : Accepted) → TermsFit m.terms → m.order_reference < 2 ^ 64
-    → accepted_in_parts (outbound_contents timestamp (outbounds.Accepted m)) ≡ outbounds.Accepted m
+    → accepted_in_parts (outbound_contents timestamp (Outbound.Accepted m)) ≡ Outbound.Accepted m
 accepted_parts timestamp m terms reference =
-    λ i. outbounds.Accepted (record {
+    λ i. Outbound.Accepted (record {
       token = m.token;
       terms = terms_back m.terms [] [] m.order_reference [] terms i;
       order_reference = from_be_bytes-to_be_bytes_8 m.order_reference reference i;
     })
 
 replaced_parts : (timestamp : ℕ) (m : Replaced) → TermsFit m.terms → m.order_reference < 2 ^ 64
-    → replaced_in_parts (outbound_contents timestamp (outbounds.Replaced m)) ≡ outbounds.Replaced m
+    → replaced_in_parts (outbound_contents timestamp (Outbound.Replaced m)) ≡ Outbound.Replaced m
 replaced_parts timestamp m terms reference =
-    λ i. outbounds.Replaced (record {
+    λ i. Outbound.Replaced (record {
       token = m.token;
       terms = terms_back m.terms [] [] m.order_reference [] terms i;
       order_reference = from_be_bytes-to_be_bytes_8 m.order_reference reference i;
@@ -117,9 +90,9 @@ replaced_parts timestamp m terms reference =
     })
 
 canceled_parts : (timestamp : ℕ) (m : Canceled) → m.decrement < 2 ^ 32
-    → canceled_in_parts (outbound_contents timestamp (outbounds.Canceled m)) ≡ Some (outbounds.Canceled m)
+    → canceled_in_parts (outbound_contents timestamp (Outbound.Canceled m)) ≡ Some (Outbound.Canceled m)
 canceled_parts timestamp m decrement =
-    λ i. option_map (λ reason. outbounds.Canceled (record {
+    λ i. option_map (λ reason. Outbound.Canceled (record {
       token = m.token;
       decrement = from_be_bytes-to_be_bytes_4 m.decrement decrement i;
       reason = reason;
@@ -127,7 +100,7 @@ canceled_parts timestamp m decrement =
 
 -- the fields of an Executed show it, whatever follows
 pub executed_parts : (moment : List ℕ) (behind : List (List ℕ)) (m : Executed) → m.shares < 2 ^ 32 → m.price < 2 ^ 32 → m.match_number < 2 ^ 64
-    → executed_in (moment ∷ contents_behind (outbounds.Executed m) ++ behind) ≡ Some m
+    → executed_in (moment ∷ contents_behind (Outbound.Executed m) ++ behind) ≡ Some m
 executed_parts moment behind m shares price match_number =
     λ i. option_map (λ liquidity. executed_with (from_be_bytes-to_be_bytes_4 m.shares shares i) (from_be_bytes-to_be_bytes_4 m.price price i) liquidity (from_be_bytes-to_be_bytes_8 m.match_number match_number i))
     ((ap liquidity_in (one_byte (liquidity_letter m.liquidity)) ∙ liquidity_back m.liquidity) i)
@@ -135,9 +108,9 @@ executed_parts moment behind m shares price match_number =
     executed_with : ℕ → ℕ → Liquidity → ℕ → Executed
     executed_with shares price liquidity match_number = record { token = m.token; shares = shares; price = price; liquidity = liquidity; match_number = match_number }
 
-rejected_parts : (timestamp : ℕ) (m : Rejected) → rejected_in_parts (outbound_contents timestamp (outbounds.Rejected m)) ≡ Some (outbounds.Rejected m)
+rejected_parts : (timestamp : ℕ) (m : Rejected) → rejected_in_parts (outbound_contents timestamp (Outbound.Rejected m)) ≡ Some (Outbound.Rejected m)
 rejected_parts timestamp m =
-    ap (option_map (λ reason. outbounds.Rejected (record { token = m.token; reason = reason }))) (ap reject_reason_in (one_byte (reject_letter m.reason)) ∙ reject_back m.reason)
+    ap (option_map (λ reason. Outbound.Rejected (record { token = m.token; reason = reason }))) (ap reject_reason_in (one_byte (reject_letter m.reason)) ∙ reject_back m.reason)
 
 pub right_true : (a b : Bool) → (a && b) ≡ true → b ≡ true
 right_true true b h = h
@@ -171,24 +144,24 @@ shown_at bytes size h = ap (λ (n : ℕ). shown_by (slice_index bytes 0) n bytes
 -- a message that the gate writes stands at its places
 shown_back : (timestamp : ℕ) (message : Outbound) → IsOutbound timestamp message → outbound_shown (outbound_bytes timestamp message) ≡ Some message
 unfolding outbound_bytes
-shown_back timestamp (outbounds.SystemEvent code) is =
-    let l = lies_in system_event (outbound_contents timestamp (outbounds.SystemEvent code)) (record { offsets = refl; size = refl }) is.texts in
-    shown_at (laid_out system_event (outbound_contents timestamp (outbounds.SystemEvent code))) 10 l.0 ∙ (ap event_in_parts l.1 ∙ event_parts timestamp code)
-shown_back timestamp (outbounds.Accepted m) is =
-    let l = lies_in accepted (outbound_contents timestamp (outbounds.Accepted m)) (record { offsets = refl; size = refl }) is.texts in
-    shown_at (laid_out accepted (outbound_contents timestamp (outbounds.Accepted m))) 66 l.0 ∙ ap Some (ap accepted_in_parts l.1 ∙ accepted_parts timestamp m is.numbers.0 is.numbers.1)
-shown_back timestamp (outbounds.Replaced m) is =
-    let l = lies_in replaced (outbound_contents timestamp (outbounds.Replaced m)) (record { offsets = refl; size = refl }) is.texts in
-    shown_at (laid_out replaced (outbound_contents timestamp (outbounds.Replaced m))) 80 l.0 ∙ ap Some (ap replaced_in_parts l.1 ∙ replaced_parts timestamp m is.numbers.0 is.numbers.1)
-shown_back timestamp (outbounds.Canceled m) is =
-    let l = lies_in canceled (outbound_contents timestamp (outbounds.Canceled m)) (record { offsets = refl; size = refl }) is.texts in
-    shown_at (laid_out canceled (outbound_contents timestamp (outbounds.Canceled m))) 28 l.0 ∙ (ap canceled_in_parts l.1 ∙ canceled_parts timestamp m is.numbers)
-shown_back timestamp (outbounds.Executed m) is =
-    let l = lies_in executed (outbound_contents timestamp (outbounds.Executed m)) (record { offsets = refl; size = refl }) is.texts in
-    shown_at (laid_out executed (outbound_contents timestamp (outbounds.Executed m))) 40 l.0 ∙ (ap executed_in_parts l.1 ∙ ap (option_map outbounds.Executed) (executed_parts (to_be_bytes w64 timestamp) [] m is.numbers.0 is.numbers.1 is.numbers.2))
-shown_back timestamp (outbounds.Rejected m) is =
-    let l = lies_in rejected (outbound_contents timestamp (outbounds.Rejected m)) (record { offsets = refl; size = refl }) is.texts in
-    shown_at (laid_out rejected (outbound_contents timestamp (outbounds.Rejected m))) 24 l.0 ∙ (ap rejected_in_parts l.1 ∙ rejected_parts timestamp m)
+shown_back timestamp (Outbound.SystemEvent code) is =
+    let l = lies_in system_event (outbound_contents timestamp (Outbound.SystemEvent code)) (record { offsets = refl; size = refl }) is.texts in
+    shown_at (laid_out system_event (outbound_contents timestamp (Outbound.SystemEvent code))) 10 l.0 ∙ (ap event_in_parts l.1 ∙ event_parts timestamp code)
+shown_back timestamp (Outbound.Accepted m) is =
+    let l = lies_in accepted (outbound_contents timestamp (Outbound.Accepted m)) (record { offsets = refl; size = refl }) is.texts in
+    shown_at (laid_out accepted (outbound_contents timestamp (Outbound.Accepted m))) 66 l.0 ∙ ap Some (ap accepted_in_parts l.1 ∙ accepted_parts timestamp m is.numbers.0 is.numbers.1)
+shown_back timestamp (Outbound.Replaced m) is =
+    let l = lies_in replaced (outbound_contents timestamp (Outbound.Replaced m)) (record { offsets = refl; size = refl }) is.texts in
+    shown_at (laid_out replaced (outbound_contents timestamp (Outbound.Replaced m))) 80 l.0 ∙ ap Some (ap replaced_in_parts l.1 ∙ replaced_parts timestamp m is.numbers.0 is.numbers.1)
+shown_back timestamp (Outbound.Canceled m) is =
+    let l = lies_in canceled (outbound_contents timestamp (Outbound.Canceled m)) (record { offsets = refl; size = refl }) is.texts in
+    shown_at (laid_out canceled (outbound_contents timestamp (Outbound.Canceled m))) 28 l.0 ∙ (ap canceled_in_parts l.1 ∙ canceled_parts timestamp m is.numbers)
+shown_back timestamp (Outbound.Executed m) is =
+    let l = lies_in executed (outbound_contents timestamp (Outbound.Executed m)) (record { offsets = refl; size = refl }) is.texts in
+    shown_at (laid_out executed (outbound_contents timestamp (Outbound.Executed m))) 40 l.0 ∙ (ap executed_in_parts l.1 ∙ ap (option_map Outbound.Executed) (executed_parts (to_be_bytes w64 timestamp) [] m is.numbers.0 is.numbers.1 is.numbers.2))
+shown_back timestamp (Outbound.Rejected m) is =
+    let l = lies_in rejected (outbound_contents timestamp (Outbound.Rejected m)) (record { offsets = refl; size = refl }) is.texts in
+    shown_at (laid_out rejected (outbound_contents timestamp (Outbound.Rejected m))) 24 l.0 ∙ (ap rejected_in_parts l.1 ∙ rejected_parts timestamp m)
 
 -- the moment is the first field
 pub first_back : (timestamp : ℕ) (parts others : List (List ℕ)) → timestamp < 2 ^ 64 → parts ≡ to_be_bytes w64 timestamp ∷ others → long (part parts 0) ≡ timestamp
@@ -199,12 +172,12 @@ moment_back timestamp message is =
     by message (first_back timestamp (cut (outbound_layout message) (outbound_bytes timestamp message)) (contents_behind message) is.moment (outbound_known_to_lie timestamp message (outbound_bytes timestamp message) refl is.texts).fields)
   where
     by : (m : Outbound) → long (part (cut (outbound_layout m) (outbound_bytes timestamp message)) 0) ≡ timestamp → moment_shown (outbound_bytes timestamp message) ≡ timestamp
-    by (outbounds.SystemEvent code) e = e
-    by (outbounds.Accepted m) e = e
-    by (outbounds.Replaced m) e = e
-    by (outbounds.Canceled m) e = e
-    by (outbounds.Executed m) e = e
-    by (outbounds.Rejected m) e = e
+    by (Outbound.SystemEvent code) e = e
+    by (Outbound.Accepted m) e = e
+    by (Outbound.Replaced m) e = e
+    by (Outbound.Canceled m) e = e
+    by (Outbound.Executed m) e = e
+    by (Outbound.Rejected m) e = e
 
 -- what is shown of a message's own bytes is the message
 module _ {M : Type 0} (IsMessage : ℕ → M → Type 0) (bytes_of : ℕ → M → List ℕ) (shown : List ℕ → Option M)

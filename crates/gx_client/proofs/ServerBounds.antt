@@ -1,14 +1,8 @@
 -- How much is left over.
-use Rattle.std.proofs.Common.{◌≡◌, ℕ, zero, suc, ◌+◌, ◌-◌, ◌*◌, ◌<◌, ◌≤◌, ◌⊎◌, inl, inr, Bool, true, false, cond, not, ◌==◌, nat_lt, List, [], ◌∷◌, length, take, drop, get_or, Option, Some, None, refl, ap, arith}
-use Rattle.std.proofs.lemmas.Bool.Decides.{nat_tests}
-use Rattle.std.proofs.lemmas.List.{nil_from_length, get_or-drop, length-drop}
-use Rattle.gx_soup.specs.declared.packet.ServerPacket.{ServerPacket}
+use Rattle.std.proofs.{Common.{◌≡◌, ℕ, zero, suc, ◌+◌, ◌-◌, ◌*◌, ◌<◌, ◌≤◌, ◌⊎◌, inl, inr, Bool, true, false, cond, not, ◌==◌, nat_lt, List, [], ◌∷◌, length, take, drop, get_or, Option, Some, None, refl, ap, arith}, lemmas.{Bool.Decides.nat_tests, List.{nil_from_length, get_or-drop, length-drop}}}
+use Rattle.gx_soup.specs.{declared.packet.ServerPacket.ServerPacket, Standard.{login_accepted, login_rejected, longest_packet}}
 use Rattle.gx_units.specs.declared.names.LoginRejection.{LoginRejection}
-use Rattle.gx_client.specs.declared.front.ServerFault.{ServerFault}
-use Rattle.gx_client.specs.declared.front.Front.{Front}
-use Rattle.gx_client.specs.declared.front.Front.TheVariants.{Short, Faulty, Whole}
-use Rattle.gx_soup.specs.Standard.{login_accepted, login_rejected, longest_packet}
-use Rattle.gx_client.specs.ServerPackets.{server_front, typed_front, whole_front, accepted_front, rejected_front, is_server_type, has_its_length, ServerSoup, server_packets_of}
+use Rattle.gx_client.specs.{declared.front.{ServerFault.ServerFault, Front.{Front, TheVariants.{Short, Faulty, Whole}}}, ServerPackets.{server_front, typed_front, whole_front, accepted_front, rejected_front, is_server_type, has_its_length, ServerSoup, server_packets_of}}
 use Rattle.gx_client.proofs.ServerSoups.{packets_short, packets_faulty, packets_whole, packets_nil, front_takes}
 
 abbrev pub IsBytes : List ℕ → Type 0

@@ -1,16 +1,9 @@
 -- The laws of `server_front` and of `server_packets_of`: a text that goes on, and one packet after another.
-use Rattle.std.proofs.Common.{◌≡◌, ℕ, zero, suc, ◌+◌, ◌-◌, ◌*◌, ◌<◌, ◌≤◌, Bool, true, false, cond, not, nat_lt, ◌==◌, List, [], ◌∷◌, ◌++◌, length, take, drop, Option, Some, None, refl, sym, ap, ◌∙◌, append_assoc, slice_index, slice_range, arith}
-use Rattle.std.proofs.lemmas.Bool.Decides.{nat_tests}
-use Rattle.std.proofs.lemmas.List.{nil_from_length, drop-append-le, take-append-le, length-take-le, length-drop, length-append}
-use Rattle.gx_soup.specs.declared.packet.ServerPacket.{ServerPacket}
-use Rattle.gx_client.specs.declared.front.ServerFault.{ServerFault}
-use Rattle.gx_client.specs.declared.front.Front.{Front}
-use Rattle.gx_client.specs.declared.front.Front.TheVariants.{Short, Faulty, Whole}
+use Rattle.std.proofs.{Common.{◌≡◌, ℕ, zero, suc, ◌+◌, ◌-◌, ◌*◌, ◌<◌, ◌≤◌, Bool, true, false, cond, not, nat_lt, ◌==◌, List, [], ◌∷◌, ◌++◌, length, take, drop, Option, Some, None, refl, sym, ap, ◌∙◌, append_assoc, slice_index, slice_range, arith}, lemmas.{Bool.Decides.nat_tests, List.{nil_from_length, drop-append-le, take-append-le, length-take-le, length-drop, length-append}}}
+use Rattle.gx_soup.specs.{declared.packet.ServerPacket.ServerPacket, Standard.{login_accepted, login_rejected}, Login.number_of}
+use Rattle.gx_client.specs.{declared.front.{ServerFault.ServerFault, Front.{Front, TheVariants.{Short, Faulty, Whole}}}, ServerPackets.{server_front, typed_front, whole_front, accepted_front, rejected_front, rejection_of, plain_packet, is_server_type, has_its_length, ServerSoup, behind, soup_from, soup_within, server_packets_of}}
 use Rattle.std.specs.Option.{option_to_list}
 use Rattle.gx_units.specs.declared.names.LoginRejection.{LoginRejection}
-use Rattle.gx_soup.specs.Standard.{login_accepted, login_rejected}
-use Rattle.gx_soup.specs.Login.{number_of}
-use Rattle.gx_client.specs.ServerPackets.{server_front, typed_front, whole_front, accepted_front, rejected_front, rejection_of, plain_packet, is_server_type, has_its_length, ServerSoup, behind, soup_from, soup_within, server_packets_of}
 
 -- a text that goes on: nothing follows a fault
 abbrev pub joined : ServerSoup → Option ServerFault → List ℕ → ServerSoup

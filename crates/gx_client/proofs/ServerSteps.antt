@@ -1,13 +1,8 @@
 -- The steps of the loop that cuts packets off, and what a feeder gives for a piece.
-use Rattle.std.proofs.Common.{◌≡◌, ℕ, ◌+◌, ◌-◌, ◌≤◌, true, false, List, [], ◌++◌, length, take, drop, Option, Some, None, refl, sym, ap, ◌∙◌, append_assoc, append-nil, arith, is_some}
-use Rattle.std.proofs.lemmas.List.{take_rest, drop_all, drop-drop, length-drop}
+use Rattle.std.proofs.{Common.{◌≡◌, ℕ, ◌+◌, ◌-◌, ◌≤◌, true, false, List, [], ◌++◌, length, take, drop, Option, Some, None, refl, sym, ap, ◌∙◌, append_assoc, append-nil, arith, is_some}, lemmas.List.{take_rest, drop_all, drop-drop, length-drop}}
 use Rattle.gx_soup.specs.declared.packet.ServerPacket.{ServerPacket}
 use Rattle.std.specs.Option.{option_to_list}
-use Rattle.gx_client.specs.declared.front.ServerFault.{ServerFault}
-use Rattle.gx_client.specs.declared.front.Front.{Front}
-use Rattle.gx_client.specs.declared.front.Front.TheVariants.{Short, Faulty, Whole}
-use Rattle.gx_client.specs.ServerPackets.{server_front, ServerSoup, behind, server_packets_of}
-use Rattle.gx_client.specs.ServerFeeding.{Held, HasRead, Gives}
+use Rattle.gx_client.specs.{declared.front.{ServerFault.ServerFault, Front.{Front, TheVariants.{Short, Faulty, Whole}}}, ServerPackets.{server_front, ServerSoup, behind, server_packets_of}, ServerFeeding.{Held, HasRead, Gives}}
 use Rattle.gx_client.proofs.ServerSoups.{joined, front_takes, packets_short, packets_faulty, packets_whole, packets_join, packets_nil}
 
 module _ (bytes : List ℕ) (used : ℕ) (ps : List ServerPacket) (told : behind ps (server_packets_of (drop used bytes)) ≡ server_packets_of bytes) where

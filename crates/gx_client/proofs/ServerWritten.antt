@@ -1,26 +1,11 @@
 -- A server's packet is read back as itself.
-use Rattle.std.proofs.Common.{◌≡◌, ℕ, ◌+◌, ◌-◌, ◌*◌, ◌/◌, ◌%◌, ◌^◌, ◌<◌, Bool, true, false, cond, not, ◌==◌, nat_lt, List, [], ◌∷◌, ◌++◌, length, take, drop, Option, Some, None, refl, ap, ◌∙◌, arith, decimal, replicate}
+use Rattle.std.proofs.{Common.{◌≡◌, ℕ, ◌+◌, ◌-◌, ◌*◌, ◌/◌, ◌%◌, ◌^◌, ◌<◌, Bool, true, false, cond, not, ◌==◌, nat_lt, List, [], ◌∷◌, ◌++◌, length, take, drop, Option, Some, None, refl, ap, ◌∙◌, arith, decimal, replicate}, lemmas.{Bool.Decides.nat_tests, List.{take_at, take_all, drop_at, length-append, length-replicate}, Fmt.length-decimal-le}}
 use Rattle.std.specs.Option.{option_to_list}
-use Rattle.std.proofs.lemmas.Bool.Decides.{nat_tests}
-use Rattle.std.proofs.lemmas.List.{take_at, take_all, drop_at, length-append, length-replicate}
-use Rattle.std.proofs.lemmas.Fmt.{length-decimal-le}
-use Rattle.gx_units.specs.declared.names.LoginRejection.{LoginRejection}
-use Rattle.gx_units.specs.declared.names.LoginRejection.TheVariants.{NotAuthorized, SessionNotAvailable}
-use Rattle.gx_units.specs.declared.names.SessionName.{SessionName}
-use Rattle.gx_units.specs.Spelling.{folded_session}
-use Rattle.gx_soup.specs.declared.packet.ServerPacket.{ServerPacket}
-use Rattle.gx_soup.specs.declared.packet.ServerPacket.TheVariants as server
-use Rattle.gx_soup.specs.Standard.{login_accepted, login_rejected, sequenced_data, server_heartbeat, end_of_session, debug, unsequenced_data}
-use Rattle.gx_soup.specs.Login.{number_of}
-use Rattle.gx_soup.specs.Writing.{framed, number_field, session_field, reason_code, server_bytes}
+use Rattle.gx_units.specs.{declared.names.{LoginRejection.{LoginRejection, TheVariants.{NotAuthorized, SessionNotAvailable}}, SessionName.SessionName}, Spelling.folded_session}
+use Rattle.gx_soup.specs.{declared.packet.ServerPacket.ServerPacket, Standard.{login_accepted, login_rejected, sequenced_data, server_heartbeat, end_of_session, debug, unsequenced_data}, Login.number_of, Writing.{framed, number_field, session_field, reason_code, server_bytes}}
 use Rattle.gx_soup.proofs.Numbers.{number_read}
-use Rattle.gx_client.specs.declared.front.Front.{Front}
-use Rattle.gx_client.specs.declared.front.Front.TheVariants.{Short, Faulty, Whole}
-use Rattle.gx_client.specs.declared.front.ServerFault.{ServerFault}
-use Rattle.gx_client.specs.declared.front.ServerFault.TheVariants.{ZeroLength}
-use Rattle.gx_client.specs.ServerPackets.{server_front, counted_front, typed_front, whole_front, accepted_front, is_server_type, has_its_length, behind, server_packets_of, IsServerPacket}
-use Rattle.gx_client.proofs.ServerSoups.{packets_whole}
-use Rattle.gx_client.proofs.SessionNames.{name_back, name_length}
+use Rattle.gx_client.specs.{declared.front.{Front.{Front, TheVariants.{Short, Faulty, Whole}}, ServerFault.{ServerFault, TheVariants.ZeroLength}}, ServerPackets.{server_front, counted_front, typed_front, whole_front, accepted_front, is_server_type, has_its_length, behind, server_packets_of, IsServerPacket}}
+use Rattle.gx_client.proofs.{ServerSoups.packets_whole, SessionNames.{name_back, name_length}}
 
 told : (u l s : Bool) (x y : ServerFault) (w : Front) → u ≡ true → l ≡ true → s ≡ false → cond (not u) (Faulty x) (cond (not l) (Faulty y) (cond s Short w)) ≡ w
 told true true false x y w a b c = refl
@@ -71,12 +56,12 @@ module _ (session number : List ℕ) (s : length session ≡ 10) (n : length num
   payload_length = omega (arith, length-append session number)
 
   accepted_is : (name : SessionName) (next : ℕ) → folded_session (record { bytes = session }) ≡ name → number_of number ≡ Some next
-      → accepted_front (session ++ number) (number_of (take 20 (drop 10 (session ++ number)))) ≡ Whole (Some (server.Accepted name next)) (length (session ++ number) + 3)
+      → accepted_front (session ++ number) (number_of (take 20 (drop 10 (session ++ number)))) ≡ Whole (Some (ServerPacket.Accepted name next)) (length (session ++ number) + 3)
   accepted_is name next is_name is_next =
       ap (λ (x : List ℕ). accepted_front (session ++ number) (number_of x)) at_number
       ∙ (ap (accepted_front (session ++ number)) is_next
-      ∙ (ap (λ (x : List ℕ). Whole (Some (server.Accepted (folded_session (record { bytes = x })) next)) (length (session ++ number) + 3)) at_session
-      ∙ ap (λ (x : SessionName). Whole (Some (server.Accepted x next)) (length (session ++ number) + 3)) is_name))
+      ∙ (ap (λ (x : List ℕ). Whole (Some (ServerPacket.Accepted (folded_session (record { bytes = x })) next)) (length (session ++ number) + 3)) at_session
+      ∙ ap (λ (x : SessionName). Whole (Some (ServerPacket.Accepted x next)) (length (session ++ number) + 3)) is_name))
 
 has_thirty : (n : ℕ) → n ≡ 30 → has_its_length login_accepted (n + 1) ≡ true
 has_thirty n h = rw h refl
@@ -84,27 +69,27 @@ has_thirty n h = rw h refl
 name_is : (session : SessionName) → folded_session session ≡ session → folded_session (record { bytes = session_field session }) ≡ session
 name_is session folded = λ i. record { bytes = name_back session.bytes (ap (λ (x : SessionName). x.bytes) folded) i }
 
-accepted_read : (session : SessionName) (next : ℕ) (rest : List ℕ) → IsServerPacket (server.Accepted session next)
-    → server_packets_of (framed login_accepted (session_field session ++ number_field next) ++ rest) ≡ behind (server.Accepted session next ∷ []) (server_packets_of rest)
+accepted_read : (session : SessionName) (next : ℕ) (rest : List ℕ) → IsServerPacket (ServerPacket.Accepted session next)
+    → server_packets_of (framed login_accepted (session_field session ++ number_field next) ++ rest) ≡ behind (ServerPacket.Accepted session next ∷ []) (server_packets_of rest)
 accepted_read session next rest h =
     let s = name_length session.bytes (ap (λ (x : SessionName). x.bytes) h.1) h.0 in
     let n = number_length next h.2 in
-    framed_read login_accepted (session_field session ++ number_field next) rest (Some (server.Accepted session next)) refl
+    framed_read login_accepted (session_field session ++ number_field next) rest (Some (ServerPacket.Accepted session next)) refl
     (has_thirty _ (payload_length (session_field session) (number_field next) s n))
     (accepted_is (session_field session) (number_field next) s n session next (name_is session h.1) (number_read next h.2))
 
-rejected_read : (why : LoginRejection) (rest : List ℕ) → server_packets_of (framed login_rejected (reason_code why ∷ []) ++ rest) ≡ behind (server.Rejected why ∷ []) (server_packets_of rest)
-rejected_read NotAuthorized rest = framed_read login_rejected (reason_code NotAuthorized ∷ []) rest (Some (server.Rejected NotAuthorized)) refl refl refl
-rejected_read SessionNotAvailable rest = framed_read login_rejected (reason_code SessionNotAvailable ∷ []) rest (Some (server.Rejected SessionNotAvailable)) refl refl refl
+rejected_read : (why : LoginRejection) (rest : List ℕ) → server_packets_of (framed login_rejected (reason_code why ∷ []) ++ rest) ≡ behind (ServerPacket.Rejected why ∷ []) (server_packets_of rest)
+rejected_read NotAuthorized rest = framed_read login_rejected (reason_code NotAuthorized ∷ []) rest (Some (ServerPacket.Rejected NotAuthorized)) refl refl refl
+rejected_read SessionNotAvailable rest = framed_read login_rejected (reason_code SessionNotAvailable ∷ []) rest (Some (ServerPacket.Rejected SessionNotAvailable)) refl refl refl
 
 -- a server's packet is read back as itself
 pub packet_read : (packet : ServerPacket) (rest : List ℕ) → IsServerPacket packet → server_packets_of (server_bytes packet ++ rest) ≡ behind (packet ∷ []) (server_packets_of rest)
 unfolding server_bytes
-packet_read (server.Accepted session next) rest h = accepted_read session next rest h
-packet_read (server.Rejected why) rest h = rejected_read why rest
-packet_read (server.Sequenced payload) rest h = framed_read sequenced_data payload rest (Some (server.Sequenced payload)) refl refl refl
-packet_read server.Heartbeat rest h = framed_read server_heartbeat [] rest (Some server.Heartbeat) refl refl refl
-packet_read server.EndOfSession rest h = framed_read end_of_session [] rest (Some server.EndOfSession) refl refl refl
+packet_read (ServerPacket.Accepted session next) rest h = accepted_read session next rest h
+packet_read (ServerPacket.Rejected why) rest h = rejected_read why rest
+packet_read (ServerPacket.Sequenced payload) rest h = framed_read sequenced_data payload rest (Some (ServerPacket.Sequenced payload)) refl refl refl
+packet_read ServerPacket.Heartbeat rest h = framed_read server_heartbeat [] rest (Some ServerPacket.Heartbeat) refl refl refl
+packet_read ServerPacket.EndOfSession rest h = framed_read end_of_session [] rest (Some ServerPacket.EndOfSession) refl refl refl
 
 -- Debug and Unsequenced Data are passed over
 pub debug_read : (payload rest : List ℕ) → server_packets_of (framed debug payload ++ rest) ≡ server_packets_of rest

@@ -1,6 +1,5 @@
 -- A session's name is read back from the right of its field.
-use Rattle.std.proofs.Common.{◌≡◌, ℕ, zero, suc, ◌-◌, ◌+◌, Bool, true, false, cond, ◌&&◌, List, [], ◌∷◌, ◌++◌, length, replicate, refl, ap, ◌∙◌, arith}
-use Rattle.std.proofs.lemmas.List.{length-append, length-replicate}
+use Rattle.std.proofs.{Common.{◌≡◌, ℕ, zero, suc, ◌-◌, ◌+◌, Bool, true, false, cond, ◌&&◌, List, [], ◌∷◌, ◌++◌, length, replicate, refl, ap, ◌∙◌, arith}, lemmas.List.{length-append, length-replicate}}
 use Rattle.gx_units.specs.Spelling.{is_space, is_blank, padded, padded_left, without_left_spaces, without_right_spaces, trimmed}
 
 spaces_dropped : (k : ℕ) (text : List ℕ) → without_left_spaces (replicate k 32 ++ text) ≡ without_left_spaces text

@@ -1,18 +1,10 @@
 -- Messages are told apart by their bytes.
 use Rattle.std.proofs.Common.{◌≡◌, ◌≢◌, ℕ, List, length, Option, Some, refl, sym, ap, ◌∙◌, arith}
 use Rattle.gx_ouch.proofs.Places.{outbound_known_to_lie}
-use Rattle.gx_ouch.specs.Writing.{outbound_bytes, outbound_layout, outbound_contents}
-use Rattle.gx_ouch.specs.declared.outbound.Outbound.{Outbound}
-use Rattle.gx_ouch.specs.declared.outbound.Outbound.TheVariants as outbounds
-use Rattle.gx_desk.specs.declared.Answer.{Answer}
-use Rattle.gx_desk.specs.declared.DropCopy.{DropCopy}
-use Rattle.gx_desk.specs.Messages.{answer, drop_copy}
-use Rattle.gx_desk.specs.Writing.{answer_contents, answer_bytes, drop_copy_contents, drop_copy_bytes}
-use Rattle.gx_client.specs.declared.reading.Stamped.{Stamped}
-use Rattle.gx_client.specs.Messages.{IsOutbound, IsAnswer, IsDropCopy, AreToldApart, HaveNoneInCommon}
-use Rattle.gx_client.specs.Reading.{outbound_shown, answer_shown, drop_copy_shown, message_in}
-use Rattle.gx_client.proofs.ReadBack.{length_of, lies_in, outbound_back}
-use Rattle.gx_client.proofs.OfficersBack.{answer_back, drop_copy_back}
+use Rattle.gx_ouch.specs.{Writing.{outbound_bytes, outbound_layout, outbound_contents}, declared.outbound.Outbound.Outbound}
+use Rattle.gx_desk.specs.{declared.{Answer.Answer, DropCopy.DropCopy}, Messages.{answer, drop_copy}, Writing.{answer_contents, answer_bytes, drop_copy_contents, drop_copy_bytes}}
+use Rattle.gx_client.specs.{declared.reading.Stamped.Stamped, Messages.{IsOutbound, IsAnswer, IsDropCopy, AreToldApart, HaveNoneInCommon}, Reading.{outbound_shown, answer_shown, drop_copy_shown, message_in}}
+use Rattle.gx_client.proofs.{ReadBack.{length_of, lies_in, outbound_back}, OfficersBack.{answer_back, drop_copy_back}}
 
 same : {M : Type 0} (x y : Stamped M) → Some x ≡ Some y → (x.timestamp ≡ y.timestamp) × (x.message ≡ y.message)
 same x y e = let h : x ≡ y = cc in (ap (λ (s : Stamped _). s.timestamp) h, ap (λ (s : Stamped _). s.message) h)
@@ -47,12 +39,12 @@ unfolding drop_copy_bytes
 drop_copy_length timestamp m is = (lies_in drop_copy (drop_copy_contents timestamp m) (record { offsets = refl; size = refl }) is.texts).0
 
 pub no_size : (m : Outbound) (n : ℕ) → (outbound_layout m).size ≡ n → (n ≢ 34) × (n ≢ 49)
-no_size (outbounds.SystemEvent code) n e = (omega arith, omega arith)
-no_size (outbounds.Accepted m) n e = (omega arith, omega arith)
-no_size (outbounds.Replaced m) n e = (omega arith, omega arith)
-no_size (outbounds.Canceled m) n e = (omega arith, omega arith)
-no_size (outbounds.Executed m) n e = (omega arith, omega arith)
-no_size (outbounds.Rejected m) n e = (omega arith, omega arith)
+no_size (Outbound.SystemEvent code) n e = (omega arith, omega arith)
+no_size (Outbound.Accepted m) n e = (omega arith, omega arith)
+no_size (Outbound.Replaced m) n e = (omega arith, omega arith)
+no_size (Outbound.Canceled m) n e = (omega arith, omega arith)
+no_size (Outbound.Executed m) n e = (omega arith, omega arith)
+no_size (Outbound.Rejected m) n e = (omega arith, omega arith)
 
 pub no_answer : HaveNoneInCommon IsOutbound outbound_bytes IsAnswer answer_bytes
 no_answer = λ t u m n is_m is_n e.

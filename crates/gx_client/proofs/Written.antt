@@ -1,24 +1,9 @@
 -- An order and a command that are laid out so are read as themselves.
-use Rattle.std.proofs.Common.{◌≡◌, ℕ, ◌<◌, ◌^◌, List, [], ◌∷◌, length, refl, ap, ◌∙◌}
-use Rattle.std.specs.Prelude.{Option, Some, None, ◌&&◌, ◌==◌, slice_index, if◌then◌else◌}
-use Rattle.std.specs.Int.{w32, to_be_bytes}
-use Rattle.std.proofs.lemmas.Nat.{from_be_bytes-to_be_bytes_4, from_be_bytes-to_be_bytes_8}
+use Rattle.std.proofs.{Common.{◌≡◌, ℕ, ◌<◌, ◌^◌, List, [], ◌∷◌, length, refl, ap, ◌∙◌}, lemmas.Nat.{from_be_bytes-to_be_bytes_4, from_be_bytes-to_be_bytes_8}}
+use Rattle.std.specs.{Prelude.{Option, Some, None, ◌&&◌, ◌==◌, slice_index, if◌then◌else◌}, Int.{w32, to_be_bytes}}
 use Rattle.gx_ouch.proofs.Places.{known_to_lie}
-use Rattle.gx_ouch.specs.Layout.{Layout, HasSizes, IsWithoutGaps, cut, laid_out}
-use Rattle.gx_ouch.specs.Messages.{enter_order, replace_order, cancel_order}
-use Rattle.gx_ouch.specs.Reading.{inbound_of, enter_of, replace_of, cancel_of}
-use Rattle.gx_ouch.specs.Writing.{letter}
-use Rattle.gx_ouch.specs.declared.inbound.Inbound.{Inbound}
-use Rattle.gx_ouch.specs.declared.inbound.Inbound.TheVariants as inbounds
-use Rattle.gx_ouch.specs.declared.inbound.EnterOrder.{EnterOrder}
-use Rattle.gx_ouch.specs.declared.inbound.ReplaceOrder.{ReplaceOrder}
-use Rattle.gx_ouch.specs.declared.inbound.CancelOrder.{CancelOrder}
-use Rattle.gx_desk.specs.Messages.{kill, lift, set_limit, restrict, unrestrict, grant, revoke, close_day}
-use Rattle.gx_desk.specs.Reading.{command_of, account_command_of, limit_command_of, stock_command_of, reader_command_of, close_of, tagged}
-use Rattle.gx_desk.specs.declared.Action.{Action}
-use Rattle.gx_desk.specs.declared.Action.TheVariants as actions
-use Rattle.gx_desk.specs.declared.Command.{Command}
-use Rattle.gx_desk.specs.declared.Tag.{Tag}
+use Rattle.gx_ouch.specs.{Layout.{Layout, HasSizes, IsWithoutGaps, cut, laid_out}, Messages.{enter_order, replace_order, cancel_order}, Reading.{inbound_of, enter_of, replace_of, cancel_of}, Writing.letter, declared.inbound.{Inbound.Inbound, EnterOrder.EnterOrder, ReplaceOrder.ReplaceOrder, CancelOrder.CancelOrder}}
+use Rattle.gx_desk.specs.{Messages.{kill, lift, set_limit, restrict, unrestrict, grant, revoke, close_day}, Reading.{command_of, account_command_of, limit_command_of, stock_command_of, reader_command_of, close_of, tagged}, declared.{Action.Action, Command.Command, Tag.Tag}}
 use Rattle.gx_client.specs.Contents.{command_layout, action_contents, command_contents, LimitFits}
 use Rattle.gx_client.proofs.ReadBack.{one_byte}
 
@@ -71,14 +56,14 @@ inbound_by bytes head size h s = ap (λ (n : ℕ). inbound_at n (length bytes) b
 
 -- the bytes of an Enter Order are read as it
 pub enter_read : (m : EnterOrder) (bytes : List ℕ) → bytes ≡ laid_out enter_order (enter_contents m) → length bytes ≡ 49 → HasSizes enter_order (enter_contents m)
-    → m.shares < 2 ^ 32 → m.price < 2 ^ 32 → m.time_in_force < 2 ^ 32 → m.minimum_quantity < 2 ^ 32 → inbound_of bytes ≡ Some (inbounds.Enter m)
+    → m.shares < 2 ^ 32 → m.price < 2 ^ 32 → m.time_in_force < 2 ^ 32 → m.minimum_quantity < 2 ^ 32 → inbound_of bytes ≡ Some (Inbound.Enter m)
 enter_read m bytes known size sizes shares price tif minimum =
     inbound_by bytes 79 49 (ap (λ (bs : List ℕ). slice_index bs 0) known) size
     ∙ ap enter_of (known_to_lie enter_order (enter_contents m) bytes known (record { offsets = refl; size = refl }) sizes).fields
     ∙ same
   where
-    same : enter_of (enter_contents m) ≡ Some (inbounds.Enter m)
-    same = λ i. Some (inbounds.Enter (record {
+    same : enter_of (enter_contents m) ≡ Some (Inbound.Enter m)
+    same = λ i. Some (Inbound.Enter (record {
       token = m.token;
       side = one_byte m.side i;
       shares = from_be_bytes-to_be_bytes_4 m.shares shares i;
@@ -96,14 +81,14 @@ enter_read m bytes known size sizes shares price tif minimum =
 
 -- the bytes of a Replace Order are read as it
 pub replace_read : (m : ReplaceOrder) (bytes : List ℕ) → bytes ≡ laid_out replace_order (replace_contents m) → length bytes ≡ 47 → HasSizes replace_order (replace_contents m)
-    → m.shares < 2 ^ 32 → m.price < 2 ^ 32 → m.time_in_force < 2 ^ 32 → m.minimum_quantity < 2 ^ 32 → inbound_of bytes ≡ Some (inbounds.Replace m)
+    → m.shares < 2 ^ 32 → m.price < 2 ^ 32 → m.time_in_force < 2 ^ 32 → m.minimum_quantity < 2 ^ 32 → inbound_of bytes ≡ Some (Inbound.Replace m)
 replace_read m bytes known size sizes shares price tif minimum =
     inbound_by bytes 85 47 (ap (λ (bs : List ℕ). slice_index bs 0) known) size
     ∙ ap replace_of (known_to_lie replace_order (replace_contents m) bytes known (record { offsets = refl; size = refl }) sizes).fields
     ∙ same
   where
-    same : replace_of (replace_contents m) ≡ Some (inbounds.Replace m)
-    same = λ i. Some (inbounds.Replace (record {
+    same : replace_of (replace_contents m) ≡ Some (Inbound.Replace m)
+    same = λ i. Some (Inbound.Replace (record {
       existing_token = m.existing_token;
       replacement_token = m.replacement_token;
       shares = from_be_bytes-to_be_bytes_4 m.shares shares i;
@@ -116,25 +101,25 @@ replace_read m bytes known size sizes shares price tif minimum =
 
 -- the bytes of a Cancel Order are read as it
 pub cancel_read : (m : CancelOrder) (bytes : List ℕ) → bytes ≡ laid_out cancel_order (cancel_contents m) → length bytes ≡ 19 → HasSizes cancel_order (cancel_contents m)
-    → m.shares < 2 ^ 32 → inbound_of bytes ≡ Some (inbounds.Cancel m)
+    → m.shares < 2 ^ 32 → inbound_of bytes ≡ Some (Inbound.Cancel m)
 cancel_read m bytes known size sizes shares =
     inbound_by bytes 88 19 (ap (λ (bs : List ℕ). slice_index bs 0) known) size
     ∙ ap cancel_of (known_to_lie cancel_order (cancel_contents m) bytes known (record { offsets = refl; size = refl }) sizes).fields
     ∙ same
   where
-    same : cancel_of (cancel_contents m) ≡ Some (inbounds.Cancel m)
-    same = λ i. Some (inbounds.Cancel (record { token = m.token; shares = from_be_bytes-to_be_bytes_4 m.shares shares i }))
+    same : cancel_of (cancel_contents m) ≡ Some (Inbound.Cancel m)
+    same = λ i. Some (Inbound.Cancel (record { token = m.token; shares = from_be_bytes-to_be_bytes_4 m.shares shares i }))
 
 -- the command, by its first byte and its length
 abbrev command_at : ℕ → ℕ → List ℕ → Option Command
 command_at head size bytes =
-    if (head == kill.kind) && (size == kill.size) then account_command_of actions.Kill (cut kill bytes)
-    else (if (head == lift.kind) && (size == lift.size) then account_command_of actions.Lift (cut lift bytes)
+    if (head == kill.kind) && (size == kill.size) then account_command_of Action.Kill (cut kill bytes)
+    else (if (head == lift.kind) && (size == lift.size) then account_command_of Action.Lift (cut lift bytes)
     else (if (head == set_limit.kind) && (size == set_limit.size) then limit_command_of (cut set_limit bytes)
-    else (if (head == restrict.kind) && (size == restrict.size) then stock_command_of actions.Restrict (cut restrict bytes)
-    else (if (head == unrestrict.kind) && (size == unrestrict.size) then stock_command_of actions.Unrestrict (cut unrestrict bytes)
-    else (if (head == grant.kind) && (size == grant.size) then reader_command_of actions.Grant (cut grant bytes)
-    else (if (head == revoke.kind) && (size == revoke.size) then reader_command_of actions.Revoke (cut revoke bytes)
+    else (if (head == restrict.kind) && (size == restrict.size) then stock_command_of Action.Restrict (cut restrict bytes)
+    else (if (head == unrestrict.kind) && (size == unrestrict.size) then stock_command_of Action.Unrestrict (cut unrestrict bytes)
+    else (if (head == grant.kind) && (size == grant.size) then reader_command_of Action.Grant (cut grant bytes)
+    else (if (head == revoke.kind) && (size == revoke.size) then reader_command_of Action.Revoke (cut revoke bytes)
     else (if (head == close_day.kind) && (size == close_day.size) then close_of (cut close_day bytes)
     else None)))))))
 
@@ -149,23 +134,23 @@ fields_of layout contents bytes known gapless sizes = (known_to_lie layout conte
 command_back : (tag : Tag) (action : Action) (bytes : List ℕ) → bytes ≡ laid_out (command_layout action) (tag.bytes ∷ action_contents action)
     → length bytes ≡ (command_layout action).size → HasSizes (command_layout action) (tag.bytes ∷ action_contents action) → LimitFits action
     → command_of bytes ≡ Some (record { tag = tag; action = action })
-command_back tag (actions.Kill account) bytes known size sizes fits =
-    command_by bytes 75 23 (ap (λ (bs : List ℕ). slice_index bs 0) known) size ∙ ap (account_command_of actions.Kill) (fields_of kill (tag.bytes ∷ action_contents (actions.Kill account)) bytes known (record { offsets = refl; size = refl }) sizes)
-command_back tag (actions.Lift account) bytes known size sizes fits =
-    command_by bytes 76 23 (ap (λ (bs : List ℕ). slice_index bs 0) known) size ∙ ap (account_command_of actions.Lift) (fields_of lift (tag.bytes ∷ action_contents (actions.Lift account)) bytes known (record { offsets = refl; size = refl }) sizes)
-command_back tag (actions.SetLimit rule limit) bytes known size sizes fits =
-    command_by bytes 77 31 (ap (λ (bs : List ℕ). slice_index bs 0) known) size ∙ ap limit_command_of (fields_of set_limit (tag.bytes ∷ action_contents (actions.SetLimit rule limit)) bytes known (record { offsets = refl; size = refl }) sizes)
-    ∙ ap (λ (n : ℕ). Some (tagged tag.bytes (actions.SetLimit rule n))) (from_be_bytes-to_be_bytes_8 limit fits)
-command_back tag (actions.Restrict rule stock) bytes known size sizes fits =
-    command_by bytes 82 31 (ap (λ (bs : List ℕ). slice_index bs 0) known) size ∙ ap (stock_command_of actions.Restrict) (fields_of restrict (tag.bytes ∷ action_contents (actions.Restrict rule stock)) bytes known (record { offsets = refl; size = refl }) sizes)
-command_back tag (actions.Unrestrict rule stock) bytes known size sizes fits =
-    command_by bytes 78 31 (ap (λ (bs : List ℕ). slice_index bs 0) known) size ∙ ap (stock_command_of actions.Unrestrict) (fields_of unrestrict (tag.bytes ∷ action_contents (actions.Unrestrict rule stock)) bytes known (record { offsets = refl; size = refl }) sizes)
-command_back tag (actions.Grant reader account) bytes known size sizes fits =
-    command_by bytes 71 29 (ap (λ (bs : List ℕ). slice_index bs 0) known) size ∙ ap (reader_command_of actions.Grant) (fields_of grant (tag.bytes ∷ action_contents (actions.Grant reader account)) bytes known (record { offsets = refl; size = refl }) sizes)
-command_back tag (actions.Revoke reader account) bytes known size sizes fits =
-    command_by bytes 86 29 (ap (λ (bs : List ℕ). slice_index bs 0) known) size ∙ ap (reader_command_of actions.Revoke) (fields_of revoke (tag.bytes ∷ action_contents (actions.Revoke reader account)) bytes known (record { offsets = refl; size = refl }) sizes)
-command_back tag actions.CloseDay bytes known size sizes fits =
-    command_by bytes 90 15 (ap (λ (bs : List ℕ). slice_index bs 0) known) size ∙ ap close_of (fields_of close_day (tag.bytes ∷ action_contents actions.CloseDay) bytes known (record { offsets = refl; size = refl }) sizes)
+command_back tag (Action.Kill account) bytes known size sizes fits =
+    command_by bytes 75 23 (ap (λ (bs : List ℕ). slice_index bs 0) known) size ∙ ap (account_command_of Action.Kill) (fields_of kill (tag.bytes ∷ action_contents (Action.Kill account)) bytes known (record { offsets = refl; size = refl }) sizes)
+command_back tag (Action.Lift account) bytes known size sizes fits =
+    command_by bytes 76 23 (ap (λ (bs : List ℕ). slice_index bs 0) known) size ∙ ap (account_command_of Action.Lift) (fields_of lift (tag.bytes ∷ action_contents (Action.Lift account)) bytes known (record { offsets = refl; size = refl }) sizes)
+command_back tag (Action.SetLimit rule limit) bytes known size sizes fits =
+    command_by bytes 77 31 (ap (λ (bs : List ℕ). slice_index bs 0) known) size ∙ ap limit_command_of (fields_of set_limit (tag.bytes ∷ action_contents (Action.SetLimit rule limit)) bytes known (record { offsets = refl; size = refl }) sizes)
+    ∙ ap (λ (n : ℕ). Some (tagged tag.bytes (Action.SetLimit rule n))) (from_be_bytes-to_be_bytes_8 limit fits)
+command_back tag (Action.Restrict rule stock) bytes known size sizes fits =
+    command_by bytes 82 31 (ap (λ (bs : List ℕ). slice_index bs 0) known) size ∙ ap (stock_command_of Action.Restrict) (fields_of restrict (tag.bytes ∷ action_contents (Action.Restrict rule stock)) bytes known (record { offsets = refl; size = refl }) sizes)
+command_back tag (Action.Unrestrict rule stock) bytes known size sizes fits =
+    command_by bytes 78 31 (ap (λ (bs : List ℕ). slice_index bs 0) known) size ∙ ap (stock_command_of Action.Unrestrict) (fields_of unrestrict (tag.bytes ∷ action_contents (Action.Unrestrict rule stock)) bytes known (record { offsets = refl; size = refl }) sizes)
+command_back tag (Action.Grant reader account) bytes known size sizes fits =
+    command_by bytes 71 29 (ap (λ (bs : List ℕ). slice_index bs 0) known) size ∙ ap (reader_command_of Action.Grant) (fields_of grant (tag.bytes ∷ action_contents (Action.Grant reader account)) bytes known (record { offsets = refl; size = refl }) sizes)
+command_back tag (Action.Revoke reader account) bytes known size sizes fits =
+    command_by bytes 86 29 (ap (λ (bs : List ℕ). slice_index bs 0) known) size ∙ ap (reader_command_of Action.Revoke) (fields_of revoke (tag.bytes ∷ action_contents (Action.Revoke reader account)) bytes known (record { offsets = refl; size = refl }) sizes)
+command_back tag Action.CloseDay bytes known size sizes fits =
+    command_by bytes 90 15 (ap (λ (bs : List ℕ). slice_index bs 0) known) size ∙ ap close_of (fields_of close_day (tag.bytes ∷ action_contents Action.CloseDay) bytes known (record { offsets = refl; size = refl }) sizes)
 
 -- the same of a whole command
 pub command_read : (c : Command) (bytes : List ℕ) → bytes ≡ laid_out (command_layout c.action) (command_contents c) → length bytes ≡ (command_layout c.action).size

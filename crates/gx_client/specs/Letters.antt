@@ -1,12 +1,7 @@
 -- The codes that letters stand for.
 use Rattle.std.specs.Prelude.{ℕ, ◌==◌, List, Option, find, bytes_eq}
-use Rattle.gx_ouch.specs.declared.letters.EventCode.{EventCode}
-use Rattle.gx_ouch.specs.declared.letters.Liquidity.{Liquidity}
-use Rattle.gx_ouch.specs.declared.letters.CancelReason.{CancelReason}
-use Rattle.gx_ouch.specs.declared.letters.RejectReason.{RejectReason}
-use Rattle.gx_ouch.specs.Letters.{event_letter, liquidity_letter, cancel_letter, reject_letter}
-use Rattle.gx_desk.specs.declared.AnswerCode.{AnswerCode}
-use Rattle.gx_desk.specs.Writing.{answer_code}
+use Rattle.gx_ouch.specs.{declared.letters.{EventCode.EventCode, Liquidity.Liquidity, CancelReason.CancelReason, RejectReason.RejectReason}, Letters.{event_letter, liquidity_letter, cancel_letter, reject_letter}}
+use Rattle.gx_desk.specs.{declared.AnswerCode.AnswerCode, Writing.answer_code}
 use Rattle.gx_client.specs.declared.letters.TheConstants.{EVENT_CODES, LIQUIDITY_FLAGS, CANCEL_REASONS, REJECT_REASONS, ANSWER_CODES}
 
 -- the code that has this letter

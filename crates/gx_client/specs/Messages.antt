@@ -1,14 +1,7 @@
 -- Messages as the gate holds them: each text fills its field, and each number fits its own.
 use Rattle.std.specs.Prelude.{◌≡◌, ◌≢◌, ℕ, ◌<◌, ◌^◌, List, Option, Some}
-use Rattle.gx_ouch.specs.declared.outbound.OrderTerms.{OrderTerms}
-use Rattle.gx_ouch.specs.declared.outbound.Outbound.{Outbound}
-use Rattle.gx_ouch.specs.declared.outbound.Outbound.TheVariants as outbounds
-use Rattle.gx_ouch.specs.Layout.{HasSizes}
-use Rattle.gx_ouch.specs.Writing.{outbound_layout, outbound_contents}
-use Rattle.gx_desk.specs.declared.Answer.{Answer}
-use Rattle.gx_desk.specs.declared.DropCopy.{DropCopy}
-use Rattle.gx_desk.specs.Messages.{answer, drop_copy}
-use Rattle.gx_desk.specs.Writing.{answer_contents, drop_copy_contents}
+use Rattle.gx_ouch.specs.{declared.outbound.{OrderTerms.OrderTerms, Outbound.Outbound}, Layout.HasSizes, Writing.{outbound_layout, outbound_contents}}
+use Rattle.gx_desk.specs.{declared.{Answer.Answer, DropCopy.DropCopy}, Messages.{answer, drop_copy}, Writing.{answer_contents, drop_copy_contents}}
 use Rattle.gx_client.specs.declared.reading.Stamped.{Stamped}
 
 -- no message of this kind has these bytes
@@ -39,12 +32,12 @@ TermsFit terms =
 
 -- the numbers of a message fit their fields
 abbrev pub NumbersFit : Outbound → Type 0
-NumbersFit (outbounds.SystemEvent event) = Unit {0}
-NumbersFit (outbounds.Accepted m) = TermsFit m.terms × (m.order_reference < 2 ^ 64)
-NumbersFit (outbounds.Replaced m) = TermsFit m.terms × (m.order_reference < 2 ^ 64)
-NumbersFit (outbounds.Canceled m) = m.decrement < 2 ^ 32
-NumbersFit (outbounds.Executed m) = (m.shares < 2 ^ 32) × (m.price < 2 ^ 32) × (m.match_number < 2 ^ 64)
-NumbersFit (outbounds.Rejected m) = Unit {0}
+NumbersFit (Outbound.SystemEvent event) = Unit {0}
+NumbersFit (Outbound.Accepted m) = TermsFit m.terms × (m.order_reference < 2 ^ 64)
+NumbersFit (Outbound.Replaced m) = TermsFit m.terms × (m.order_reference < 2 ^ 64)
+NumbersFit (Outbound.Canceled m) = m.decrement < 2 ^ 32
+NumbersFit (Outbound.Executed m) = (m.shares < 2 ^ 32) × (m.price < 2 ^ 32) × (m.match_number < 2 ^ 64)
+NumbersFit (Outbound.Rejected m) = Unit {0}
 
 -- a message to a trader, of this moment
 pub record IsOutbound (timestamp : ℕ) (message : Outbound) : Type 0 where
@@ -62,4 +55,4 @@ pub record IsAnswer (timestamp : ℕ) (message : Answer) : Type 0 where
 pub record IsDropCopy (timestamp : ℕ) (message : DropCopy) : Type 0 where
   pub moment : timestamp < 2 ^ 64
   pub texts : HasSizes drop_copy (drop_copy_contents timestamp message)
-  pub numbers : NumbersFit (outbounds.Executed message.executed)
+  pub numbers : NumbersFit (Outbound.Executed message.executed)

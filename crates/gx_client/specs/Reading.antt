@@ -1,19 +1,8 @@
 -- What stands at the places of a message that the gate writes. Numbers are unsigned, the highest byte first.
-use Rattle.std.specs.Prelude.{ℕ, List, [], Option, Some, None, option_map, option_and_then, bytes_eq, length, ◌==◌, slice_index_or, if◌then◌else◌}
-use Rattle.std.specs.Int.{w64, from_be_bytes}
-use Rattle.gx_ouch.specs.declared.outbound.Outbound.{Outbound}
-use Rattle.gx_ouch.specs.declared.outbound.Outbound.TheVariants as outbounds
-use Rattle.gx_ouch.specs.declared.outbound.OrderTerms.{OrderTerms}
-use Rattle.gx_ouch.specs.declared.outbound.Executed.{Executed}
-use Rattle.gx_ouch.specs.declared.letters.Liquidity.{Liquidity}
-use Rattle.gx_ouch.specs.Layout.{field, bytes_at, cut, is_of}
-use Rattle.gx_ouch.specs.Messages.{system_event, accepted, replaced, canceled, executed, rejected}
-use Rattle.gx_ouch.specs.Reading.{byte, number}
-use Rattle.gx_desk.specs.declared.Answer.{Answer}
-use Rattle.gx_desk.specs.declared.DropCopy.{DropCopy}
-use Rattle.gx_desk.specs.Messages.{answer, drop_copy}
-use Rattle.gx_client.specs.declared.reading.Stamped.{Stamped}
-use Rattle.gx_client.specs.Letters.{event_in, liquidity_in, cancel_reason_in, reject_reason_in, answer_code_in}
+use Rattle.std.specs.{Prelude.{ℕ, List, [], Option, Some, None, option_map, option_and_then, bytes_eq, length, ◌==◌, slice_index_or, if◌then◌else◌}, Int.{w64, from_be_bytes}}
+use Rattle.gx_ouch.specs.{declared.{outbound.{Outbound.Outbound, OrderTerms.OrderTerms, Executed.Executed}, letters.Liquidity.Liquidity}, Layout.{field, bytes_at, cut, is_of}, Messages.{system_event, accepted, replaced, canceled, executed, rejected}, Reading.{byte, number}}
+use Rattle.gx_desk.specs.{declared.{Answer.Answer, DropCopy.DropCopy}, Messages.{answer, drop_copy}}
+use Rattle.gx_client.specs.{declared.reading.Stamped.Stamped, Letters.{event_in, liquidity_in, cancel_reason_in, reject_reason_in, answer_code_in}}
 
 -- a field of eight bytes
 abbrev pub long : List ℕ → ℕ
@@ -68,17 +57,17 @@ executed_in parts = option_map (executed_of parts) (liquidity_in (byte (part par
 
 -- the message of these fields, by its type
 abbrev pub event_in_parts : List (List ℕ) → Option Outbound
-event_in_parts parts = option_map outbounds.SystemEvent (event_in (byte (part parts 1)))
+event_in_parts parts = option_map Outbound.SystemEvent (event_in (byte (part parts 1)))
 
 abbrev pub accepted_in_parts : List (List ℕ) → Outbound
-accepted_in_parts parts = outbounds.Accepted (record {
+accepted_in_parts parts = Outbound.Accepted (record {
   token = record { bytes = part parts 1 };
   terms = terms_of parts;
   order_reference = long (part parts 9);
 })
 
 abbrev pub replaced_in_parts : List (List ℕ) → Outbound
-replaced_in_parts parts = outbounds.Replaced (record {
+replaced_in_parts parts = Outbound.Replaced (record {
   token = record { bytes = part parts 1 };
   terms = terms_of parts;
   order_reference = long (part parts 9);
@@ -87,18 +76,18 @@ replaced_in_parts parts = outbounds.Replaced (record {
 
 abbrev pub canceled_in_parts : List (List ℕ) → Option Outbound
 canceled_in_parts parts =
-    option_map (λ reason. outbounds.Canceled (record {
+    option_map (λ reason. Outbound.Canceled (record {
       token = record { bytes = part parts 1 };
       decrement = number (part parts 2);
       reason = reason;
     })) (cancel_reason_in (byte (part parts 3)))
 
 abbrev pub executed_in_parts : List (List ℕ) → Option Outbound
-executed_in_parts parts = option_map outbounds.Executed (executed_in parts)
+executed_in_parts parts = option_map Outbound.Executed (executed_in parts)
 
 abbrev pub rejected_in_parts : List (List ℕ) → Option Outbound
 rejected_in_parts parts =
-    option_map (λ reason. outbounds.Rejected (record {
+    option_map (λ reason. Outbound.Rejected (record {
       token = record { bytes = part parts 1 };
       reason = reason;
     })) (reject_reason_in (byte (part parts 2)))

@@ -1,12 +1,8 @@
 -- What a client's packets carry.
 use Rattle.std.specs.Prelude.{◌≡◌, ℕ, ◌≤◌, List, length, Some}
-use Rattle.gx_ouch.specs.declared.inbound.Inbound.{Inbound}
-use Rattle.gx_ouch.specs.Reading.{inbound_of}
-use Rattle.gx_soup.specs.declared.packet.ClientPacket.TheVariants.{Data}
-use Rattle.gx_soup.specs.Standard.{longest_payload}
-use Rattle.gx_soup.specs.Writing.{client_bytes}
-use Rattle.gx_desk.specs.declared.Command.{Command}
-use Rattle.gx_desk.specs.Reading.{command_of}
+use Rattle.gx_ouch.specs.{declared.inbound.Inbound.Inbound, Reading.inbound_of}
+use Rattle.gx_soup.specs.{declared.packet.ClientPacket.TheVariants.Data, Standard.longest_payload, Writing.client_bytes}
+use Rattle.gx_desk.specs.{declared.Command.Command, Reading.command_of}
 
 -- one packet of Unsequenced Data, in which this command is read
 pub record CarriesCommand (bytes : List ℕ) (command : Command) : Type 0 where

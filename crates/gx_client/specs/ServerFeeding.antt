@@ -1,8 +1,7 @@
 -- What a server's feeder has read.
 use Rattle.std.specs.Prelude.{◌≡◌, ℕ, List, ◌++◌, Option}
 use Rattle.gx_soup.specs.declared.packet.ServerPacket.{ServerPacket}
-use Rattle.gx_client.specs.declared.front.ServerFault.{ServerFault}
-use Rattle.gx_client.specs.ServerPackets.{server_packets_of}
+use Rattle.gx_client.specs.{declared.front.ServerFault.ServerFault, ServerPackets.server_packets_of}
 
 -- what a feeder keeps: the bytes of a packet that is not whole, and the fault
 pub record Held : Type 0 where

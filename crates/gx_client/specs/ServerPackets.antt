@@ -1,17 +1,8 @@
 -- The packets of a server's text.
-use Rattle.std.specs.Prelude.{◌≡◌, ℕ, zero, suc, ◌+◌, ◌-◌, ◌*◌, ◌<◌, ◌≤◌, ◌^◌, Bool, true, not, ◌||◌, ◌==◌, nat_lt, if◌then◌else◌, List, [], ◌∷◌, ◌++◌, length, take, drop, slice_index, slice_range, Option, Some, None}
-use Rattle.std.specs.Option.{option_to_list}
-use Rattle.gx_units.specs.declared.names.LoginRejection.{LoginRejection}
-use Rattle.gx_units.specs.declared.names.LoginRejection.TheVariants.{NotAuthorized, SessionNotAvailable}
-use Rattle.gx_units.specs.Spelling.{folded_session}
-use Rattle.gx_soup.specs.declared.packet.ServerPacket.{ServerPacket}
-use Rattle.gx_soup.specs.declared.packet.ServerPacket.TheVariants.{Accepted, Rejected, Sequenced, Heartbeat, EndOfSession}
-use Rattle.gx_soup.specs.Standard.{login_accepted, login_rejected, sequenced_data, server_heartbeat, end_of_session, debug, unsequenced_data, not_authorized, session_not_available, longest_payload}
-use Rattle.gx_soup.specs.Login.{number_of}
-use Rattle.gx_client.specs.declared.front.ServerFault.{ServerFault}
-use Rattle.gx_client.specs.declared.front.ServerFault.TheVariants.{ZeroLength, UnknownType, WrongLength, BadAnswer}
-use Rattle.gx_client.specs.declared.front.Front.{Front}
-use Rattle.gx_client.specs.declared.front.Front.TheVariants.{Short, Faulty, Whole}
+use Rattle.std.specs.{Prelude.{◌≡◌, ℕ, zero, suc, ◌+◌, ◌-◌, ◌*◌, ◌<◌, ◌≤◌, ◌^◌, Bool, true, not, ◌||◌, ◌==◌, nat_lt, if◌then◌else◌, List, [], ◌∷◌, ◌++◌, length, take, drop, slice_index, slice_range, Option, Some, None}, Option.option_to_list}
+use Rattle.gx_units.specs.{declared.names.LoginRejection.{LoginRejection, TheVariants.{NotAuthorized, SessionNotAvailable}}, Spelling.folded_session}
+use Rattle.gx_soup.specs.{declared.packet.ServerPacket.{ServerPacket, TheVariants.{Accepted, Rejected, Sequenced, Heartbeat, EndOfSession}}, Standard.{login_accepted, login_rejected, sequenced_data, server_heartbeat, end_of_session, debug, unsequenced_data, not_authorized, session_not_available, longest_payload}, Login.number_of}
+use Rattle.gx_client.specs.declared.front.{ServerFault.{ServerFault, TheVariants.{ZeroLength, UnknownType, WrongLength, BadAnswer}}, Front.{Front, TheVariants.{Short, Faulty, Whole}}}
 
 -- a type that a server sends
 abbrev pub is_server_type : ℕ → Bool

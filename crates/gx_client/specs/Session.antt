@@ -1,14 +1,7 @@
 -- A client's session, by the packets that it has heard.
-use Rattle.std.specs.Prelude.{◌≡◌, ℕ, ◌+◌, min, nat_lt, if◌then◌else◌, Bool, true, false, List, [], ◌∷◌}
-use Rattle.std.specs.List.{list_any}
-use Rattle.gx_soup.specs.declared.packet.LoginRequest.{LoginRequest}
-use Rattle.gx_soup.specs.declared.packet.ServerPacket.{ServerPacket}
-use Rattle.gx_soup.specs.declared.packet.ServerPacket.TheVariants.{Accepted, Rejected, Sequenced, Heartbeat, EndOfSession}
-use Rattle.gx_soup.specs.Login.{greatest}
-use Rattle.gx_client.specs.declared.heard.Stage.{Stage}
-use Rattle.gx_client.specs.declared.heard.Stage.TheVariants.{LoggingIn, On, Over}
-use Rattle.gx_client.specs.declared.heard.Heard.{Heard}
-use Rattle.gx_client.specs.declared.heard.Heard.TheVariants as hears
+use Rattle.std.specs.{Prelude.{◌≡◌, ℕ, ◌+◌, min, nat_lt, if◌then◌else◌, Bool, true, false, List, [], ◌∷◌}, List.list_any}
+use Rattle.gx_soup.specs.{declared.packet.{LoginRequest.LoginRequest, ServerPacket.{ServerPacket, TheVariants.{Accepted, Rejected, Sequenced, Heartbeat, EndOfSession}}}, Login.greatest}
+use Rattle.gx_client.specs.declared.heard.{Stage.{Stage, TheVariants.{LoggingIn, On, Over}}, Heard.Heard}
 
 abbrev pub is_end : ServerPacket → Bool
 is_end (Accepted session next) = false
@@ -47,17 +40,17 @@ next_of wanted (EndOfSession ∷ more) = wanted
 
 -- what a packet is to a session at this stage, whose next report has this number; the greatest number is no report's
 abbrev pub heard_as : Stage → ℕ → ServerPacket → Heard
-heard_as LoggingIn next (Accepted session first) = hears.LoggedIn session first
-heard_as LoggingIn next (Rejected why) = hears.Refused why
-heard_as LoggingIn next (Sequenced payload) = hears.Unexpected
-heard_as LoggingIn next Heartbeat = hears.Heartbeat
-heard_as LoggingIn next EndOfSession = hears.Ended
-heard_as On next (Accepted session first) = hears.Unexpected
-heard_as On next (Rejected why) = hears.Unexpected
-heard_as On next (Sequenced payload) = if nat_lt next greatest then hears.Report next else hears.Unexpected
-heard_as On next Heartbeat = hears.Heartbeat
-heard_as On next EndOfSession = hears.Ended
-heard_as Over next packet = hears.Unexpected
+heard_as LoggingIn next (Accepted session first) = Heard.LoggedIn session first
+heard_as LoggingIn next (Rejected why) = Heard.Refused why
+heard_as LoggingIn next (Sequenced payload) = Heard.Unexpected
+heard_as LoggingIn next Heartbeat = Heard.Heartbeat
+heard_as LoggingIn next EndOfSession = Heard.Ended
+heard_as On next (Accepted session first) = Heard.Unexpected
+heard_as On next (Rejected why) = Heard.Unexpected
+heard_as On next (Sequenced payload) = if nat_lt next greatest then Heard.Report next else Heard.Unexpected
+heard_as On next Heartbeat = Heard.Heartbeat
+heard_as On next EndOfSession = Heard.Ended
+heard_as Over next packet = Heard.Unexpected
 
 -- what a packet is to a session that asked for the report `wanted` and has heard these packets
 abbrev pub heard_after : ℕ → List ServerPacket → ServerPacket → Heard
@@ -77,9 +70,9 @@ pub record HasHeard (session : Standing) (asked : LoginRequest) (packets : List 
 
 -- a session to which this was said
 abbrev pub noted : Standing → Heard → Standing
-noted session (hears.LoggedIn name first) = record session { stage = On; next = min first greatest }
-noted session (hears.Refused why) = record session { stage = Over }
-noted session (hears.Report number) = record session { next = min (number + 1) greatest }
-noted session hears.Heartbeat = session
-noted session hears.Ended = record session { stage = Over }
-noted session hears.Unexpected = session
+noted session (Heard.LoggedIn name first) = record session { stage = On; next = min first greatest }
+noted session (Heard.Refused why) = record session { stage = Over }
+noted session (Heard.Report number) = record session { next = min (number + 1) greatest }
+noted session Heard.Heartbeat = session
+noted session Heard.Ended = record session { stage = Over }
+noted session Heard.Unexpected = session

@@ -1,10 +1,8 @@
 //! A server's packets, from a text that comes in pieces.
 
-ghost use Rattle.std.specs.Prelude.{◌≡◌, ℕ, ◌≤◌, ◌<◌, List, [], ◌++◌, drop, length, is_some, IsTrue, IfOk, OnOk, OnErr};
-ghost use Rattle.std.specs.Option.{option_to_list};
+ghost use Rattle.std.specs.{Prelude.{◌≡◌, ℕ, ◌≤◌, ◌<◌, List, [], ◌++◌, drop, length, is_some, IsTrue, IfOk, OnOk, OnErr}, Option.option_to_list};
 ghost use Rattle.gx_soup.specs.Standard.{longest_packet};
-ghost use Rattle.gx_client.specs.ServerPackets.{server_packets_of};
-ghost use Rattle.gx_client.specs.ServerFeeding.{HasRead, Gives};
+ghost use Rattle.gx_client.specs.{ServerPackets.server_packets_of, ServerFeeding.{HasRead, Gives}};
 
 use crate::front::{Front, ServerFault, read_front};
 use gx_soup::ServerPacket;

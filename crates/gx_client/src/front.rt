@@ -1,8 +1,6 @@
 //! What stands first in a server's text.
 
-ghost use Rattle.std.specs.Prelude.{◌≡◌, ◌<◌, length, slice_index, slice_range, IfOk};
-ghost use Rattle.std.specs.Char.{is_ascii_digit};
-ghost use Rattle.std.specs.List.{list_all};
+ghost use Rattle.std.specs.{Prelude.{◌≡◌, ◌<◌, length, slice_index, slice_range, IfOk}, Char.is_ascii_digit, List.list_all};
 ghost use Rattle.gx_soup.specs.Login.{number_of};
 ghost use Rattle.gx_client.specs.ServerPackets.{server_front, typed_front, whole_front, accepted_front, rejected_front, plain_packet, is_server_type, has_its_length, rejection_of};
 

@@ -1,25 +1,12 @@
 //! What holds of all messages, of all packets and of all sessions, as functions that do nothing.
 
-ghost use Rattle.std.specs.Prelude.{◌≡◌, ℕ, ◌+◌, ◌<◌, List, [], ◌∷◌, ◌++◌, length, is_some, IsTrue, IsFalse, slice_index};
-ghost use Rattle.std.specs.List.{list_any};
+ghost use Rattle.std.specs.{Prelude.{◌≡◌, ℕ, ◌+◌, ◌<◌, List, [], ◌∷◌, ◌++◌, length, is_some, IsTrue, IsFalse, slice_index}, List.list_any};
 ghost use Rattle.gx_units.specs.declared.names.SessionName.{SessionName};
-ghost use Rattle.gx_soup.specs.declared.packet.ClientPacket.TheVariants.{Data};
-ghost use Rattle.gx_soup.specs.declared.packet.ServerPacket.{ServerPacket};
-ghost use Rattle.gx_soup.specs.declared.packet.ServerPacket.TheVariants.{Accepted, Sequenced};
-ghost use Rattle.gx_soup.specs.Login.{greatest};
-ghost use Rattle.gx_soup.specs.Packets.{packets_of, with_packet};
-ghost use Rattle.gx_soup.specs.Standard.{debug, longest_packet, unsequenced_data};
-ghost use Rattle.gx_soup.specs.Writing.{framed, server_bytes};
-ghost use Rattle.gx_ouch.specs.declared.inbound.Inbound.{Inbound};
-ghost use Rattle.gx_ouch.specs.Writing.{outbound_bytes};
-ghost use Rattle.gx_desk.specs.declared.Command.{Command};
-ghost use Rattle.gx_desk.specs.Writing.{answer_bytes, drop_copy_bytes};
-ghost use Rattle.gx_client.specs.Messages.{IsOutbound, IsAnswer, IsDropCopy, AreToldApart, HaveNoneInCommon};
-ghost use Rattle.gx_client.specs.Sending.{CarriesCommand, CarriesInbound};
-ghost use Rattle.gx_client.specs.ServerPackets.{server_packets_of, behind, IsServerPacket};
-ghost use Rattle.gx_client.specs.Session.{is_end, reports_in, stage_of, heard_after};
+ghost use Rattle.gx_soup.specs.{declared.packet.{ClientPacket.TheVariants.Data, ServerPacket.{ServerPacket, TheVariants.{Accepted, Sequenced}}}, Login.greatest, Packets.{packets_of, with_packet}, Standard.{debug, longest_packet, unsequenced_data}, Writing.{framed, server_bytes}};
+ghost use Rattle.gx_ouch.specs.{declared.inbound.Inbound.Inbound, Writing.outbound_bytes};
+ghost use Rattle.gx_desk.specs.{declared.Command.Command, Writing.{answer_bytes, drop_copy_bytes}};
+ghost use Rattle.gx_client.specs.{Messages.{IsOutbound, IsAnswer, IsDropCopy, AreToldApart, HaveNoneInCommon}, Sending.{CarriesCommand, CarriesInbound}, ServerPackets.{server_packets_of, behind, IsServerPacket}, Session.{is_end, reports_in, stage_of, heard_after}, declared.heard.Stage.TheVariants.Over};
 ghost use Rattle.gx_client.specs.declared.heard.Heard.TheVariants as hears;
-ghost use Rattle.gx_client.specs.declared.heard.Stage.TheVariants.{Over};
 
 /// No two messages of a kind have the same bytes, nor has one message at two moments.
 pub fn messages_are_told_apart()

@@ -1,14 +1,10 @@
 //! The gate's messages, read from bytes.
 
-ghost use Rattle.std.specs.Prelude.{◌≡◌, ◌<◌, ◌≤◌, ◌^◌, length, IfNone, IfSome};
-ghost use Rattle.std.specs.Int.{w32, w64, from_be_bytes};
+ghost use Rattle.std.specs.{Prelude.{◌≡◌, ◌<◌, ◌≤◌, ◌^◌, length, IfNone, IfSome}, Int.{w32, w64, from_be_bytes}};
 ghost use Rattle.gx_ouch.specs.declared.outbound.Outbound.TheVariants as outbounds;
-ghost use Rattle.gx_ouch.specs.Layout.{cut};
-ghost use Rattle.gx_ouch.specs.Messages.{system_event, accepted, replaced, canceled, executed, rejected};
-ghost use Rattle.gx_ouch.specs.Writing.{outbound_bytes};
+ghost use Rattle.gx_ouch.specs.{Layout.cut, Messages.{system_event, accepted, replaced, canceled, executed, rejected}, Writing.outbound_bytes};
 ghost use Rattle.gx_desk.specs.Writing.{answer_bytes, drop_copy_bytes};
-ghost use Rattle.gx_client.specs.Messages.{IsOutbound, IsAnswer, IsDropCopy, NumbersFit, TermsFit, HasNone, ReadsBack};
-ghost use Rattle.gx_client.specs.Reading.{message_in, terms_of, executed_in, event_in_parts, accepted_in_parts, replaced_in_parts, canceled_in_parts, rejected_in_parts, outbound_shown, answer_shown, drop_copy_shown};
+ghost use Rattle.gx_client.specs.{Messages.{IsOutbound, IsAnswer, IsDropCopy, NumbersFit, TermsFit, HasNone, ReadsBack}, Reading.{message_in, terms_of, executed_in, event_in_parts, accepted_in_parts, replaced_in_parts, canceled_in_parts, rejected_in_parts, outbound_shown, answer_shown, drop_copy_shown}};
 
 use crate::letters::{answer_code, cancel_reason, event_code, liquidity, reject_reason};
 use gx_desk::{Answer, DropCopy, Tag};

@@ -2,8 +2,7 @@
 
 ghost use Rattle.std.specs.Prelude.{◌≡◌, option_map, IfNone, IfSome};
 ghost use Rattle.gx_client.specs.declared.report.Report.TheVariants as reports;
-ghost use Rattle.gx_client.specs.Messages.{HasNone, ReadsBack};
-ghost use Rattle.gx_client.specs.Reports.{IsReport, report_bytes, stamped_as};
+ghost use Rattle.gx_client.specs.{Messages.{HasNone, ReadsBack}, Reports.{IsReport, report_bytes, stamped_as}};
 
 use crate::reading::{Stamped, read_answer, read_drop_copy, read_outbound};
 use gx_desk::{Answer, DropCopy};

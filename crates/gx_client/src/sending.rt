@@ -2,8 +2,7 @@
 
 ghost use Rattle.std.specs.Prelude.{◌≡◌, ◌≤◌, length, IfOk};
 ghost use Rattle.gx_soup.specs.declared.packet.ClientPacket.TheVariants as packets;
-ghost use Rattle.gx_soup.specs.Standard.{longest_payload};
-ghost use Rattle.gx_soup.specs.Writing.{client_bytes};
+ghost use Rattle.gx_soup.specs.{Standard.longest_payload, Writing.client_bytes};
 ghost use Rattle.gx_client.specs.Sending.{CarriesCommand, CarriesInbound};
 
 use crate::session::ClientSession;

@@ -1,8 +1,7 @@
 //! A client's session as a machine: it is told packet by packet what the server sends.
 
 ghost use Rattle.std.specs.Prelude.{◌≡◌, [], ◌∷◌, ◌++◌, List};
-ghost use Rattle.gx_soup.specs.declared.packet.LoginRequest.{LoginRequest};
-ghost use Rattle.gx_soup.specs.declared.packet.ServerPacket.{ServerPacket};
+ghost use Rattle.gx_soup.specs.declared.packet.{LoginRequest.LoginRequest, ServerPacket.ServerPacket};
 ghost use Rattle.gx_client.specs.Session.{HasHeard, heard_after, heard_as, noted};
 
 use crate::heard::{Heard, Stage};

@@ -1,8 +1,7 @@
 //! Orders and commands, written as bytes.
 
 ghost use Rattle.std.specs.Prelude.{◌≡◌, ◌≤◌, length, Some, IfOk};
-ghost use Rattle.gx_ouch.specs.Layout.{HasSizes, laid_out};
-ghost use Rattle.gx_ouch.specs.Reading.{inbound_of};
+ghost use Rattle.gx_ouch.specs.{Layout.{HasSizes, laid_out}, Reading.inbound_of};
 ghost use Rattle.gx_ouch.specs.declared.inbound.Inbound.TheVariants as inbounds;
 ghost use Rattle.gx_desk.specs.Reading.{command_of};
 ghost use Rattle.gx_client.specs.Contents.{command_contents, command_layout, LimitFits};

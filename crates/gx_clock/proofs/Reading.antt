@@ -1,13 +1,7 @@
 -- An offset is read from its text, and from no other.
-use Rattle.std.proofs.Common.{◌≡◌, ℕ, ◌+◌, ◌-◌, ◌*◌, ◌/◌, ◌%◌, ◌<◌, ◌≤◌, ◌==◌, Bool, true, false, cond, ◌&&◌, nat_lt, nat_le, List, [], ◌∷◌, Some, None, refl, sym, subst, ap, ◌∙◌, arith}
-use Rattle.std.proofs.lemmas.Bool.{false≢true, eqb-true}
-use Rattle.std.proofs.lemmas.Option.{cond_some, option_and_then_some}
-use Rattle.std.specs.Option.{option_and_then}
-use Rattle.std.specs.Char.{is_ascii_digit}
-use Rattle.std.proofs.lemmas.Bool.Decides.{nat_tests}
-use Rattle.gx_clock.specs.declared.offset.UtcOffset.{UtcOffset}
-use Rattle.gx_clock.specs.declared.offset.UtcOffset.TheVariants as offsets
-use Rattle.gx_clock.specs.Offsets.{most_minutes, two_digits, minutes_of, signed, minutes_written, offset_of, minutes_in, tens, ones, text_of, written}
+use Rattle.std.proofs.{Common.{◌≡◌, ℕ, ◌+◌, ◌-◌, ◌*◌, ◌/◌, ◌%◌, ◌<◌, ◌≤◌, ◌==◌, Bool, true, false, cond, ◌&&◌, nat_lt, nat_le, List, [], ◌∷◌, Some, None, refl, sym, subst, ap, ◌∙◌, arith}, lemmas.{Bool.{false≢true, eqb-true, Decides.nat_tests}, Option.{cond_some, option_and_then_some}}}
+use Rattle.std.specs.{Option.option_and_then, Char.is_ascii_digit}
+use Rattle.gx_clock.specs.{declared.offset.UtcOffset.UtcOffset, Offsets.{most_minutes, two_digits, minutes_of, signed, minutes_written, offset_of, minutes_in, tens, ones, text_of, written}}
 
 digit_is : (d : ℕ) → d < 10 → is_ascii_digit (48 + d) ≡ true
 digit_is d h = grind (arith, nat_tests, h)
@@ -50,8 +44,8 @@ text_read n h =
     ∙ minutes_read n h)
 
 pub offset_read : (offset : UtcOffset) → minutes_in offset ≤ most_minutes → offset_of (written offset) ≡ Some offset
-offset_read (offsets.Ahead n) h = ap (option_and_then (signed 43)) (text_read n h)
-offset_read (offsets.Behind n) h = ap (option_and_then (signed 45)) (text_read n h)
+offset_read (UtcOffset.Ahead n) h = ap (option_and_then (signed 43)) (text_read n h)
+offset_read (UtcOffset.Behind n) h = ap (option_and_then (signed 45)) (text_read n h)
 
 both_digits : (a b n : ℕ) → two_digits a b ≡ Some n → (is_ascii_digit a && is_ascii_digit b) ≡ true
 both_digits a b n e = (cond_some (is_ascii_digit a && is_ascii_digit b) ((a - 48) * 10 + (b - 48)) n e).0
@@ -106,12 +100,12 @@ abbrev IsSigned : ℕ → ℕ → UtcOffset → Type 0
 IsSigned sign n offset = (minutes_in offset ≡ n) × (written offset ≡ text_of sign n)
 
 signed_by : (plus minus : Bool) (sign n : ℕ) (offset : UtcOffset) → (plus ≡ true → sign ≡ 43) → (minus ≡ true → sign ≡ 45)
-    → cond plus (Some (offsets.Ahead n)) (cond minus (Some (offsets.Behind n)) None) ≡ Some offset → IsSigned sign n offset
+    → cond plus (Some (UtcOffset.Ahead n)) (cond minus (Some (UtcOffset.Behind n)) None) ≡ Some offset → IsSigned sign n offset
 signed_by true minus sign n offset p q e =
-    subst (IsSigned sign n) (cond_some true (offsets.Ahead n) offset e).1 (refl, ap (λ s. text_of s n) (sym (p refl)))
+    subst (IsSigned sign n) (cond_some true (UtcOffset.Ahead n) offset e).1 (refl, ap (λ s. text_of s n) (sym (p refl)))
 signed_by false true sign n offset p q e =
-    subst (IsSigned sign n) (cond_some true (offsets.Behind n) offset e).1 (refl, ap (λ s. text_of s n) (sym (q refl)))
-signed_by false false sign n offset p q e = absurd (false≢true (cond_some false (offsets.Ahead n) offset e).0)
+    subst (IsSigned sign n) (cond_some true (UtcOffset.Behind n) offset e).1 (refl, ap (λ s. text_of s n) (sym (q refl)))
+signed_by false false sign n offset p q e = absurd (false≢true (cond_some false (UtcOffset.Ahead n) offset e).0)
 
 sign_is : (sign n : ℕ) (offset : UtcOffset) → signed sign n ≡ Some offset → IsSigned sign n offset
 sign_is sign n offset e = signed_by (sign == 43) (sign == 45) sign n offset (eqb-true sign 43) (eqb-true sign 45) e

@@ -1,7 +1,6 @@
 -- Moments of a server's day, in nanoseconds past its midnight.
 use Rattle.std.specs.Prelude.{ℕ, ◌+◌, ◌-◌, ◌*◌, ◌/◌, ◌%◌, ◌^◌, min, max, Option, Some, None, ◌≡◌}
 use Rattle.gx_clock.specs.declared.offset.UtcOffset.{UtcOffset}
-use Rattle.gx_clock.specs.declared.offset.UtcOffset.TheVariants as offsets
 
 -- the nanoseconds of a minute, and of a day
 abbrev pub minute : ℕ
@@ -20,8 +19,8 @@ last_date = 2 ^ 32 - 1
 
 -- by how much local time is ahead of UTC, less whole days
 abbrev pub ahead : UtcOffset → ℕ
-ahead (offsets.Ahead minutes) = minutes * minute
-ahead (offsets.Behind minutes) = day - minutes * minute % day
+ahead (UtcOffset.Ahead minutes) = minutes * minute
+ahead (UtcOffset.Behind minutes) = day - minutes * minute % day
 
 -- how long ago local midnight was, so many nanoseconds behind the beginning of 1970 in UTC
 abbrev pub moment_of_day : UtcOffset → ℕ → ℕ
@@ -29,8 +28,8 @@ moment_of_day offset since = (since + ahead offset) % day
 
 -- the local time, so many nanoseconds behind the beginning of 1970 there; no earlier than that
 abbrev pub local_time : UtcOffset → ℕ → ℕ
-local_time (offsets.Ahead minutes) since = since + minutes * minute
-local_time (offsets.Behind minutes) since = since - minutes * minute
+local_time (UtcOffset.Ahead minutes) since = since + minutes * minute
+local_time (UtcOffset.Behind minutes) since = since - minutes * minute
 
 -- the local date, in days since 1 January 1970, as far as dates go; 0 where the wall clock can't be read
 abbrev pub date_of : UtcOffset → Option ℕ → ℕ

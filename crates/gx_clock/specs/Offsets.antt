@@ -1,9 +1,6 @@
 -- How far local time is from UTC, and how that is written.
-use Rattle.std.specs.Prelude.{ℕ, ◌+◌, ◌-◌, ◌*◌, ◌/◌, ◌%◌, ◌==◌, ◌&&◌, nat_lt, nat_le, if◌then◌else◌, List, [], ◌∷◌, Option, Some, None}
-use Rattle.std.specs.Option.{option_and_then}
-use Rattle.std.specs.Char.{is_ascii_digit}
+use Rattle.std.specs.{Prelude.{ℕ, ◌+◌, ◌-◌, ◌*◌, ◌/◌, ◌%◌, ◌==◌, ◌&&◌, nat_lt, nat_le, if◌then◌else◌, List, [], ◌∷◌, Option, Some, None}, Option.option_and_then, Char.is_ascii_digit}
 use Rattle.gx_clock.specs.declared.offset.UtcOffset.{UtcOffset}
-use Rattle.gx_clock.specs.declared.offset.UtcOffset.TheVariants as offsets
 
 -- the most minutes that an offset has, ahead or behind: 14 hours
 abbrev pub most_minutes : ℕ
@@ -22,8 +19,8 @@ minutes_of hours minutes =
 -- `+` is ahead of UTC, `-` is behind
 abbrev pub signed : ℕ → ℕ → Option UtcOffset
 signed sign minutes =
-    if sign == 43 then Some (offsets.Ahead minutes)
-    else if sign == 45 then Some (offsets.Behind minutes)
+    if sign == 43 then Some (UtcOffset.Ahead minutes)
+    else if sign == 45 then Some (UtcOffset.Behind minutes)
     else None
 
 -- the minutes of four digits: two for the hours, and two for the minutes
@@ -39,8 +36,8 @@ offset_of other = None
 
 -- the minutes of an offset, ahead or behind
 abbrev pub minutes_in : UtcOffset → ℕ
-minutes_in (offsets.Ahead minutes) = minutes
-minutes_in (offsets.Behind minutes) = minutes
+minutes_in (UtcOffset.Ahead minutes) = minutes
+minutes_in (UtcOffset.Behind minutes) = minutes
 
 -- the two decimal digits of a number below 100
 abbrev pub tens : ℕ → ℕ
@@ -56,5 +53,5 @@ text_of sign minutes =
 
 -- how an offset is written
 abbrev pub written : UtcOffset → List ℕ
-written (offsets.Ahead minutes) = text_of 43 minutes
-written (offsets.Behind minutes) = text_of 45 minutes
+written (UtcOffset.Ahead minutes) = text_of 43 minutes
+written (UtcOffset.Behind minutes) = text_of 45 minutes

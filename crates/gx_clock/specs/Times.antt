@@ -1,8 +1,6 @@
 -- Times of day.
-use Rattle.std.specs.Prelude.{ℕ, ◌+◌, ◌*◌, ◌==◌, ◌&&◌, nat_lt, if◌then◌else◌, List, [], ◌∷◌, Option, Some, None}
-use Rattle.std.specs.Option.{option_and_then}
-use Rattle.gx_clock.specs.declared.time_of_day.TimeOfDay.{TimeOfDay}
-use Rattle.gx_clock.specs.Offsets.{two_digits}
+use Rattle.std.specs.{Prelude.{ℕ, ◌+◌, ◌*◌, ◌==◌, ◌&&◌, nat_lt, if◌then◌else◌, List, [], ◌∷◌, Option, Some, None}, Option.option_and_then}
+use Rattle.gx_clock.specs.{declared.time_of_day.TimeOfDay.TimeOfDay, Offsets.two_digits}
 
 -- the nanoseconds of a second
 abbrev pub second : ℕ

@@ -1,10 +1,7 @@
 //! A clock that has begun.
 
-ghost use Rattle.std.specs.Prelude.{◌≡◌, ◌≤◌, min, option_map};
-ghost use Rattle.std.specs.Duration.{as_nanos};
-ghost use Rattle.std.specs.Time.{instant_nanos};
-ghost use Rattle.gx_clock.specs.Moments.{first_moment, last_shown};
-ghost use Rattle.gx_clock.specs.Moments.{IsShown};
+ghost use Rattle.std.specs.{Prelude.{◌≡◌, ◌≤◌, min, option_map}, Duration.as_nanos, Time.instant_nanos};
+ghost use Rattle.gx_clock.specs.Moments.{first_moment, last_shown, IsShown};
 
 use crate::moments::{LAST_SHOWN, first_moment, moment_at};
 use crate::now::ClockReading;

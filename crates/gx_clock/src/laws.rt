@@ -1,10 +1,8 @@
 //! What holds of all offsets and moments, as functions that do nothing.
 
 ghost use Rattle.std.specs.Prelude.{◌≡◌, ℕ, ◌+◌, ◌*◌, ◌/◌, ◌%◌, ◌≤◌, List, Some};
-ghost use Rattle.gx_clock.specs.declared.offset.UtcOffset.{UtcOffset};
+ghost use Rattle.gx_clock.specs.{declared.offset.UtcOffset.UtcOffset, Moments.{date_of, day, last_date, local_time, minute, moment_at, moment_of_day}, Offsets.{minutes_in, most_minutes, offset_of, written}};
 ghost use Rattle.gx_clock.specs.declared.offset.UtcOffset.TheVariants as offsets;
-ghost use Rattle.gx_clock.specs.Moments.{date_of, day, last_date, local_time, minute, moment_at, moment_of_day};
-ghost use Rattle.gx_clock.specs.Offsets.{minutes_in, most_minutes, offset_of, written};
 
 /// An offset of at most 14 hours is read from its text.
 pub fn offsets_are_read()

@@ -1,8 +1,6 @@
 //! The moment of the day, and how moments go on.
 
-ghost use Rattle.std.specs.Prelude.{◌≡◌, ◌≤◌, ◌<◌, option_map};
-ghost use Rattle.std.specs.Duration.{as_nanos};
-ghost use Rattle.std.specs.Time.{instant_nanos};
+ghost use Rattle.std.specs.{Prelude.{◌≡◌, ◌≤◌, ◌<◌, option_map}, Duration.as_nanos, Time.instant_nanos};
 ghost use Rattle.gx_clock.specs.Moments.{ahead, first_moment, moment_at, moment_of_day, day, last_shown};
 
 use crate::offset::UtcOffset;

@@ -1,7 +1,6 @@
 //! What the machine's clocks read at one time.
 
-ghost use Rattle.std.specs.Prelude.{◌≡◌, option_map};
-ghost use Rattle.std.specs.Duration.{as_nanos};
+ghost use Rattle.std.specs.{Prelude.{◌≡◌, option_map}, Duration.as_nanos};
 ghost use Rattle.gx_clock.specs.Moments.{date_of, local_time};
 
 use crate::moments::{DAY, MINUTE};

@@ -1,8 +1,7 @@
 //! A time of day, and when it comes next.
 
 ghost use Rattle.std.specs.Prelude.{◌≡◌, ◌+◌, ◌*◌, ◌%◌, ◌≤◌, ◌<◌};
-ghost use Rattle.gx_clock.specs.Moments.{day, last_shown};
-ghost use Rattle.gx_clock.specs.Times.{second, time_at, time_of, written_time};
+ghost use Rattle.gx_clock.specs.{Moments.{day, last_shown}, Times.{second, time_at, time_of, written_time}};
 
 use crate::offset::two_digits;
 use gx_units::Moment;

@@ -1,8 +1,7 @@
 //! Values of options that are read by themselves, where they can't be.
 
 ghost use Rattle.std.specs.Prelude.{◌≡◌, ◌↔◌, IsSome, IfSome, None};
-ghost use Rattle.gx_clock.specs.Offsets.{offset_of};
-ghost use Rattle.gx_clock.specs.Times.{time_of};
+ghost use Rattle.gx_clock.specs.{Offsets.offset_of, Times.time_of};
 
 use crate::state::Behind;
 use gx_clock::{TimeOfDay, UtcOffset};

@@ -1,7 +1,6 @@
 //! What may never be answered.
 
-ghost use Rattle.std.specs.Prelude.{◌≡◌, is_some};
-ghost use Rattle.std.specs.List.{list_all};
+ghost use Rattle.std.specs.{Prelude.{◌≡◌, is_some}, List.list_all};
 ghost use Rattle.gx_conversation.specs.Waiting.{named_by, named_order};
 
 use gx_operator::Asked;

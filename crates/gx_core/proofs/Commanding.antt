@@ -1,35 +1,15 @@
 -- What people and rules answer is what the rules ask about an officer's command.
+use Rattle.gx_policy.specs.{Kinds.limit_of, declared.policy.{Account.Account, FileRule.FileRule, PolicyData.PolicyData, Role.Role, Scope.Scope, User.User}, People.{covers, is_officer, is_within, role_in, rule_in}, Soundness.is_sound}
 use Rattle.std.proofs.Common.{◌≡◌, ℕ, ◌==◌, Bool, true, false, not, ◌||◌, ◌&&◌, List, [], ◌∷◌, refl, ap, ◌∙◌}
-use Rattle.std.specs.List.{list_all}
-use Rattle.std.specs.Option.{option_map_or}
-use Rattle.std.specs.Prelude.{Option, Some, None, is_some, option_map, option_and_then}
-use Rattle.gx_units.specs.declared.names.AccountName.{AccountName}
-use Rattle.gx_units.specs.declared.names.RuleId.{RuleId}
-use Rattle.gx_units.specs.declared.names.Symbol.{Symbol}
-use Rattle.gx_units.specs.declared.names.UserName.{UserName}
-use Rattle.gx_desk.specs.declared.Action.{Action}
-use Rattle.gx_desk.specs.declared.Action.TheVariants as actions
-use Rattle.gx_desk.specs.declared.WrittenName.{WrittenName}
-use Rattle.gx_policy.specs.declared.policy.Account.{Account}
-use Rattle.gx_policy.specs.declared.policy.FileRule.{FileRule}
-use Rattle.gx_policy.specs.declared.policy.PolicyData.{PolicyData}
-use Rattle.gx_policy.specs.declared.policy.Role.{Role}
-use Rattle.gx_policy.specs.declared.policy.Role.TheVariants as roles
-use Rattle.gx_policy.specs.declared.policy.Scope.{Scope}
-use Rattle.gx_policy.specs.declared.policy.User.{User}
-use Rattle.gx_history.specs.declared.record.RecordData.{RecordData}
-use Rattle.gx_history.specs.Asking.{are_his, holds_accounts, has_limit, has_stock, knows_limit, knows_stocks, rule_in_force, sees_now}
-use Rattle.gx_history.specs.InForce.{limit_of}
-use Rattle.gx_policy.specs.People.{covers, is_officer, is_within, role_in, rule_in}
-use Rattle.gx_history.specs.Readers.{reader_in}
-use Rattle.gx_policy.specs.Soundness.{is_sound}
+use Rattle.std.specs.{List.list_all, Option.option_map_or, Prelude.{Option, Some, None, is_some, option_map, option_and_then}}
+use Rattle.gx_units.specs.declared.names.{AccountName.AccountName, RuleId.RuleId, Symbol.Symbol, UserName.UserName}
+use Rattle.gx_desk.specs.declared.{Action.Action, WrittenName.WrittenName}
+use Rattle.gx_history.specs.{declared.record.RecordData.RecordData, Asking.{are_his, holds_accounts, has_limit, has_stock, knows_limit, knows_stocks, rule_in_force, sees_now}, Readers.reader_in}
 use Rattle.gx_people.specs.Entitled.{holds, sees}
-use Rattle.gx_people.proofs.Changing.{reader_in_force}
-use Rattle.gx_people.proofs.Keeping.{named_see}
+use Rattle.gx_people.proofs.{Changing.reader_in_force, Keeping.named_see}
 use Rattle.gx_rules.specs.Settings.{covers_in, limit_in, lists_in}
 use Rattle.gx_keepers.specs.declared.keepers.Keepers.{Keepers}
-use Rattle.gx_core.specs.Kept.{IsKept}
-use Rattle.gx_core.specs.Known.{has_concerned, is_his_or_not_its}
+use Rattle.gx_core.specs.{Kept.IsKept, Known.{has_concerned, is_his_or_not_its}}
 use Rattle.gx_core.proofs.Judged.{scopes_are_known}
 
 -- settings
@@ -110,9 +90,9 @@ its_accounts_are_known policy history k officer name kept =
 pub concerned_are_his : (policy : PolicyData) (history : List RecordData) (role : Option Role) (action : Action)
     → (is_officer role && has_concerned (record { policy = policy; records = history }) role action) ≡ are_his policy history role action
 concerned_are_his policy history None action = refl
-concerned_are_his policy history (Some (roles.Trader account)) action = refl
-concerned_are_his policy history (Some (roles.Reader names)) action = refl
-concerned_are_his policy history (Some (roles.Officer powers scope)) action = by action
+concerned_are_his policy history (Some (Role.Trader account)) action = refl
+concerned_are_his policy history (Some (Role.Reader names)) action = refl
+concerned_are_his policy history (Some (Role.Officer powers scope)) action = by action
   where
     its : (found : Option FileRule)
         → list_all (λ (a : Account). not (option_map_or (λ (r : FileRule). covers r.scope a.name) found false) || covers scope a.name) policy.accounts
@@ -120,12 +100,12 @@ concerned_are_his policy history (Some (roles.Officer powers scope)) action = by
     its None = all_so policy.accounts
     its (Some rule) = same_test policy rule.scope scope policy.accounts
 
-    by : (action : Action) → has_concerned (record { policy = policy; records = history }) (Some (roles.Officer powers scope)) action ≡ holds_accounts policy history scope action
-    by (actions.Kill account) = refl
-    by (actions.Lift account) = refl
-    by (actions.SetLimit rule limit) = its (rule_in_force policy history rule)
-    by (actions.Restrict rule stock) = its (rule_in_force policy history rule)
-    by (actions.Unrestrict rule stock) = its (rule_in_force policy history rule)
-    by (actions.Grant reader account) = refl
-    by (actions.Revoke reader account) = refl
-    by actions.CloseDay = refl
+    by : (action : Action) → has_concerned (record { policy = policy; records = history }) (Some (Role.Officer powers scope)) action ≡ holds_accounts policy history scope action
+    by (Action.Kill account) = refl
+    by (Action.Lift account) = refl
+    by (Action.SetLimit rule limit) = its (rule_in_force policy history rule)
+    by (Action.Restrict rule stock) = its (rule_in_force policy history rule)
+    by (Action.Unrestrict rule stock) = its (rule_in_force policy history rule)
+    by (Action.Grant reader account) = refl
+    by (Action.Revoke reader account) = refl
+    by Action.CloseDay = refl

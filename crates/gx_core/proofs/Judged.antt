@@ -1,37 +1,12 @@
 -- What the keepers answer is what the rules ask of the records.
-use Rattle.std.proofs.Common.{◌≡◌, ℕ, ◌+◌, ◌<◌, ◌^◌, max, pred, arith, length, drop, List, [], ◌∷◌, map, Bool, ◌∙◌, ap, refl, sym, true, if◌then◌else◌}
-use Rattle.std.proofs.lemmas.List.{length-take, length-drop}
-use Rattle.gx_policy.specs.Lists.{slice}
-use Rattle.std.specs.Prelude.{false, Option, Some, None, is_some, option_and_then, Result, Ok, Err, IfOk}
-use Rattle.std.specs.List.{find}
-use Rattle.std.specs.Cmp.Lexicographic.{nat_list_eq_equiv}
-use Rattle.gx_units.specs.Names.{same_stock}
-use Rattle.gx_units.specs.declared.names.Symbol.{Symbol}
-use Rattle.gx_policy.specs.declared.policy.Stock.{Stock}
-use Rattle.gx_policy.specs.People.{stock_named}
+use Rattle.std.proofs.{Common.{◌≡◌, ℕ, ◌+◌, ◌<◌, ◌^◌, max, pred, arith, length, drop, List, [], ◌∷◌, map, Bool, ◌∙◌, ap, refl, sym, true, if◌then◌else◌}, lemmas.List.{length-take, length-drop}}
+use Rattle.gx_policy.specs.{Lists.slice, declared.policy.{Stock.Stock, PolicyData.PolicyData, Role.Role, User.User}, People.{stock_named, account_of, account_of_role, is_officer, is_reader, is_trader, role_in, user_in}}
+use Rattle.std.specs.{Prelude.{false, Option, Some, None, is_some, option_and_then, Result, Ok, Err, IfOk}, List.find, Cmp.Lexicographic.nat_list_eq_equiv}
+use Rattle.gx_units.specs.{Names.same_stock, declared.names.{Symbol.Symbol, AccountName.AccountName, Password.Password, Token.Token, UserName.UserName}}
 use Rattle.gx_book.specs.Books.{StockOrders, stock_in}
 use Rattle.gx_market.specs.BookInForce.{book_in_force, stock_in_force}
-use Rattle.gx_units.specs.declared.names.AccountName.{AccountName}
-use Rattle.gx_units.specs.declared.names.Password.{Password}
-use Rattle.gx_units.specs.declared.names.Token.{Token}
-use Rattle.gx_units.specs.declared.names.UserName.{UserName}
 use Rattle.gx_desk.specs.declared.Action.{Action}
-use Rattle.gx_policy.specs.declared.policy.PolicyData.{PolicyData}
-use Rattle.gx_policy.specs.declared.policy.Role.{Role}
-use Rattle.gx_policy.specs.declared.policy.Role.TheVariants as roles
-use Rattle.gx_policy.specs.declared.policy.User.{User}
-use Rattle.gx_history.specs.declared.record.RecordData.{RecordData}
-use Rattle.gx_history.specs.declared.record.Request.{Request}
-use Rattle.gx_history.specs.declared.report.Report.{Report}
-use Rattle.gx_history.specs.Asking.{has_power, live_named}
-use Rattle.gx_history.specs.InForce.{is_closed, is_killed, kill_in_force, line_of}
-use Rattle.gx_history.specs.Logins.{password_is}
-use Rattle.gx_history.specs.Orders.{is_token_used}
-use Rattle.gx_policy.specs.People.{account_of, account_of_role, is_officer, is_reader, is_trader, role_in, user_in}
-use Rattle.gx_history.specs.Requests.{named_token}
-use Rattle.gx_history.specs.Streams.{copies, stream}
-use Rattle.gx_history.specs.Verdicts.{last_moment}
-use Rattle.gx_history.specs.Live.{live, live_under}
+use Rattle.gx_history.specs.{declared.{«record».{RecordData.RecordData, Request.Request}, report.Report.Report}, Asking.{has_power, live_named}, InForce.{is_closed, is_killed, kill_in_force, line_of}, Logins.password_is, Orders.is_token_used, Requests.named_token, Streams.{copies, stream}, Verdicts.last_moment, Live.{live, live_under}}
 use Rattle.gx_day.specs.DayData.{DayData, kill_in, killed_in, line_in}
 use Rattle.gx_day.proofs.Answering.{ends_are_kept, kills_are_kept, lines_are_kept, moments_are_kept}
 use Rattle.gx_orders.specs.LiveOrders.{OrdersData, is_used}
@@ -39,8 +14,7 @@ use Rattle.gx_orders.proofs.Keeping.{used_is}
 use Rattle.gx_people.specs.Entitled.{has, holds, holds_in_role, power_of}
 use Rattle.gx_people.proofs.Keeping.{accounts_stay, officers_stay, passwords_stay, powers_stay, scopes_stay, users_stay}
 use Rattle.gx_streams.specs.Streams.{reports_in}
-use Rattle.gx_streams.proofs.Finding.{reports_are}
-use Rattle.gx_streams.proofs.OnlyKnown.{readers_are, streams_are_copies}
+use Rattle.gx_streams.proofs.{Finding.reports_are, OnlyKnown.{readers_are, streams_are_copies}}
 use Rattle.gx_keepers.specs.declared.keepers.Keepers.{Keepers}
 use Rattle.gx_core.specs.Kept.{IsKept}
 
@@ -56,9 +30,9 @@ passwords_are_known policy history k user given kept = ap (λ (users : List User
 -- who trades is who trades for an account
 trades : (role : Option Role) → is_some (option_and_then account_of_role role) ≡ is_trader role
 trades None = refl
-trades (Some (roles.Trader account)) = refl
-trades (Some (roles.Officer powers scope)) = refl
-trades (Some (roles.Reader readings)) = refl
+trades (Some (Role.Trader account)) = refl
+trades (Some (Role.Officer powers scope)) = refl
+trades (Some (Role.Reader readings)) = refl
 
 pub traders_have_accounts : (policy : PolicyData) (user : UserName) → is_some (account_of policy user) ≡ is_trader (role_in policy.users user)
 traders_have_accounts policy user = trades (role_in policy.users user)

@@ -2,24 +2,10 @@
 use Rattle.std.proofs.Common.{◌≡◌, ℕ, ◌+◌, ◌<◌, ◌≤◌, arith, true, false, Bool, List, [], ◌∷◌, ◌++◌, length, length-append, refl, ◌∙◌, ap, inl, inr, subst, sym}
 use Rattle.std.specs.Prelude.{Some}
 use Rattle.gx_desk.specs.declared.Action.{Action}
-use Rattle.gx_desk.specs.declared.Action.TheVariants as actions
 use Rattle.gx_policy.specs.declared.policy.PolicyData.{PolicyData}
-use Rattle.gx_history.specs.declared.record.Asked.{Asked}
-use Rattle.gx_history.specs.declared.record.RecordData.{RecordData}
-use Rattle.gx_history.specs.declared.record.Request.{Request}
-use Rattle.gx_history.specs.declared.record.Request.TheVariants as requests
-use Rattle.gx_history.specs.declared.record.Step.{Step}
-use Rattle.gx_history.specs.declared.record.Step.TheVariants as steps
-use Rattle.gx_history.specs.declared.record.Verdict.{Verdict}
-use Rattle.gx_history.specs.declared.record.Verdict.TheVariants as verdicts
-use Rattle.gx_history.specs.Verdicts.{FitsDay, IsGrantedKillOrLogout, IsKillOrLogout, day_limit, next}
-use Rattle.gx_history_laws.proofs.NextReports.{legal_next, legal_none}
-use Rattle.gx_history_laws.proofs.Numbers.{number_left}
-use Rattle.gx_history_laws.proofs.Runs.{step_left}
-use Rattle.gx_keepers.specs.declared.keepers.Keepers.{Keepers}
-use Rattle.gx_keepers.specs.Keepers.{AreInForce, KeepPlaces, Takes}
-use Rattle.gx_history.specs.declared.moves.Move.{Move}
-use Rattle.gx_history.specs.World.{move_of, world}
+use Rattle.gx_history.specs.{declared.{«record».{Asked.Asked, RecordData.RecordData, Request.Request, Step.Step, Verdict.Verdict}, moves.Move.Move}, Verdicts.{FitsDay, IsGrantedKillOrLogout, IsKillOrLogout, day_limit, next}, World.{move_of, world}}
+use Rattle.gx_history_laws.proofs.{NextReports.{legal_next, legal_none}, Numbers.number_left, Runs.step_left}
+use Rattle.gx_keepers.specs.{declared.keepers.Keepers.Keepers, Keepers.{AreInForce, KeepPlaces, Takes}}
 use Rattle.gx_places.specs.Places.{has_kept_places, is_kill_or_logout, most_record_places, record_places}
 use Rattle.gx_places.proofs.Asked.{kept_records_take_places, so_many_record_places_are_enough}
 use Rattle.gx_core.specs.Kept.{ArePlaces, HavePlaces, IsKept, IsWhole}
@@ -66,46 +52,46 @@ keep_within policy history step r was made spare before after kept left room eno
     keep_on policy history step r was spare before after kept left (record { fits = inl (omega (arith, room, number_left policy history step r left)) }) carried
     (omega (arith, room, most)) (omega (arith, most, enough, taken))
 
-by_kill : (action : Action) → elim action as (λ x. Bool) [ actions.Kill account ↦ true | _ ↦ false ] ≡ true → elim action as (λ x. Type 0) [ actions.Kill account ↦ Unit {0} | _ ↦ ⊥ ]
-by_kill (actions.Kill account) h = tt
-by_kill (actions.Lift account) h = let clash : false ≡ true = h in cc
-by_kill (actions.SetLimit rule limit) h = let clash : false ≡ true = h in cc
-by_kill (actions.Restrict rule stock) h = let clash : false ≡ true = h in cc
-by_kill (actions.Unrestrict rule stock) h = let clash : false ≡ true = h in cc
-by_kill (actions.Grant reader account) h = let clash : false ≡ true = h in cc
-by_kill (actions.Revoke reader account) h = let clash : false ≡ true = h in cc
-by_kill actions.CloseDay h = let clash : false ≡ true = h in cc
+by_kill : (action : Action) → elim action as (λ x. Bool) [ Action.Kill account ↦ true | _ ↦ false ] ≡ true → elim action as (λ x. Type 0) [ Action.Kill account ↦ Unit {0} | _ ↦ ⊥ ]
+by_kill (Action.Kill account) h = tt
+by_kill (Action.Lift account) h = let clash : false ≡ true = h in cc
+by_kill (Action.SetLimit rule limit) h = let clash : false ≡ true = h in cc
+by_kill (Action.Restrict rule stock) h = let clash : false ≡ true = h in cc
+by_kill (Action.Unrestrict rule stock) h = let clash : false ≡ true = h in cc
+by_kill (Action.Grant reader account) h = let clash : false ≡ true = h in cc
+by_kill (Action.Revoke reader account) h = let clash : false ≡ true = h in cc
+by_kill Action.CloseDay h = let clash : false ≡ true = h in cc
 
 is_either : (q : Request) → is_kill_or_logout q ≡ true → IsKillOrLogout q
-is_either requests.Logout h = tt
-is_either (requests.Command c) h = by_kill c.action h
-is_either (requests.Login m) h = cc
-is_either (requests.Unreadable m) h = cc
-is_either (requests.Enter m) h = cc
-is_either (requests.Replace m) h = cc
-is_either (requests.Cancel m) h = cc
+is_either Request.Logout h = tt
+is_either (Request.Command c) h = by_kill c.action h
+is_either (Request.Login m) h = cc
+is_either (Request.Unreadable m) h = cc
+is_either (Request.Enter m) h = cc
+is_either (Request.Replace m) h = cc
+is_either (Request.Cancel m) h = cc
 
-granted_either : (v : Verdict) (a : Asked) → has_kept_places a.request v ≡ true → IsGrantedKillOrLogout v (steps.Asked a)
-granted_either verdicts.Granted a h = is_either a.request h
-granted_either (verdicts.Denied rule) a h = cc
-granted_either (verdicts.Filled f) a h = cc
-granted_either (verdicts.Rested number) a h = cc
-granted_either (verdicts.Expired number) a h = cc
+granted_either : (v : Verdict) (a : Asked) → has_kept_places a.request v ≡ true → IsGrantedKillOrLogout v (Step.Asked a)
+granted_either Verdict.Granted a h = is_either a.request h
+granted_either (Verdict.Denied rule) a h = cc
+granted_either (Verdict.Filled f) a h = cc
+granted_either (Verdict.Rested number) a h = cc
+granted_either (Verdict.Expired number) a h = cc
 
 -- a granted Kill or Logout fits the day
-pub kept_fits : (policy : PolicyData) (history : List RecordData) (a : Asked) (r : RecordData) → next policy history (steps.Asked a) ≡ Some r → has_kept_places a.request r.verdict ≡ true → FitsDay r
+pub kept_fits : (policy : PolicyData) (history : List RecordData) (a : Asked) (r : RecordData) → next policy history (Step.Asked a) ≡ Some r → has_kept_places a.request r.verdict ≡ true → FitsDay r
 kept_fits policy history a r left is = record {
-  fits = inr (subst (IsGrantedKillOrLogout r.verdict) (sym (step_left policy history (steps.Asked a) r left)) (granted_either r.verdict a is));
+  fits = inr (subst (IsGrantedKillOrLogout r.verdict) (sym (step_left policy history (Step.Asked a) r left)) (granted_either r.verdict a is));
 }
 
 -- it takes one of the places that were kept
 pub keep_kept : (policy : PolicyData) (history : List RecordData) (a : Asked) (r : RecordData) (was made spare : ℕ) (before after : Keepers) → IsWhole policy history was before
-    → next policy history (steps.Asked a) ≡ Some r → has_kept_places a.request r.verdict ≡ true → was ≤ made → spare + 1 ≡ made → AreCarried policy (history ++ r ∷ []) after
+    → next policy history (Step.Asked a) ≡ Some r → has_kept_places a.request r.verdict ≡ true → was ≤ made → spare + 1 ≡ made → AreCarried policy (history ++ r ∷ []) after
     → IsWhole policy (history ++ r ∷ []) spare after
 keep_kept policy history a r was made spare before after kept left is more taken carried =
     let one = kept_records_take_places policy history a r kept.kept.legal left is in
     let places = places_of policy history was before kept in
-    keep_on policy history (steps.Asked a) r was spare before after kept left (kept_fits policy history a r left is) carried (omega (arith, one, places.within)) (omega (arith, one, more, taken, places.recorded))
+    keep_on policy history (Step.Asked a) r was spare before after kept left (kept_fits policy history a r left is) carried (omega (arith, one, places.within)) (omega (arith, one, more, taken, places.recorded))
 
 -- the places that a request's record finds: kept ones, or its own within the day's limit
 pub record FindsPlace (policy : PolicyData) (history : List RecordData) (a : Asked) (given : Verdict) (was made : ℕ) : Type 0 where
@@ -114,15 +100,15 @@ pub record FindsPlace (policy : PolicyData) (history : List RecordData) (a : Ask
   pub room : has_kept_places a.request given ≡ false → length history < day_limit
 
 -- either way it fits the day
-pub asked_fits : (policy : PolicyData) (history : List RecordData) (a : Asked) (r : RecordData) (was made : ℕ) → next policy history (steps.Asked a) ≡ Some r → FindsPlace policy history a r.verdict was made → FitsDay r
+pub asked_fits : (policy : PolicyData) (history : List RecordData) (a : Asked) (r : RecordData) (was made : ℕ) → next policy history (Step.Asked a) ≡ Some r → FindsPlace policy history a r.verdict was made → FitsDay r
 asked_fits policy history a r was made left finds = by (has_kept_places a.request r.verdict) refl
   where
     by : (b : Bool) → has_kept_places a.request r.verdict ≡ b → FitsDay r
     by true is = kept_fits policy history a r left is
-    by false is = record { fits = inl (omega (arith, finds.room is, number_left policy history (steps.Asked a) r left)) }
+    by false is = record { fits = inl (omega (arith, finds.room is, number_left policy history (Step.Asked a) r left)) }
 
 -- there is a place
-pub asked_has_place : (policy : PolicyData) (history : List RecordData) (a : Asked) (r : RecordData) (was made : ℕ) (k : Keepers) → IsWhole policy history was k → next policy history (steps.Asked a) ≡ Some r
+pub asked_has_place : (policy : PolicyData) (history : List RecordData) (a : Asked) (r : RecordData) (was made : ℕ) (k : Keepers) → IsWhole policy history was k → next policy history (Step.Asked a) ≡ Some r
     → FindsPlace policy history a r.verdict was made → 0 < made
 asked_has_place policy history a r was made k kept left finds = by (has_kept_places a.request r.verdict) refl
   where
@@ -143,21 +129,21 @@ takes policy history records step m r entry was k kept same is left moves fits =
     }))
 
 -- a matching step's record fits the day, where there is room
-pub match_fits : (policy : PolicyData) (history : List RecordData) (handed : ℕ) (r : RecordData) → next policy history (steps.Matching handed) ≡ Some r → length history < day_limit → FitsDay r
-match_fits policy history handed r left room = record { fits = inl (omega (arith, room, number_left policy history (steps.Matching handed) r left)) }
+pub match_fits : (policy : PolicyData) (history : List RecordData) (handed : ℕ) (r : RecordData) → next policy history (Step.Matching handed) ≡ Some r → length history < day_limit → FitsDay r
+match_fits policy history handed r left room = record { fits = inl (omega (arith, room, number_left policy history (Step.Matching handed) r left)) }
 
 pub told_then : (policy : PolicyData) (history records : List RecordData) (was : ℕ) (k : Keepers) → IsWhole policy history was k → records ≡ history → KeepPlaces policy records k.streams
 told_then policy history records was k kept same = subst (λ (rs : List RecordData). KeepPlaces policy rs k.streams) (sym same) (places_of policy history was k kept).told
 
 -- and all is kept
 pub keep_asked : (policy : PolicyData) (history : List RecordData) (a : Asked) (r : RecordData) (was made spare : ℕ) (before after : Keepers) → IsWhole policy history was before
-    → next policy history (steps.Asked a) ≡ Some r → FindsPlace policy history a r.verdict was made → spare + 1 ≡ made → AreCarried policy (history ++ r ∷ []) after
+    → next policy history (Step.Asked a) ≡ Some r → FindsPlace policy history a r.verdict was made → spare + 1 ≡ made → AreCarried policy (history ++ r ∷ []) after
     → IsWhole policy (history ++ r ∷ []) spare after
 keep_asked policy history a r was made spare before after kept left finds taken carried = by (has_kept_places a.request r.verdict) refl
   where
     by : (b : Bool) → has_kept_places a.request r.verdict ≡ b → IsWhole policy (history ++ r ∷ []) spare after
     by true is = keep_kept policy history a r was made spare before after kept left is finds.more taken carried
-    by false is = keep_within policy history (steps.Asked a) r was made spare before after kept left (finds.room is) (finds.own is) taken carried
+    by false is = keep_within policy history (Step.Asked a) r was made spare before after kept left (finds.room is) (finds.own is) taken carried
 
 -- more places, and the same records
 pub keep_still : (policy : PolicyData) (history records : List RecordData) (was spare : ℕ) (before after : Keepers) → IsWhole policy history was before → records ≡ history → was ≤ spare

@@ -1,33 +1,17 @@
 -- What a matching step makes of a gate.
-use Rattle.std.proofs.Common.{◌≡◌, ℕ, ◌+◌, arith, true, false, length, List, [], ◌∷◌, ◌++◌, refl, ◌∙◌, ap, sym}
-use Rattle.std.proofs.lemmas.Bool.{lt-ltb}
+use Rattle.std.proofs.{Common.{◌≡◌, ℕ, ◌+◌, arith, true, false, length, List, [], ◌∷◌, ◌++◌, refl, ◌∙◌, ap, sym}, lemmas.Bool.lt-ltb}
 use Rattle.std.specs.Prelude.{None, Some, option_map, ◌&&◌}
 use Rattle.gx_policy.specs.declared.policy.PolicyData.{PolicyData}
-use Rattle.gx_history.specs.declared.record.RecordData.{RecordData}
-use Rattle.gx_history.specs.declared.record.Step.{Step}
-use Rattle.gx_history.specs.declared.record.Step.TheVariants as steps
-use Rattle.gx_history.specs.declared.record.Verdict.{Verdict}
-use Rattle.gx_history.specs.declared.record.Verdict.TheVariants as verdicts
-use Rattle.gx_history.specs.Matching.{matching}
-use Rattle.gx_history.specs.Requests.{is_judged}
-use Rattle.gx_history.specs.Showing.{is_showable, is_verdict_of}
-use Rattle.gx_history.specs.Verdicts.{IsLegal, moment_of, next, step_verdict}
-use Rattle.gx_history_laws.proofs.Numbers.{number_left}
-use Rattle.gx_history_laws.proofs.Runs.{step_left}
-use Rattle.gx_effects.proofs.Matches.{not_judged}
-use Rattle.gx_effects.proofs.Orderly.{legal_is_orderly}
-use Rattle.gx_effects.proofs.Settling.{settled_step}
+use Rattle.gx_history.specs.{declared.{«record».{RecordData.RecordData, Step.Step, Verdict.Verdict}, live_order.LiveOrder.LiveOrder}, Matching.matching, Requests.is_judged, Showing.{is_showable, is_verdict_of}, Verdicts.{IsLegal, moment_of, next, step_verdict}, Live.live}
+use Rattle.gx_history_laws.proofs.{Numbers.number_left, Runs.step_left}
+use Rattle.gx_effects.proofs.{Matches.not_judged, Orderly.legal_is_orderly, Settling.settled_step}
 use Rattle.gx_book.specs.Books.{StockOrders}
 use Rattle.gx_market.proofs.Crossing.{matching_is_met}
 use Rattle.gx_market.specs.Meeting.{best_against, match_record, met, next_met}
-use Rattle.gx_history.specs.declared.live_order.LiveOrder.{LiveOrder}
-use Rattle.gx_history.specs.Live.{live}
-use Rattle.gx_orders.specs.InForce.{orders_in_force}
-use Rattle.gx_orders.specs.LiveOrders.{OrdersData, first_waiting}
+use Rattle.gx_orders.specs.{InForce.orders_in_force, LiveOrders.{OrdersData, first_waiting}}
 use Rattle.gx_keepers.specs.declared.keepers.Keepers.{Keepers}
-use Rattle.gx_answers.specs.Gates.{GateData, matched_by}
+use Rattle.gx_answers.specs.{Gates.{GateData, matched_by}, Matches.settled_gate}
 use Rattle.gx_core.specs.Kept.{IsKept}
-use Rattle.gx_answers.specs.Matches.{settled_gate}
 
 -- the first that waits, against the best that rests on the other side, as they are kept
 met_by_kept : (policy : PolicyData) (history : List RecordData) (k : Keepers) → IsKept policy history k → next_met k.orders k.book ≡ matching policy history
@@ -42,7 +26,7 @@ nothing_is_met policy history k kept none =
     sym (met_by_kept policy history k kept) ∙ ap (option_map (λ (o : LiveOrder). met o (best_against k.book k.orders.live o))) none
 
 pub nothing_is_next : (policy : PolicyData) (history : List RecordData) (handed : ℕ) (k : Keepers) → IsKept policy history k → first_waiting k.orders.live ≡ None
-    → next policy history (steps.Matching handed) ≡ None
+    → next policy history (Step.Matching handed) ≡ None
 unfolding next step_verdict
 nothing_is_next policy history handed k kept none = ap (option_map (match_record history handed)) (nothing_is_met policy history k kept none)
 
@@ -59,34 +43,34 @@ first_is_known policy history k kept = ap (λ (orders : OrdersData). first_waiti
 
 -- the record that a matching step leaves, by its parts
 pub match_in_parts : (policy : PolicyData) (history : List RecordData) (handed number moment : ℕ) (v : Verdict)
-    → number ≡ length history + 1 → moment ≡ moment_of history (steps.Matching handed) → matching policy history ≡ Some v
-    → next policy history (steps.Matching handed) ≡ Some (matched_by handed (record { number = number; moment = moment; verdict = v }))
+    → number ≡ length history + 1 → moment ≡ moment_of history (Step.Matching handed) → matching policy history ≡ Some v
+    → next policy history (Step.Matching handed) ≡ Some (matched_by handed (record { number = number; moment = moment; verdict = v }))
 unfolding next step_verdict
 match_in_parts policy history handed number moment v number_is moment_is matches =
     ap (option_map (match_record history handed)) matches
-    ∙ ap (λ (n : ℕ). Some (matched_by handed (record { number = n; moment = moment_of history (steps.Matching handed); verdict = v }))) (sym number_is)
+    ∙ ap (λ (n : ℕ). Some (matched_by handed (record { number = n; moment = moment_of history (Step.Matching handed); verdict = v }))) (sym number_is)
     ∙ ap (λ (m : ℕ). Some (matched_by handed (record { number = number; moment = m; verdict = v }))) (sym moment_is)
 
 -- what is matched can be shown
-pub match_is_shown : (policy : PolicyData) (history : List RecordData) (handed : ℕ) (r : RecordData) → next policy history (steps.Matching handed) ≡ Some r → is_showable r ≡ true
+pub match_is_shown : (policy : PolicyData) (history : List RecordData) (handed : ℕ) (r : RecordData) → next policy history (Step.Matching handed) ≡ Some r → is_showable r ≡ true
 match_is_shown policy history handed r left =
-    ap (λ b. b && is_verdict_of r.step r.verdict) (lt-ltb 0 r.number (omega (arith, number_left policy history (steps.Matching handed) r left)))
-    ∙ ap (λ (s : Step). is_verdict_of s r.verdict) (step_left policy history (steps.Matching handed) r left)
+    ap (λ b. b && is_verdict_of r.step r.verdict) (lt-ltb 0 r.number (omega (arith, number_left policy history (Step.Matching handed) r left)))
+    ∙ ap (λ (s : Step). is_verdict_of s r.verdict) (step_left policy history (Step.Matching handed) r left)
     ∙ by r.verdict refl
   where
     never : (v : Verdict) → r.verdict ≡ v → is_judged v ≡ true → ⊥
     never v is judged = let clash : false ≡ true = sym (not_judged policy history handed r left) ∙ ap is_judged is ∙ judged in cc
 
-    by : (v : Verdict) → r.verdict ≡ v → is_verdict_of (steps.Matching handed) v ≡ true
-    by verdicts.Granted is = absurd (never verdicts.Granted is refl)
-    by (verdicts.Denied rule) is = absurd (never (verdicts.Denied rule) is refl)
-    by (verdicts.Filled f) is = refl
-    by (verdicts.Rested number) is = refl
-    by (verdicts.Expired number) is = refl
+    by : (v : Verdict) → r.verdict ≡ v → is_verdict_of (Step.Matching handed) v ≡ true
+    by Verdict.Granted is = absurd (never Verdict.Granted is refl)
+    by (Verdict.Denied rule) is = absurd (never (Verdict.Denied rule) is refl)
+    by (Verdict.Filled f) is = refl
+    by (Verdict.Rested number) is = refl
+    by (Verdict.Expired number) is = refl
 
 -- the steps that are left come to the same
 pub settles_on : (policy : PolicyData) (history : List RecordData) (handed : ℕ) (r : RecordData)
-    → IsLegal policy history → next policy history (steps.Matching handed) ≡ Some r
+    → IsLegal policy history → next policy history (Step.Matching handed) ≡ Some r
     → settled_gate (record { policy = policy; records = history ++ r ∷ [] }) handed ≡ settled_gate (record { policy = policy; records = history }) handed
 settles_on policy history handed r legal left =
     ap (λ (records : List RecordData). the_gate policy records) (sym (settled_step policy history handed r (legal_is_orderly policy history legal) left))

@@ -1,54 +1,20 @@
 -- What the keepers answer of what stands is what the definitions say.
-use Rattle.std.proofs.Common.{◌≡◌, ℕ, ◌+◌, ◌*◌, ◌<◌, ◌≤◌, ◌^◌, pos, ◌-ℤ◌, ◌+ℤ◌, arith, Bool, true, false, cond, not, ◌&&◌, List, [], ◌∷◌, length, refl, ap, sym, subst, ◌∙◌}
-use Rattle.std.specs.Prelude.{Option, Some, None, is_some, option_map, option_and_then, slice_get, unwrap_or, IfSome}
-use Rattle.std.specs.Prelude.{FitsSigned}
-use Rattle.std.specs.Int.{w128}
-use Rattle.std.specs.List.{find, position, position_from, position_or_len}
-use Rattle.std.proofs.lemmas.Int.{ints}
-use Rattle.std.proofs.lemmas.Iterator.Adapters.{position_from-zero}
-use Rattle.std.proofs.lemmas.List.Folds.{find_at}
-use Rattle.gx_units.specs.Money.{value}
-use Rattle.gx_units.specs.Names.{same_rule}
-use Rattle.gx_units.specs.declared.names.AccountName.{AccountName}
-use Rattle.gx_units.specs.declared.names.RuleId.{RuleId}
-use Rattle.gx_units.specs.declared.names.UserName.{UserName}
+use Rattle.gx_policy.specs.{declared.{kinds.{ExposureLimit.ExposureLimit}, policy.{Count.Count, FileRule.FileRule, PolicyData.PolicyData, RuleKind.RuleKind, User.User}}, People.{account_named, covers}, Soundness.is_sound}
+use Rattle.std.proofs.{Common.{◌≡◌, ℕ, ◌+◌, ◌*◌, ◌<◌, ◌≤◌, ◌^◌, pos, ◌-ℤ◌, ◌+ℤ◌, arith, Bool, true, false, cond, not, ◌&&◌, List, [], ◌∷◌, length, refl, ap, sym, subst, ◌∙◌}, lemmas.{Int.ints, Iterator.Adapters.position_from-zero, List.Folds.find_at}}
+use Rattle.std.specs.{Prelude.{Option, Some, None, is_some, option_map, option_and_then, slice_get, unwrap_or, IfSome, FitsSigned}, Int.w128, List.{find, position, position_from, position_or_len}}
+use Rattle.gx_units.specs.{Money.value, Names.same_rule, declared.names.{AccountName.AccountName, RuleId.RuleId, UserName.UserName}}
 use Rattle.gx_ouch.specs.declared.outbound.OrderTerms.{OrderTerms}
-use Rattle.gx_policy.specs.declared.policy.Count.{Count}
-use Rattle.gx_policy.specs.declared.policy.FileRule.{FileRule}
-use Rattle.gx_policy.specs.declared.policy.PolicyData.{PolicyData}
-use Rattle.gx_policy.specs.declared.policy.RuleKind.{RuleKind}
-use Rattle.gx_policy.specs.declared.policy.RuleKind.TheVariants as kinds
-use Rattle.gx_policy.specs.declared.policy.User.{User}
-use Rattle.gx_policy.specs.People.{account_named, covers}
-use Rattle.gx_policy.specs.Soundness.{is_sound}
-use Rattle.gx_history.specs.declared.facts.StockSide.{StockSide}
-use Rattle.gx_history.specs.declared.live_order.LiveOrder.{LiveOrder}
-use Rattle.gx_history.specs.declared.record.RecordData.{RecordData}
-use Rattle.gx_history.specs.Executions.{Execution, executions}
-use Rattle.gx_history.specs.Figures.{counts_account, done_of_chosen, done_value, live_value, of_accounts, on_side, open_of_chosen, open_value, other_side, positions}
-use Rattle.gx_history.specs.InForce.{is_entitled}
-use Rattle.gx_history.specs.Live.{live, live_numbered}
-use Rattle.gx_history.specs.LiveOrders.{shares_open}
-use Rattle.gx_history.specs.Verdicts.{IsLegal, day_limit}
+use Rattle.gx_history.specs.{declared.{facts.StockSide.StockSide, live_order.LiveOrder.LiveOrder, «record».RecordData.RecordData}, Executions.{Execution, executions}, Figures.{counts_account, done_of_chosen, done_value, live_value, of_accounts, on_side, open_of_chosen, open_value, other_side, positions}, InForce.is_entitled, Live.{live, live_numbered}, LiveOrders.shares_open, Verdicts.{IsLegal, day_limit}}
 use Rattle.gx_orders.specs.LiveOrders.{OrdersData}
 use Rattle.gx_people.specs.Entitled.{sees}
 use Rattle.gx_people.proofs.Entitling.{kept}
-use Rattle.gx_positions.proofs.Sized.{IsSized, legal_is_sized}
-use Rattle.gx_positions.proofs.Small.{IsSmall, IsSmallSide, below, product, sum_within}
-use Rattle.gx_positions.proofs.Sound.{live_are_few, positions_are_sound}
+use Rattle.gx_positions.proofs.{Sized.{IsSized, legal_is_sized}, Small.{IsSmall, IsSmallSide, below, product, sum_within}, Sound.{live_are_few, positions_are_sound}}
 use Rattle.gx_rules.specs.Settings.{limit_in}
-use Rattle.gx_ledger.specs.declared.sums.NetSums.{NetSums}
-use Rattle.gx_ledger.specs.declared.tally.Asks.{Asks}
-use Rattle.gx_ledger.specs.declared.tally.Asks.TheVariants as asks
-use Rattle.gx_ledger.specs.declared.sums.Sums.{Sums}
-use Rattle.gx_ledger.specs.Standing.{GivesNet, GivesSums, counted_with, net_sums_of, of_sides}
-use Rattle.gx_ledger.specs.StandsFor.{sums_of}
-use Rattle.gx_ledger.specs.Tallies.{asks_of, count_of}
+use Rattle.gx_ledger.specs.{declared.{sums.{NetSums.NetSums, Sums.Sums}, tally.Asks.Asks}, Standing.{GivesNet, GivesSums, counted_with, net_sums_of, of_sides}, StandsFor.sums_of, Tallies.{asks_of, count_of}}
 use Rattle.gx_keepers.specs.declared.keepers.Keepers.{Keepers}
 use Rattle.gx_slab.specs.Slabs.{of_account}
 use Rattle.gx_records.specs.State.{gross_of, gross_of_rule, gross_used, limit_in_force, net_of, net_of_rule, net_used}
-use Rattle.gx_core.specs.Kept.{IsKept}
-use Rattle.gx_core.specs.Used.{AreNetSmall, AreSmall, gross_at, gross_in, net_in}
+use Rattle.gx_core.specs.{Kept.IsKept, Used.{AreNetSmall, AreSmall, gross_at, gross_in, net_in}}
 
 pub live_is_known : (policy : PolicyData) (history : List RecordData) (k : Keepers) → IsKept policy history k → k.orders.live ≡ live policy history
 live_is_known policy history k kept = ap (λ (orders : OrdersData). orders.live) kept.in_force.orders
@@ -79,19 +45,14 @@ gross_is policy history account rule = by (is_some (account_named policy account
         → option_and_then (gross_in kind) (option_map (sums_of (positions policy history)) (cond b (option_map (λ (count : Count). counts_account count rule.scope account) (count_of kind)) None))
         ≡ cond b (gross_of policy history (λ count. counts_account count rule.scope account) kind) None
     by false kind = refl
-    by true (kinds.GrossShares limit count) = refl
-    by true (kinds.GrossValue limit count) = refl
-    by true (kinds.NetShares limit count) = refl
-    by true (kinds.Rate rate count) = refl
-    by true (kinds.Repeat repeat count) = refl
-    by true (kinds.Halt stocks) = refl
-    by true (kinds.Restricted stocks) = refl
-    by true kinds.NoShort = refl
-    by true kinds.NoIso = refl
-    by true kinds.OddLot = refl
-    by true (kinds.OrderShares limit) = refl
-    by true (kinds.OrderValue limit) = refl
-    by true (kinds.Collar limit) = refl
+    by true (RuleKind.Exposure ExposureLimit.GrossShares limit count) = refl
+    by true (RuleKind.Exposure ExposureLimit.GrossValue limit count) = refl
+    by true (RuleKind.Exposure ExposureLimit.NetShares limit count) = refl
+    by true (RuleKind.Rate rate count) = refl
+    by true (RuleKind.Repeat repeat count) = refl
+    by true (RuleKind.Listed kind stocks) = refl
+    by true (RuleKind.Plain kind) = refl
+    by true (RuleKind.Order kind limit) = refl
 
 net_is : (policy : PolicyData) (history : List RecordData) (account : AccountName) (side : StockSide) (rule : FileRule)
     → option_map net_in (of_sides (asks_of rule.kind) (option_map (net_sums_of (positions policy history) side) (counted_with policy account rule))) ≡ net_of_rule policy history account side rule
@@ -100,32 +61,22 @@ net_is policy history account side rule = by (is_some (account_named policy acco
     by : (b : Bool) (kind : RuleKind)
         → option_map net_in (of_sides (asks_of kind) (option_map (net_sums_of (positions policy history) side) (cond b (option_map (λ (count : Count). counts_account count rule.scope account) (count_of kind)) None)))
         ≡ cond b (net_of policy history (λ count. counts_account count rule.scope account) side kind) None
-    by true (kinds.NetShares limit count) = refl
-    by false (kinds.NetShares limit count) = refl
-    by true (kinds.GrossShares limit count) = refl
-    by false (kinds.GrossShares limit count) = refl
-    by true (kinds.GrossValue limit count) = refl
-    by false (kinds.GrossValue limit count) = refl
-    by true (kinds.Rate rate count) = refl
-    by false (kinds.Rate rate count) = refl
-    by true (kinds.Repeat repeat count) = refl
-    by false (kinds.Repeat repeat count) = refl
-    by true (kinds.Halt stocks) = refl
-    by false (kinds.Halt stocks) = refl
-    by true (kinds.Restricted stocks) = refl
-    by false (kinds.Restricted stocks) = refl
-    by true kinds.NoShort = refl
-    by false kinds.NoShort = refl
-    by true kinds.NoIso = refl
-    by false kinds.NoIso = refl
-    by true kinds.OddLot = refl
-    by false kinds.OddLot = refl
-    by true (kinds.OrderShares limit) = refl
-    by false (kinds.OrderShares limit) = refl
-    by true (kinds.OrderValue limit) = refl
-    by false (kinds.OrderValue limit) = refl
-    by true (kinds.Collar limit) = refl
-    by false (kinds.Collar limit) = refl
+    by true (RuleKind.Exposure ExposureLimit.NetShares limit count) = refl
+    by false (RuleKind.Exposure ExposureLimit.NetShares limit count) = refl
+    by true (RuleKind.Exposure ExposureLimit.GrossShares limit count) = refl
+    by false (RuleKind.Exposure ExposureLimit.GrossShares limit count) = refl
+    by true (RuleKind.Exposure ExposureLimit.GrossValue limit count) = refl
+    by false (RuleKind.Exposure ExposureLimit.GrossValue limit count) = refl
+    by true (RuleKind.Rate rate count) = refl
+    by false (RuleKind.Rate rate count) = refl
+    by true (RuleKind.Repeat repeat count) = refl
+    by false (RuleKind.Repeat repeat count) = refl
+    by true (RuleKind.Listed kind stocks) = refl
+    by false (RuleKind.Listed kind stocks) = refl
+    by true (RuleKind.Plain kind) = refl
+    by false (RuleKind.Plain kind) = refl
+    by true (RuleKind.Order kind limit) = refl
+    by false (RuleKind.Order kind limit) = refl
 
 -- the first that passes, or behind them all
 place_from : {X : Type 0} (p : X → Bool) (n : ℕ) (xs : List X) → unwrap_or (position_from p n xs) (n + length xs) ≡ n + position_or_len p xs
@@ -253,13 +204,13 @@ net_is_small policy history k place account side given is gives =
     mapped (Some among) = net_small policy history is.legal side among
 
     by : (asked : Asks) (found : Option (AccountName → Bool)) → IfSome (of_sides asked (option_map (net_sums_of (positions policy history) side) found)) AreNetSmall
-    by asks.Sides found = mapped found
-    by asks.Nothing found = tt
-    by asks.Reference found = tt
-    by asks.Shares found = tt
-    by asks.Values found = tt
-    by (asks.Recent rate) found = tt
-    by (asks.Alike repeat) found = tt
+    by Asks.Sides found = mapped found
+    by Asks.Nothing found = tt
+    by Asks.Reference found = tt
+    by Asks.Shares found = tt
+    by Asks.Values found = tt
+    by (Asks.Recent rate) found = tt
+    by (Asks.Alike repeat) found = tt
 
     at : (found : Option FileRule)
         → IfSome (option_and_then (λ (rule : FileRule). of_sides (asks_of rule.kind) (option_map (net_sums_of (positions policy history) side) (counted_with policy account rule))) found) AreNetSmall

@@ -2,12 +2,9 @@
 use Rattle.std.specs.Prelude.{ℕ, ◌+◌, ◌≤◌, Bool, ◌&&◌, nat_lt, List, length}
 use Rattle.gx_units.specs.declared.names.UserName.{UserName}
 use Rattle.gx_policy.specs.declared.policy.PolicyData.{PolicyData}
-use Rattle.gx_history.specs.declared.record.RecordData.{RecordData}
-use Rattle.gx_history.specs.declared.report.Report.{Report}
-use Rattle.gx_history.specs.Verdicts.{IsLegal, day_limit}
+use Rattle.gx_history.specs.{declared.{«record».RecordData.RecordData, report.Report.Report}, Verdicts.{IsLegal, day_limit}}
 use Rattle.gx_streams.specs.Streams.{reports_in}
-use Rattle.gx_keepers.specs.declared.keepers.Keepers.{Keepers}
-use Rattle.gx_keepers.specs.Keepers.{AreInForce, KeepPlaces}
+use Rattle.gx_keepers.specs.{declared.keepers.Keepers.Keepers, Keepers.{AreInForce, KeepPlaces}}
 use Rattle.gx_places.specs.Places.{most_record_places, record_places}
 
 -- the records are those of a legal day, and the keepers hold what is in force after them

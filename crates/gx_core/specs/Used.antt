@@ -1,16 +1,12 @@
 -- What a rule compares with its limit, of the sums that it counts.
-use Rattle.std.specs.Prelude.{ℕ, ℤ, pos, ◌+◌, ◌+ℤ◌, ◌<◌, ◌^◌, List, Option, Some, None, option_and_then, slice_get, FitsSigned}
-use Rattle.std.specs.Int.{w128}
-use Rattle.gx_policy.specs.declared.policy.FileRule.{FileRule}
-use Rattle.gx_policy.specs.declared.policy.RuleKind.{RuleKind}
-use Rattle.gx_policy.specs.declared.policy.RuleKind.TheVariants as kinds
-use Rattle.gx_ledger.specs.declared.sums.NetSums.{NetSums}
-use Rattle.gx_ledger.specs.declared.sums.Sums.{Sums}
+use Rattle.gx_policy.specs.declared.{kinds.ExposureLimit.ExposureLimit, policy.{FileRule.FileRule, RuleKind.RuleKind}}
+use Rattle.std.specs.{Prelude.{ℕ, ℤ, pos, ◌+◌, ◌+ℤ◌, ◌<◌, ◌^◌, List, Option, Some, None, option_and_then, slice_get, FitsSigned}, Int.w128}
+use Rattle.gx_ledger.specs.declared.sums.{NetSums.NetSums, Sums.Sums}
 
 -- of a gross rule: open and executed shares, or their value
 abbrev pub gross_in : RuleKind → Sums → Option ℕ
-gross_in (kinds.GrossShares limit count) sums = Some (sums.live_shares + sums.done_shares)
-gross_in (kinds.GrossValue limit count) sums = Some (sums.live_value + sums.done_value)
+gross_in (RuleKind.Exposure ExposureLimit.GrossShares limit count) sums = Some (sums.live_shares + sums.done_shares)
+gross_in (RuleKind.Exposure ExposureLimit.GrossValue limit count) sums = Some (sums.live_value + sums.done_value)
 gross_in other sums = None
 
 -- of the rule at this place in the file, if there is one

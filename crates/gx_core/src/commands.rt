@@ -1,13 +1,11 @@
 //! What the rules ask about an officer's command.
 
-ghost use Rattle.std.specs.Prelude.{◌≡◌, ◌||◌, not};
-ghost use Rattle.std.specs.List.{list_all};
+ghost use Rattle.std.specs.{Prelude.{◌≡◌, ◌||◌, not}, List.list_all};
 ghost use Rattle.gx_history.specs.Asking.{are_his, changes, has_limit, knows_names, rule_in_force, sees_now};
 ghost use Rattle.gx_policy.specs.People.{role_in};
 ghost use Rattle.gx_people.specs.Entitled.{holds};
 ghost use Rattle.gx_rules.specs.Settings.{covers_in};
-ghost use Rattle.gx_core.specs.Known.{accounts_held, change_asked, has_concerned};
-ghost use Rattle.gx_core.specs.Known.{is_his_or_not_its, names_known, power_held};
+ghost use Rattle.gx_core.specs.Known.{accounts_held, change_asked, has_concerned, is_his_or_not_its, names_known, power_held};
 
 use crate::gate::Gate;
 use gx_desk::{Action, WrittenName};

@@ -1,9 +1,7 @@
 //! The gate.
 
 ghost use Rattle.std.specs.Prelude.{◌≡◌, length};
-ghost use Rattle.gx_history.specs.InForce.{is_closed};
-ghost use Rattle.gx_history.specs.Streams.{stream};
-ghost use Rattle.gx_history.specs.Verdicts.{last_moment};
+ghost use Rattle.gx_history.specs.{InForce.is_closed, Streams.stream, Verdicts.last_moment};
 
 use crate::login::{login_answered, login_asked};
 use crate::moves::matched_move;

@@ -2,15 +2,11 @@
 
 ghost use Rattle.std.specs.Prelude.{◌≡◌, ◌≤◌, ◌<◌, is_some, length, IsTrue, Some};
 ghost use Rattle.gx_history.specs.declared.record.Step.TheVariants as steps;
-ghost use Rattle.gx_history.specs.Asking.{changes, facts, fits_role, has_power, is_on_line, knows_user, lists_its_stock};
+ghost use Rattle.gx_history.specs.{Asking.{changes, facts, fits_role, has_power, is_on_line, knows_user, lists_its_stock}, Showing.{answers, is_askable, is_showable}, Verdicts.{facts_now, moment_of, next, verdict}};
 ghost use Rattle.gx_policy.specs.People.{account_named, account_of, role_in};
-ghost use Rattle.gx_history.specs.Showing.{answers, is_askable, is_showable};
-ghost use Rattle.gx_history.specs.Verdicts.{facts_now, moment_of, next, verdict};
 ghost use Rattle.gx_people.specs.Entitled.{holds_in_role};
-ghost use Rattle.gx_answers.specs.Gates.{left_by};
+ghost use Rattle.gx_answers.specs.{Gates.left_by, Steps.{next_of, verdict_of}, Told.stream_of};
 ghost use Rattle.gx_core.specs.Known.{accounts_held, change_asked, has_used, is_available_after, names_known, order_asked, power_held, role_asking};
-ghost use Rattle.gx_answers.specs.Steps.{next_of, verdict_of};
-ghost use Rattle.gx_answers.specs.Told.{stream_of};
 
 use crate::gate::Gate;
 use gx_answers::{AccessGate, Outcome};

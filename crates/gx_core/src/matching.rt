@@ -2,8 +2,7 @@
 
 ghost use Rattle.std.specs.Prelude.{◌≡◌, ◌≤◌, ◌<◌, length, IsTrue, Some};
 ghost use Rattle.gx_history.specs.Showing.{is_showable};
-ghost use Rattle.gx_answers.specs.Gates.{matched_by};
-ghost use Rattle.gx_answers.specs.Matches.{matching_of, next_match};
+ghost use Rattle.gx_answers.specs.{Gates.matched_by, Matches.{matching_of, next_match}};
 ghost use Rattle.gx_core.specs.Known.{first_of};
 
 use crate::gate::Gate;

@@ -1,17 +1,10 @@
 //! What a record does, by what was found to judge its step.
 
-ghost use Rattle.std.specs.Option.{option_map_or};
-ghost use Rattle.std.specs.Prelude.{◌≡◌, ℕ};
-ghost use Rattle.gx_history.specs.declared.moves.Move.TheVariants.{Adds, Nothing, Replaces, Sizes};
+ghost use Rattle.std.specs.{Option.option_map_or, Prelude.{◌≡◌, ℕ}};
+ghost use Rattle.gx_history.specs.{declared.{moves.Move.TheVariants.{Adds, Nothing, Replaces, Sizes}, «record».RecordData.RecordData}, LiveOrders.replacement_order, Turns.new_order, World.{move_by, World}};
 ghost use Rattle.gx_history.specs.declared.record.Step.TheVariants as steps;
-ghost use Rattle.gx_history.specs.LiveOrders.{replacement_order};
-ghost use Rattle.gx_history.specs.Turns.{new_order};
-ghost use Rattle.gx_history.specs.World.{move_by, World};
-ghost use Rattle.gx_history.specs.declared.record.RecordData.{RecordData};
-ghost use Rattle.gx_policy.specs.declared.policy.PolicyData.{PolicyData};
-ghost use Rattle.gx_policy.specs.People.{account_of};
-ghost use Rattle.gx_core.specs.Known.{order_asked};
-ghost use Rattle.gx_core.specs.Moves.{done_by, granted_move};
+ghost use Rattle.gx_policy.specs.{declared.policy.PolicyData.PolicyData, People.account_of};
+ghost use Rattle.gx_core.specs.{Known.order_asked, Moves.{done_by, granted_move}};
 
 use crate::gate::Gate;
 use gx_history::facts::Facts;

@@ -8,7 +8,7 @@ use crate::gate::Gate;
 use gx_history::facts::StockSide;
 use gx_history::live_order::LiveOrder;
 use gx_ledger::sums::{NetSums, Sums};
-use gx_policy::{FileRule, RuleKind};
+use gx_policy::{ExposureLimit, FileRule, RuleKind};
 use gx_records::ShowsState;
 use gx_slab::live::LiveOrders;
 use gx_units::{AccountName, Moment, RuleId, Symbol, UserName};
@@ -36,8 +36,12 @@ fn gross_in(kind: &RuleKind, sums: Sums) -> Option<u128>
     ensures { result ≡ gross_in kind.now sums }
 {
     match kind {
-        RuleKind::GrossShares(_, _) => Some(sums.live_shares + sums.done_shares),
-        RuleKind::GrossValue(_, _) => Some(sums.live_value + sums.done_value),
+        RuleKind::Exposure(ExposureLimit::GrossShares, _, _) => {
+            Some(sums.live_shares + sums.done_shares)
+        }
+        RuleKind::Exposure(ExposureLimit::GrossValue, _, _) => {
+            Some(sums.live_value + sums.done_value)
+        }
         _ => None,
     }
 }

@@ -1,51 +1,21 @@
 -- What is kept answers as the records of a legal day do.
-use Rattle.std.proofs.Common.{◌≡◌, Bool, true, false, List, [], ◌∷◌, ◌++◌, map, refl, ◌∙◌, sym, ap, cond, ℕ}
-use Rattle.std.proofs.lemmas.Bool.{not-false}
+use Rattle.std.proofs.{Common.{◌≡◌, Bool, true, false, List, [], ◌∷◌, ◌++◌, map, refl, ◌∙◌, sym, ap, cond, ℕ}, lemmas.Bool.not-false}
 use Rattle.std.specs.Prelude.{Option, Some, None, option_and_then, unwrap_or, is_some, find}
-use Rattle.gx_units.specs.Names.{same_account, same_user}
-use Rattle.gx_units.specs.declared.names.AccountName.{AccountName}
-use Rattle.gx_units.specs.declared.names.UserName.{UserName}
-use Rattle.gx_desk.specs.declared.Action.{Action}
-use Rattle.gx_desk.specs.declared.Action.TheVariants as actions
-use Rattle.gx_desk.specs.declared.Command.{Command}
-use Rattle.gx_policy.specs.declared.policy.Account.{Account}
-use Rattle.gx_policy.specs.declared.policy.PolicyData.{PolicyData}
-use Rattle.gx_policy.specs.declared.policy.User.{User}
-use Rattle.gx_history.specs.declared.record.Asked.{Asked}
-use Rattle.gx_history.specs.declared.record.Login.{Login}
-use Rattle.gx_history.specs.declared.record.RecordData.{RecordData}
-use Rattle.gx_history.specs.declared.record.Request.{Request}
-use Rattle.gx_history.specs.declared.record.Request.TheVariants as requests
-use Rattle.gx_policy.specs.declared.rule_name.RuleName.TheVariants.{L1, Q1}
-use Rattle.gx_history.specs.declared.record.Step.{Step}
-use Rattle.gx_history.specs.declared.record.Step.TheVariants as steps
-use Rattle.gx_history.specs.declared.record.Verdict.{Verdict}
-use Rattle.gx_history.specs.declared.record.Verdict.TheVariants as verdicts
-use Rattle.gx_history.specs.Asking.{facts, knows_names, knows_user, of_command}
-use Rattle.gx_history.specs.InForce.{is_closed, kill_after, kill_in_force, kill_or_lift_of, line_by, line_of}
-use Rattle.gx_policy.specs.Lists.{where_true}
-use Rattle.gx_policy.specs.People.{account_named, user_in}
-use Rattle.gx_history.specs.Requests.{action_of, asked, granted, is_granted}
-use Rattle.gx_history.specs.Rules.{forbids}
-use Rattle.gx_history.specs.Verdicts.{Follows, IsLegal, facts_now, last_moment, next}
-use Rattle.gx_history_laws.proofs.Granting.{legal_keeps, is_no_bar}
-use Rattle.gx_history_laws.proofs.KillsNext.{kill_in_force_next, kill_in_force_none}
-use Rattle.gx_history_laws.proofs.NextInForce.{line_of_next, line_of_none}
-use Rattle.gx_history_laws.proofs.Order.{some_same}
-use Rattle.gx_day.specs.DayData.{AccountKill, DayData, UserLine, kill_in, line_in}
-use Rattle.gx_day.specs.InForce.{day_in_force, kill_now, line_now}
-use Rattle.gx_history_laws.proofs.Adding.{user_is}
-use Rattle.gx_history_laws.proofs.Judging.{both}
-use Rattle.gx_history_laws.proofs.Names.{account_is}
+use Rattle.gx_units.specs.{Names.{same_account, same_user}, declared.names.{AccountName.AccountName, UserName.UserName}}
+use Rattle.gx_desk.specs.declared.{Action.Action, Command.Command}
+use Rattle.gx_policy.specs.{declared.{policy.{Account.Account, PolicyData.PolicyData, User.User}, rule_name.RuleName.TheVariants.{L1, Q1}}, Lists.where_true, People.{account_named, user_in}}
+use Rattle.gx_history.specs.{declared.record.{Asked.Asked, Login.Login, RecordData.RecordData, Request.Request, Step.Step, Verdict.Verdict}, Asking.{facts, knows_names, knows_user, of_command}, InForce.{is_closed, kill_after, kill_in_force, kill_or_lift_of, line_by, line_of}, Requests.{action_of, asked, granted, is_granted}, Rules.forbids, Verdicts.{Follows, IsLegal, facts_now, last_moment, next}}
+use Rattle.gx_history_laws.proofs.{Granting.{legal_keeps, is_no_bar}, KillsNext.{kill_in_force_next, kill_in_force_none}, NextInForce.{line_of_next, line_of_none}, Order.some_same, Adding.user_is, Judging.both, Names.account_is}
+use Rattle.gx_day.specs.{DayData.{AccountKill, DayData, UserLine, kill_in, line_in}, InForce.{day_in_force, kill_now, line_now}}
 
 -- a granted record was asked for
-was_granted : (v : Verdict) (s : Step) (a : Asked) → cond (is_granted v) (asked s) None ≡ Some a → (s ≡ steps.Asked a) × (v ≡ verdicts.Granted)
-was_granted verdicts.Granted (steps.Asked b) a h = (ap (λ (x : Asked). steps.Asked x) (some_same h), refl)
-was_granted verdicts.Granted (steps.Matching handed) a h = cc
-was_granted (verdicts.Denied rule) s a h = cc
-was_granted (verdicts.Filled f) s a h = cc
-was_granted (verdicts.Rested n) s a h = cc
-was_granted (verdicts.Expired n) s a h = cc
+was_granted : (v : Verdict) (s : Step) (a : Asked) → cond (is_granted v) (asked s) None ≡ Some a → (s ≡ Step.Asked a) × (v ≡ Verdict.Granted)
+was_granted Verdict.Granted (Step.Asked b) a h = (ap (λ (x : Asked). Step.Asked x) (some_same h), refl)
+was_granted Verdict.Granted (Step.Matching handed) a h = cc
+was_granted (Verdict.Denied rule) s a h = cc
+was_granted (Verdict.Filled f) s a h = cc
+was_granted (Verdict.Rested n) s a h = cc
+was_granted (Verdict.Expired n) s a h = cc
 
 may_log_in_is : (policy : PolicyData) (history : List RecordData) (a : Asked) → (facts_now policy history a).may_log_in ≡ knows_user policy a.user a.request
 unfolding facts
@@ -57,7 +27,7 @@ names_are_known_is policy history a = refl
 
 -- who is granted a Login is known
 login_is_known : (policy : PolicyData) (history : List RecordData) (a : Asked) (r : RecordData) (m : Login)
-    → next policy history (steps.Asked a) ≡ Some r → r.verdict ≡ verdicts.Granted → a.request ≡ requests.Login m → is_some (user_in policy.users a.user) ≡ true
+    → next policy history (Step.Asked a) ≡ Some r → r.verdict ≡ Verdict.Granted → a.request ≡ Request.Login m → is_some (user_in policy.users a.user) ≡ true
 login_is_known policy history a r m e granted asks =
     (both m.password_is_right (is_some (user_in policy.users a.user))
     (sym (ap (knows_user policy a.user) asks)
@@ -66,7 +36,7 @@ login_is_known policy history a r m e granted asks =
 
 -- the names of a granted command are known
 pub command_is_known : (policy : PolicyData) (history : List RecordData) (a : Asked) (r : RecordData) (c : Command)
-    → next policy history (steps.Asked a) ≡ Some r → r.verdict ≡ verdicts.Granted → a.request ≡ requests.Command c → knows_names policy history c.action ≡ true
+    → next policy history (Step.Asked a) ≡ Some r → r.verdict ≡ Verdict.Granted → a.request ≡ Request.Command c → knows_names policy history c.action ≡ true
 command_is_known policy history a r c e granted asks =
     sym (ap (of_command (knows_names policy history)) asks)
     ∙ sym (names_are_known_is policy history a)
@@ -92,20 +62,20 @@ off_line_next policy history r before follows user unknown = line_of_next histor
     by_logout true = refl
     by_logout false = was_off
 
-    by_request : (a : Asked) → next policy history (steps.Asked a) ≡ Some r → r.verdict ≡ verdicts.Granted → (q : Request) → a.request ≡ q
+    by_request : (a : Asked) → next policy history (Step.Asked a) ≡ Some r → r.verdict ≡ Verdict.Granted → (q : Request) → a.request ≡ q
         → unwrap_or (line_by user a q) (line_of history user) ≡ None
-    by_request a left v (requests.Login m) asks = by_login a (login_is_known policy history a r m left v asks) (same_user a.user user) refl
-    by_request a left v requests.Logout asks = by_logout (same_user a.user user)
-    by_request a left v (requests.Unreadable m) asks = was_off
-    by_request a left v (requests.Enter m) asks = was_off
-    by_request a left v (requests.Replace m) asks = was_off
-    by_request a left v (requests.Cancel m) asks = was_off
-    by_request a left v (requests.Command c) asks = was_off
+    by_request a left v (Request.Login m) asks = by_login a (login_is_known policy history a r m left v asks) (same_user a.user user) refl
+    by_request a left v Request.Logout asks = by_logout (same_user a.user user)
+    by_request a left v (Request.Unreadable m) asks = was_off
+    by_request a left v (Request.Enter m) asks = was_off
+    by_request a left v (Request.Replace m) asks = was_off
+    by_request a left v (Request.Cancel m) asks = was_off
+    by_request a left v (Request.Command c) asks = was_off
 
     by_grant : (found : Option Asked) → granted r ≡ found → unwrap_or (option_and_then (λ (a : Asked). line_by user a a.request) (granted r)) (line_of history user) ≡ None
     by_grant None g = ap (λ (x : Option Asked). unwrap_or (option_and_then (λ (a : Asked). line_by user a a.request) x) (line_of history user)) g ∙ was_off
     by_grant (Some a) g =
-        let was : (r.step ≡ steps.Asked a) × (r.verdict ≡ verdicts.Granted) = was_granted r.verdict r.step a g in
+        let was : (r.step ≡ Step.Asked a) × (r.verdict ≡ Verdict.Granted) = was_granted r.verdict r.step a g in
         ap (λ (x : Option Asked). unwrap_or (option_and_then (λ (y : Asked). line_by user y y.request) x) (line_of history user)) g
         ∙ by_request a (sym (ap (next policy history) was.0) ∙ follows.is_next) was.1 a.request refl
 
@@ -133,31 +103,31 @@ unkilled_next policy history r before follows account unknown = kill_in_force_ne
     by_lift officer false = was_not
 
     by_action : (officer : UserName) (action : Action) → knows_names policy history action ≡ true → kill_after policy.lifters (kill_or_lift_of account officer action) (kill_in_force policy history account) ≡ None
-    by_action officer (actions.Kill named) known = by_kill named known (same_account named account) refl
-    by_action officer (actions.Lift named) known = by_lift officer (same_account named account)
-    by_action officer (actions.SetLimit rule limit) known = was_not
-    by_action officer (actions.Restrict rule stock) known = was_not
-    by_action officer (actions.Unrestrict rule stock) known = was_not
-    by_action officer (actions.Grant reader other) known = was_not
-    by_action officer (actions.Revoke reader other) known = was_not
-    by_action officer actions.CloseDay known = was_not
+    by_action officer (Action.Kill named) known = by_kill named known (same_account named account) refl
+    by_action officer (Action.Lift named) known = by_lift officer (same_account named account)
+    by_action officer (Action.SetLimit rule limit) known = was_not
+    by_action officer (Action.Restrict rule stock) known = was_not
+    by_action officer (Action.Unrestrict rule stock) known = was_not
+    by_action officer (Action.Grant reader other) known = was_not
+    by_action officer (Action.Revoke reader other) known = was_not
+    by_action officer Action.CloseDay known = was_not
 
-    by_request : (a : Asked) → next policy history (steps.Asked a) ≡ Some r → r.verdict ≡ verdicts.Granted → (q : Request) → a.request ≡ q
+    by_request : (a : Asked) → next policy history (Step.Asked a) ≡ Some r → r.verdict ≡ Verdict.Granted → (q : Request) → a.request ≡ q
         → kill_after policy.lifters (option_and_then (kill_or_lift_of account a.user) (action_of q)) (kill_in_force policy history account) ≡ None
-    by_request a left v (requests.Login m) asks = was_not
-    by_request a left v requests.Logout asks = was_not
-    by_request a left v (requests.Unreadable m) asks = was_not
-    by_request a left v (requests.Enter m) asks = was_not
-    by_request a left v (requests.Replace m) asks = was_not
-    by_request a left v (requests.Cancel m) asks = was_not
-    by_request a left v (requests.Command c) asks = by_action a.user c.action (command_is_known policy history a r c left v asks)
+    by_request a left v (Request.Login m) asks = was_not
+    by_request a left v Request.Logout asks = was_not
+    by_request a left v (Request.Unreadable m) asks = was_not
+    by_request a left v (Request.Enter m) asks = was_not
+    by_request a left v (Request.Replace m) asks = was_not
+    by_request a left v (Request.Cancel m) asks = was_not
+    by_request a left v (Request.Command c) asks = by_action a.user c.action (command_is_known policy history a r c left v asks)
 
     by_grant : (found : Option Asked) → granted r ≡ found
         → kill_after policy.lifters (option_and_then (λ (a : Asked). option_and_then (kill_or_lift_of account a.user) (action_of a.request)) (granted r)) (kill_in_force policy history account) ≡ None
     by_grant None g =
         ap (λ (x : Option Asked). kill_after policy.lifters (option_and_then (λ (a : Asked). option_and_then (kill_or_lift_of account a.user) (action_of a.request)) x) (kill_in_force policy history account)) g ∙ was_not
     by_grant (Some a) g =
-        let was : (r.step ≡ steps.Asked a) × (r.verdict ≡ verdicts.Granted) = was_granted r.verdict r.step a g in
+        let was : (r.step ≡ Step.Asked a) × (r.verdict ≡ Verdict.Granted) = was_granted r.verdict r.step a g in
         ap (λ (x : Option Asked). kill_after policy.lifters (option_and_then (λ (y : Asked). option_and_then (kill_or_lift_of account y.user) (action_of y.request)) x) (kill_in_force policy history account)) g
         ∙ by_request a (sym (ap (next policy history) was.0) ∙ follows.is_next) was.1 a.request refl
 

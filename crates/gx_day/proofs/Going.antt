@@ -1,29 +1,12 @@
 -- What one more record changes.
 use Rattle.std.proofs.Common.{◌≡◌, Bool, List, [], ◌∷◌, ◌++◌, map, refl, ◌∙◌, ap, cond, ℕ}
 use Rattle.std.specs.Prelude.{Option, Some, None}
-use Rattle.gx_units.specs.Names.{same_account, same_user}
-use Rattle.gx_units.specs.declared.names.AccountName.{AccountName}
-use Rattle.gx_units.specs.declared.names.UserName.{UserName}
-use Rattle.gx_desk.specs.declared.Action.{Action}
-use Rattle.gx_desk.specs.declared.Action.TheVariants as actions
-use Rattle.gx_desk.specs.declared.Command.{Command}
-use Rattle.gx_policy.specs.declared.policy.Account.{Account}
-use Rattle.gx_policy.specs.declared.policy.Lifters.{Lifters}
-use Rattle.gx_policy.specs.declared.policy.PolicyData.{PolicyData}
-use Rattle.gx_policy.specs.declared.policy.User.{User}
-use Rattle.gx_history.specs.declared.moves.Move.{Move}
-use Rattle.gx_history.specs.declared.moves.Move.TheVariants.{Nothing, Denies, PutsOn, Adds, Sizes, Replaces, Commands, Fills, Rests, Expires}
-use Rattle.gx_history.specs.declared.record.RecordData.{RecordData}
-use Rattle.gx_history.specs.InForce.{kill_in_force, line_of, kill_after}
-use Rattle.gx_history.specs.World.{World, world, commanded, move_of, moved}
-use Rattle.gx_history_laws.proofs.KillsNext.{kill_in_force_none}
-use Rattle.gx_history_laws.proofs.Keeping.{map_same}
-use Rattle.gx_history_laws.proofs.Moves.{InForce, in_force_next}
-use Rattle.gx_history_laws.proofs.Names.{same_account_flip, same_user_flip}
-use Rattle.gx_history_laws.proofs.NextInForce.{is_closed_none, last_moment_next, line_of_none}
-use Rattle.gx_day.specs.DayData.{AccountKill, DayData, UserLine, at_moment, marked, put_on}
-use Rattle.gx_day.specs.InForce.{day_commanded, day_in_force, day_moved, fresh_day, kill_now, line_now, off_line, unkilled}
-use Rattle.gx_day.specs.Laws.{DaysGoOn}
+use Rattle.gx_units.specs.{Names.{same_account, same_user}, declared.names.{AccountName.AccountName, UserName.UserName}}
+use Rattle.gx_desk.specs.declared.{Action.Action, Command.Command}
+use Rattle.gx_policy.specs.declared.policy.{Account.Account, Lifters.Lifters, PolicyData.PolicyData, User.User}
+use Rattle.gx_history.specs.{declared.{moves.Move.{Move, TheVariants.{Nothing, Denies, PutsOn, Adds, Sizes, Replaces, Commands, Fills, Rests, Expires}}, «record».RecordData.RecordData}, InForce.{kill_in_force, line_of, kill_after}, World.{World, world, commanded, move_of, moved}}
+use Rattle.gx_history_laws.proofs.{KillsNext.kill_in_force_none, Keeping.map_same, Moves.{InForce, in_force_next}, Names.{same_account_flip, same_user_flip}, NextInForce.{is_closed_none, last_moment_next, line_of_none}}
+use Rattle.gx_day.specs.{DayData.{AccountKill, DayData, UserLine, at_moment, marked, put_on}, InForce.{day_commanded, day_in_force, day_moved, fresh_day, kill_now, line_now, off_line, unkilled}, Laws.DaysGoOn}
 
 -- two days are the same where their parts are
 same_day : (lifters : Lifters) {lines lines' : List UserLine} {kills kills' : List AccountKill} {closed closed' : Bool} {moment moment' : ℕ} → lines ≡ lines' → kills ≡ kills' → closed ≡ closed' → moment ≡ moment'
@@ -66,8 +49,8 @@ marked_at policy w account mark (a ∷ accounts) = λ i. (record { account = a.n
 
 -- what a move makes of the day
 day_commanded_is : (policy : PolicyData) (r : RecordData) (officer : UserName) (c : Command) (w : World) (action : Action) → day_of policy (commanded policy r officer c action w) ≡ day_commanded officer action (day_of policy w)
-day_commanded_is policy r officer c w (actions.Kill account) = λ i. record { lifters = policy.lifters; lines = map (line_at w) policy.users; kills = marked_at policy w account None policy.accounts i; closed = w.closed; moment = w.moment }
-day_commanded_is policy r officer c w (actions.Lift account) = λ i. record { lifters = policy.lifters; lines = map (line_at w) policy.users; kills = marked_at policy w account (Some officer) policy.accounts i; closed = w.closed; moment = w.moment }
+day_commanded_is policy r officer c w (Action.Kill account) = λ i. record { lifters = policy.lifters; lines = map (line_at w) policy.users; kills = marked_at policy w account None policy.accounts i; closed = w.closed; moment = w.moment }
+day_commanded_is policy r officer c w (Action.Lift account) = λ i. record { lifters = policy.lifters; lines = map (line_at w) policy.users; kills = marked_at policy w account (Some officer) policy.accounts i; closed = w.closed; moment = w.moment }
 day_commanded_is policy r officer c w other = refl
 
 day_moved_is : (policy : PolicyData) (r : RecordData) (m : Move) (w : World) → day_of policy (moved policy r m w) ≡ day_moved m (day_of policy w)

@@ -1,27 +1,13 @@
 -- What the gate's tables say of the lists that they stand for.
-use Rattle.std.proofs.Common.{◌≡◌, Bool, true, false, cond, List, [], ◌∷◌, ◌++◌, map, refl, ◌∙◌, sym, ap, subst, ℕ, ◌+◌, ◌<◌, length, take, get_or}
-use Rattle.std.specs.Prelude.{if◌then◌else◌, Option, Some, None, option_and_then, option_map, unwrap_or, find}
-use Rattle.std.specs.List.{AllByRecursion, IsDistinct}
-use Rattle.std.specs.Map.{keys_of, lookup, set_value}
-use Rattle.std.proofs.lemmas.List.{map-append, take_more}
-use Rattle.std.proofs.lemmas.Simd.{map-map}
+use Rattle.std.proofs.{Common.{◌≡◌, Bool, true, false, cond, List, [], ◌∷◌, ◌++◌, map, refl, ◌∙◌, sym, ap, subst, ℕ, ◌+◌, ◌<◌, length, take, get_or}, lemmas.{List.{map-append, take_more}, Simd.map-map}}
+use Rattle.std.specs.{Prelude.{if◌then◌else◌, Option, Some, None, option_and_then, option_map, unwrap_or, find}, List.{AllByRecursion, IsDistinct}, Map.{keys_of, lookup, set_value}}
 use Rattle.indexmap.proofs.MapLemmas.{insert_entry-absent}
 use Rattle.indexmap.specs.IndexMap.{insert_entry}
-use Rattle.gx_units.specs.Names.{same_account, same_user}
-use Rattle.gx_units.specs.declared.names.AccountName.{AccountName}
-use Rattle.gx_units.specs.declared.names.UserName.{UserName}
-use Rattle.gx_policy.specs.declared.policy.Account.{Account}
-use Rattle.gx_policy.specs.declared.policy.Lifters.{Lifters}
-use Rattle.gx_policy.specs.declared.policy.User.{User}
+use Rattle.gx_units.specs.{Names.{same_account, same_user}, declared.names.{AccountName.AccountName, UserName.UserName}}
+use Rattle.gx_policy.specs.{declared.policy.{Account.Account, Lifters.Lifters, User.User}, Lists.are_distinct}
 use Rattle.gx_history.specs.InForce.{kill_after}
-use Rattle.gx_policy.specs.Lists.{are_distinct}
-use Rattle.gx_history_laws.proofs.Adding.{user_is}
-use Rattle.gx_history_laws.proofs.Names.{account_is, same_account_flip, same_user_flip}
-use Rattle.gx_history_laws.proofs.Tables.{changed_in_place, new_next, none_changed, none_found}
-use Rattle.gx_day.specs.DayData.{AccountKill, UserLine, marked, put_on}
-use Rattle.gx_day.specs.InForce.{off_line, unkilled}
-use Rattle.gx_day.specs.declared.day.Kill.{Kill}
-use Rattle.gx_day.specs.View.{kill_entry, kills_of, lifted_by, line_entry, lines_of}
+use Rattle.gx_history_laws.proofs.{Adding.user_is, Names.{account_is, same_account_flip, same_user_flip}, Tables.{changed_in_place, new_next, none_changed, none_found}}
+use Rattle.gx_day.specs.{DayData.{AccountKill, UserLine, marked, put_on}, InForce.{off_line, unkilled}, declared.day.Kill.Kill, View.{kill_entry, kills_of, lifted_by, line_entry, lines_of}}
 
 abbrev line_put : UserName → Option ℕ → Option ℕ → Bool → UserLine
 line_put user line before b = record { user = user; line = if b then line else before }

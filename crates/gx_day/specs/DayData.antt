@@ -1,9 +1,6 @@
 -- What is kept of a day: lines, kills, its end and the clock.
-use Rattle.std.specs.Prelude.{ℕ, Bool, true, List, map, if◌then◌else◌, Option, Some, is_some, option_and_then}
-use Rattle.std.specs.List.{find}
-use Rattle.gx_units.specs.Names.{same_account, same_user}
-use Rattle.gx_units.specs.declared.names.AccountName.{AccountName}
-use Rattle.gx_units.specs.declared.names.UserName.{UserName}
+use Rattle.std.specs.{Prelude.{ℕ, Bool, true, List, map, if◌then◌else◌, Option, Some, is_some, option_and_then}, List.find}
+use Rattle.gx_units.specs.{Names.{same_account, same_user}, declared.names.{AccountName.AccountName, UserName.UserName}}
 use Rattle.gx_policy.specs.declared.policy.Lifters.{Lifters}
 use Rattle.gx_history.specs.InForce.{kill_after}
 

@@ -2,15 +2,8 @@
 use Rattle.std.specs.Prelude.{List, map, false, Some, None}
 use Rattle.gx_units.specs.declared.names.UserName.{UserName}
 use Rattle.gx_desk.specs.declared.Action.{Action}
-use Rattle.gx_desk.specs.declared.Action.TheVariants as actions
-use Rattle.gx_policy.specs.declared.policy.Account.{Account}
-use Rattle.gx_policy.specs.declared.policy.PolicyData.{PolicyData}
-use Rattle.gx_policy.specs.declared.policy.User.{User}
-use Rattle.gx_history.specs.declared.moves.Move.{Move}
-use Rattle.gx_history.specs.declared.moves.Move.TheVariants.{Commands, PutsOn}
-use Rattle.gx_history.specs.declared.record.RecordData.{RecordData}
-use Rattle.gx_history.specs.InForce.{is_closed, kill_in_force, line_of}
-use Rattle.gx_history.specs.Verdicts.{last_moment}
+use Rattle.gx_policy.specs.declared.policy.{Account.Account, PolicyData.PolicyData, User.User}
+use Rattle.gx_history.specs.{declared.{moves.Move.{Move, TheVariants.{Commands, PutsOn}}, «record».RecordData.RecordData}, InForce.{is_closed, kill_in_force, line_of}, Verdicts.last_moment}
 use Rattle.gx_day.specs.DayData.{AccountKill, DayData, UserLine, closed_day, with_line, with_mark}
 
 -- the user on no line
@@ -53,9 +46,9 @@ day_in_force policy history = record {
 
 -- the day after the officer was granted the command
 abbrev pub day_commanded : UserName → Action → DayData → DayData
-day_commanded officer (actions.Kill account) day = with_mark account None day
-day_commanded officer (actions.Lift account) day = with_mark account (Some officer) day
-day_commanded officer actions.CloseDay day = closed_day day
+day_commanded officer (Action.Kill account) day = with_mark account None day
+day_commanded officer (Action.Lift account) day = with_mark account (Some officer) day
+day_commanded officer Action.CloseDay day = closed_day day
 day_commanded officer other day = day
 
 -- the day, once a record has done this

@@ -1,14 +1,9 @@
 -- What a day begins with, what each record changes, and that what is kept answers as the records do.
 use Rattle.std.specs.Prelude.{◌≡◌, List, [], ◌∷◌, ◌++◌}
-use Rattle.gx_units.specs.declared.names.AccountName.{AccountName}
-use Rattle.gx_units.specs.declared.names.UserName.{UserName}
+use Rattle.gx_units.specs.declared.names.{AccountName.AccountName, UserName.UserName}
 use Rattle.gx_policy.specs.declared.policy.PolicyData.{PolicyData}
-use Rattle.gx_history.specs.declared.record.RecordData.{RecordData}
-use Rattle.gx_history.specs.InForce.{is_closed, kill_in_force, line_of}
-use Rattle.gx_history.specs.Verdicts.{IsLegal, last_moment}
-use Rattle.gx_history.specs.World.{move_of, world}
-use Rattle.gx_day.specs.DayData.{at_moment, kill_in, line_in}
-use Rattle.gx_day.specs.InForce.{day_in_force, day_moved, fresh_day}
+use Rattle.gx_history.specs.{declared.record.RecordData.RecordData, InForce.{is_closed, kill_in_force, line_of}, Verdicts.{IsLegal, last_moment}, World.{move_of, world}}
+use Rattle.gx_day.specs.{DayData.{at_moment, kill_in, line_in}, InForce.{day_in_force, day_moved, fresh_day}}
 
 -- before any record the day is fresh
 abbrev pub DaysBegin : Type 0

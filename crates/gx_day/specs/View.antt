@@ -1,11 +1,8 @@
 -- The day that the gate's tables stand for.
 use Rattle.std.specs.Prelude.{ℕ, Bool, List, [], ◌∷◌, map, Option, option_map}
-use Rattle.gx_units.specs.declared.names.AccountName.{AccountName}
-use Rattle.gx_units.specs.declared.names.UserName.{UserName}
+use Rattle.gx_units.specs.declared.names.{AccountName.AccountName, UserName.UserName}
 use Rattle.gx_policy.specs.declared.policy.Lifters.{Lifters}
-use Rattle.gx_day.specs.declared.day.Kill.{Kill}
-use Rattle.gx_day.specs.declared.day.Kill.TheVariants as kills
-use Rattle.gx_day.specs.DayData.{AccountKill, DayData, UserLine}
+use Rattle.gx_day.specs.{declared.day.Kill.Kill, DayData.{AccountKill, DayData, UserLine}}
 
 -- the user and the line of an entry
 abbrev pub line_entry : UserName × Option ℕ → UserLine
@@ -17,8 +14,8 @@ lines_of entries = map line_entry entries
 
 -- who has lifted the account since
 abbrev pub lifted_by : Kill → List UserName
-lifted_by kills.Whole = []
-lifted_by (kills.LiftedBy officer) = officer ∷ []
+lifted_by Kill.Whole = []
+lifted_by (Kill.LiftedBy officer) = officer ∷ []
 
 -- the account and the Kill of an entry
 abbrev pub kill_entry : AccountName × Option Kill → AccountKill

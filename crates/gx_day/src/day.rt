@@ -1,12 +1,9 @@
 //! Lines, kills, the day's end and the clock, as they are now.
 
-ghost use Rattle.std.specs.Option.{option_map_or};
-ghost use Rattle.std.specs.Prelude.{◌≡◌, IfOk, Some, None, false, not, option_map};
+ghost use Rattle.std.specs.{Option.option_map_or, Prelude.{◌≡◌, IfOk, Some, None, false, not, option_map}};
 ghost use Rattle.gx_policy.specs.declared.policy.Lifters.TheVariants.{Two};
 ghost use Rattle.gx_history.specs.InForce.{has_lifted, is_untouched, kill_after};
-ghost use Rattle.gx_day.specs.DayData.{at_moment, kill_in, killed_in, line_in, with_line, with_mark};
-ghost use Rattle.gx_day.specs.InForce.{day_commanded, day_moved, fresh_day, fresh_kills, fresh_lines};
-ghost use Rattle.gx_day.specs.View.{kills_of, lifted_by, lines_of};
+ghost use Rattle.gx_day.specs.{DayData.{at_moment, kill_in, killed_in, line_in, with_line, with_mark}, InForce.{day_commanded, day_moved, fresh_day, fresh_kills, fresh_lines}, View.{kills_of, lifted_by, lines_of}};
 
 use gx_desk::Action;
 use gx_history::moves::Move;

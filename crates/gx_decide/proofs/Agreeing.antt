@@ -1,30 +1,15 @@
 -- The verdict that was decided is that of the day.
 use Rattle.std.proofs.Common.{◌≡◌, ℕ, true, List, refl, ◌∙◌, ap, map}
-use Rattle.std.specs.Prelude.{Option, Some, None, is_some}
-use Rattle.std.specs.Option.{option_map_or}
+use Rattle.std.specs.{Prelude.{Option, Some, None, is_some}, Option.option_map_or}
 use Rattle.gx_units.specs.declared.names.AccountName.{AccountName}
 use Rattle.gx_desk.specs.declared.Action.{Action}
-use Rattle.gx_history.specs.declared.facts.Facts.{Facts}
-use Rattle.gx_history.specs.declared.live_order.LiveOrder.{LiveOrder}
-use Rattle.gx_policy.specs.declared.policy.FileRule.{FileRule}
-use Rattle.gx_policy.specs.declared.policy.PolicyData.{PolicyData}
-use Rattle.gx_policy.specs.declared.policy.User.{User}
-use Rattle.gx_history.specs.declared.record.Asked.{Asked}
-use Rattle.gx_history.specs.declared.record.RecordData.{RecordData}
-use Rattle.gx_history.specs.declared.record.Request.{Request}
-use Rattle.gx_history.specs.Asking.{facts, of_command}
-use Rattle.gx_history.specs.Figures.{Positions, figures, positions}
-use Rattle.gx_history.specs.InForce.{rules_in_force}
-use Rattle.gx_policy.specs.People.{account_named, account_of}
-use Rattle.gx_history.specs.Rules.{first_forbidding}
-use Rattle.gx_policy.specs.Soundness.{is_sound}
-use Rattle.gx_history.specs.Verdicts.{facts_now, figures_asked, verdict, verdict_by, with_figures}
+use Rattle.gx_history.specs.{declared.{facts.Facts.Facts, live_order.LiveOrder.LiveOrder, «record».{Asked.Asked, RecordData.RecordData, Request.Request}}, Asking.{facts, of_command}, Figures.{Positions, figures, positions}, InForce.rules_in_force, Rules.first_forbidding, Verdicts.{facts_now, figures_asked, verdict, verdict_by, with_figures}}
+use Rattle.gx_policy.specs.{declared.policy.{FileRule.FileRule, PolicyData.PolicyData, User.User}, People.{account_named, account_of}, Soundness.is_sound}
 use Rattle.gx_history_laws.proofs.FiguresKept.{figures_kept}
 use Rattle.gx_people.specs.Entitled.{people_in_force}
 use Rattle.gx_people.proofs.Keeping.{powers_stay}
 use Rattle.gx_positions.proofs.Sound.{positions_are_sound}
-use Rattle.gx_decide.specs.Deciding.{AskForTheSame, knows_asker, with_powers}
-use Rattle.gx_decide.specs.Verdicts.{DecidesTheVerdict}
+use Rattle.gx_decide.specs.{Deciding.{AskForTheSame, knows_asker, with_powers}, Verdicts.DecidesTheVerdict}
 use Rattle.gx_effects.proofs.Accounts.{accounts_are_known}
 
 account_fact : (policy : PolicyData) (history : List RecordData) (a : Asked) → (facts_now policy history a).account ≡ account_of policy a.user

@@ -1,17 +1,9 @@
 -- Each rule with its figures, as they are told of its place.
 use Rattle.std.proofs.Common.{◌≡◌, ℕ, suc, true, List, [], ◌∷◌, map, refl, sym, ap, ◌∙◌}
-use Rattle.std.specs.Prelude.{Option, Some, None, is_some}
-use Rattle.std.specs.Option.{option_map_or}
+use Rattle.std.specs.{Prelude.{Option, Some, None, is_some}, Option.option_map_or}
 use Rattle.gx_units.specs.declared.names.AccountName.{AccountName}
-use Rattle.gx_history.specs.declared.facts.Facts.{Facts}
-use Rattle.gx_history.specs.declared.facts.RuleFigures.{RuleFigures}
-use Rattle.gx_policy.specs.declared.policy.FileRule.{FileRule}
-use Rattle.gx_policy.specs.declared.policy.PolicyData.{PolicyData}
-use Rattle.gx_history.specs.declared.record.Request.{Request}
-use Rattle.gx_history.specs.Figures.{Positions, figures, no_figures}
-use Rattle.gx_policy.specs.People.{account_named}
-use Rattle.gx_history.specs.Rules.{figured, figured_from}
-use Rattle.gx_history.specs.Verdicts.{figures_asked, with_figures}
+use Rattle.gx_history.specs.{declared.{facts.{Facts.Facts, RuleFigures.RuleFigures}, «record».Request.Request}, Figures.{Positions, figures, no_figures}, Rules.{figured, figured_from}, Verdicts.{figures_asked, with_figures}}
+use Rattle.gx_policy.specs.{declared.policy.{FileRule.FileRule, PolicyData.PolicyData}, People.account_named}
 use Rattle.gx_decide.specs.Deciding.{AskForTheSame, knows_asker}
 
 abbrev first_figures : List (FileRule × RuleFigures) → RuleFigures

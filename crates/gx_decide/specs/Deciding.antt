@@ -1,25 +1,12 @@
 -- What a verdict rests on: people, rules in force, and what a ledger stands for.
-use Rattle.std.specs.Prelude.{◌≡◌, ℕ, Bool, true, List, map, Option, is_some, IsTrue}
-use Rattle.std.specs.Option.{option_map_or}
+use Rattle.std.specs.{Prelude.{◌≡◌, ℕ, Bool, true, List, map, Option, is_some, IsTrue}, Option.option_map_or}
 use Rattle.gx_units.specs.declared.names.AccountName.{AccountName}
 use Rattle.gx_desk.specs.declared.Action.{Action}
-use Rattle.gx_history.specs.declared.facts.Facts.{Facts}
-use Rattle.gx_history.specs.declared.live_order.LiveOrder.{LiveOrder}
-use Rattle.gx_policy.specs.declared.policy.FileRule.{FileRule}
-use Rattle.gx_policy.specs.declared.policy.PolicyData.{PolicyData}
-use Rattle.gx_policy.specs.declared.policy.User.{User}
-use Rattle.gx_history.specs.declared.record.Asked.{Asked}
-use Rattle.gx_history.specs.declared.record.Request.{Request}
-use Rattle.gx_history.specs.declared.record.Verdict.{Verdict}
-use Rattle.gx_history.specs.Asking.{of_command}
-use Rattle.gx_history.specs.Figures.{Positions, figures}
-use Rattle.gx_policy.specs.People.{account_named}
-use Rattle.gx_history.specs.Rules.{first_forbidding}
-use Rattle.gx_history.specs.Verdicts.{figures_asked, verdict_by, with_figures}
+use Rattle.gx_history.specs.{declared.{facts.Facts.Facts, live_order.LiveOrder.LiveOrder, «record».{Asked.Asked, Request.Request, Verdict.Verdict}}, Asking.of_command, Figures.{Positions, figures}, Rules.first_forbidding, Verdicts.{figures_asked, verdict_by, with_figures}}
+use Rattle.gx_policy.specs.{declared.policy.{FileRule.FileRule, PolicyData.PolicyData, User.User}, People.account_named}
 use Rattle.gx_people.specs.Entitled.{has, power_of}
 use Rattle.gx_positions.specs.Sound.{AreSound}
-use Rattle.gx_ledger.specs.Keeping.{Kept}
-use Rattle.gx_ledger.specs.StandsFor.{StandsFor}
+use Rattle.gx_ledger.specs.{Keeping.Kept, StandsFor.StandsFor}
 
 -- the facts, with what these people say of the asker's power
 abbrev pub with_powers : List User → Asked → Facts → Facts

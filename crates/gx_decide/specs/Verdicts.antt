@@ -1,19 +1,9 @@
 -- The verdict that was decided is that of the day.
 use Rattle.std.specs.Prelude.{◌≡◌, List, IsTrue}
-use Rattle.gx_history.specs.declared.facts.Facts.{Facts}
-use Rattle.gx_policy.specs.declared.policy.FileRule.{FileRule}
-use Rattle.gx_policy.specs.declared.policy.PolicyData.{PolicyData}
-use Rattle.gx_policy.specs.declared.policy.User.{User}
-use Rattle.gx_history.specs.declared.record.Asked.{Asked}
-use Rattle.gx_history.specs.declared.record.RecordData.{RecordData}
-use Rattle.gx_history.specs.declared.record.Verdict.{Verdict}
-use Rattle.gx_history.specs.Figures.{positions}
-use Rattle.gx_history.specs.InForce.{rules_in_force}
-use Rattle.gx_policy.specs.Soundness.{is_sound}
-use Rattle.gx_history.specs.Verdicts.{facts_now, verdict, IsLegal}
+use Rattle.gx_history.specs.{declared.{facts.Facts.Facts, «record».{Asked.Asked, RecordData.RecordData, Verdict.Verdict}}, Figures.positions, InForce.rules_in_force, Verdicts.{facts_now, verdict, IsLegal}}
+use Rattle.gx_policy.specs.{declared.policy.{FileRule.FileRule, PolicyData.PolicyData, User.User}, Soundness.is_sound}
 use Rattle.gx_people.specs.Entitled.{people_in_force}
-use Rattle.gx_ledger.specs.Keeping.{Kept}
-use Rattle.gx_ledger.specs.StandsFor.{StandsFor}
+use Rattle.gx_ledger.specs.{Keeping.Kept, StandsFor.StandsFor}
 use Rattle.gx_decide.specs.Deciding.{Decides}
 
 -- After a legal day under a sound policy, on its facts, with the people and the rules in force and a ledger that stands for

@@ -1,8 +1,7 @@
 //! The verdict on a request.
 
 ghost use Rattle.std.specs.Prelude.{◌≡◌};
-ghost use Rattle.gx_history.specs.Verdicts.{verdict_by};
-ghost use Rattle.gx_history.specs.Asking.{of_command};
+ghost use Rattle.gx_history.specs.{Verdicts.verdict_by, Asking.of_command};
 ghost use Rattle.gx_people.specs.Entitled.{has, power_of};
 ghost use Rattle.gx_decide.specs.Deciding.{Decides, Judges};
 

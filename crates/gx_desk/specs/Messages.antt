@@ -1,7 +1,6 @@
 -- The messages from officers, and to officers and readers: type, length, and the offset and length of each field.
 use Rattle.std.specs.Prelude.{ℕ, [], ◌∷◌, ◌++◌}
-use Rattle.gx_ouch.specs.Layout.{Layout, field}
-use Rattle.gx_ouch.specs.Messages.{executed}
+use Rattle.gx_ouch.specs.{Layout.{Layout, field}, Messages.executed}
 
 -- a command about an account: Kill and Lift
 abbrev pub account_command : ℕ → Layout

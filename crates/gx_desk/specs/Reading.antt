@@ -1,16 +1,8 @@
 -- The command that some bytes are. Numbers are unsigned, the highest byte first.
-use Rattle.std.specs.Prelude.{ℕ, ◌≡◌, List, [], ◌∷◌, Option, Some, None, slice_index, if◌then◌else◌}
-use Rattle.std.specs.Int.{w64, from_be_bytes}
-use Rattle.gx_units.specs.declared.names.AccountName.{AccountName}
-use Rattle.gx_units.specs.declared.names.RuleId.{RuleId}
-use Rattle.gx_units.specs.declared.names.Symbol.{Symbol}
+use Rattle.std.specs.{Prelude.{ℕ, ◌≡◌, List, [], ◌∷◌, Option, Some, None, slice_index, if◌then◌else◌}, Int.{w64, from_be_bytes}}
+use Rattle.gx_units.specs.declared.names.{AccountName.AccountName, RuleId.RuleId, Symbol.Symbol}
 use Rattle.gx_ouch.specs.Layout.{is_of, cut}
-use Rattle.gx_desk.specs.declared.Action.{Action}
-use Rattle.gx_desk.specs.declared.Action.TheVariants as actions
-use Rattle.gx_desk.specs.declared.Command.{Command}
-use Rattle.gx_desk.specs.declared.WrittenName.{WrittenName}
-use Rattle.gx_desk.specs.Names.{command_type}
-use Rattle.gx_desk.specs.Messages.{kill, lift, set_limit, restrict, unrestrict, grant, revoke, close_day}
+use Rattle.gx_desk.specs.{declared.{Action.Action, Command.Command, WrittenName.WrittenName}, Names.command_type, Messages.{kill, lift, set_limit, restrict, unrestrict, grant, revoke, close_day}}
 
 -- what is asked for under this tag
 abbrev pub tagged : List ℕ → Action → Command
@@ -24,7 +16,7 @@ account_command_of asks _ = None
 -- Set Limit, of these fields
 abbrev pub limit_command_of : List (List ℕ) → Option Command
 limit_command_of (tag ∷ rule ∷ limit ∷ []) =
-    Some (tagged tag (actions.SetLimit (record { bytes = rule }) (from_be_bytes w64 limit)))
+    Some (tagged tag (Action.SetLimit (record { bytes = rule }) (from_be_bytes w64 limit)))
 limit_command_of _ = None
 
 -- the command about a rule's stocks, of these fields
@@ -41,19 +33,19 @@ reader_command_of asks _ = None
 
 -- Close Day, of its one field
 abbrev pub close_of : List (List ℕ) → Option Command
-close_of (tag ∷ []) = Some (tagged tag actions.CloseDay)
+close_of (tag ∷ []) = Some (tagged tag Action.CloseDay)
 close_of _ = None
 
 -- the command whose type and length are those of the bytes, with the fields that stand at its places
 unfoldable pub command_of : List ℕ → Option Command
 command_of bytes =
-    if is_of kill bytes then account_command_of actions.Kill (cut kill bytes)
-    else (if is_of lift bytes then account_command_of actions.Lift (cut lift bytes)
+    if is_of kill bytes then account_command_of Action.Kill (cut kill bytes)
+    else (if is_of lift bytes then account_command_of Action.Lift (cut lift bytes)
     else (if is_of set_limit bytes then limit_command_of (cut set_limit bytes)
-    else (if is_of restrict bytes then stock_command_of actions.Restrict (cut restrict bytes)
-    else (if is_of unrestrict bytes then stock_command_of actions.Unrestrict (cut unrestrict bytes)
-    else (if is_of grant bytes then reader_command_of actions.Grant (cut grant bytes)
-    else (if is_of revoke bytes then reader_command_of actions.Revoke (cut revoke bytes)
+    else (if is_of restrict bytes then stock_command_of Action.Restrict (cut restrict bytes)
+    else (if is_of unrestrict bytes then stock_command_of Action.Unrestrict (cut unrestrict bytes)
+    else (if is_of grant bytes then reader_command_of Action.Grant (cut grant bytes)
+    else (if is_of revoke bytes then reader_command_of Action.Revoke (cut revoke bytes)
     else (if is_of close_day bytes then close_of (cut close_day bytes)
     else None)))))))
 

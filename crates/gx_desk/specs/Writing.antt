@@ -1,23 +1,16 @@
 -- The bytes of an answer and of a drop copy. Numbers are unsigned, the highest byte first.
-use Rattle.std.specs.Prelude.{ℕ, List, [], ◌∷◌, ◌++◌, codes}
-use Rattle.std.specs.Int.{w64, to_be_bytes}
-use Rattle.gx_ouch.specs.declared.outbound.Outbound.TheVariants as outbounds
-use Rattle.gx_ouch.specs.Layout.{laid_out}
-use Rattle.gx_ouch.specs.Writing.{letter, outbound_contents}
-use Rattle.gx_desk.specs.declared.Answer.{Answer}
-use Rattle.gx_desk.specs.declared.AnswerCode.{AnswerCode}
-use Rattle.gx_desk.specs.declared.AnswerCode.TheVariants as answers
-use Rattle.gx_desk.specs.declared.DropCopy.{DropCopy}
-use Rattle.gx_desk.specs.Messages.{answer, drop_copy}
+use Rattle.std.specs.{Prelude.{ℕ, List, [], ◌∷◌, ◌++◌, codes}, Int.{w64, to_be_bytes}}
+use Rattle.gx_ouch.specs.{declared.outbound.Outbound.Outbound, Layout.laid_out, Writing.{letter, outbound_contents}}
+use Rattle.gx_desk.specs.{declared.{Answer.Answer, AnswerCode.AnswerCode, DropCopy.DropCopy}, Messages.{answer, drop_copy}}
 
 -- the code of an answer
 abbrev pub answer_code : AnswerCode → List ℕ
-answer_code answers.Done = codes "OK"
-answer_code answers.PartlyLifted = codes "PL"
-answer_code answers.UnknownName = codes "Q1"
-answer_code answers.NoPower = codes "Q2"
-answer_code answers.NotHisAccount = codes "Q3"
-answer_code answers.NoChange = codes "Q4"
+answer_code AnswerCode.Done = codes "OK"
+answer_code AnswerCode.PartlyLifted = codes "PL"
+answer_code AnswerCode.UnknownName = codes "Q1"
+answer_code AnswerCode.NoPower = codes "Q2"
+answer_code AnswerCode.NotHisAccount = codes "Q3"
+answer_code AnswerCode.NoChange = codes "Q4"
 
 -- the fields of an answer of this moment
 abbrev pub answer_contents : ℕ → Answer → List (List ℕ)
@@ -36,7 +29,7 @@ answer_bytes timestamp a = laid_out answer (answer_contents timestamp a)
 -- the fields of a drop copy of this moment
 abbrev pub drop_copy_contents : ℕ → DropCopy → List (List ℕ)
 drop_copy_contents timestamp d =
-    outbound_contents timestamp (outbounds.Executed d.executed) ++ d.account.bytes ∷ letter d.side ∷ []
+    outbound_contents timestamp (Outbound.Executed d.executed) ++ d.account.bytes ∷ letter d.side ∷ []
 
 -- the bytes of a drop copy of this moment
 unfoldable pub drop_copy_bytes : ℕ → DropCopy → List ℕ

@@ -1,9 +1,7 @@
 //! What the layouts of the commands say together.
 
 ghost use Rattle.gx_ouch.specs.Layout.{IsWithoutGaps};
-ghost use Rattle.gx_desk.specs.Messages.{kill, lift, set_limit, restrict, unrestrict};
-ghost use Rattle.gx_desk.specs.Messages.{grant, revoke, close_day};
-ghost use Rattle.gx_desk.specs.Reading.{KeepTheirType};
+ghost use Rattle.gx_desk.specs.{Messages.{kill, lift, set_limit, restrict, unrestrict, grant, revoke, close_day}, Reading.KeepTheirType};
 
 /// Each byte of a command is its type or in one of its fields.
 pub fn commands_have_no_gaps()

@@ -1,9 +1,7 @@
 //! Commands of officers, read from bytes.
 
-ghost use Rattle.std.specs.Prelude.{◌≡◌, length, Some};
-ghost use Rattle.std.specs.Int.{w64, from_be_bytes};
-ghost use Rattle.gx_desk.specs.Names.{command_type};
-ghost use Rattle.gx_desk.specs.Reading.{command_of};
+ghost use Rattle.std.specs.{Prelude.{◌≡◌, length, Some}, Int.{w64, from_be_bytes}};
+ghost use Rattle.gx_desk.specs.{Names.command_type, Reading.command_of};
 
 use crate::{Action, Command, Tag, WrittenName};
 use gx_ouch::text;

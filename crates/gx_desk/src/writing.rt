@@ -1,10 +1,8 @@
 //! Answers and drop copies, written as bytes.
 
 ghost use Rattle.std.specs.Prelude.{◌≡◌, length, take, drop};
-ghost use Rattle.gx_ouch.specs.Layout.{HasSizes, LiesIn};
-ghost use Rattle.gx_ouch.specs.Writing.{outbound_bytes};
-ghost use Rattle.gx_desk.specs.Messages.{answer, drop_copy};
-ghost use Rattle.gx_desk.specs.Writing.{answer_bytes, answer_code, answer_contents, drop_copy_bytes, drop_copy_contents};
+ghost use Rattle.gx_ouch.specs.{Layout.{HasSizes, LiesIn}, Writing.outbound_bytes};
+ghost use Rattle.gx_desk.specs.{Messages.{answer, drop_copy}, Writing.{answer_bytes, answer_code, answer_contents, drop_copy_bytes, drop_copy_contents}};
 
 use crate::{Answer, AnswerCode, DropCopy};
 use gx_ouch::{Draft, MESSAGE_ROOM, Outbound};

@@ -1,11 +1,7 @@
 -- What is written in parts.
-use Rattle.std.proofs.Common.{◌≡◌, ℕ, ◌+◌, ◌-◌, ◌≤◌, sym, ap, ◌∙◌, subst, List, [], ◌++◌, append-nil, append_assoc, take-append-drop, length, take, drop, Option, None, Some, Result, Ok, Err, OnOk, OnErr, arith}
-use Rattle.std.proofs.lemmas.List.{take_rest}
-use Rattle.std.proofs.Math.Seq.{take-add}
-use Rattle.std.specs.Prelude.{IfErr}
+use Rattle.std.proofs.{Common.{◌≡◌, ℕ, ◌+◌, ◌-◌, ◌≤◌, sym, ap, ◌∙◌, subst, List, [], ◌++◌, append-nil, append_assoc, take-append-drop, length, take, drop, Option, None, Some, Result, Ok, Err, OnOk, OnErr, arith}, lemmas.List.take_rest, Math.Seq.take-add, KnownBytes.Appends-trans}
+use Rattle.std.specs.{Prelude.IfErr, Io.KnownBytes.{Appends, Keeps}}
 use Rattle.gx_devices.specs.Devices.{IsFront, counted_on, one_more}
-use Rattle.std.specs.Io.KnownBytes.{Appends, Keeps}
-use Rattle.std.proofs.KnownBytes.{Appends-trans}
 
 pub written_more : (a b c : Option (List ℕ)) (bytes : List ℕ) (done n : ℕ) → Appends a b (take done bytes) → Appends b c (take n (take (length bytes - done) (drop done bytes))) → Appends a c (take (done + n) bytes)
 written_more a b c bytes done n p q = rw (take-add done n bytes) (Appends-trans a b c _ _ p (rw (take_rest bytes done) at q))

@@ -1,6 +1,5 @@
 -- Devices, their calls, and what is written by a call that fails.
-use Rattle.std.specs.Prelude.{◌≡◌, ℕ, ◌+◌, ◌-◌, ◌^◌, min, List, ◌++◌, Option}
-use Rattle.std.specs.Io.KnownBytes.{Appends}
+use Rattle.std.specs.{Prelude.{◌≡◌, ℕ, ◌+◌, ◌-◌, ◌^◌, min, List, ◌++◌, Option}, Io.KnownBytes.Appends}
 
 -- a device, how many calls of it there were, and how many of these failed
 pub record CountedData (D : Type 0) : Type 0 where

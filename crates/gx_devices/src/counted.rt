@@ -1,8 +1,6 @@
 //! Devices whose calls and failures are counted.
 
-ghost use Rattle.std.specs.Prelude.{◌≡◌, ◌<◌, length, IfOk, OnOk, OnErr};
-ghost use Rattle.std.specs.Io.{ReadsAtMost, WritesAtMost};
-ghost use Rattle.std.specs.Io.KnownBytes.{ReadConsumes, WriteAppends, Keeps};
+ghost use Rattle.std.specs.{Prelude.{◌≡◌, ◌<◌, length, IfOk, OnOk, OnErr}, Io.{ReadsAtMost, WritesAtMost, KnownBytes.{ReadConsumes, WriteAppends, Keeps}}};
 ghost use Rattle.gx_devices.specs.Devices.{one_more};
 
 use std::io;

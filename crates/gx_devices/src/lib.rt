@@ -2,7 +2,9 @@
 #![tactic(auto)]
 
 mod counted;
+mod fault;
 mod write;
 
 pub use counted::Counted;
+pub use fault::WriteFault;
 pub use write::{WriteFailed, write_whole};

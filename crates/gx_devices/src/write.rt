@@ -1,7 +1,6 @@
 //! Writing all of some bytes.
 
-ghost use Rattle.std.specs.Prelude.{◌≡◌, ◌+◌, ◌-◌, ◌^◌, ◌<◌, OnOk, OnErr};
-ghost use Rattle.std.specs.Io.KnownBytes.{Appends};
+ghost use Rattle.std.specs.{Prelude.{◌≡◌, ◌+◌, ◌-◌, ◌^◌, ◌<◌, OnOk, OnErr}, Io.KnownBytes.Appends};
 ghost use Rattle.gx_devices.specs.Devices.{IsFront};
 
 use crate::counted::Counted;

@@ -1,30 +1,10 @@
 -- Two policies of one text say the same, but for passwords.
-use Rattle.std.proofs.Common.{◌≡◌, ℕ, ◌<◌, ◌^◌, ◌==◌, Bool, true, false, List, [], ◌∷◌, ◌++◌, length, map, take, drop, refl, sym, ap, ◌∙◌, append_assoc}
-use Rattle.std.specs.Prelude.{codes, if◌then◌else◌}
-use Rattle.std.specs.List.{AllByRecursion}
-use Rattle.std.specs.Int.{w64, to_be_bytes, from_be_bytes}
-use Rattle.std.proofs.lemmas.List.{take_at, drop_at, append-nil}
-use Rattle.std.proofs.lemmas.Nat.{from_be_bytes-to_be_bytes_8}
-use Rattle.gx_units.specs.declared.names.AccountName.{AccountName}
-use Rattle.gx_units.specs.declared.names.Symbol.{Symbol}
-use Rattle.gx_policy.specs.declared.policy.PolicyData.{PolicyData}
-use Rattle.gx_policy.specs.declared.policy.Account.{Account}
-use Rattle.gx_policy.specs.declared.policy.Stock.{Stock}
-use Rattle.gx_policy.specs.declared.policy.User.{User}
-use Rattle.gx_policy.specs.declared.policy.Powers.{Powers}
-use Rattle.gx_policy.specs.declared.policy.Role.{Role}
-use Rattle.gx_policy.specs.declared.policy.Role.TheVariants as roles
-use Rattle.gx_policy.specs.declared.policy.Scope.{Scope}
-use Rattle.gx_policy.specs.declared.policy.Scope.TheVariants as scopes
-use Rattle.gx_policy.specs.declared.policy.Count.{Count}
-use Rattle.gx_policy.specs.declared.policy.Count.TheVariants as counts
-use Rattle.gx_policy.specs.declared.policy.FileRule.{FileRule}
-use Rattle.gx_policy.specs.declared.policy.RuleKind.{RuleKind}
-use Rattle.gx_policy.specs.declared.policy.RuleKind.TheVariants as kinds
-use Rattle.gx_policy.specs.declared.policy.Lifters.{Lifters}
-use Rattle.gx_policy.specs.declared.policy.Lifters.TheVariants as lifters
-use Rattle.gx_digest.specs.PolicyText.{policy_text, items_text, list_text, number_text, account_name_text, symbol_text, account_text, stock_text, scope_text, power_text, powers_text, role_text, user_text, count_text, kind_letter, stocks_of, limit_of, back_of, count_of, kind_text, rule_text, lifters_text}
-use Rattle.gx_digest.specs.Told.{without_password, IsAccountNameSized, IsSymbolSized, IsAccountSized, IsStockSized, IsScopeSized, IsRoleSized, IsUserSized, IsKindSized, IsRuleSized, IsToldApart, HasNoPasswords}
+use Rattle.gx_policy.specs.{declared.{kinds.KindName.KindName, policy.{PolicyData.PolicyData, Account.Account, Stock.Stock, User.User, Powers.Powers, Role.Role, Scope.Scope, Count.Count, FileRule.FileRule, RuleKind.RuleKind, Lifters.Lifters}}, Kinds.{kind_letter, kind_name}}
+use Rattle.gx_policy.proofs.Letters.{same_kind}
+use Rattle.std.proofs.{Common.{◌≡◌, ℕ, ◌<◌, ◌^◌, ◌==◌, Bool, true, false, List, [], ◌∷◌, ◌++◌, length, map, take, drop, refl, sym, ap, ◌∙◌, append_assoc}, lemmas.{List.{take_at, drop_at, append-nil}, Nat.from_be_bytes-to_be_bytes_8}}
+use Rattle.std.specs.{Prelude.{codes, if◌then◌else◌}, List.AllByRecursion, Int.{w64, to_be_bytes, from_be_bytes}}
+use Rattle.gx_units.specs.declared.names.{AccountName.AccountName, Symbol.Symbol}
+use Rattle.gx_digest.specs.{PolicyText.{policy_text, items_text, list_text, number_text, account_name_text, symbol_text, account_text, stock_text, scope_text, power_text, powers_text, role_text, user_text, count_text, stocks_of, limit_of, back_of, count_of, kind_text, rule_text, lifters_text}, Told.{without_password, IsAccountNameSized, IsSymbolSized, IsAccountSized, IsStockSized, IsScopeSized, IsRoleSized, IsUserSized, IsKindSized, IsRuleSized, IsToldApart, HasNoPasswords}}
 
 -- where two texts with more behind them are the same, so is what they tell of two values, and so is what stands behind
 abbrev Tells : {X Y : Type 0} → (X → Type 0) → (X → List ℕ) → (X → Y) → Type 0
@@ -121,12 +101,12 @@ stock_told a b r s one other e =
     (λ i. record { name = record { bytes = name.0 i }; reference = reference.0 i }, reference.1)
 
 scope_told : Tells IsScopeSized scope_text (λ (scope : Scope). scope)
-scope_told scopes.All scopes.All r s one other e = (refl, same_tail 65 65 r s e)
-scope_told scopes.All (scopes.Only names) r s one other e = absurd (other_head 65 79 _ _ refl refl e)
-scope_told (scopes.Only names) scopes.All r s one other e = absurd (other_head 79 65 _ _ refl refl e)
-scope_told (scopes.Only names) (scopes.Only others) r s one other e =
+scope_told Scope.All Scope.All r s one other e = (refl, same_tail 65 65 r s e)
+scope_told Scope.All (Scope.Only names) r s one other e = absurd (other_head 65 79 _ _ refl refl e)
+scope_told (Scope.Only names) Scope.All r s one other e = absurd (other_head 79 65 _ _ refl refl e)
+scope_told (Scope.Only names) (Scope.Only others) r s one other e =
     let told = whole_list IsAccountNameSized account_name_text account_name_told names others r s one other (same_tail 79 79 _ _ e) in
-    (λ i. scopes.Only (told.0 i), told.1)
+    (λ i. Scope.Only (told.0 i), told.1)
 
 power_told : (a b : Bool) → power_text a ≡ power_text b → a ≡ b
 power_told true true e = refl
@@ -150,23 +130,23 @@ powers_told a b r s e =
     (λ i. record { kill = kill i; lift = lift i; limits = limits i; symbols = symbols i; people = people i; close = close i }, same_tail _ _ _ _ e5)
 
 role_told : Tells IsRoleSized role_text (λ (role : Role). role)
-role_told (roles.Trader account) (roles.Trader another) r s one other e =
+role_told (Role.Trader account) (Role.Trader another) r s one other e =
     let told = same_field 8 account.bytes another.bytes r s one other (same_tail 84 84 _ _ e) in
-    (λ i. roles.Trader (record { bytes = told.0 i }), told.1)
-role_told (roles.Officer powers scope) (roles.Officer others scope') r s one other e =
+    (λ i. Role.Trader (record { bytes = told.0 i }), told.1)
+role_told (Role.Officer powers scope) (Role.Officer others scope') r s one other e =
     let powers_are = powers_told powers others (scope_text scope ++ r) (scope_text scope' ++ s)
     (regroup (powers_text powers) (scope_text scope) r (powers_text others) (scope_text scope') s (same_tail 79 79 _ _ e)) in
     let scope_is = scope_told scope scope' r s one other powers_are.1 in
-    (λ i. roles.Officer (powers_are.0 i) (scope_is.0 i), scope_is.1)
-role_told (roles.Reader names) (roles.Reader others) r s one other e =
+    (λ i. Role.Officer (powers_are.0 i) (scope_is.0 i), scope_is.1)
+role_told (Role.Reader names) (Role.Reader others) r s one other e =
     let told = whole_list IsAccountNameSized account_name_text account_name_told names others r s one other (same_tail 82 82 _ _ e) in
-    (λ i. roles.Reader (told.0 i), told.1)
-role_told (roles.Trader account) (roles.Officer powers scope) r s one other e = absurd (other_head 84 79 _ _ refl refl e)
-role_told (roles.Trader account) (roles.Reader names) r s one other e = absurd (other_head 84 82 _ _ refl refl e)
-role_told (roles.Officer powers scope) (roles.Trader account) r s one other e = absurd (other_head 79 84 _ _ refl refl e)
-role_told (roles.Officer powers scope) (roles.Reader names) r s one other e = absurd (other_head 79 82 _ _ refl refl e)
-role_told (roles.Reader names) (roles.Trader account) r s one other e = absurd (other_head 82 84 _ _ refl refl e)
-role_told (roles.Reader names) (roles.Officer powers scope) r s one other e = absurd (other_head 82 79 _ _ refl refl e)
+    (λ i. Role.Reader (told.0 i), told.1)
+role_told (Role.Trader account) (Role.Officer powers scope) r s one other e = absurd (other_head 84 79 _ _ refl refl e)
+role_told (Role.Trader account) (Role.Reader names) r s one other e = absurd (other_head 84 82 _ _ refl refl e)
+role_told (Role.Officer powers scope) (Role.Trader account) r s one other e = absurd (other_head 79 84 _ _ refl refl e)
+role_told (Role.Officer powers scope) (Role.Reader names) r s one other e = absurd (other_head 79 82 _ _ refl refl e)
+role_told (Role.Reader names) (Role.Trader account) r s one other e = absurd (other_head 82 84 _ _ refl refl e)
+role_told (Role.Reader names) (Role.Officer powers scope) r s one other e = absurd (other_head 82 79 _ _ refl refl e)
 
 user_told : Tells IsUserSized user_text without_password
 user_told a b r s one other e =
@@ -175,42 +155,27 @@ user_told a b r s one other e =
     (λ i. record { name = record { bytes = name.0 i }; password = record { bytes = codes "          " }; role = role.0 i }, role.1)
 
 count_told : (a b : Count) (r s : List ℕ) → count_text a ++ r ≡ count_text b ++ s → (a ≡ b) × (r ≡ s)
-count_told counts.Each counts.Each r s e = (refl, same_tail 69 69 r s e)
-count_told counts.Each counts.Together r s e = absurd (other_head 69 84 _ _ refl refl e)
-count_told counts.Together counts.Each r s e = absurd (other_head 84 69 _ _ refl refl e)
-count_told counts.Together counts.Together r s e = (refl, same_tail 84 84 r s e)
+count_told Count.Each Count.Each r s e = (refl, same_tail 69 69 r s e)
+count_told Count.Each Count.Together r s e = absurd (other_head 69 84 _ _ refl refl e)
+count_told Count.Together Count.Each r s e = absurd (other_head 84 69 _ _ refl refl e)
+count_told Count.Together Count.Together r s e = (refl, same_tail 84 84 r s e)
 
--- a kind by its letter and its settings
-abbrev kind_by : ℕ → List Symbol → ℕ → ℕ → Count → RuleKind
-kind_by letter stocks limit back count =
-    if letter == 72 then kinds.Halt stocks
-    else (if letter == 82 then kinds.Restricted stocks
-    else (if letter == 78 then kinds.NoShort
-    else (if letter == 73 then kinds.NoIso
-    else (if letter == 76 then kinds.OddLot
-    else (if letter == 83 then kinds.OrderShares limit
-    else (if letter == 86 then kinds.OrderValue limit
-    else (if letter == 67 then kinds.Collar limit
-    else (if letter == 71 then kinds.GrossShares limit count
-    else (if letter == 87 then kinds.GrossValue limit count
-    else (if letter == 84 then kinds.NetShares limit count
-    else (if letter == 81 then kinds.Rate (record { limit = limit; window = back }) count
-    else kinds.Repeat (record { limit = limit; span = back }) count)))))))))))
+-- a kind by its name and its settings
+abbrev kind_by : KindName → List Symbol → ℕ → ℕ → Count → RuleKind
+kind_by (KindName.Listed kind) stocks limit back count = RuleKind.Listed kind stocks
+kind_by (KindName.Plain kind) stocks limit back count = RuleKind.Plain kind
+kind_by (KindName.Order kind) stocks limit back count = RuleKind.Order kind limit
+kind_by (KindName.Exposure kind) stocks limit back count = RuleKind.Exposure kind limit count
+kind_by KindName.Rate stocks limit back count = RuleKind.Rate (record { limit = limit; window = back }) count
+kind_by KindName.Repeat stocks limit back count = RuleKind.Repeat (record { limit = limit; span = back }) count
 
-kind_is : (k : RuleKind) → kind_by (kind_letter k) (stocks_of k) (limit_of k) (back_of k) (count_of k) ≡ k
-kind_is (kinds.Halt stocks) = refl
-kind_is (kinds.Restricted stocks) = refl
-kind_is kinds.NoShort = refl
-kind_is kinds.NoIso = refl
-kind_is kinds.OddLot = refl
-kind_is (kinds.OrderShares limit) = refl
-kind_is (kinds.OrderValue limit) = refl
-kind_is (kinds.Collar limit) = refl
-kind_is (kinds.GrossShares limit count) = refl
-kind_is (kinds.GrossValue limit count) = refl
-kind_is (kinds.NetShares limit count) = refl
-kind_is (kinds.Rate rate count) = refl
-kind_is (kinds.Repeat repeat count) = refl
+kind_is : (k : RuleKind) → kind_by (kind_name k) (stocks_of k) (limit_of k) (back_of k) (count_of k) ≡ k
+kind_is (RuleKind.Listed kind stocks) = refl
+kind_is (RuleKind.Plain kind) = refl
+kind_is (RuleKind.Order kind limit) = refl
+kind_is (RuleKind.Exposure kind limit count) = refl
+kind_is (RuleKind.Rate rate count) = refl
+kind_is (RuleKind.Repeat repeat count) = refl
 
 -- five pieces and what stands behind them
 five : (a b c d e r : List ℕ) → (a ++ b ++ c ++ d ++ e) ++ r ≡ a ++ (b ++ (c ++ (d ++ (e ++ r))))
@@ -218,14 +183,14 @@ five a b c d e r = simp append_assoc
 
 kind_told : Tells IsKindSized kind_text (λ (k : RuleKind). k)
 kind_told a b r s one other e =
-    let whole = sym (five (kind_letter a ∷ []) (list_text symbol_text (stocks_of a)) (number_text (limit_of a)) (number_text (back_of a)) (count_text (count_of a)) r)
-    ∙ e ∙ five (kind_letter b ∷ []) (list_text symbol_text (stocks_of b)) (number_text (limit_of b)) (number_text (back_of b)) (count_text (count_of b)) s in
-    let letter = same_head (kind_letter a) (kind_letter b) _ _ whole in
-    let stocks = whole_list IsSymbolSized symbol_text symbol_told (stocks_of a) (stocks_of b) _ _ one.0 other.0 (same_tail (kind_letter a) (kind_letter b) _ _ whole) in
+    let whole = sym (five (kind_letter (kind_name a) ∷ []) (list_text symbol_text (stocks_of a)) (number_text (limit_of a)) (number_text (back_of a)) (count_text (count_of a)) r)
+    ∙ e ∙ five (kind_letter (kind_name b) ∷ []) (list_text symbol_text (stocks_of b)) (number_text (limit_of b)) (number_text (back_of b)) (count_text (count_of b)) s in
+    let name = same_kind (kind_name a) (kind_name b) (same_head (kind_letter (kind_name a)) (kind_letter (kind_name b)) _ _ whole) in
+    let stocks = whole_list IsSymbolSized symbol_text symbol_told (stocks_of a) (stocks_of b) _ _ one.0 other.0 (same_tail (kind_letter (kind_name a)) (kind_letter (kind_name b)) _ _ whole) in
     let limit = number_told (limit_of a) (limit_of b) _ _ one.1 other.1 stocks.1 in
     let back = number_told (back_of a) (back_of b) _ _ one.2 other.2 limit.1 in
     let count = count_told (count_of a) (count_of b) r s back.1 in
-    (sym (kind_is a) ∙ (λ i. kind_by (letter i) (stocks.0 i) (limit.0 i) (back.0 i) (count.0 i)) ∙ kind_is b, count.1)
+    (sym (kind_is a) ∙ (λ i. kind_by (name i) (stocks.0 i) (limit.0 i) (back.0 i) (count.0 i)) ∙ kind_is b, count.1)
 
 three : (a b c r : List ℕ) → (a ++ b ++ c) ++ r ≡ a ++ (b ++ (c ++ r))
 three a b c r = simp append_assoc
@@ -239,10 +204,10 @@ rule_told a b r s one other e =
     (λ i. record { name = record { bytes = name.0 i }; kind = kind.0 i; scope = scope.0 i }, scope.1)
 
 lifters_told : (a b : Lifters) (r s : List ℕ) → lifters_text a ++ r ≡ lifters_text b ++ s → (a ≡ b) × (r ≡ s)
-lifters_told lifters.One lifters.One r s e = (refl, same_tail 49 49 r s e)
-lifters_told lifters.One lifters.Two r s e = absurd (other_head 49 50 _ _ refl refl e)
-lifters_told lifters.Two lifters.One r s e = absurd (other_head 50 49 _ _ refl refl e)
-lifters_told lifters.Two lifters.Two r s e = (refl, same_tail 50 50 r s e)
+lifters_told Lifters.One Lifters.One r s e = (refl, same_tail 49 49 r s e)
+lifters_told Lifters.One Lifters.Two r s e = absurd (other_head 49 50 _ _ refl refl e)
+lifters_told Lifters.Two Lifters.One r s e = absurd (other_head 50 49 _ _ refl refl e)
+lifters_told Lifters.Two Lifters.Two r s e = (refl, same_tail 50 50 r s e)
 
 -- seven pieces
 seven : (a b c d e f g : List ℕ) → a ++ b ++ c ++ d ++ e ++ f ++ g ≡ a ++ (b ++ (c ++ (d ++ (e ++ (f ++ (g ++ []))))))

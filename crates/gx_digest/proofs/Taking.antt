@@ -1,10 +1,7 @@
 -- What is taken in piece by piece.
-use Rattle.std.proofs.Common.{◌≡◌, ℕ, ◌+◌, ◌<◌, List, [], ◌∷◌, ◌++◌, take, length, get_or, append_assoc, subst, ap, sym, ◌∙◌, refl}
-use Rattle.std.proofs.lemmas.List.{append-nil, take_more}
-use Rattle.sha2.specs.declared.Sha256.{Sha256}
-use Rattle.sha2.specs.Hashers.{Holds256}
-use Rattle.gx_digest.specs.Hashing.{TakesIn}
-use Rattle.gx_digest.specs.PolicyText.{items_text}
+use Rattle.std.proofs.{Common.{◌≡◌, ℕ, ◌+◌, ◌<◌, List, [], ◌∷◌, ◌++◌, take, length, get_or, append_assoc, subst, ap, sym, ◌∙◌, refl}, lemmas.List.{append-nil, take_more}}
+use Rattle.sha2.specs.{declared.Sha256.Sha256, Hashers.Holds256}
+use Rattle.gx_digest.specs.{Hashing.TakesIn, PolicyText.items_text}
 
 -- two pieces are one
 pub two : (a b c : Sha256) (xs ys : List ℕ) → TakesIn a b xs → TakesIn b c ys → TakesIn a c (xs ++ ys)

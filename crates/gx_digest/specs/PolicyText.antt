@@ -1,25 +1,7 @@
 -- A policy as bytes: all that it says, in its order, but passwords.
-use Rattle.std.specs.Prelude.{ℕ, Bool, List, [], ◌∷◌, ◌++◌, map, codes, if◌then◌else◌}
-use Rattle.std.specs.List.{concat}
-use Rattle.std.specs.Int.{w64, to_be_bytes}
-use Rattle.gx_units.specs.declared.names.AccountName.{AccountName}
-use Rattle.gx_units.specs.declared.names.Symbol.{Symbol}
-use Rattle.gx_policy.specs.declared.policy.PolicyData.{PolicyData}
-use Rattle.gx_policy.specs.declared.policy.Account.{Account}
-use Rattle.gx_policy.specs.declared.policy.Stock.{Stock}
-use Rattle.gx_policy.specs.declared.policy.User.{User}
-use Rattle.gx_policy.specs.declared.policy.Powers.{Powers}
-use Rattle.gx_policy.specs.declared.policy.Role.{Role}
-use Rattle.gx_policy.specs.declared.policy.Role.TheVariants as roles
-use Rattle.gx_policy.specs.declared.policy.Scope.{Scope}
-use Rattle.gx_policy.specs.declared.policy.Scope.TheVariants as scopes
-use Rattle.gx_policy.specs.declared.policy.Count.{Count}
-use Rattle.gx_policy.specs.declared.policy.Count.TheVariants as counts
-use Rattle.gx_policy.specs.declared.policy.FileRule.{FileRule}
-use Rattle.gx_policy.specs.declared.policy.RuleKind.{RuleKind}
-use Rattle.gx_policy.specs.declared.policy.RuleKind.TheVariants as kinds
-use Rattle.gx_policy.specs.declared.policy.Lifters.{Lifters}
-use Rattle.gx_policy.specs.declared.policy.Lifters.TheVariants as lifters
+use Rattle.gx_policy.specs.{Kinds.{kind_name, kind_letter}, declared.policy.{PolicyData.PolicyData, Account.Account, Stock.Stock, User.User, Powers.Powers, Role.Role, Scope.Scope, Count.Count, FileRule.FileRule, RuleKind.RuleKind, Lifters.Lifters}}
+use Rattle.std.specs.{Prelude.{ℕ, Bool, List, [], ◌∷◌, ◌++◌, map, codes, if◌then◌else◌}, List.concat, Int.{w64, to_be_bytes}}
+use Rattle.gx_units.specs.declared.names.{AccountName.AccountName, Symbol.Symbol}
 
 -- each item behind a comma, one behind the other
 unfoldable pub items_text : {X : Type 0} → (X → List ℕ) → List X → List ℕ
@@ -50,8 +32,8 @@ stock_text s = s.name.bytes ++ number_text s.reference
 
 -- `A` for all accounts; `O` for some, and these
 abbrev pub scope_text : Scope → List ℕ
-scope_text scopes.All = codes "A"
-scope_text (scopes.Only names) = codes "O" ++ list_text account_name_text names
+scope_text Scope.All = codes "A"
+scope_text (Scope.Only names) = codes "O" ++ list_text account_name_text names
 
 -- `Y` or `N` for each power
 abbrev pub power_text : Bool → ℕ
@@ -64,9 +46,9 @@ powers_text p =
 
 -- `T` and a trader's account; `O`, an officer's powers and his scope; `R` and a reader's accounts
 abbrev pub role_text : Role → List ℕ
-role_text (roles.Trader account) = codes "T" ++ account.bytes
-role_text (roles.Officer powers scope) = codes "O" ++ powers_text powers ++ scope_text scope
-role_text (roles.Reader names) = codes "R" ++ list_text account_name_text names
+role_text (Role.Trader account) = codes "T" ++ account.bytes
+role_text (Role.Officer powers scope) = codes "O" ++ powers_text powers ++ scope_text scope
+role_text (Role.Reader names) = codes "R" ++ list_text account_name_text names
 
 -- his name and his role, and no password
 abbrev pub user_text : User → List ℕ
@@ -74,62 +56,39 @@ user_text u = u.name.bytes ++ role_text u.role
 
 -- `E` where a limit holds for each account, `T` where it holds for all together
 abbrev pub count_text : Count → List ℕ
-count_text counts.Each = codes "E"
-count_text counts.Together = codes "T"
-
--- the letter of a rule's kind
-abbrev pub kind_letter : RuleKind → ℕ
-kind_letter (kinds.Halt stocks) = 72
-kind_letter (kinds.Restricted stocks) = 82
-kind_letter kinds.NoShort = 78
-kind_letter kinds.NoIso = 73
-kind_letter kinds.OddLot = 76
-kind_letter (kinds.OrderShares limit) = 83
-kind_letter (kinds.OrderValue limit) = 86
-kind_letter (kinds.Collar limit) = 67
-kind_letter (kinds.GrossShares limit count) = 71
-kind_letter (kinds.GrossValue limit count) = 87
-kind_letter (kinds.NetShares limit count) = 84
-kind_letter (kinds.Rate rate count) = 81
-kind_letter (kinds.Repeat repeat count) = 80
+count_text Count.Each = codes "E"
+count_text Count.Together = codes "T"
 
 -- the stocks that it names
 abbrev pub stocks_of : RuleKind → List Symbol
-stocks_of (kinds.Halt stocks) = stocks
-stocks_of (kinds.Restricted stocks) = stocks
+stocks_of (RuleKind.Listed kind stocks) = stocks
 stocks_of other = []
 
 -- its limit, 0 where it has none
 abbrev pub limit_of : RuleKind → ℕ
-limit_of (kinds.OrderShares limit) = limit
-limit_of (kinds.OrderValue limit) = limit
-limit_of (kinds.Collar limit) = limit
-limit_of (kinds.GrossShares limit count) = limit
-limit_of (kinds.GrossValue limit count) = limit
-limit_of (kinds.NetShares limit count) = limit
-limit_of (kinds.Rate rate count) = rate.limit
-limit_of (kinds.Repeat repeat count) = repeat.limit
+limit_of (RuleKind.Order kind limit) = limit
+limit_of (RuleKind.Exposure kind limit count) = limit
+limit_of (RuleKind.Rate rate count) = rate.limit
+limit_of (RuleKind.Repeat repeat count) = repeat.limit
 limit_of other = 0
 
 -- its window or its span, 0 where it has none
 abbrev pub back_of : RuleKind → ℕ
-back_of (kinds.Rate rate count) = rate.window
-back_of (kinds.Repeat repeat count) = repeat.span
+back_of (RuleKind.Rate rate count) = rate.window
+back_of (RuleKind.Repeat repeat count) = repeat.span
 back_of other = 0
 
 -- how its limit is counted, for each account where there is no choice
 abbrev pub count_of : RuleKind → Count
-count_of (kinds.GrossShares limit count) = count
-count_of (kinds.GrossValue limit count) = count
-count_of (kinds.NetShares limit count) = count
-count_of (kinds.Rate rate count) = count
-count_of (kinds.Repeat repeat count) = count
-count_of other = counts.Each
+count_of (RuleKind.Exposure kind limit count) = count
+count_of (RuleKind.Rate rate count) = count
+count_of (RuleKind.Repeat repeat count) = count
+count_of other = Count.Each
 
 -- the letter of the kind, the stocks, the limit, the window or the span, and how the limit is counted
 abbrev pub kind_text : RuleKind → List ℕ
 kind_text k =
-    (kind_letter k ∷ []) ++ list_text symbol_text (stocks_of k) ++ number_text (limit_of k) ++ number_text (back_of k)
+    (kind_letter (kind_name k) ∷ []) ++ list_text symbol_text (stocks_of k) ++ number_text (limit_of k) ++ number_text (back_of k)
     ++ count_text (count_of k)
 
 -- its name, its kind and its scope
@@ -138,8 +97,8 @@ rule_text r = r.name.bytes ++ kind_text r.kind ++ scope_text r.scope
 
 -- `1` or `2`
 abbrev pub lifters_text : Lifters → List ℕ
-lifters_text lifters.One = codes "1"
-lifters_text lifters.Two = codes "2"
+lifters_text Lifters.One = codes "1"
+lifters_text Lifters.Two = codes "2"
 
 -- the mark `GXP1`, the session, the lifters, and then accounts, stocks, users and rules
 unfoldable pub policy_text : PolicyData → List ℕ

@@ -1,18 +1,7 @@
 -- What the text of a policy tells: all but passwords.
-use Rattle.std.specs.Prelude.{◌≡◌, ◌<◌, ◌^◌, length, map, codes}
-use Rattle.std.specs.List.{AllByRecursion}
-use Rattle.gx_units.specs.declared.names.AccountName.{AccountName}
-use Rattle.gx_units.specs.declared.names.Symbol.{Symbol}
-use Rattle.gx_policy.specs.declared.policy.PolicyData.{PolicyData}
-use Rattle.gx_policy.specs.declared.policy.Account.{Account}
-use Rattle.gx_policy.specs.declared.policy.Stock.{Stock}
-use Rattle.gx_policy.specs.declared.policy.User.{User}
-use Rattle.gx_policy.specs.declared.policy.Role.{Role}
-use Rattle.gx_policy.specs.declared.policy.Role.TheVariants as roles
-use Rattle.gx_policy.specs.declared.policy.Scope.{Scope}
-use Rattle.gx_policy.specs.declared.policy.Scope.TheVariants as scopes
-use Rattle.gx_policy.specs.declared.policy.FileRule.{FileRule}
-use Rattle.gx_policy.specs.declared.policy.RuleKind.{RuleKind}
+use Rattle.std.specs.{Prelude.{◌≡◌, ◌<◌, ◌^◌, length, map, codes}, List.AllByRecursion}
+use Rattle.gx_units.specs.declared.names.{AccountName.AccountName, Symbol.Symbol}
+use Rattle.gx_policy.specs.declared.policy.{PolicyData.PolicyData, Account.Account, Stock.Stock, User.User, Role.Role, Scope.Scope, FileRule.FileRule, RuleKind.RuleKind}
 use Rattle.gx_digest.specs.PolicyText.{policy_text, stocks_of, limit_of, back_of}
 
 -- the user, with a blank password
@@ -37,13 +26,13 @@ abbrev pub IsStockSized : Stock → Type 0
 IsStockSized s = (length s.name.bytes ≡ 8) × (s.reference < 2 ^ 64)
 
 abbrev pub IsScopeSized : Scope → Type 0
-IsScopeSized scopes.All = Unit {0}
-IsScopeSized (scopes.Only names) = AllByRecursion IsAccountNameSized names
+IsScopeSized Scope.All = Unit {0}
+IsScopeSized (Scope.Only names) = AllByRecursion IsAccountNameSized names
 
 abbrev pub IsRoleSized : Role → Type 0
-IsRoleSized (roles.Trader account) = length account.bytes ≡ 8
-IsRoleSized (roles.Officer powers scope) = IsScopeSized scope
-IsRoleSized (roles.Reader names) = AllByRecursion IsAccountNameSized names
+IsRoleSized (Role.Trader account) = length account.bytes ≡ 8
+IsRoleSized (Role.Officer powers scope) = IsScopeSized scope
+IsRoleSized (Role.Reader names) = AllByRecursion IsAccountNameSized names
 
 abbrev pub IsUserSized : User → Type 0
 IsUserSized u = (length u.name.bytes ≡ 6) × IsRoleSized u.role

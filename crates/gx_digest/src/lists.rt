@@ -1,7 +1,6 @@
 //! Names and numbers.
 
-ghost use Rattle.gx_digest.specs.Hashing.{TakesIn};
-ghost use Rattle.gx_digest.specs.PolicyText.{account_name_text, symbol_text, number_text};
+ghost use Rattle.gx_digest.specs.{Hashing.TakesIn, PolicyText.{account_name_text, symbol_text, number_text}};
 
 use crate::writing::{Written, put};
 use gx_units::{AccountName, Symbol};

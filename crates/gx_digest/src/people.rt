@@ -1,8 +1,7 @@
 //! Accounts and stocks, and users with their roles.
 
 ghost use Rattle.std.specs.Prelude.{◌≡◌};
-ghost use Rattle.gx_digest.specs.Hashing.{TakesIn};
-ghost use Rattle.gx_digest.specs.PolicyText.{account_text, stock_text, scope_text, powers_text, power_text, role_text, user_text};
+ghost use Rattle.gx_digest.specs.{Hashing.TakesIn, PolicyText.{account_text, stock_text, scope_text, powers_text, power_text, role_text, user_text}};
 
 use crate::lists::put_number;
 use crate::writing::{Written, put, write_list};

@@ -1,8 +1,7 @@
 //! The file's rules.
 
 ghost use Rattle.std.specs.Prelude.{◌≡◌};
-ghost use Rattle.gx_digest.specs.Hashing.{TakesIn};
-ghost use Rattle.gx_digest.specs.PolicyText.{back_of, count_of, count_text, kind_letter, kind_text, limit_of, rule_text, stocks_of};
+ghost use Rattle.gx_digest.specs.{Hashing.TakesIn, PolicyText.{back_of, count_of, count_text, kind_text, limit_of, rule_text, stocks_of}};
 
 use crate::lists::put_number;
 use crate::people::put_scope;
@@ -11,31 +10,11 @@ use gx_policy::{Count, FileRule, RuleKind};
 use gx_units::Symbol;
 use sha2::Sha256;
 
-fn letter(kind: &RuleKind) -> u8
-    ensures { result ≡ kind_letter kind.now }
-{
-    match kind {
-        RuleKind::Halt(_) => b'H',
-        RuleKind::Restricted(_) => b'R',
-        RuleKind::NoShort => b'N',
-        RuleKind::NoIso => b'I',
-        RuleKind::OddLot => b'L',
-        RuleKind::OrderShares(_) => b'S',
-        RuleKind::OrderValue(_) => b'V',
-        RuleKind::Collar(_) => b'C',
-        RuleKind::GrossShares(_, _) => b'G',
-        RuleKind::GrossValue(_, _) => b'W',
-        RuleKind::NetShares(_, _) => b'T',
-        RuleKind::Rate(_, _) => b'Q',
-        RuleKind::Repeat(_, _) => b'P',
-    }
-}
-
 fn stocks(kind: &RuleKind) -> &[Symbol]
     ensures { result.now ≡ stocks_of kind.now }
 {
     match kind {
-        RuleKind::Halt(stocks) | RuleKind::Restricted(stocks) => stocks.as_slice(),
+        RuleKind::Listed(_, stocks) => stocks.as_slice(),
         _ => &[],
     }
 }
@@ -44,12 +23,7 @@ fn limit(kind: &RuleKind) -> u64
     ensures { result ≡ limit_of kind.now }
 {
     match kind {
-        RuleKind::OrderShares(limit)
-        | RuleKind::OrderValue(limit)
-        | RuleKind::Collar(limit)
-        | RuleKind::GrossShares(limit, _)
-        | RuleKind::GrossValue(limit, _)
-        | RuleKind::NetShares(limit, _) => *limit,
+        RuleKind::Order(_, limit) | RuleKind::Exposure(_, limit, _) => *limit,
         RuleKind::Rate(rate, _) => rate.limit,
         RuleKind::Repeat(repeat, _) => repeat.limit,
         _ => 0,
@@ -70,11 +44,8 @@ fn count(kind: &RuleKind) -> Count
     ensures { result ≡ count_of kind.now }
 {
     match kind {
-        RuleKind::GrossShares(_, count)
-        | RuleKind::GrossValue(_, count)
-        | RuleKind::NetShares(_, count)
-        | RuleKind::Rate(_, count)
-        | RuleKind::Repeat(_, count) => *count,
+        RuleKind::Exposure(_, _, count) | RuleKind::Rate(_, count) | RuleKind::Repeat(_, count) =>
+            *count,
         _ => Count::Each,
     }
 }
@@ -91,7 +62,7 @@ fn put_count(hasher: &mut Sha256, count: Count)
 fn put_kind(hasher: &mut Sha256, kind: &RuleKind)
     ensures { TakesIn hasher.old hasher.new (kind_text kind.now) }
 {
-    put(hasher, &[letter(kind)]);
+    put(hasher, &[kind.name().letter()]);
     write_list(hasher, stocks(kind));
     put_number(hasher, limit(kind));
     put_number(hasher, back(kind));

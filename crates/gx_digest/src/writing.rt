@@ -1,8 +1,7 @@
 //! What is hashed, piece by piece.
 
 ghost use Rattle.std.specs.Prelude.{ℕ, List, [], ◌∷◌};
-ghost use Rattle.gx_digest.specs.Hashing.{TakesIn};
-ghost use Rattle.gx_digest.specs.PolicyText.{list_text, items_text};
+ghost use Rattle.gx_digest.specs.{Hashing.TakesIn, PolicyText.{list_text, items_text}};
 
 use sha2::{Digest, Sha256};
 

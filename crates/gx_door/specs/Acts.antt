@@ -1,28 +1,11 @@
 -- What calls of a shared gate do to the pass, and what they answer.
 use Rattle.std.specs.Prelude.{◌≡◌, ◌↔◌, ℕ, ◌+◌, ◌≤◌, max, min, List, [], ◌∷◌, ◌++◌, length, IsFalse, Option, Some, None}
 use mathlib.Core.List.{IsPrefix}
-use Rattle.gx_units.specs.declared.names.Password.{Password}
-use Rattle.gx_units.specs.declared.names.SessionName.{SessionName}
-use Rattle.gx_units.specs.declared.names.UserName.{UserName}
-use Rattle.gx_units.specs.Spelling.{folded_password, folded_session, folded_user}
-use Rattle.gx_policy.specs.declared.policy.PolicyData.{PolicyData}
-use Rattle.gx_history.specs.declared.record.Asked.{Asked}
-use Rattle.gx_history.specs.declared.record.RecordData.{RecordData}
-use Rattle.gx_history.specs.declared.record.Request.{Request}
-use Rattle.gx_policy.specs.Lists.{slice}
-use Rattle.gx_history.specs.Logins.{login_asked}
-use Rattle.gx_history.specs.Verdicts.{IsLegal}
-use Rattle.gx_answers.specs.declared.outcome.LoginAnswer.{LoginAnswer}
-use Rattle.gx_answers.specs.declared.outcome.Outcome.{Outcome}
-use Rattle.gx_answers.specs.declared.outcome.StepFault.{StepFault}
-use Rattle.gx_answers.specs.declared.outcome.StepFault.TheVariants as faults
-use Rattle.gx_answers.specs.declared.pulled.Pulled.{Pulled}
-use Rattle.gx_answers.specs.Gates.{GateData, left_by}
-use Rattle.gx_answers.specs.Logins.{login_answered}
-use Rattle.gx_answers.specs.Steps.{IsFull, has_its_places}
-use Rattle.gx_answers.specs.Told.{ends_before, stream_of}
-use Rattle.gx_pass.specs.declared.view.Holds.{Holds}
-use Rattle.gx_pass.specs.Views.{holds, mine}
+use Rattle.gx_units.specs.{declared.names.{Password.Password, SessionName.SessionName, UserName.UserName}, Spelling.{folded_password, folded_session, folded_user}}
+use Rattle.gx_policy.specs.{declared.policy.PolicyData.PolicyData, Lists.slice}
+use Rattle.gx_history.specs.{declared.record.{Asked.Asked, RecordData.RecordData, Request.Request}, Logins.login_asked, Verdicts.IsLegal}
+use Rattle.gx_answers.specs.{declared.{outcome.{LoginAnswer.LoginAnswer, Outcome.Outcome, StepFault.StepFault}, pulled.Pulled.Pulled}, Gates.{GateData, left_by}, Logins.login_answered, Steps.{IsFull, has_its_places}, Told.{ends_before, stream_of}}
+use Rattle.gx_pass.specs.{declared.view.Holds.Holds, Views.{holds, mine}}
 
 -- what a pass has met that may be away for the time of a call
 abbrev pub met : {T : Type 0} → (T → Holds) → Option T → Holds
@@ -73,7 +56,7 @@ pub record LogsIn (policy : PolicyData) (was is : Holds) (a : Asked) (wanted : �
 
 -- a step is refused as one of a full day exactly where the day is full
 abbrev pub IsToldFull : GateData → StepFault → Type 0
-IsToldFull gate fault = fault ≡ faults.DayFull ↔ IsFull gate
+IsToldFull gate fault = fault ≡ StepFault.DayFull ↔ IsFull gate
 
 -- these records do not make the request a granted Kill or Logout
 abbrev pub MayBeRefused : GateData → Asked → Type 0

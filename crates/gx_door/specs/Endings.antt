@@ -1,15 +1,8 @@
 -- What a record ended: the live orders of a killed account, or all at the end of the day.
-use Rattle.std.specs.Prelude.{List, [], length, sum_by}
-use Rattle.std.specs.List.{filter}
-use Rattle.std.specs.Option.{option_map_or}
+use Rattle.std.specs.{Prelude.{List, [], length, sum_by}, List.filter, Option.option_map_or}
 use Rattle.gx_desk.specs.declared.Action.{Action}
 use Rattle.gx_policy.specs.declared.policy.PolicyData.{PolicyData}
-use Rattle.gx_history.specs.declared.live_order.LiveOrder.{LiveOrder}
-use Rattle.gx_history.specs.declared.record.RecordData.{RecordData}
-use Rattle.gx_history.specs.Live.{live}
-use Rattle.gx_history.specs.LiveOrders.{shares_open}
-use Rattle.gx_history.specs.Orders.{ends_account}
-use Rattle.gx_history.specs.Requests.{granted_action}
+use Rattle.gx_history.specs.{declared.{live_order.LiveOrder.LiveOrder, «record».RecordData.RecordData}, Live.live, LiveOrders.shares_open, Orders.ends_account, Requests.granted_action}
 use Rattle.gx_door.specs.declared.ended.Ended.{Ended}
 
 -- of these orders those that a command ends: for a Kill those of its account, for a Close Day all, for any other none

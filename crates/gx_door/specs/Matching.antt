@@ -3,16 +3,9 @@ use Rattle.std.specs.Prelude.{◌≡◌, ◌≤◌, ℕ, List, [], ◌∷◌, �
 use mathlib.Core.List.{IsPrefix}
 use Rattle.gx_policy.specs.declared.policy.PolicyData.{PolicyData}
 use Rattle.gx_history.specs.declared.record.RecordData.{RecordData}
-use Rattle.gx_answers.specs.declared.outcome.Outcome.{Outcome}
-use Rattle.gx_answers.specs.Gates.{GateData, matched_by}
-use Rattle.gx_answers.specs.Matches.{matching_of}
-use Rattle.gx_pass.specs.declared.view.Holds.{Holds}
-use Rattle.gx_pass.specs.Views.{mine}
-use Rattle.gx_door.specs.Acts.{IsToldFull}
-use Rattle.gx_door.specs.Endings.{ended_by, sums_of}
-use Rattle.gx_door.specs.declared.ended.Ended.{Ended}
-use Rattle.gx_door.specs.declared.matched.MatchEnd.{MatchEnd}
-use Rattle.gx_door.specs.declared.matched.MatchEnd.TheVariants as ends
+use Rattle.gx_answers.specs.{declared.outcome.Outcome.Outcome, Gates.{GateData, matched_by}, Matches.matching_of}
+use Rattle.gx_pass.specs.{declared.view.Holds.Holds, Views.mine}
+use Rattle.gx_door.specs.{Acts.IsToldFull, Endings.{ended_by, sums_of}, declared.{ended.Ended.Ended, matched.MatchEnd.MatchEnd}}
 
 -- the records of so many matching steps were added, all handed in at this moment
 pub record AddsMatches (moment made : ℕ) (earlier later : List RecordData) : Type 0 where
@@ -36,6 +29,6 @@ pub record Turns (policy : PolicyData) (was is : Holds) (r : RecordData) (ended 
 
 -- of at most so many matching steps so many were made, at a gate that is this behind them, and this is why no more
 abbrev pub EndsSo : MatchEnd → GateData → ℕ → ℕ → Type 0
-EndsSo ends.Idle gate made most = (made ≤ most) × (matching_of gate ≡ None)
-EndsSo ends.Enough gate made most = made ≡ most
-EndsSo (ends.Refused fault) gate made most = (made ≤ most) × IsTrue (is_some (matching_of gate)) × IsToldFull gate fault
+EndsSo MatchEnd.Idle gate made most = (made ≤ most) × (matching_of gate ≡ None)
+EndsSo MatchEnd.Enough gate made most = made ≡ most
+EndsSo (MatchEnd.Refused fault) gate made most = (made ≤ most) × IsTrue (is_some (matching_of gate)) × IsToldFull gate fault

@@ -3,18 +3,12 @@
 ghost use Rattle.std.specs.Prelude.{◌≡◌, ◌≢◌, ◌↔◌, ◌+◌, ◌≤◌, [], length, IsTrue, IfErr, IfNone, IfOk, IfSome, OnErr, OnOk, Some, None, is_some};
 ghost use Rattle.gx_units.specs.Spelling.{folded_user};
 ghost use Rattle.gx_history.specs.declared.record.Request.TheVariants as requests;
-ghost use Rattle.gx_history.specs.InForce.{line_of};
+ghost use Rattle.gx_history.specs.{InForce.line_of, Showing.has_its_first, Verdicts.IsLegal};
 ghost use Rattle.gx_policy.specs.Lists.{slice};
-ghost use Rattle.gx_history.specs.Showing.{has_its_first};
-ghost use Rattle.gx_history.specs.Verdicts.{IsLegal};
-ghost use Rattle.gx_answers.specs.Gates.{left_by, matched_by};
-ghost use Rattle.gx_answers.specs.Matches.{matching_of};
+ghost use Rattle.gx_answers.specs.{Gates.{left_by, matched_by}, Matches.matching_of};
 ghost use Rattle.gx_pass.specs.Views.{mine, retold};
 ghost use Rattle.gx_door.specs.declared.fault.PullFault.TheVariants as pull_faults;
-ghost use Rattle.gx_door.specs.Acts.{asked_on, gate_met, login_on};
-ghost use Rattle.gx_door.specs.Callers.{caller_of};
-ghost use Rattle.gx_door.specs.Matching.{EndsSo, Matches, Turns};
-ghost use Rattle.gx_door.specs.Acts.{AddsOwn, EndsWith, IsLater, IsPulled, IsToldFull, LogsIn, MayBeRefused};
+ghost use Rattle.gx_door.specs.{Acts.{asked_on, gate_met, login_on, AddsOwn, EndsWith, IsLater, IsPulled, IsToldFull, LogsIn, MayBeRefused}, Callers.caller_of, Matching.{EndsSo, Matches, Turns}};
 
 use crate::caller::Caller;
 use crate::dial::Dial;

@@ -1,18 +1,9 @@
 -- Under a sound policy the account that a user trades for is one of the policy's.
 use Rattle.std.proofs.Common.{◌≡◌, true, List, [], ◌∷◌, refl, sym, ap, ◌∙◌}
-use Rattle.std.specs.Prelude.{Bool, Option, Some, None, is_some, option_and_then, option_map}
-use Rattle.std.specs.List.{list_all, AllByRecursion}
-use Rattle.gx_units.specs.Names.{same_user}
-use Rattle.gx_units.specs.declared.names.AccountName.{AccountName}
-use Rattle.gx_units.specs.declared.names.UserName.{UserName}
-use Rattle.gx_policy.specs.declared.policy.PolicyData.{PolicyData}
-use Rattle.gx_policy.specs.declared.policy.Role.{Role}
-use Rattle.gx_policy.specs.declared.policy.Role.TheVariants as roles
-use Rattle.gx_policy.specs.declared.policy.User.{User}
-use Rattle.gx_policy.specs.People.{account_named, account_of, account_of_role, user_in}
-use Rattle.gx_policy.specs.Soundness.{is_role_sound, is_sound, is_user_sound}
-use Rattle.gx_history_laws.proofs.Judging.{both}
-use Rattle.gx_history_laws.proofs.Order.{some_same}
+use Rattle.std.specs.{Prelude.{Bool, Option, Some, None, is_some, option_and_then, option_map}, List.{list_all, AllByRecursion}}
+use Rattle.gx_units.specs.{Names.same_user, declared.names.{AccountName.AccountName, UserName.UserName}}
+use Rattle.gx_policy.specs.{declared.policy.{PolicyData.PolicyData, Role.Role, User.User}, People.{account_named, account_of, account_of_role, user_in}, Soundness.{is_role_sound, is_sound, is_user_sound}}
+use Rattle.gx_history_laws.proofs.{Judging.both, Order.some_same}
 use Rattle.gx_effects.proofs.NewOrders.{found_is}
 
 -- each of these passes
@@ -28,9 +19,9 @@ pub accounts_are_known : (policy : PolicyData) (user : UserName) (account : Acco
 accounts_are_known policy user account sound his = of_user (user_in policy.users user) refl his
   where
     of_role : (role : Role) → is_role_sound policy role ≡ true → account_of_role role ≡ Some account → is_some (account_named policy account) ≡ true
-    of_role (roles.Trader own) h e = ap (λ (a : AccountName). is_some (account_named policy a)) (sym (some_same e)) ∙ h
-    of_role (roles.Officer powers scope) h e = cc
-    of_role (roles.Reader names) h e = cc
+    of_role (Role.Trader own) h e = ap (λ (a : AccountName). is_some (account_named policy a)) (sym (some_same e)) ∙ h
+    of_role (Role.Officer powers scope) h e = cc
+    of_role (Role.Reader names) h e = cc
 
     of_user : (found : Option User) → user_in policy.users user ≡ found → option_and_then account_of_role (option_map (λ (u : User). u.role) found) ≡ Some account → is_some (account_named policy account) ≡ true
     of_user None e k = cc

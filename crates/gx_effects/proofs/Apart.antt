@@ -1,10 +1,7 @@
 -- Lists in which no two have one key.
-use Rattle.std.proofs.Common.{◌≡◌, ℕ, Bool, true, false, List, [], ◌∷◌, ◌++◌, refl, ◌∙◌, ap, sym, cond, inl, inr}
-use Rattle.std.specs.Prelude.{Some, find, ◌==◌, ◌||◌}
-use Rattle.std.specs.List.{list_any, AllByRecursion}
-use Rattle.std.proofs.lemmas.Bool.{eq-eqb, ne_eqb}
-use Rattle.gx_history_laws.proofs.Numbers.{all_weaker}
-use Rattle.gx_history_laws.proofs.Owners.{all_both}
+use Rattle.std.proofs.{Common.{◌≡◌, ℕ, Bool, true, false, List, [], ◌∷◌, ◌++◌, refl, ◌∙◌, ap, sym, cond, inl, inr}, lemmas.Bool.{eq-eqb, ne_eqb}}
+use Rattle.std.specs.{Prelude.{Some, find, ◌==◌, ◌||◌}, List.{list_any, AllByRecursion}}
+use Rattle.gx_history_laws.proofs.{Numbers.all_weaker, Owners.all_both}
 use Rattle.gx_effects.proofs.Among.{IsIn, IsItOrOther, of_all}
 
 -- y has another key than x

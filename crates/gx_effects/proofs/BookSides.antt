@@ -1,21 +1,11 @@
 -- A side of the book has the live orders that rest there, and no other.
-use Rattle.std.proofs.Common.{◌≡◌, ℕ, Bool, true, false, not, List, [], ◌∷◌, refl, ◌∙◌, ap, sym, cond}
-use Rattle.std.proofs.Math.Path.{subst}
-use Rattle.std.specs.Prelude.{Option, Some, None, ◌==◌, ◌||◌, find}
-use Rattle.std.specs.List.{AllByRecursion, cons_option, filter_map}
-use Rattle.std.proofs.lemmas.Bool.{eq-eqb, eqb-true}
+use Rattle.std.proofs.{Common.{◌≡◌, ℕ, Bool, true, false, not, List, [], ◌∷◌, refl, ◌∙◌, ap, sym, cond}, Math.Path.subst, lemmas.Bool.{eq-eqb, eqb-true}}
+use Rattle.std.specs.{Prelude.{Option, Some, None, ◌==◌, ◌||◌, find}, List.{AllByRecursion, cons_option, filter_map}}
 use Rattle.gx_units.specs.declared.names.Symbol.{Symbol}
 use Rattle.gx_policy.specs.declared.policy.PolicyData.{PolicyData}
-use Rattle.gx_history.specs.declared.live_order.LiveOrder.{LiveOrder}
-use Rattle.gx_history.specs.declared.record.RecordData.{RecordData}
-use Rattle.gx_history.specs.Book.{rested}
-use Rattle.gx_history.specs.Live.{IsAtRest, by_time, ahead, is_there, side, has_come, live_numbered, live}
-use Rattle.gx_history.specs.Verdicts.{IsLegal}
+use Rattle.gx_history.specs.{declared.{live_order.LiveOrder.LiveOrder, «record».RecordData.RecordData}, Book.rested, Live.{IsAtRest, by_time, ahead, is_there, side, has_come, live_numbered, live}, Verdicts.IsLegal}
 use Rattle.gx_history_laws.proofs.Numbers.{all_weaker}
-use Rattle.gx_effects.proofs.Known.{IsKnown, RestsThere, all_resting, live_known, number_found, waits_is}
-use Rattle.gx_effects.proofs.NewOrders.{found_is}
-use Rattle.gx_effects.proofs.Ordered.{all_in_order, all_unfiltered}
-use Rattle.gx_effects.proofs.Orderly.{IsOrderly, legal_is_orderly}
+use Rattle.gx_effects.proofs.{Known.{IsKnown, RestsThere, all_resting, live_known, number_found, waits_is}, NewOrders.found_is, Ordered.{all_in_order, all_unfiltered}, Orderly.{IsOrderly, legal_is_orderly}}
 
 -- no other
 pub none_but_these : (policy : PolicyData) (history : List RecordData) (stock : Symbol) (buy : Bool) → IsLegal policy history

@@ -1,74 +1,45 @@
 -- What a granted command says of its record.
-use Rattle.std.proofs.Common.{◌≡◌, ℕ, Bool, true, false, List, [], ◌∷◌, ◌++◌, refl, ◌∙◌, ap, map, cond}
-use Rattle.std.specs.Prelude.{Option, Some, None, ◌||◌, ◌&&◌, option_and_then, nat_lt}
-use Rattle.std.specs.Option.{option_map_or}
-use Rattle.std.specs.List.{filter, flat_map}
-use Rattle.std.proofs.lemmas.List.{append-nil}
-use Rattle.gx_units.specs.declared.names.AccountName.{AccountName}
-use Rattle.gx_units.specs.declared.names.UserName.{UserName}
-use Rattle.gx_units.specs.Names.{same_user}
-use Rattle.gx_ouch.specs.declared.letters.CancelReason.TheVariants as cancels
-use Rattle.gx_desk.specs.declared.Action.{Action}
-use Rattle.gx_desk.specs.declared.Command.{Command}
+use Rattle.std.proofs.{Common.{◌≡◌, ℕ, Bool, true, false, List, [], ◌∷◌, ◌++◌, refl, ◌∙◌, ap, map, cond}, lemmas.List.append-nil}
+use Rattle.std.specs.{Prelude.{Option, Some, None, ◌||◌, ◌&&◌, option_and_then, nat_lt}, Option.option_map_or, List.{filter, flat_map}}
+use Rattle.gx_units.specs.{declared.names.{AccountName.AccountName, UserName.UserName}, Names.same_user}
+use Rattle.gx_ouch.specs.declared.letters.CancelReason.{CancelReason}
+use Rattle.gx_desk.specs.declared.{Action.Action, Command.Command}
 use Rattle.gx_policy.specs.declared.policy.PolicyData.{PolicyData}
-use Rattle.gx_history.specs.declared.live_order.LiveOrder.{LiveOrder}
-use Rattle.gx_history.specs.declared.record.Asked.{Asked}
-use Rattle.gx_history.specs.declared.record.RecordData.{RecordData}
-use Rattle.gx_history.specs.declared.record.Request.{Request}
-use Rattle.gx_history.specs.declared.record.Request.TheVariants as requests
-use Rattle.gx_history.specs.declared.record.Step.{Step}
-use Rattle.gx_history.specs.declared.record.Step.TheVariants as steps
-use Rattle.gx_history.specs.declared.record.Verdict.{Verdict}
-use Rattle.gx_history.specs.declared.record.Verdict.TheVariants as verdicts
-use Rattle.gx_history.specs.declared.report.Report.{Report}
-use Rattle.gx_history.specs.Book.{rested_of}
-use Rattle.gx_history.specs.Executions.{sides}
-use Rattle.gx_history.specs.InForce.{kill_or_lift_of, is_entitled, kill_after, kill_in_force}
-use Rattle.gx_history.specs.Live.{live}
-use Rattle.gx_history.specs.LiveOrders.{shares_open}
-use Rattle.gx_history.specs.Orders.{Order, orders, size_asked, size_set, ends, ends_account, ends_by_request, expires}
-use Rattle.gx_history.specs.Requests.{granted, granted_action, granted_mark, action_of, is_granted, asked}
-use Rattle.gx_history.specs.Streams.{stream, answer, canceled_of, granted_code, reports_of_verdict, reports_of_grant, reported, copy_of, ended_of, day_end, to_user}
-use Rattle.gx_history.specs.Verdicts.{next}
-use Rattle.gx_history_laws.proofs.Adding.{granted_is}
-use Rattle.gx_history_laws.proofs.Ends.{none_added}
-use Rattle.gx_history_laws.proofs.Keeping.{AddsNothing}
-use Rattle.gx_history_laws.proofs.KillsNext.{kill_in_force_next}
-use Rattle.gx_history_laws.proofs.NextReports.{stream_next}
-use Rattle.gx_history_laws.proofs.Runs.{step_left}
+use Rattle.gx_history.specs.{declared.{live_order.LiveOrder.LiveOrder, «record».{Asked.Asked, RecordData.RecordData, Request.Request, Step.Step, Verdict.Verdict}, report.Report.Report}, Book.rested_of, Executions.sides, InForce.{kill_or_lift_of, is_entitled, kill_after, kill_in_force}, Live.live, LiveOrders.shares_open, Orders.{Order, orders, size_asked, size_set, ends, ends_account, ends_by_request, expires}, Requests.{granted, granted_action, granted_mark, action_of, is_granted, asked}, Streams.{stream, answer, canceled_of, granted_code, reports_of_verdict, reports_of_grant, reported, copy_of, ended_of, day_end, to_user}, Verdicts.next}
+use Rattle.gx_history_laws.proofs.{Adding.granted_is, Ends.none_added, Keeping.AddsNothing, KillsNext.kill_in_force_next, NextReports.stream_next, Runs.step_left}
 
 -- the record grants the user's command, which asks for the action
 pub record GrantsCommand (r : RecordData) (a : Asked) (action : Action) : Type 0 where
-  pub asks : r.step ≡ steps.Asked a
-  pub grants : r.verdict ≡ verdicts.Granted
+  pub asks : r.step ≡ Step.Asked a
+  pub grants : r.verdict ≡ Verdict.Granted
   pub command : Command
-  pub is_command : a.request ≡ requests.Command command
+  pub is_command : a.request ≡ Request.Command command
   pub is_for : command.action ≡ action
 
 -- what asks for an action is a command
-pub command_of : (q : Request) (action : Action) → action_of q ≡ Some action → (c : Command) × (q ≡ requests.Command c) × (c.action ≡ action)
-command_of (requests.Login m) action h = cc
-command_of requests.Logout action h = cc
-command_of (requests.Unreadable m) action h = cc
-command_of (requests.Enter m) action h = cc
-command_of (requests.Replace m) action h = cc
-command_of (requests.Cancel m) action h = cc
-command_of (requests.Command c) action h = (c, refl, some_is c.action action h)
+pub command_of : (q : Request) (action : Action) → action_of q ≡ Some action → (c : Command) × (q ≡ Request.Command c) × (c.action ≡ action)
+command_of (Request.Login m) action h = cc
+command_of Request.Logout action h = cc
+command_of (Request.Unreadable m) action h = cc
+command_of (Request.Enter m) action h = cc
+command_of (Request.Replace m) action h = cc
+command_of (Request.Cancel m) action h = cc
+command_of (Request.Command c) action h = (c, refl, some_is c.action action h)
   where
     some_is : (x y : Action) → Some x ≡ Some y → x ≡ y
     some_is x y e = cc
 
 pub grants_command : (policy : PolicyData) (history : List RecordData) (a : Asked) (r : RecordData) (action : Action)
-    → next policy history (steps.Asked a) ≡ Some r → action_of a.request ≡ Some action → r.verdict ≡ verdicts.Granted → GrantsCommand r a action
+    → next policy history (Step.Asked a) ≡ Some r → action_of a.request ≡ Some action → r.verdict ≡ Verdict.Granted → GrantsCommand r a action
 grants_command policy history a r action left asks granted =
-    let c : (c : Command) × (a.request ≡ requests.Command c) × (c.action ≡ action) = command_of a.request action asks in
-    record { asks = step_left policy history (steps.Asked a) r left; grants = granted; command = c.0; is_command = c.1; is_for = c.2 }
+    let c : (c : Command) × (a.request ≡ Request.Command c) × (c.action ≡ action) = command_of a.request action asks in
+    record { asks = step_left policy history (Step.Asked a) r left; grants = granted; command = c.0; is_command = c.1; is_for = c.2 }
 
 -- the record of a command that was granted
 pub grants_the_command : (policy : PolicyData) (history : List RecordData) (a : Asked) (r : RecordData) (c : Command) (action : Action)
-    → next policy history (steps.Asked a) ≡ Some r → a.request ≡ requests.Command c → c.action ≡ action → r.verdict ≡ verdicts.Granted → GrantsCommand r a action
+    → next policy history (Step.Asked a) ≡ Some r → a.request ≡ Request.Command c → c.action ≡ action → r.verdict ≡ Verdict.Granted → GrantsCommand r a action
 grants_the_command policy history a r c action left asks is granted =
-    record { asks = step_left policy history (steps.Asked a) r left; grants = granted; command = c; is_command = asks; is_for = is }
+    record { asks = step_left policy history (Step.Asked a) r left; grants = granted; command = c; is_command = asks; is_for = is }
 
 pub asks_action : (r : RecordData) (a : Asked) (action : Action) → GrantsCommand r a action → action_of a.request ≡ Some action
 asks_action r a action g = ap action_of g.is_command ∙ ap (λ (x : Action). Some x) g.is_for
@@ -116,22 +87,22 @@ abbrev pub tells : PolicyData → List RecordData → RecordData → UserName �
 tells policy history r user v s = map (reported r) (reports_of_verdict policy history r v s user) ++ map (reported r) (flat_map (copy_of (is_entitled policy history) r user) (sides policy history v))
 
 pub told_by_command : (policy : PolicyData) (history : List RecordData) (r : RecordData) (a : Asked) (c : Command) (action : Action) (user : UserName)
-    → GrantsCommand r a action → a.request ≡ requests.Command c → c.action ≡ action
+    → GrantsCommand r a action → a.request ≡ Request.Command c → c.action ≡ action
     → stream policy (history ++ r ∷ []) user
     ≡ stream policy history user ++ map (reported r) (ended_of (live policy history) action user ++ day_end policy action user ++ to_user a.user user (answer r c (granted_code policy (history ++ r ∷ []) action)))
 told_by_command policy history r a c action user g asks is =
     stream_next policy history r user
     ∙ ap (λ (more : List Report). stream policy history user ++ more)
     (ap (λ (v : Verdict). tells policy history r user v r.step) g.grants
-    ∙ ap (λ (s : Step). tells policy history r user verdicts.Granted s) g.asks
+    ∙ ap (λ (s : Step). tells policy history r user Verdict.Granted s) g.asks
     ∙ ap (λ (q : Request). map (reported r) (reports_of_grant policy history r a.user q user) ++ []) asks
-    ∙ append-nil (map (reported r) (reports_of_grant policy history r a.user (requests.Command c) user))
+    ∙ append-nil (map (reported r) (reports_of_grant policy history r a.user (Request.Command c) user))
     ∙ ap (λ (x : Action). map (reported r) (ended_of (live policy history) x user ++ day_end policy x user ++ to_user a.user user (answer r c (granted_code policy (history ++ r ∷ []) x)))) is)
 
 -- and nobody is told of the end of an order by it
 pub none_ended : (policy : PolicyData) (history : List RecordData) (action : Action) (user : UserName) → ((account : AccountName) → ends_account account action ≡ false)
     → ended_of (live policy history) action user ≡ []
-none_ended policy history action user stays = ap (flat_map (λ (s : LiveOrder). canceled_of cancels.Supervisory (shares_open s) s)) (none_kept (live policy history))
+none_ended policy history action user stays = ap (flat_map (λ (s : LiveOrder). canceled_of CancelReason.Supervisory (shares_open s) s)) (none_kept (live policy history))
   where
     at : (b : Bool) (s : LiveOrder) (found : List LiveOrder) → cond (b && false) (s ∷ found) found ≡ found
     at true s found = refl

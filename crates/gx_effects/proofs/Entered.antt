@@ -1,16 +1,9 @@
 -- What is found of each element of a list; a live order is its order, open; and a number past all records is of none that rested.
-use Rattle.std.proofs.Common.{◌≡◌, ℕ, ◌+◌, ◌<◌, ◌≤◌, Bool, true, false, List, [], ◌∷◌, refl, ◌∙◌, ap, map, length, arith, cond}
-use Rattle.std.specs.Prelude.{Option, Some, None, ◌&&◌, ◌||◌, ◌==◌, not, nat_lt}
-use Rattle.std.specs.List.{cons_option, filter_map, list_any, AllByRecursion}
-use Rattle.std.proofs.lemmas.Bool.{ne_eqb}
+use Rattle.std.proofs.{Common.{◌≡◌, ℕ, ◌+◌, ◌<◌, ◌≤◌, Bool, true, false, List, [], ◌∷◌, refl, ◌∙◌, ap, map, length, arith, cond}, lemmas.Bool.ne_eqb}
+use Rattle.std.specs.{Prelude.{Option, Some, None, ◌&&◌, ◌||◌, ◌==◌, not, nat_lt}, List.{cons_option, filter_map, list_any, AllByRecursion}}
 use Rattle.gx_policy.specs.declared.policy.PolicyData.{PolicyData}
-use Rattle.gx_history.specs.declared.live_order.LiveOrder.{LiveOrder}
-use Rattle.gx_history.specs.declared.record.RecordData.{RecordData}
-use Rattle.gx_history.specs.Live.{open_order, open_with}
-use Rattle.gx_history.specs.Orders.{Order}
-use Rattle.gx_history.specs.Verdicts.{IsLegal}
-use Rattle.gx_history_laws.proofs.Numbers.{all_weaker, records_are_within}
-use Rattle.gx_history_laws.proofs.Order.{some_same}
+use Rattle.gx_history.specs.{declared.{live_order.LiveOrder.LiveOrder, «record».RecordData.RecordData}, Live.{open_order, open_with}, Orders.Order, Verdicts.IsLegal}
+use Rattle.gx_history_laws.proofs.{Numbers.{all_weaker, records_are_within}, Order.some_same}
 use Rattle.gx_effects.proofs.NewOrders.{AreBefore}
 
 -- what is found of each

@@ -1,22 +1,9 @@
 -- A fill is between two live orders that have its shares open.
-use Rattle.std.proofs.Common.{◌≡◌, ℕ, ◌-◌, ◌<◌, ◌≤◌, List, ◌∙◌, ap, sym, arith}
-use Rattle.std.proofs.Math.Path.{subst}
+use Rattle.std.proofs.{Common.{◌≡◌, ℕ, ◌-◌, ◌<◌, ◌≤◌, List, ◌∙◌, ap, sym, arith}, Math.Path.subst, lemmas.Bool.{ltb-true, ne_eqb}}
 use Rattle.std.specs.Prelude.{Some, min}
-use Rattle.std.proofs.lemmas.Bool.{ltb-true, ne_eqb}
 use Rattle.gx_policy.specs.declared.policy.PolicyData.{PolicyData}
-use Rattle.gx_history.specs.declared.live_order.LiveOrder.{LiveOrder}
-use Rattle.gx_history.specs.declared.record.Fill.{Fill}
-use Rattle.gx_history.specs.declared.record.RecordData.{RecordData}
-use Rattle.gx_history.specs.declared.record.Step.TheVariants as steps
-use Rattle.gx_history.specs.declared.record.Verdict.TheVariants as verdicts
-use Rattle.gx_history.specs.Live.{live_numbered, live}
-use Rattle.gx_history.specs.LiveOrders.{shares_open}
-use Rattle.gx_history.specs.Matched.{IsFair}
-use Rattle.gx_history.specs.Matching.{fill_with}
-use Rattle.gx_history.specs.Verdicts.{IsLegal, next}
-use Rattle.gx_effects.proofs.Fills.{IsFill, is_fill, taker_is_not_maker}
-use Rattle.gx_effects.proofs.Naming.{IsOfKnown}
-use Rattle.gx_effects.proofs.Orderly.{legal_is_orderly}
+use Rattle.gx_history.specs.{declared.{live_order.LiveOrder.LiveOrder, «record».{Fill.Fill, RecordData.RecordData, Step.Step, Verdict.Verdict}}, Live.{live_numbered, live}, LiveOrders.shares_open, Matched.IsFair, Matching.fill_with, Verdicts.{IsLegal, next}}
+use Rattle.gx_effects.proofs.{Fills.{IsFill, is_fill, taker_is_not_maker}, Naming.IsOfKnown, Orderly.legal_is_orderly}
 
 some_open : (policy : PolicyData) (history : List RecordData) (o : LiveOrder) → IsOfKnown policy history o → 0 < shares_open o
 some_open policy history o known = at (subst (λ (p : LiveOrder). p.done < p.total) known.is_it (ltb-true _ _ known.has_some))
@@ -28,7 +15,7 @@ least : (a b : ℕ) → 0 < a → 0 < b → (0 < min a b) × (min a b ≤ a) × 
 least a b h k = (omega arith, omega arith, omega arith)
 
 pub fills_are_fair : (policy : PolicyData) (history : List RecordData) (handed : ℕ) (r : RecordData) (f : Fill) → IsLegal policy history
-    → next policy history (steps.Matching handed) ≡ Some r → r.verdict ≡ verdicts.Filled f → IsFair policy history f
+    → next policy history (Step.Matching handed) ≡ Some r → r.verdict ≡ Verdict.Filled f → IsFair policy history f
 fills_are_fair policy history handed r f legal left fills =
     let is : IsFill policy history r f = is_fill policy history handed r f (legal_is_orderly policy history legal) left fills in
     let theirs : Fill = fill_with is.may.taker is.may.maker in

@@ -1,51 +1,28 @@
 -- A fill is between the first that waits and the best that rests, and takes its shares off what each has executed.
-use Rattle.std.proofs.Common.{◌≡◌, ℕ, ◌+◌, Bool, true, false, not, List, [], ◌∷◌, ◌++◌, refl, ◌∙◌, ap, sym, map, cond, arith, sum_by}
-use Rattle.std.proofs.Math.Path.{subst}
-use Rattle.std.specs.Prelude.{Option, Some, None, ◌==◌, ◌||◌, option_to_list}
-use Rattle.std.specs.List.{list_any, AllByRecursion}
-use Rattle.std.proofs.lemmas.Bool.{eq-eqb, ne_eqb, eqb-true}
-use Rattle.std.proofs.lemmas.List.Sums.{sum_by-cons}
+use Rattle.std.proofs.{Common.{◌≡◌, ℕ, ◌+◌, Bool, true, false, not, List, [], ◌∷◌, ◌++◌, refl, ◌∙◌, ap, sym, map, cond, arith, sum_by}, Math.Path.subst, lemmas.{Bool.{eq-eqb, ne_eqb, eqb-true}, List.Sums.sum_by-cons}}
+use Rattle.std.specs.{Prelude.{Option, Some, None, ◌==◌, ◌||◌, option_to_list}, List.{list_any, AllByRecursion}}
 use Rattle.gx_ouch.specs.declared.letters.Liquidity.{Liquidity}
-use Rattle.gx_ouch.specs.declared.letters.Liquidity.TheVariants as liquidities
 use Rattle.gx_policy.specs.declared.policy.PolicyData.{PolicyData}
-use Rattle.gx_history.specs.declared.live_order.LiveOrder.{LiveOrder}
-use Rattle.gx_history.specs.declared.record.Fill.{Fill}
-use Rattle.gx_history.specs.declared.record.RecordData.{RecordData}
-use Rattle.gx_history.specs.declared.record.Step.TheVariants as steps
-use Rattle.gx_history.specs.declared.record.Verdict.TheVariants as verdicts
-use Rattle.gx_history.specs.Book.{rested}
-use Rattle.gx_history.specs.Executions.{Execution, done, executed, shares_for, side_of, sides}
-use Rattle.gx_history.specs.Live.{is_buy_order, has_come}
-use Rattle.gx_history.specs.MayMove.{MayFill}
-use Rattle.gx_history.specs.Orders.{Order, orders, order_numbered, is_dead}
-use Rattle.gx_history.specs.Requests.{granted}
-use Rattle.gx_history.specs.Verdicts.{next}
-use Rattle.gx_history.specs.World.{world}
-use Rattle.gx_history_laws.proofs.Numbers.{all_weaker}
-use Rattle.gx_history_laws.proofs.Order.{some_same}
-use Rattle.gx_history_laws.proofs.Runs.{step_left}
-use Rattle.gx_effects.proofs.Known.{IsKnown, IsWaiting, RestsThere, all_resting, first_waiting}
-use Rattle.gx_effects.proofs.Matches.{may_match}
-use Rattle.gx_effects.proofs.Naming.{IsOfKnown}
-use Rattle.gx_effects.proofs.Orderly.{IsOrderly, IsGone, HasGone}
-use Rattle.gx_effects.proofs.Ungranted.{match_grants_nothing}
+use Rattle.gx_history.specs.{declared.{live_order.LiveOrder.LiveOrder, «record».{Fill.Fill, RecordData.RecordData, Step.Step, Verdict.Verdict}}, Book.rested, Executions.{Execution, done, executed, shares_for, side_of, sides}, Live.{is_buy_order, has_come}, MayMove.MayFill, Orders.{Order, orders, order_numbered, is_dead}, Requests.granted, Verdicts.next, World.world}
+use Rattle.gx_history_laws.proofs.{Numbers.all_weaker, Order.some_same, Runs.step_left}
+use Rattle.gx_effects.proofs.{Known.{IsKnown, IsWaiting, RestsThere, all_resting, first_waiting}, Matches.may_match, Naming.IsOfKnown, Orderly.{IsOrderly, IsGone, HasGone}, Ungranted.match_grants_nothing}
 
 -- a record of this fill, between the first that waits and the best that rests
 pub record IsFill (policy : PolicyData) (history : List RecordData) (r : RecordData) (f : Fill) : Type 0 where
   pub grants_nothing : granted r ≡ None
-  pub is_fill : r.verdict ≡ verdicts.Filled f
+  pub is_fill : r.verdict ≡ Verdict.Filled f
   pub may : MayFill (world policy history) r f
   pub taker_waits : IsWaiting policy history may.taker
   pub maker_rests : RestsThere policy history may.taker.terms.stock (not (is_buy_order may.taker)) may.maker
   pub of_taker : f.taker ≡ may.taker.number
   pub of_maker : f.maker ≡ may.maker.number
 
-pub is_fill : (policy : PolicyData) (history : List RecordData) (handed : ℕ) (r : RecordData) (f : Fill) → IsOrderly policy history → next policy history (steps.Matching handed) ≡ Some r
-    → r.verdict ≡ verdicts.Filled f → IsFill policy history r f
+pub is_fill : (policy : PolicyData) (history : List RecordData) (handed : ℕ) (r : RecordData) (f : Fill) → IsOrderly policy history → next policy history (Step.Matching handed) ≡ Some r
+    → r.verdict ≡ Verdict.Filled f → IsFill policy history r f
 is_fill policy history handed r f orderly left fills =
-    let may : MayFill (world policy history) r f = may_match policy history handed r (verdicts.Filled f) left fills in
+    let may : MayFill (world policy history) r f = may_match policy history handed r (Verdict.Filled f) left fills in
     record {
-      grants_nothing = match_grants_nothing r handed (step_left policy history (steps.Matching handed) r left);
+      grants_nothing = match_grants_nothing r handed (step_left policy history (Step.Matching handed) r left);
       is_fill = fills;
       may = may;
       taker_waits = first_waiting policy history may.taker may.waiting orderly may.comes_first;
@@ -58,10 +35,10 @@ is_fill policy history handed r f orderly left fills =
 
 -- the fill, for the order that came in, and for the one that rested
 abbrev pub taker_side : Fill → Order → Execution
-taker_side f o = record { fill = f; liquidity = liquidities.Removed; order = o }
+taker_side f o = record { fill = f; liquidity = Liquidity.Removed; order = o }
 
 abbrev pub maker_side : Fill → Order → Execution
-maker_side f o = record { fill = f; liquidity = liquidities.Added; order = o }
+maker_side f o = record { fill = f; liquidity = Liquidity.Added; order = o }
 
 -- its two sides
 abbrev pub both_sides : Fill → Order → Order → List Execution
@@ -71,10 +48,10 @@ pub sides_are : (policy : PolicyData) (history : List RecordData) (r : RecordDat
     → sides policy history r.verdict ≡ both_sides f is.taker_waits.known.of.order is.maker_rests.known.of.order
 sides_are policy history r f is =
     ap (sides policy history) is.is_fill
-    ∙ ap (λ (n : ℕ). side_of (orders policy history) f liquidities.Removed n ++ side_of (orders policy history) f liquidities.Added f.maker) is.of_taker
-    ∙ ap (λ (n : ℕ). side_of (orders policy history) f liquidities.Removed is.may.taker.number ++ side_of (orders policy history) f liquidities.Added n) is.of_maker
-    ∙ ap (λ (found : Option Order). map (made liquidities.Removed) (option_to_list found) ++ side_of (orders policy history) f liquidities.Added is.may.maker.number) is.taker_waits.known.is_made
-    ∙ ap (λ (found : Option Order). taker_side f is.taker_waits.known.of.order ∷ map (made liquidities.Added) (option_to_list found)) is.maker_rests.known.is_made
+    ∙ ap (λ (n : ℕ). side_of (orders policy history) f Liquidity.Removed n ++ side_of (orders policy history) f Liquidity.Added f.maker) is.of_taker
+    ∙ ap (λ (n : ℕ). side_of (orders policy history) f Liquidity.Removed is.may.taker.number ++ side_of (orders policy history) f Liquidity.Added n) is.of_maker
+    ∙ ap (λ (found : Option Order). map (made Liquidity.Removed) (option_to_list found) ++ side_of (orders policy history) f Liquidity.Added is.may.maker.number) is.taker_waits.known.is_made
+    ∙ ap (λ (found : Option Order). taker_side f is.taker_waits.known.of.order ∷ map (made Liquidity.Added) (option_to_list found)) is.maker_rests.known.is_made
   where
     made : Liquidity → Order → Execution
     made liquidity o = record { fill = f; liquidity = liquidity; order = o }

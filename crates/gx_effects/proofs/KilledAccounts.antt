@@ -1,44 +1,14 @@
 -- In a legal history no order of a killed account is live: an invariant of the world, by what each record does.
-use Rattle.std.proofs.Common.{◌≡◌, Bool, true, false, List, [], ◌∷◌, refl, ◌∙◌, ap, sym, cond, ℕ}
-use Rattle.std.proofs.Math.Path.{subst}
-use Rattle.std.specs.Prelude.{Option, Some, None, is_some, ◌||◌, ◌==◌}
-use Rattle.std.specs.List.{AllByRecursion, filter_map, filter, list_any}
-use Rattle.gx_units.specs.declared.names.AccountName.{AccountName}
-use Rattle.gx_units.specs.declared.names.Symbol.{Symbol}
-use Rattle.gx_units.specs.declared.names.UserName.{UserName}
-use Rattle.gx_units.specs.Names.{same_account}
-use Rattle.gx_desk.specs.declared.Action.{Action}
-use Rattle.gx_desk.specs.declared.Action.TheVariants as actions
-use Rattle.gx_desk.specs.declared.Command.{Command}
+use Rattle.std.proofs.{Common.{◌≡◌, Bool, true, false, List, [], ◌∷◌, refl, ◌∙◌, ap, sym, cond, ℕ}, Math.Path.subst}
+use Rattle.std.specs.{Prelude.{Option, Some, None, is_some, ◌||◌, ◌==◌}, List.{AllByRecursion, filter_map, filter, list_any}}
+use Rattle.gx_units.specs.{declared.names.{AccountName.AccountName, Symbol.Symbol, UserName.UserName}, Names.same_account}
+use Rattle.gx_desk.specs.declared.{Action.Action, Command.Command}
 use Rattle.gx_policy.specs.declared.policy.PolicyData.{PolicyData}
-use Rattle.gx_history.specs.declared.live_order.LiveOrder.{LiveOrder}
-use Rattle.gx_history.specs.declared.record.RecordData.{RecordData}
-use Rattle.gx_history.specs.Book.{rested}
-use Rattle.gx_history.specs.InForce.{is_killed, kill_after}
-use Rattle.gx_history.specs.Live.{live, live_numbered, waiting, ahead, is_there, side}
-use Rattle.gx_history.specs.LiveOrders.{is_under}
-use Rattle.gx_history.specs.Matched.{HasNoOrders}
-use Rattle.gx_history.specs.MayMove.{MayMove}
-use Rattle.gx_history.specs.Orders.{orders}
+use Rattle.gx_history.specs.{declared.{live_order.LiveOrder.LiveOrder, «record».RecordData.RecordData, moves.Move.{Move, TheVariants.{Nothing, Denies, PutsOn, Adds, Sizes, Replaces, Commands, Fills, Rests, Expires}}}, Book.rested, InForce.{is_killed, kill_after}, Live.{live, live_numbered, waiting, ahead, is_there, side}, LiveOrders.is_under, Matched.HasNoOrders, MayMove.MayMove, Orders.orders, Turns.{Turn, becomes, new_in, turned}, Verdicts.IsLegal, World.{World, world, commanded, move_of, moved}}
 use Rattle.gx_history.specs.Turns as turns
-use Rattle.gx_history.specs.Turns.{Turn, becomes, new_in, turned}
-use Rattle.gx_history.specs.Verdicts.{IsLegal}
-use Rattle.gx_history.specs.declared.moves.Move.{Move}
-use Rattle.gx_history.specs.declared.moves.Move.TheVariants.{Nothing, Denies, PutsOn, Adds, Sizes, Replaces, Commands, Fills, Rests, Expires}
-use Rattle.gx_history.specs.World.{World, world, commanded, move_of, moved}
-use Rattle.gx_history_laws.proofs.Granting.{legal_keeps}
-use Rattle.gx_history_laws.proofs.Names.{account_is}
-use Rattle.gx_history_laws.proofs.NextReports.{legal_next, legal_none}
-use Rattle.gx_history_laws.proofs.Numbers.{all_weaker}
-use Rattle.gx_history_laws.proofs.Order.{some_same}
-use Rattle.gx_history_laws.proofs.Owners.{all_both, last_such_is, filtered}
+use Rattle.gx_history_laws.proofs.{Granting.legal_keeps, Names.account_is, NextReports.{legal_next, legal_none}, Numbers.all_weaker, Order.some_same, Owners.{all_both, last_such_is, filtered}}
 use Rattle.gx_effects.specs.Laws.{KilledAreNotLive}
-use Rattle.gx_effects.proofs.Entered.{all_found_of}
-use Rattle.gx_effects.proofs.Known.{all_placed}
-use Rattle.gx_effects.proofs.Moving.{may_move}
-use Rattle.gx_effects.proofs.NewOrders.{found_is}
-use Rattle.gx_effects.proofs.Sides.{becomes_same}
-use Rattle.gx_effects.proofs.World.{world_next}
+use Rattle.gx_effects.proofs.{Entered.all_found_of, Known.all_placed, Moving.may_move, NewOrders.found_is, Sides.becomes_same, World.world_next}
 
 -- the order's account is not killed
 abbrev IsSpared : World → LiveOrder → Type 0
@@ -55,8 +25,8 @@ goes_on w turn h new =
     (all_found_of (IsSpared w) (IsSpared w) (becomes turn) (λ o x spared e. ap (λ (account : AccountName). is_some (w.kills account)) (becomes_same turn o x e).3 ∙ spared) w.live h) new
 
 commanded_spares : (policy : PolicyData) (r : RecordData) (officer : UserName) (c : Command) (w : World) (action : Action) → Spared w → Spared (commanded policy r officer c action w)
-commanded_spares policy r officer c w (actions.Kill killed) h =
-    all_both IsLeft (filter_map (becomes (turns.EndsAll (actions.Kill killed))) w.live) [] (all_found_of (IsSpared w) IsLeft (becomes (turns.EndsAll (actions.Kill killed))) left w.live h) tt
+commanded_spares policy r officer c w (Action.Kill killed) h =
+    all_both IsLeft (filter_map (becomes (turns.EndsAll (Action.Kill killed))) w.live) [] (all_found_of (IsSpared w) IsLeft (becomes (turns.EndsAll (Action.Kill killed))) left w.live h) tt
   where
     IsLeft : LiveOrder → Type 0
     IsLeft o = is_some (cond (same_account killed o.account) (Some []) (w.kills o.account)) ≡ false
@@ -67,7 +37,7 @@ commanded_spares policy r officer c w (actions.Kill killed) h =
         at : (b : Bool) → same_account killed o.account ≡ b → cond b None (Some o) ≡ Some x → IsLeft x
         at true k e = cc
         at false k e = subst IsLeft (some_same e) (ap (λ (b : Bool). is_some (cond b (Some []) (w.kills o.account))) k ∙ spared)
-commanded_spares policy r officer c w (actions.Lift lifts) h =
+commanded_spares policy r officer c w (Action.Lift lifts) h =
     all_weaker (IsSpared w) (λ (o : LiveOrder). is_some (cond (same_account lifts o.account) (kill_after policy.lifters (Some (Some officer)) (w.kills o.account)) (w.kills o.account)) ≡ false)
     (λ o spared. at (same_account lifts o.account) (w.kills o.account) spared) w.live h
   where
@@ -75,12 +45,12 @@ commanded_spares policy r officer c w (actions.Lift lifts) h =
     at true None e = refl
     at true (Some officers) e = cc
     at false before e = e
-commanded_spares policy r officer c w (actions.SetLimit rule limit) h = h
-commanded_spares policy r officer c w (actions.Restrict rule stock) h = h
-commanded_spares policy r officer c w (actions.Unrestrict rule stock) h = h
-commanded_spares policy r officer c w (actions.Grant reader named) h = h
-commanded_spares policy r officer c w (actions.Revoke reader named) h = h
-commanded_spares policy r officer c w actions.CloseDay h = goes_on w (turns.EndsAll actions.CloseDay) h tt
+commanded_spares policy r officer c w (Action.SetLimit rule limit) h = h
+commanded_spares policy r officer c w (Action.Restrict rule stock) h = h
+commanded_spares policy r officer c w (Action.Unrestrict rule stock) h = h
+commanded_spares policy r officer c w (Action.Grant reader named) h = h
+commanded_spares policy r officer c w (Action.Revoke reader named) h = h
+commanded_spares policy r officer c w Action.CloseDay h = goes_on w (turns.EndsAll Action.CloseDay) h tt
 
 moved_spares : (policy : PolicyData) (r : RecordData) (w : World) (m : Move) → MayMove policy w r m → Spared w → Spared (moved policy r m w)
 moved_spares policy r w Nothing may h = h

@@ -1,29 +1,12 @@
 -- What is known of each live order, of those that wait and of those that rest.
-use Rattle.std.proofs.Common.{◌≡◌, ℕ, Bool, true, false, not, List, [], ◌∷◌, refl, ◌∙◌, ap, sym, fold}
-use Rattle.std.proofs.Math.Path.{subst}
-use Rattle.std.specs.Prelude.{Option, Some, None, ◌==◌}
-use Rattle.std.specs.List.{filter, filter_map, cons_option, AllByRecursion}
-use Rattle.std.proofs.lemmas.Bool.{eqb-true}
+use Rattle.std.proofs.{Common.{◌≡◌, ℕ, Bool, true, false, not, List, [], ◌∷◌, refl, ◌∙◌, ap, sym, fold}, Math.Path.subst, lemmas.Bool.eqb-true}
+use Rattle.std.specs.{Prelude.{Option, Some, None, ◌==◌}, List.{filter, filter_map, cons_option, AllByRecursion}}
 use Rattle.gx_units.specs.declared.names.Symbol.{Symbol}
-use Rattle.gx_policy.specs.declared.policy.PolicyData.{PolicyData}
-use Rattle.gx_policy.specs.Lists.{placed}
-use Rattle.gx_history.specs.declared.live_order.LiveOrder.{LiveOrder}
-use Rattle.gx_history.specs.declared.record.RecordData.{RecordData}
-use Rattle.gx_history.specs.Book.{rested}
-use Rattle.gx_history.specs.Executions.{Execution, done, executions}
-use Rattle.gx_history.specs.Live.{waiting, ahead, is_there, side, has_come, live_numbered, live, open_now}
-use Rattle.gx_history.specs.Orders.{Order, is_dead, order_numbered, orders, total}
-use Rattle.gx_history_laws.proofs.Adding.{all_pass}
-use Rattle.gx_history_laws.proofs.Numbers.{all_weaker}
-use Rattle.gx_history_laws.proofs.Order.{first_such, IsFirstSuch}
-use Rattle.gx_history_laws.proofs.Owners.{all_both, filtered}
+use Rattle.gx_policy.specs.{declared.policy.PolicyData.PolicyData, Lists.placed}
+use Rattle.gx_history.specs.{declared.{live_order.LiveOrder.LiveOrder, «record».RecordData.RecordData}, Book.rested, Executions.{Execution, done, executions}, Live.{waiting, ahead, is_there, side, has_come, live_numbered, live, open_now}, Orders.{Order, is_dead, order_numbered, orders, total}}
+use Rattle.gx_history_laws.proofs.{Adding.all_pass, Numbers.all_weaker, Order.{first_such, IsFirstSuch}, Owners.{all_both, filtered}}
 use Rattle.gx_effects.specs.Laws.{LiveOrdersAreFound}
-use Rattle.gx_effects.proofs.Among.{all_and, of_all}
-use Rattle.gx_effects.proofs.Apart.{AreApart, apart_are_found, all_members}
-use Rattle.gx_effects.proofs.Entered.{all_found_of, open_parts}
-use Rattle.gx_effects.proofs.Naming.{IsOfKnown, live_of_known}
-use Rattle.gx_effects.proofs.NewOrders.{found_is}
-use Rattle.gx_effects.proofs.Orderly.{IsOrderly, legal_is_orderly, number_of}
+use Rattle.gx_effects.proofs.{Among.{all_and, of_all}, Apart.{AreApart, apart_are_found, all_members}, Entered.{all_found_of, open_parts}, Naming.{IsOfKnown, live_of_known}, NewOrders.found_is, Orderly.{IsOrderly, legal_is_orderly, number_of}}
 
 -- whatever the order
 pub all_placed : {X : Type 0} (P : X → Type 0) (better : X → X → Bool) (earlier xs : List X) → AllByRecursion P earlier → AllByRecursion P xs → AllByRecursion P (fold (placed better) earlier xs)

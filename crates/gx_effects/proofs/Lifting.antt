@@ -1,55 +1,31 @@
 -- A kill ends by the granted Lift of the last officer, and by nothing else.
-use Rattle.std.proofs.Common.{◌≡◌, ◌+◌, Bool, true, false, List, [], ◌∷◌, ◌++◌, refl, ◌∙◌, ap, sym, cond, length}
-use Rattle.std.proofs.Math.Path.{subst}
-use Rattle.std.specs.Prelude.{Option, Some, None, is_some, option_and_then, ◌&&◌, ◌||◌}
-use Rattle.std.specs.List.{AllByRecursion}
-use Rattle.gx_units.specs.declared.names.AccountName.{AccountName}
-use Rattle.gx_units.specs.declared.names.UserName.{UserName}
-use Rattle.gx_units.specs.Names.{same_account, same_user}
+use Rattle.std.proofs.{Common.{◌≡◌, ◌+◌, Bool, true, false, List, [], ◌∷◌, ◌++◌, refl, ◌∙◌, ap, sym, cond, length}, Math.Path.subst}
+use Rattle.std.specs.{Prelude.{Option, Some, None, is_some, option_and_then, ◌&&◌, ◌||◌}, List.AllByRecursion}
+use Rattle.gx_units.specs.{declared.names.{AccountName.AccountName, UserName.UserName}, Names.{same_account, same_user}}
 use Rattle.gx_desk.specs.declared.Action.{Action}
-use Rattle.gx_desk.specs.declared.Action.TheVariants as actions
-use Rattle.gx_policy.specs.declared.policy.Lifters.{Lifters}
-use Rattle.gx_policy.specs.declared.policy.Lifters.TheVariants as lifters
-use Rattle.gx_policy.specs.declared.policy.PolicyData.{PolicyData}
-use Rattle.gx_policy.specs.declared.policy.Role.{Role}
-use Rattle.gx_policy.specs.declared.policy.Role.TheVariants as roles
-use Rattle.gx_policy.specs.Lists.{is_shorter, where_true}
-use Rattle.gx_policy.specs.People.{covers, role_in}
-use Rattle.gx_history.specs.declared.record.Asked.{Asked}
-use Rattle.gx_history.specs.declared.record.RecordData.{RecordData}
-use Rattle.gx_history.specs.declared.record.Step.{Step}
-use Rattle.gx_history.specs.declared.record.Step.TheVariants as steps
-use Rattle.gx_history.specs.declared.record.Verdict.{Verdict}
-use Rattle.gx_history.specs.declared.record.Verdict.TheVariants as verdicts
-use Rattle.gx_history.specs.Asking.{has_power, are_his}
-use Rattle.gx_history.specs.InForce.{fewer_than, has_lifted, is_killed, kill_after, kill_in_force, kill_or_lift_of, lifted_since_kill, lifters_asked, with_officer}
-use Rattle.gx_history.specs.Requests.{asked, granted, granted_mark, is_granted, action_of}
-use Rattle.gx_history.specs.Verdicts.{next, Follows, IsLegal}
-use Rattle.gx_history_laws.proofs.Granting.{legal_keeps}
-use Rattle.gx_history_laws.proofs.KillsNext.{is_killed_next, kill_in_force_next, kill_in_force_none}
-use Rattle.gx_history_laws.proofs.Names.{account_is}
-use Rattle.gx_history_laws.proofs.Order.{some_same}
+use Rattle.gx_policy.specs.{declared.policy.{Lifters.Lifters, PolicyData.PolicyData, Role.Role}, Lists.{is_shorter, where_true}, People.{covers, role_in}}
+use Rattle.gx_history.specs.{declared.record.{Asked.Asked, RecordData.RecordData, Step.Step, Verdict.Verdict}, Asking.{has_power, are_his}, InForce.{fewer_than, has_lifted, is_killed, kill_after, kill_in_force, kill_or_lift_of, lifted_since_kill, lifters_asked, with_officer}, Requests.{asked, granted, granted_mark, is_granted, action_of}, Verdicts.{next, Follows, IsLegal}}
+use Rattle.gx_history_laws.proofs.{Granting.legal_keeps, KillsNext.{is_killed_next, kill_in_force_next, kill_in_force_none}, Names.account_is, Order.some_same}
 use Rattle.gx_effects.specs.Lifts.{EndsKill, IsEntitled, IsGrantedLift, may_lift}
-use Rattle.gx_effects.proofs.Allowed.{has_the_power, has_the_accounts}
-use Rattle.gx_effects.proofs.Commanding.{GrantsCommand, grants_command, asks_action}
+use Rattle.gx_effects.proofs.{Allowed.{has_the_power, has_the_accounts}, Commanding.{GrantsCommand, grants_command, asks_action}}
 
 -- what a granted record has
-granted_parts : (r : RecordData) (a : Asked) → granted r ≡ Some a → (r.verdict ≡ verdicts.Granted) × (r.step ≡ steps.Asked a)
+granted_parts : (r : RecordData) (a : Asked) → granted r ≡ Some a → (r.verdict ≡ Verdict.Granted) × (r.step ≡ Step.Asked a)
 granted_parts r a h = by_verdict r.verdict refl
   where
-    by_step : (s : Step) → r.step ≡ s → r.verdict ≡ verdicts.Granted → asked s ≡ Some a → (r.verdict ≡ verdicts.Granted) × (r.step ≡ steps.Asked a)
-    by_step (steps.Asked b) e g k = (g, e ∙ ap (λ (x : Asked). steps.Asked x) (some_same k))
-    by_step (steps.Matching handed) e g k = cc
+    by_step : (s : Step) → r.step ≡ s → r.verdict ≡ Verdict.Granted → asked s ≡ Some a → (r.verdict ≡ Verdict.Granted) × (r.step ≡ Step.Asked a)
+    by_step (Step.Asked b) e g k = (g, e ∙ ap (λ (x : Asked). Step.Asked x) (some_same k))
+    by_step (Step.Matching handed) e g k = cc
 
     asked_in : (v : Verdict) → r.verdict ≡ v → cond (is_granted v) (asked r.step) None ≡ Some a
     asked_in v e = sym (ap (λ (w : Verdict). cond (is_granted w) (asked r.step) None) e) ∙ h
 
-    by_verdict : (v : Verdict) → r.verdict ≡ v → (r.verdict ≡ verdicts.Granted) × (r.step ≡ steps.Asked a)
-    by_verdict verdicts.Granted e = by_step r.step refl e (asked_in verdicts.Granted e)
-    by_verdict (verdicts.Denied rule) e = let no : None ≡ Some a = asked_in (verdicts.Denied rule) e in cc
-    by_verdict (verdicts.Filled f) e = let no : None ≡ Some a = asked_in (verdicts.Filled f) e in cc
-    by_verdict (verdicts.Rested n) e = let no : None ≡ Some a = asked_in (verdicts.Rested n) e in cc
-    by_verdict (verdicts.Expired n) e = let no : None ≡ Some a = asked_in (verdicts.Expired n) e in cc
+    by_verdict : (v : Verdict) → r.verdict ≡ v → (r.verdict ≡ Verdict.Granted) × (r.step ≡ Step.Asked a)
+    by_verdict Verdict.Granted e = by_step r.step refl e (asked_in Verdict.Granted e)
+    by_verdict (Verdict.Denied rule) e = let no : None ≡ Some a = asked_in (Verdict.Denied rule) e in cc
+    by_verdict (Verdict.Filled f) e = let no : None ≡ Some a = asked_in (Verdict.Filled f) e in cc
+    by_verdict (Verdict.Rested n) e = let no : None ≡ Some a = asked_in (Verdict.Rested n) e in cc
+    by_verdict (Verdict.Expired n) e = let no : None ≡ Some a = asked_in (Verdict.Expired n) e in cc
 
 -- the record is a granted Lift of the account by this officer
 record LiftBy (policy : PolicyData) (account : AccountName) (r : RecordData) (officer : UserName) : Type 0 where
@@ -57,18 +33,18 @@ record LiftBy (policy : PolicyData) (account : AccountName) (r : RecordData) (of
   is_his : lift.asked.user ≡ officer
 
 -- the officer who gives a command, with his power for it and its accounts in his scope
-granted_to_officer : (policy : PolicyData) (history : List RecordData) (a : Asked) (r : RecordData) (account : AccountName) → GrantsCommand r a (actions.Lift account)
-    → (role : Option Role) → role_in policy.users a.user ≡ role → has_power role (actions.Lift account) ≡ true → are_his policy history role (actions.Lift account) ≡ true
+granted_to_officer : (policy : PolicyData) (history : List RecordData) (a : Asked) (r : RecordData) (account : AccountName) → GrantsCommand r a (Action.Lift account)
+    → (role : Option Role) → role_in policy.users a.user ≡ role → has_power role (Action.Lift account) ≡ true → are_his policy history role (Action.Lift account) ≡ true
     → (by : UserName) → a.user ≡ by → LiftBy policy account r by
 granted_to_officer policy history a r account g None is power his by name = cc
-granted_to_officer policy history a r account g (Some (roles.Trader own)) is power his by name = cc
-granted_to_officer policy history a r account g (Some (roles.Reader names)) is power his by name = cc
-granted_to_officer policy history a r account g (Some (roles.Officer powers scope)) is power his by name = record {
+granted_to_officer policy history a r account g (Some (Role.Trader own)) is power his by name = cc
+granted_to_officer policy history a r account g (Some (Role.Reader names)) is power his by name = cc
+granted_to_officer policy history a r account g (Some (Role.Officer powers scope)) is power his by name = record {
   lift = record {
     asked = a;
     is_its_step = g.asks;
     is_granted = g.grants;
-    is_lift = asks_action r a (actions.Lift account) g;
+    is_lift = asks_action r a (Action.Lift account) g;
     powers = powers;
     scope = scope;
     is_officer = is;
@@ -78,29 +54,29 @@ granted_to_officer policy history a r account g (Some (roles.Officer powers scop
   is_his = name;
 }
 
-lifts : (policy : PolicyData) (history : List RecordData) (a : Asked) (r : RecordData) (account : AccountName) → GrantsCommand r a (actions.Lift account)
-    → next policy history (steps.Asked a) ≡ Some r → (by : UserName) → a.user ≡ by → LiftBy policy account r by
+lifts : (policy : PolicyData) (history : List RecordData) (a : Asked) (r : RecordData) (account : AccountName) → GrantsCommand r a (Action.Lift account)
+    → next policy history (Step.Asked a) ≡ Some r → (by : UserName) → a.user ≡ by → LiftBy policy account r by
 lifts policy history a r account g left by his =
-    granted_to_officer policy history a r account g (role_in policy.users a.user) refl (has_the_power policy history a r (actions.Lift account) g left) (has_the_accounts policy history a r (actions.Lift account) g left) by his
+    granted_to_officer policy history a r account g (role_in policy.users a.user) refl (has_the_power policy history a r (Action.Lift account) g left) (has_the_accounts policy history a r (Action.Lift account) g left) by his
 
 -- what marks the account as lifted is a Lift of it
-lift_of : (account : AccountName) (officer by : UserName) (action : Action) → kill_or_lift_of account officer action ≡ Some (Some by) → (action ≡ actions.Lift account) × (officer ≡ by)
-lift_of account officer by (actions.Kill named) h = at (same_account named account) h
+lift_of : (account : AccountName) (officer by : UserName) (action : Action) → kill_or_lift_of account officer action ≡ Some (Some by) → (action ≡ Action.Lift account) × (officer ≡ by)
+lift_of account officer by (Action.Kill named) h = at (same_account named account) h
   where
-    at : (b : Bool) → where_true b None ≡ Some (Some by) → (actions.Kill named ≡ actions.Lift account) × (officer ≡ by)
+    at : (b : Bool) → where_true b None ≡ Some (Some by) → (Action.Kill named ≡ Action.Lift account) × (officer ≡ by)
     at true k = cc
     at false k = cc
-lift_of account officer by (actions.Lift named) h = at (same_account named account) refl h
+lift_of account officer by (Action.Lift named) h = at (same_account named account) refl h
   where
-    at : (b : Bool) → same_account named account ≡ b → where_true b (Some officer) ≡ Some (Some by) → (actions.Lift named ≡ actions.Lift account) × (officer ≡ by)
-    at true e k = (ap (λ (x : AccountName). actions.Lift x) (account_is named account e), some_same (some_same k))
+    at : (b : Bool) → same_account named account ≡ b → where_true b (Some officer) ≡ Some (Some by) → (Action.Lift named ≡ Action.Lift account) × (officer ≡ by)
+    at true e k = (ap (λ (x : AccountName). Action.Lift x) (account_is named account e), some_same (some_same k))
     at false e k = cc
-lift_of account officer by (actions.SetLimit rule limit) h = cc
-lift_of account officer by (actions.Restrict rule stock) h = cc
-lift_of account officer by (actions.Unrestrict rule stock) h = cc
-lift_of account officer by (actions.Grant reader named) h = cc
-lift_of account officer by (actions.Revoke reader named) h = cc
-lift_of account officer by actions.CloseDay h = cc
+lift_of account officer by (Action.SetLimit rule limit) h = cc
+lift_of account officer by (Action.Restrict rule stock) h = cc
+lift_of account officer by (Action.Unrestrict rule stock) h = cc
+lift_of account officer by (Action.Grant reader named) h = cc
+lift_of account officer by (Action.Revoke reader named) h = cc
+lift_of account officer by Action.CloseDay h = cc
 
 lifted_by : (policy : PolicyData) (history : List RecordData) (r : RecordData) (account : AccountName) (by : UserName) → Follows policy (history, r) → granted_mark (kill_or_lift_of account) r ≡ Some (Some by)
     → LiftBy policy account r by
@@ -109,11 +85,11 @@ lifted_by policy history r account by follows h = of_asked (granted r) refl h
     of_action : (a : Asked) → granted r ≡ Some a → (found : Option Action) → action_of a.request ≡ found → option_and_then (kill_or_lift_of account a.user) found ≡ Some (Some by) → LiftBy policy account r by
     of_action a is None asks k = cc
     of_action a is (Some action) asks k =
-        let parts : (r.verdict ≡ verdicts.Granted) × (r.step ≡ steps.Asked a) = granted_parts r a is in
-        let left : next policy history (steps.Asked a) ≡ Some r = ap (next policy history) (sym parts.1) ∙ follows.is_next in
-        let his : (action ≡ actions.Lift account) × (a.user ≡ by) = lift_of account a.user by action k in
-        let lift : action_of a.request ≡ Some (actions.Lift account) = asks ∙ ap (λ (x : Action). Some x) his.0 in
-        lifts policy history a r account (grants_command policy history a r (actions.Lift account) left lift parts.0) left by his.1
+        let parts : (r.verdict ≡ Verdict.Granted) × (r.step ≡ Step.Asked a) = granted_parts r a is in
+        let left : next policy history (Step.Asked a) ≡ Some r = ap (next policy history) (sym parts.1) ∙ follows.is_next in
+        let his : (action ≡ Action.Lift account) × (a.user ≡ by) = lift_of account a.user by action k in
+        let lift : action_of a.request ≡ Some (Action.Lift account) = asks ∙ ap (λ (x : Action). Some x) his.0 in
+        lifts policy history a r account (grants_command policy history a r (Action.Lift account) left lift parts.0) left by his.1
 
     of_asked : (found : Option Asked) → granted r ≡ found → option_and_then (λ (a : Asked). option_and_then (kill_or_lift_of account a.user) (action_of a.request)) found ≡ Some (Some by)
         → LiftBy policy account r by
@@ -183,15 +159,15 @@ are_fewer policy history account officers is = of_lifted (lifted_since_kill hist
 -- the Lift that ends a kill is one officer's more, and the last that is asked for
 ends_it : (asked : Lifters) (officer : UserName) (others : List UserName) → is_shorter (lifters_asked asked) others ≡ true → is_some (kill_after asked (Some (Some officer)) (Some others)) ≡ false
     → (has_lifted officer others ≡ false) × (length others + 1 ≡ lifters_asked asked)
-ends_it lifters.One officer [] few ended = (refl, refl)
-ends_it lifters.One officer (first ∷ more) few ended = cc
-ends_it lifters.Two officer [] few ended = cc
-ends_it lifters.Two officer (first ∷ []) few ended = by (same_user first officer) ended
+ends_it Lifters.One officer [] few ended = (refl, refl)
+ends_it Lifters.One officer (first ∷ more) few ended = cc
+ends_it Lifters.Two officer [] few ended = cc
+ends_it Lifters.Two officer (first ∷ []) few ended = by (same_user first officer) ended
   where
     by : (b : Bool) → is_some (fewer_than 2 (cond (b || false) (first ∷ []) (first ∷ officer ∷ []))) ≡ false → ((b || false) ≡ false) × (1 + 1 ≡ 2)
     by true h = cc
     by false h = (refl, refl)
-ends_it lifters.Two officer (first ∷ second ∷ more) few ended = cc
+ends_it Lifters.Two officer (first ∷ second ∷ more) few ended = cc
 
 -- a kill ends by the granted Lift of the last officer alone
 pub kill_ends_by_lift : (policy : PolicyData) (history : List RecordData) (r : RecordData) (account : AccountName)

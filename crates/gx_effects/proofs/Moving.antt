@@ -1,63 +1,21 @@
 -- Each record may move the world as it does.
-use Rattle.std.proofs.Common.{◌≡◌, ℕ, ◌-◌, ◌<◌, Bool, true, false, List, refl, ◌∙◌, ap, sym, arith}
-use Rattle.std.proofs.Math.Path.{subst}
-use Rattle.std.specs.Prelude.{Option, Some, ◌==◌, ◌&&◌}
-use Rattle.std.specs.Option.{option_map_or}
-use Rattle.std.specs.List.{AllByRecursion}
-use Rattle.std.proofs.lemmas.Bool.{leb-false, lt-ltb, ltb-true}
-use Rattle.gx_units.specs.declared.names.AccountName.{AccountName}
-use Rattle.gx_units.specs.declared.names.Token.{Token}
-use Rattle.gx_units.specs.declared.names.UserName.{UserName}
-use Rattle.gx_units.specs.Names.{same_token, same_user}
-use Rattle.gx_ouch.specs.declared.inbound.CancelOrder.{CancelOrder}
-use Rattle.gx_ouch.specs.declared.inbound.ReplaceOrder.{ReplaceOrder}
-use Rattle.gx_policy.specs.declared.policy.PolicyData.{PolicyData}
-use Rattle.gx_policy.specs.declared.rule_name.RuleName.TheVariants.{G3, I1, I3}
-use Rattle.gx_policy.specs.Lists.{where_true}
-use Rattle.gx_history.specs.declared.live_order.LiveOrder.{LiveOrder}
-use Rattle.gx_history.specs.declared.record.Asked.{Asked}
-use Rattle.gx_history.specs.declared.record.RecordData.{RecordData}
-use Rattle.gx_history.specs.declared.record.Request.{Request}
-use Rattle.gx_history.specs.declared.record.Request.TheVariants as requests
-use Rattle.gx_history.specs.declared.record.Step.{Step}
-use Rattle.gx_history.specs.declared.record.Step.TheVariants as steps
-use Rattle.gx_history.specs.declared.record.Verdict.{Verdict}
-use Rattle.gx_history.specs.declared.record.Verdict.TheVariants as verdicts
-use Rattle.gx_history.specs.Asking.{facts}
-use Rattle.gx_history.specs.Live.{live, live_under}
-use Rattle.gx_history.specs.LiveOrders.{is_under, replacement_order}
-use Rattle.gx_history.specs.MayMove.{MayMove, MayReplace, MaySize, MovesAreAllowed}
-use Rattle.gx_history.specs.Orders.{Order, ends, is_token_used, orders, size_set, total}
-use Rattle.gx_history.specs.Requests.{is_judged, is_order, is_unreadable, new_token}
-use Rattle.gx_history.specs.Rules.{forbids, takes_nothing}
-use Rattle.gx_history.specs.Turns.{new_order}
-use Rattle.gx_history.specs.Verdicts.{IsLegal, facts_now, next}
-use Rattle.gx_history.specs.declared.moves.Move.TheVariants.{Nothing, Adds, Sizes, Replaces}
-use Rattle.gx_history.specs.World.{world, move_asked, move_by}
-use Rattle.gx_history_laws.proofs.Adding.{found_passes, token_is, user_is}
-use Rattle.gx_history_laws.proofs.Entering.{HasAccount, entered_has_account, entered_has_shares}
-use Rattle.gx_history_laws.proofs.Granting.{asked_is_judged, is_no_bar}
-use Rattle.gx_history_laws.proofs.Judging.{both}
-use Rattle.gx_history_laws.proofs.Numbers.{all_weaker, number_left}
-use Rattle.gx_history_laws.proofs.Runs.{step_left}
-use Rattle.gx_effects.proofs.Allowed.{names_are_known}
-use Rattle.gx_effects.proofs.Among.{all_and}
-use Rattle.gx_effects.proofs.Commanding.{grants_the_command}
-use Rattle.gx_effects.proofs.Killed.{granted_is_not_killed}
-use Rattle.gx_effects.proofs.Matches.{may_match}
-use Rattle.gx_effects.proofs.NamedOrders.{IsEarlier, Names, all_earlier, named_is, names_live}
-use Rattle.gx_effects.proofs.Naming.{FindsOne, IsToldApart, finds_one, is_under_swapped}
-use Rattle.gx_effects.proofs.OrderRequests.{Grants, ends_by, it_grants}
-use Rattle.gx_effects.proofs.Replacing.{more_than_done, size_of}
+use Rattle.std.proofs.{Common.{◌≡◌, ℕ, ◌-◌, ◌<◌, Bool, true, false, List, refl, ◌∙◌, ap, sym, arith}, Math.Path.subst, lemmas.Bool.{leb-false, lt-ltb, ltb-true}}
+use Rattle.std.specs.{Prelude.{Option, Some, ◌==◌, ◌&&◌}, Option.option_map_or, List.AllByRecursion}
+use Rattle.gx_units.specs.{declared.names.{AccountName.AccountName, Token.Token, UserName.UserName}, Names.{same_token, same_user}}
+use Rattle.gx_ouch.specs.declared.inbound.{CancelOrder.CancelOrder, ReplaceOrder.ReplaceOrder}
+use Rattle.gx_policy.specs.{declared.{policy.PolicyData.PolicyData, rule_name.RuleName.TheVariants.{G3, I1, I3}}, Lists.where_true}
+use Rattle.gx_history.specs.{declared.{live_order.LiveOrder.LiveOrder, «record».{Asked.Asked, RecordData.RecordData, Request.Request, Step.Step, Verdict.Verdict}, moves.Move.TheVariants.{Nothing, Adds, Sizes, Replaces}}, Asking.facts, Live.{live, live_under}, LiveOrders.{is_under, replacement_order}, MayMove.{MayMove, MayReplace, MaySize, MovesAreAllowed}, Orders.{Order, ends, is_token_used, orders, size_set, total}, Requests.{is_judged, is_order, is_unreadable, new_token}, Rules.{forbids, takes_nothing}, Turns.new_order, Verdicts.{IsLegal, facts_now, next}, World.{world, move_asked, move_by}}
+use Rattle.gx_history_laws.proofs.{Adding.{found_passes, token_is, user_is}, Entering.{HasAccount, entered_has_account, entered_has_shares}, Granting.{asked_is_judged, is_no_bar}, Judging.both, Numbers.{all_weaker, number_left}, Runs.step_left}
+use Rattle.gx_effects.proofs.{Allowed.names_are_known, Among.all_and, Commanding.grants_the_command, Killed.granted_is_not_killed, Matches.may_match, NamedOrders.{IsEarlier, Names, all_earlier, named_is, names_live}, Naming.{FindsOne, IsToldApart, finds_one, is_under_swapped}, OrderRequests.{Grants, ends_by, it_grants}, Replacing.{more_than_done, size_of}}
 
 orders_have_tokens : (q : Request) (token : Token) → new_token q ≡ Some token → is_order q ≡ true
-orders_have_tokens (requests.Login m) token h = cc
-orders_have_tokens requests.Logout token h = cc
-orders_have_tokens (requests.Unreadable m) token h = cc
-orders_have_tokens (requests.Enter m) token h = refl
-orders_have_tokens (requests.Replace m) token h = refl
-orders_have_tokens (requests.Cancel m) token h = cc
-orders_have_tokens (requests.Command c) token h = cc
+orders_have_tokens (Request.Login m) token h = cc
+orders_have_tokens Request.Logout token h = cc
+orders_have_tokens (Request.Unreadable m) token h = cc
+orders_have_tokens (Request.Enter m) token h = refl
+orders_have_tokens (Request.Replace m) token h = refl
+orders_have_tokens (Request.Cancel m) token h = cc
+orders_have_tokens (Request.Command c) token h = cc
 
 -- what the rule on used tokens says
 pub token_fact : (policy : PolicyData) (history : List RecordData) (a : Asked) (token : Token) → new_token a.request ≡ Some token
@@ -68,7 +26,7 @@ token_fact policy history a token under =
     ∙ ap (λ (t : Option Token). option_map_or (is_token_used history a.user) t false) under
 
 -- the token of a granted request is not used before
-token_unused : (policy : PolicyData) (history : List RecordData) (a : Asked) (r : RecordData) (token : Token) → next policy history (steps.Asked a) ≡ Some r → r.verdict ≡ verdicts.Granted
+token_unused : (policy : PolicyData) (history : List RecordData) (a : Asked) (r : RecordData) (token : Token) → next policy history (Step.Asked a) ≡ Some r → r.verdict ≡ Verdict.Granted
     → new_token a.request ≡ Some token → is_token_used history a.user token ≡ false
 token_unused policy history a r token left granted under = sym (token_fact policy history a token under) ∙ is_no_bar policy history a r left granted I1
 
@@ -87,28 +45,28 @@ is_named policy history user token o found =
 abbrev IsOther : RecordData → UserName → Token → Order → Order → Type 0
 IsOther r user token o x = IsEarlier r x × IsToldApart user token o x
 
-others : (policy : PolicyData) (history : List RecordData) (a : Asked) (r : RecordData) (token : Token) (o : LiveOrder) → IsLegal policy history → next policy history (steps.Asked a) ≡ Some r → (one : FindsOne policy history a.user token o)
+others : (policy : PolicyData) (history : List RecordData) (a : Asked) (r : RecordData) (token : Token) (o : LiveOrder) → IsLegal policy history → next policy history (Step.Asked a) ≡ Some r → (one : FindsOne policy history a.user token o)
     → AllByRecursion (IsOther r a.user token one.known.order) (orders policy history)
 others policy history a r token o legal left one =
-    all_and (IsEarlier r) (IsToldApart a.user token one.known.order) (orders policy history) (all_earlier policy history r legal (number_left policy history (steps.Asked a) r left)) one.alone
+    all_and (IsEarlier r) (IsToldApart a.user token one.known.order) (orders policy history) (all_earlier policy history r legal (number_left policy history (Step.Asked a) r left)) one.alone
 
 asks_for_less : (policy : PolicyData) (history : List RecordData) (a : Asked) (r : RecordData) (m : CancelOrder) (o : LiveOrder)
-    → next policy history (steps.Asked a) ≡ Some r → r.verdict ≡ verdicts.Granted → a.request ≡ requests.Cancel m
+    → next policy history (Step.Asked a) ≡ Some r → r.verdict ≡ Verdict.Granted → a.request ≡ Request.Cancel m
     → live_under (live policy history) a.user m.token ≡ Some o → m.shares < o.total
 asks_for_less policy history a r m o left granted asks found =
     leb-false o.total m.shares
     (sym
     (ap (forbids I3 (facts_now policy history a)) asks
-    ∙ ap (λ (x : Option LiveOrder). takes_nothing x (requests.Cancel m)) (named_is policy history a (requests.Cancel m) m.token asks refl ∙ found))
+    ∙ ap (λ (x : Option LiveOrder). takes_nothing x (Request.Cancel m)) (named_is policy history a (Request.Cancel m) m.token asks refl ∙ found))
     ∙ is_no_bar policy history a r left granted I3)
 
 less_open : (size gone total : ℕ) → size < total → gone < total → size - gone < total - gone
 less_open size gone total h k = omega arith
 
-pub may_size : (policy : PolicyData) (history : List RecordData) (a : Asked) (r : RecordData) (m : CancelOrder) (cut : LiveOrder) → IsLegal policy history → next policy history (steps.Asked a) ≡ Some r
-    → a.request ≡ requests.Cancel m → r.verdict ≡ verdicts.Granted → live_under (live policy history) a.user m.token ≡ Some cut → MaySize (world policy history) r cut m.shares
+pub may_size : (policy : PolicyData) (history : List RecordData) (a : Asked) (r : RecordData) (m : CancelOrder) (cut : LiveOrder) → IsLegal policy history → next policy history (Step.Asked a) ≡ Some r
+    → a.request ≡ Request.Cancel m → r.verdict ≡ Verdict.Granted → live_under (live policy history) a.user m.token ≡ Some cut → MaySize (world policy history) r cut m.shares
 may_size policy history a r m cut legal left asks granted found =
-    let g : Grants r a (requests.Cancel m) = it_grants policy history a r (requests.Cancel m) left asks granted in
+    let g : Grants r a (Request.Cancel m) = it_grants policy history a r (Request.Cancel m) left asks granted in
     let one : FindsOne policy history a.user m.token cut = finds_one policy history a.user m.token cut legal found in
     record {
       is_named = is_named policy history a.user m.token cut found;
@@ -119,10 +77,10 @@ may_size policy history a r m cut legal left asks granted found =
     }
 
 -- a granted Replace
-may_replace : (policy : PolicyData) (history : List RecordData) (a : Asked) (r : RecordData) (m : ReplaceOrder) (old : LiveOrder) → IsLegal policy history → next policy history (steps.Asked a) ≡ Some r
-    → a.request ≡ requests.Replace m → r.verdict ≡ verdicts.Granted → live_under (live policy history) a.user m.existing_token ≡ Some old → MayReplace (world policy history) r old (replacement_order r m old)
+may_replace : (policy : PolicyData) (history : List RecordData) (a : Asked) (r : RecordData) (m : ReplaceOrder) (old : LiveOrder) → IsLegal policy history → next policy history (Step.Asked a) ≡ Some r
+    → a.request ≡ Request.Replace m → r.verdict ≡ Verdict.Granted → live_under (live policy history) a.user m.existing_token ≡ Some old → MayReplace (world policy history) r old (replacement_order r m old)
 may_replace policy history a r m old legal left asks granted found =
-    let g : Grants r a (requests.Replace m) = it_grants policy history a r (requests.Replace m) left asks granted in
+    let g : Grants r a (Request.Replace m) = it_grants policy history a r (Request.Replace m) left asks granted in
     let one : FindsOne policy history a.user m.existing_token old = finds_one policy history a.user m.existing_token old legal found in
     record {
       is_named = is_named policy history a.user m.existing_token old found;
@@ -137,17 +95,17 @@ may_replace policy history a r m old legal left asks granted found =
       same_account = refl;
       some_open = more_than_done policy history a r m old left granted asks found;
       alone = all_weaker (IsOther r a.user m.existing_token one.known.order) (λ (x : Order). ends x r ≡ (x.number == old.number))
-          (λ (x : Order) h. ends_by r a (requests.Replace m) x g (lt-ltb x.number r.number h.0) ∙ is_under_swapped a.user m.existing_token x ∙ h.1.by_number ∙ ap (λ (o : LiveOrder). x.number == o.number) one.known.is_it)
+          (λ (x : Order) h. ends_by r a (Request.Replace m) x g (lt-ltb x.number r.number h.0) ∙ is_under_swapped a.user m.existing_token x ∙ h.1.by_number ∙ ap (λ (o : LiveOrder). x.number == o.number) one.known.is_it)
           (orders policy history) (others policy history a r m.existing_token old legal left one);
     }
 
-by_grant : (policy : PolicyData) (history : List RecordData) (a : Asked) (r : RecordData) → IsLegal policy history → next policy history (steps.Asked a) ≡ Some r → r.verdict ≡ verdicts.Granted
+by_grant : (policy : PolicyData) (history : List RecordData) (a : Asked) (r : RecordData) → IsLegal policy history → next policy history (Step.Asked a) ≡ Some r → r.verdict ≡ Verdict.Granted
     → (q : Request) → a.request ≡ q → MayMove policy (world policy history) r (move_asked policy (world policy history) r a q)
-by_grant policy history a r legal left granted (requests.Login m) asks = tt
-by_grant policy history a r legal left granted requests.Logout asks = tt
-by_grant policy history a r legal left granted (requests.Unreadable m) asks =
+by_grant policy history a r legal left granted (Request.Login m) asks = tt
+by_grant policy history a r legal left granted Request.Logout asks = tt
+by_grant policy history a r legal left granted (Request.Unreadable m) asks =
     let denied : true ≡ false = sym (ap is_unreadable asks) ∙ is_no_bar policy history a r left granted G3 in cc
-by_grant policy history a r legal left granted (requests.Enter m) asks =
+by_grant policy history a r legal left granted (Request.Enter m) asks =
     let his : HasAccount _ = entered_has_account policy history a r m left granted asks in
     subst (λ (found : Option AccountName). MayMove policy (world policy history) r (option_map_or (λ (account : AccountName). Adds (new_order policy r a.user account m)) found Nothing)) (sym his.1)
     (record {
@@ -160,30 +118,30 @@ by_grant policy history a r legal left granted (requests.Enter m) asks =
       is_his = his.1;
       not_killed = granted_is_not_killed policy history a r his.0 left granted (ap is_order asks) his.1;
     })
-by_grant policy history a r legal left granted (requests.Replace m) asks =
-    let named : Names policy history a.user m.existing_token = names_live policy history a r (requests.Replace m) m.existing_token left granted asks refl refl in
+by_grant policy history a r legal left granted (Request.Replace m) asks =
+    let named : Names policy history a.user m.existing_token = names_live policy history a r (Request.Replace m) m.existing_token left granted asks refl refl in
     subst (λ (found : Option LiveOrder). MayMove policy (world policy history) r (option_map_or (λ (old : LiveOrder). Replaces old (replacement_order r m old)) found Nothing)) (sym named.1)
     (may_replace policy history a r m named.0 legal left asks granted named.1)
-by_grant policy history a r legal left granted (requests.Cancel m) asks =
-    let named : Names policy history a.user m.token = names_live policy history a r (requests.Cancel m) m.token left granted asks refl refl in
+by_grant policy history a r legal left granted (Request.Cancel m) asks =
+    let named : Names policy history a.user m.token = names_live policy history a r (Request.Cancel m) m.token left granted asks refl refl in
     subst (λ (found : Option LiveOrder). MayMove policy (world policy history) r (option_map_or (λ (cut : LiveOrder). Sizes cut m.shares) found Nothing)) (sym named.1)
     (may_size policy history a r m named.0 legal left asks granted named.1)
-by_grant policy history a r legal left granted (requests.Command c) asks =
+by_grant policy history a r legal left granted (Request.Command c) asks =
     names_are_known policy history a r c.action (grants_the_command policy history a r c c.action left asks refl granted) left
 
-by_asked : (policy : PolicyData) (history : List RecordData) (a : Asked) (r : RecordData) → IsLegal policy history → next policy history (steps.Asked a) ≡ Some r
-    → (v : Verdict) → r.verdict ≡ v → MayMove policy (world policy history) r (move_by policy (world policy history) r v (steps.Asked a))
-by_asked policy history a r legal left verdicts.Granted e = by_grant policy history a r legal left e a.request refl
-by_asked policy history a r legal left (verdicts.Denied rule) e = tt
-by_asked policy history a r legal left (verdicts.Filled f) e = let judged : false ≡ true = ap is_judged (sym e) ∙ asked_is_judged policy history a r left in cc
-by_asked policy history a r legal left (verdicts.Rested number) e = let judged : false ≡ true = ap is_judged (sym e) ∙ asked_is_judged policy history a r left in cc
-by_asked policy history a r legal left (verdicts.Expired number) e = let judged : false ≡ true = ap is_judged (sym e) ∙ asked_is_judged policy history a r left in cc
+by_asked : (policy : PolicyData) (history : List RecordData) (a : Asked) (r : RecordData) → IsLegal policy history → next policy history (Step.Asked a) ≡ Some r
+    → (v : Verdict) → r.verdict ≡ v → MayMove policy (world policy history) r (move_by policy (world policy history) r v (Step.Asked a))
+by_asked policy history a r legal left Verdict.Granted e = by_grant policy history a r legal left e a.request refl
+by_asked policy history a r legal left (Verdict.Denied rule) e = tt
+by_asked policy history a r legal left (Verdict.Filled f) e = let judged : false ≡ true = ap is_judged (sym e) ∙ asked_is_judged policy history a r left in cc
+by_asked policy history a r legal left (Verdict.Rested number) e = let judged : false ≡ true = ap is_judged (sym e) ∙ asked_is_judged policy history a r left in cc
+by_asked policy history a r legal left (Verdict.Expired number) e = let judged : false ≡ true = ap is_judged (sym e) ∙ asked_is_judged policy history a r left in cc
 
 pub may_move : MovesAreAllowed
-may_move policy history (steps.Asked a) r legal left =
-    subst (λ (s : Step). MayMove policy (world policy history) r (move_by policy (world policy history) r r.verdict s)) (sym (step_left policy history (steps.Asked a) r left)) (by_asked policy history a r legal left r.verdict refl)
-may_move policy history (steps.Matching handed) r legal left =
-    subst (λ (s : Step). MayMove policy (world policy history) r (move_by policy (world policy history) r r.verdict s)) (sym (step_left policy history (steps.Matching handed) r left)) (may_match policy history handed r r.verdict left refl)
+may_move policy history (Step.Asked a) r legal left =
+    subst (λ (s : Step). MayMove policy (world policy history) r (move_by policy (world policy history) r r.verdict s)) (sym (step_left policy history (Step.Asked a) r left)) (by_asked policy history a r legal left r.verdict refl)
+may_move policy history (Step.Matching handed) r legal left =
+    subst (λ (s : Step). MayMove policy (world policy history) r (move_by policy (world policy history) r r.verdict s)) (sym (step_left policy history (Step.Matching handed) r left)) (may_match policy history handed r r.verdict left refl)
 
 -- by its verdict
 pub may_by : (policy : PolicyData) (history : List RecordData) (step : Step) (r : RecordData) (v : Verdict) → IsLegal policy history → next policy history step ≡ Some r → r.verdict ≡ v

@@ -1,25 +1,10 @@
 -- The live order that a granted Cancel or Replace names, and the orders before its record.
 use Rattle.std.proofs.Common.{◌≡◌, ◌+◌, ◌<◌, Bool, true, false, List, refl, ◌∙◌, ap, sym, length}
-use Rattle.std.specs.Prelude.{Option, Some, None, ◌&&◌, is_none, option_and_then}
-use Rattle.std.specs.List.{AllByRecursion}
-use Rattle.gx_units.specs.declared.names.Token.{Token}
-use Rattle.gx_units.specs.declared.names.UserName.{UserName}
-use Rattle.gx_policy.specs.declared.policy.PolicyData.{PolicyData}
-use Rattle.gx_policy.specs.declared.rule_name.RuleName.TheVariants.{I2}
-use Rattle.gx_history.specs.declared.live_order.LiveOrder.{LiveOrder}
-use Rattle.gx_history.specs.declared.record.Asked.{Asked}
-use Rattle.gx_history.specs.declared.record.RecordData.{RecordData}
-use Rattle.gx_history.specs.declared.record.Request.{Request}
-use Rattle.gx_history.specs.declared.record.Step.TheVariants as steps
-use Rattle.gx_history.specs.declared.record.Verdict.TheVariants as verdicts
-use Rattle.gx_history.specs.Asking.{facts, live_named}
-use Rattle.gx_history.specs.Live.{live, live_under}
-use Rattle.gx_history.specs.Orders.{Order, orders}
-use Rattle.gx_history.specs.Requests.{named_token, names_order}
-use Rattle.gx_history.specs.Verdicts.{next, facts_now, IsLegal}
-use Rattle.gx_history_laws.proofs.Ends.{sooner}
-use Rattle.gx_history_laws.proofs.Granting.{is_no_bar}
-use Rattle.gx_history_laws.proofs.Numbers.{numbers_are_within}
+use Rattle.std.specs.{Prelude.{Option, Some, None, ◌&&◌, is_none, option_and_then}, List.AllByRecursion}
+use Rattle.gx_units.specs.declared.names.{Token.Token, UserName.UserName}
+use Rattle.gx_policy.specs.declared.{policy.PolicyData.PolicyData, rule_name.RuleName.TheVariants.I2}
+use Rattle.gx_history.specs.{declared.{live_order.LiveOrder.LiveOrder, «record».{Asked.Asked, RecordData.RecordData, Request.Request, Step.Step, Verdict.Verdict}}, Asking.{facts, live_named}, Live.{live, live_under}, Orders.{Order, orders}, Requests.{named_token, names_order}, Verdicts.{next, facts_now, IsLegal}}
+use Rattle.gx_history_laws.proofs.{Ends.sooner, Granting.is_no_bar, Numbers.numbers_are_within}
 
 -- the order came before the record
 abbrev pub IsEarlier : RecordData → Order → Type 0
@@ -40,7 +25,7 @@ Names policy history user token = (o : LiveOrder) × (live_under (live policy hi
 
 -- a granted Cancel or Replace names a live order
 pub names_live : (policy : PolicyData) (history : List RecordData) (a : Asked) (r : RecordData) (q : Request) (token : Token)
-    → next policy history (steps.Asked a) ≡ Some r → r.verdict ≡ verdicts.Granted → a.request ≡ q → names_order q ≡ true → named_token q ≡ Some token → Names policy history a.user token
+    → next policy history (Step.Asked a) ≡ Some r → r.verdict ≡ Verdict.Granted → a.request ≡ q → names_order q ≡ true → named_token q ≡ Some token → Names policy history a.user token
 names_live policy history a r q token left granted asks named under =
     at (live_under (live policy history) a.user token) refl
     (sym (ap is_none (named_is policy history a q token asks under))

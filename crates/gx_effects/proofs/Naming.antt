@@ -1,34 +1,14 @@
 -- The live order that a Cancel or a Replace names is the one order of its user under the token.
-use Rattle.std.proofs.Common.{◌≡◌, ℕ, ◌+◌, ◌-◌, ◌<◌, Bool, true, false, List, refl, ◌∙◌, ap, sym, arith, inl, inr}
-use Rattle.std.specs.Prelude.{Option, Some, None, ◌&&◌, ◌==◌, is_none, nat_lt, not, option_and_then}
-use Rattle.std.specs.List.{AllByRecursion}
-use Rattle.std.proofs.lemmas.Bool.{eq-eqb}
-use Rattle.gx_units.specs.declared.names.Token.{Token}
-use Rattle.gx_units.specs.declared.names.UserName.{UserName}
-use Rattle.gx_units.specs.Names.{same_user, same_token}
+use Rattle.std.proofs.{Common.{◌≡◌, ℕ, ◌+◌, ◌-◌, ◌<◌, Bool, true, false, List, refl, ◌∙◌, ap, sym, arith, inl, inr}, lemmas.Bool.eq-eqb}
+use Rattle.std.specs.{Prelude.{Option, Some, None, ◌&&◌, ◌==◌, is_none, nat_lt, not, option_and_then}, List.AllByRecursion}
+use Rattle.gx_units.specs.{declared.names.{Token.Token, UserName.UserName}, Names.{same_user, same_token}}
 use Rattle.gx_policy.specs.declared.policy.PolicyData.{PolicyData}
-use Rattle.gx_history.specs.declared.live_order.LiveOrder.{LiveOrder}
-use Rattle.gx_history.specs.declared.record.RecordData.{RecordData}
-use Rattle.gx_history.specs.Book.{rested}
-use Rattle.gx_history.specs.Executions.{done, executions}
-use Rattle.gx_history.specs.Live.{has_come, live, live_under, open_now, open_order}
+use Rattle.gx_history.specs.{declared.{live_order.LiveOrder.LiveOrder, «record».RecordData.RecordData}, Book.rested, Executions.{done, executions}, Live.{has_come, live, live_under, open_now, open_order}, LiveOrders.shares_open, Orders.{Order, is_dead, orders, order_under, total}, Verdicts.IsLegal}
 use Rattle.gx_history.specs.LiveOrders as lives
-use Rattle.gx_history.specs.LiveOrders.{shares_open}
-use Rattle.gx_history.specs.Orders.{Order, is_dead, orders, order_under, total}
-use Rattle.gx_history.specs.Verdicts.{IsLegal}
 use Rattle.gx_history_laws.specs.Laws.{is_same_token}
-use Rattle.gx_history_laws.proofs.Adding.{user_is, token_is, user_is_itself, token_is_itself, found_passes, under_known}
-use Rattle.gx_history_laws.proofs.Ends.{live_have_open}
-use Rattle.gx_history_laws.proofs.Judging.{both}
-use Rattle.gx_history_laws.proofs.Names.{same_token_flip, same_user_flip}
-use Rattle.gx_history_laws.proofs.Numbers.{all_weaker}
-use Rattle.gx_history_laws.proofs.Owners.{last_such_is}
-use Rattle.gx_history_laws.proofs.Tokens.{tokens_differ}
+use Rattle.gx_history_laws.proofs.{Adding.{user_is, token_is, user_is_itself, token_is_itself, found_passes, under_known}, Ends.live_have_open, Judging.both, Names.{same_token_flip, same_user_flip}, Numbers.all_weaker, Owners.last_such_is, Tokens.tokens_differ}
 use Rattle.gx_effects.specs.Laws.{LiveOrdersAreTheOne, TotalsAreOpenAndDone}
-use Rattle.gx_effects.proofs.Among.{IsIn, all_and, all_are_in, IsItOrOther, others_differ}
-use Rattle.gx_effects.proofs.Apart.{others_apart}
-use Rattle.gx_effects.proofs.Entered.{all_found_of, open_parts}
-use Rattle.gx_effects.proofs.Orderly.{legal_is_orderly, number_of}
+use Rattle.gx_effects.proofs.{Among.{IsIn, all_and, all_are_in, IsItOrOther, others_differ}, Apart.others_apart, Entered.{all_found_of, open_parts}, Orderly.{legal_is_orderly, number_of}}
 
 abbrev same_number : Order → Order → Bool
 same_number a b = a.number == b.number

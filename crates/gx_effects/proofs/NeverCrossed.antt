@@ -1,41 +1,12 @@
 -- No book is crossed: an invariant of the sides, by what each record does.
-use Rattle.std.proofs.Common.{◌≡◌, ℕ, ◌<◌, ◌≤◌, Bool, true, false, not, List, [], ◌∷◌, ◌++◌, refl, ◌∙◌, ap, sym, cond, arith}
-use Rattle.std.proofs.Math.Path.{subst}
-use Rattle.std.specs.Prelude.{Option, Some, None, ◌&&◌, nat_le}
-use Rattle.std.specs.Option.{option_map_or}
-use Rattle.std.specs.List.{AllByRecursion, filter_map}
-use Rattle.std.proofs.lemmas.Bool.{leb-false, ltb-false, lt-leb, and_parts}
-use Rattle.gx_units.specs.declared.names.Symbol.{Symbol}
-use Rattle.gx_units.specs.Names.{same_stock}
+use Rattle.std.proofs.{Common.{◌≡◌, ℕ, ◌<◌, ◌≤◌, Bool, true, false, not, List, [], ◌∷◌, ◌++◌, refl, ◌∙◌, ap, sym, cond, arith}, Math.Path.subst, lemmas.Bool.{leb-false, ltb-false, lt-leb, and_parts}}
+use Rattle.std.specs.{Prelude.{Option, Some, None, ◌&&◌, nat_le}, Option.option_map_or, List.{AllByRecursion, filter_map}}
+use Rattle.gx_units.specs.{declared.names.Symbol.Symbol, Names.same_stock}
 use Rattle.gx_ouch.specs.declared.outbound.OrderTerms.{OrderTerms}
-use Rattle.gx_policy.specs.declared.policy.PolicyData.{PolicyData}
-use Rattle.gx_policy.specs.Lists.{IsInOrder, placed}
-use Rattle.gx_history.specs.declared.live_order.LiveOrder.{LiveOrder}
-use Rattle.gx_history.specs.declared.record.RecordData.{RecordData}
-use Rattle.gx_history.specs.declared.record.Step.{Step}
-use Rattle.gx_history.specs.declared.record.Step.TheVariants as steps
-use Rattle.gx_history.specs.declared.record.Verdict.{Verdict}
-use Rattle.gx_history.specs.declared.record.Verdict.TheVariants as verdicts
-use Rattle.gx_history.specs.Book.{is_buy, rested_of}
-use Rattle.gx_history.specs.Live.{ahead, is_buy_order, is_there, side, live_numbered, live}
-use Rattle.gx_history.specs.Matched.{AreUncrossed}
-use Rattle.gx_history.specs.Matching.{crosses, meets_none}
-use Rattle.gx_history.specs.MayMove.{MayRest, opposite}
-use Rattle.gx_history.specs.Requests.{is_judged}
-use Rattle.gx_history.specs.Turns.{Turn, becomes, side_turned}
-use Rattle.gx_history.specs.Verdicts.{IsLegal, next}
-use Rattle.gx_history.specs.World.{turn_by, world}
-use Rattle.gx_history_laws.proofs.Granting.{asked_is_judged, legal_keeps}
-use Rattle.gx_history_laws.proofs.Names.{stock_is}
-use Rattle.gx_history_laws.proofs.NextReports.{legal_next, legal_none}
-use Rattle.gx_history_laws.proofs.Numbers.{all_weaker}
-use Rattle.gx_effects.proofs.Among.{all_and}
-use Rattle.gx_effects.proofs.Entered.{all_found_of}
-use Rattle.gx_effects.proofs.Known.{RestsThere, all_placed, all_resting, first_waiting}
-use Rattle.gx_effects.proofs.Matches.{may_match}
-use Rattle.gx_effects.proofs.Ordered.{resting_ordered}
-use Rattle.gx_effects.proofs.Orderly.{IsOrderly, legal_is_orderly}
-use Rattle.gx_effects.proofs.Sides.{becomes_same, goes, other_turn, side_next}
+use Rattle.gx_policy.specs.{declared.policy.PolicyData.PolicyData, Lists.{IsInOrder, placed}}
+use Rattle.gx_history.specs.{declared.{live_order.LiveOrder.LiveOrder, «record».{RecordData.RecordData, Step.Step, Verdict.Verdict}}, Book.{is_buy, rested_of}, Live.{ahead, is_buy_order, is_there, side, live_numbered, live}, Matched.AreUncrossed, Matching.{crosses, meets_none}, MayMove.{MayRest, opposite}, Requests.is_judged, Turns.{Turn, becomes, side_turned}, Verdicts.{IsLegal, next}, World.{turn_by, world}}
+use Rattle.gx_history_laws.proofs.{Granting.{asked_is_judged, legal_keeps}, Names.stock_is, NextReports.{legal_next, legal_none}, Numbers.all_weaker}
+use Rattle.gx_effects.proofs.{Among.all_and, Entered.all_found_of, Known.{RestsThere, all_placed, all_resting, first_waiting}, Matches.may_match, Ordered.resting_ordered, Orderly.{IsOrderly, legal_is_orderly}, Sides.{becomes_same, goes, other_turn, side_next}}
 
 -- no buy crosses a sell
 abbrev Apart : List LiveOrder → List LiveOrder → Type 0
@@ -79,7 +50,7 @@ abbrev placed_on : Bool → Bool → LiveOrder → List LiveOrder → List LiveO
 placed_on goes buy o found = cond goes (placed (ahead buy) found (record o { waits = false })) found
 
 side_rests : (policy : PolicyData) (history : List RecordData) (step : Step) (r : RecordData) (number : ℕ) (stock : Symbol) (buy : Bool) → IsLegal policy history → next policy history step ≡ Some r
-    → r.verdict ≡ verdicts.Rested number
+    → r.verdict ≡ Verdict.Rested number
     → (may : MayRest (world policy history) r number) → side policy (history ++ r ∷ []) stock buy ≡ placed_on (is_there stock buy may.first) buy may.first (side policy history stock buy)
 side_rests policy history step r number stock buy legal left rests may =
     side_next policy history step r stock buy legal left
@@ -138,16 +109,16 @@ one_more policy history step r stock legal left h = by step r.verdict left refl
         (turned_apart turn (side policy history stock true) (side policy history stock false) h)
 
     by : (s : Step) (v : Verdict) → next policy history s ≡ Some r → r.verdict ≡ v → AreApartAt policy (history ++ r ∷ []) stock
-    by (steps.Asked a) (verdicts.Rested number) left e = let judged : false ≡ true = ap is_judged (sym e) ∙ asked_is_judged policy history a r left in cc
-    by (steps.Matching handed) (verdicts.Rested number) left e =
+    by (Step.Asked a) (Verdict.Rested number) left e = let judged : false ≡ true = ap is_judged (sym e) ∙ asked_is_judged policy history a r left in cc
+    by (Step.Matching handed) (Verdict.Rested number) left e =
         let orderly : IsOrderly policy history = legal_is_orderly policy history legal in
-        let may : MayRest (world policy history) r number = may_match policy history handed r (verdicts.Rested number) left e in
-        sides (λ buy. placed_on (is_there stock buy may.first) buy may.first (side policy history stock buy)) (λ buy. side_rests policy history (steps.Matching handed) r number stock buy legal left e may)
+        let may : MayRest (world policy history) r number = may_match policy history handed r (Verdict.Rested number) left e in
+        sides (λ buy. placed_on (is_there stock buy may.first) buy may.first (side policy history stock buy)) (λ buy. side_rests policy history (Step.Matching handed) r number stock buy legal left e may)
         (placed_apart policy history stock may.first orderly may.meets_nothing h)
-    by s verdicts.Granted left e = kept verdicts.Granted e refl
-    by s (verdicts.Denied rule) left e = kept (verdicts.Denied rule) e refl
-    by s (verdicts.Filled f) left e = kept (verdicts.Filled f) e refl
-    by s (verdicts.Expired number) left e = kept (verdicts.Expired number) e refl
+    by s Verdict.Granted left e = kept Verdict.Granted e refl
+    by s (Verdict.Denied rule) left e = kept (Verdict.Denied rule) e refl
+    by s (Verdict.Filled f) left e = kept (Verdict.Filled f) e refl
+    by s (Verdict.Expired number) left e = kept (Verdict.Expired number) e refl
 
 none_rest : (policy : PolicyData) (stock : Symbol) (buy : Bool) → side policy [] stock buy ≡ []
 unfolding side

@@ -1,25 +1,10 @@
 -- An order numbered past all records is not dead, has its full size, and has no fills.
-use Rattle.std.proofs.Common.{◌≡◌, ℕ, ◌+◌, ◌<◌, ◌≤◌, Bool, true, false, List, [], ◌∷◌, ◌++◌, refl, ◌∙◌, ap, sym, map, length, arith, cond, length-append, sum_by}
-use Rattle.std.proofs.Math.Path.{subst}
-use Rattle.std.specs.Prelude.{Option, Some, None, ◌&&◌, ◌||◌, ◌==◌, nat_lt, filter_map, find, unwrap_or, option_to_list}
-use Rattle.std.specs.List.{list_any, cons_option, last_or, AllByRecursion}
-use Rattle.std.proofs.lemmas.Bool.{le-ltb, ne_eqb}
-use Rattle.std.proofs.lemmas.List.Sums.{sum_by-cons}
+use Rattle.std.proofs.{Common.{◌≡◌, ℕ, ◌+◌, ◌<◌, ◌≤◌, Bool, true, false, List, [], ◌∷◌, ◌++◌, refl, ◌∙◌, ap, sym, map, length, arith, cond, length-append, sum_by}, Math.Path.subst, lemmas.{Bool.{le-ltb, ne_eqb}, List.Sums.sum_by-cons}}
+use Rattle.std.specs.{Prelude.{Option, Some, None, ◌&&◌, ◌||◌, ◌==◌, nat_lt, filter_map, find, unwrap_or, option_to_list}, List.{list_any, cons_option, last_or, AllByRecursion}}
 use Rattle.gx_policy.specs.declared.policy.PolicyData.{PolicyData}
-use Rattle.gx_history.specs.declared.record.Fill.{Fill}
-use Rattle.gx_history.specs.declared.record.RecordData.{RecordData}
-use Rattle.gx_history.specs.declared.record.Verdict.{Verdict}
-use Rattle.gx_history.specs.declared.record.Verdict.TheVariants as verdicts
-use Rattle.gx_history.specs.Orders.{Order, orders, order_numbered, total, is_dead, ends, size_set}
+use Rattle.gx_history.specs.{declared.record.{Fill.Fill, RecordData.RecordData, Verdict.Verdict}, Orders.{Order, orders, order_numbered, total, is_dead, ends, size_set}, Executions.{Execution, executions, executed, shares_for, sides, side_of, done}, Verdicts.IsLegal}
 use Rattle.gx_ouch.specs.declared.letters.Liquidity.{Liquidity}
-use Rattle.gx_ouch.specs.declared.letters.Liquidity.TheVariants as liquidities
-use Rattle.gx_history.specs.Executions.{Execution, executions, executed, shares_for, sides, side_of, done}
-use Rattle.gx_history.specs.Verdicts.{IsLegal}
-use Rattle.gx_history_laws.proofs.Granting.{legal_keeps}
-use Rattle.gx_history_laws.proofs.NextOrders.{executions_none, executions_next}
-use Rattle.gx_history_laws.proofs.Numbers.{all_weaker, NumbersAreWithin, none_within, one_more_within}
-use Rattle.gx_history_laws.proofs.Order.{some_same}
-use Rattle.gx_history_laws.proofs.Owners.{all_both}
+use Rattle.gx_history_laws.proofs.{Granting.legal_keeps, NextOrders.{executions_none, executions_next}, Numbers.{all_weaker, NumbersAreWithin, none_within, one_more_within}, Order.some_same, Owners.all_both}
 
 -- each record's number is below this one
 abbrev pub AreBefore : ℕ → List RecordData → Type 0
@@ -78,13 +63,13 @@ side_within limit known f liquidity number h = at (order_numbered known number) 
 
 sides_within : (policy : PolicyData) (history : List RecordData) (v : Verdict) → NumbersAreWithin policy history
     → AllByRecursion (λ (e : Execution). e.order.number ≤ length history) (sides policy history v)
-sides_within policy history verdicts.Granted h = tt
-sides_within policy history (verdicts.Denied rule) h = tt
-sides_within policy history (verdicts.Filled f) h =
-    all_both (λ (e : Execution). e.order.number ≤ length history) (side_of (orders policy history) f liquidities.Removed f.taker) (side_of (orders policy history) f liquidities.Added f.maker)
-    (side_within (length history) (orders policy history) f liquidities.Removed f.taker h) (side_within (length history) (orders policy history) f liquidities.Added f.maker h)
-sides_within policy history (verdicts.Rested o) h = tt
-sides_within policy history (verdicts.Expired o) h = tt
+sides_within policy history Verdict.Granted h = tt
+sides_within policy history (Verdict.Denied rule) h = tt
+sides_within policy history (Verdict.Filled f) h =
+    all_both (λ (e : Execution). e.order.number ≤ length history) (side_of (orders policy history) f Liquidity.Removed f.taker) (side_of (orders policy history) f Liquidity.Added f.maker)
+    (side_within (length history) (orders policy history) f Liquidity.Removed f.taker h) (side_within (length history) (orders policy history) f Liquidity.Added f.maker h)
+sides_within policy history (Verdict.Rested o) h = tt
+sides_within policy history (Verdict.Expired o) h = tt
 
 one_more_fill : (policy : PolicyData) (history : List RecordData) (r : RecordData) → NumbersAreWithin policy history → FillsAreWithin policy history → FillsAreWithin policy (history ++ r ∷ [])
 one_more_fill policy history r numbers fills =

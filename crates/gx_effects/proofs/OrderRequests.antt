@@ -1,35 +1,20 @@
 -- What a granted request says of its record, and that one for no order changes none.
 use Rattle.std.proofs.Common.{◌≡◌, ℕ, Bool, true, false, List, [], refl, ◌∙◌, ap, cond}
-use Rattle.std.specs.Prelude.{Option, Some, None, ◌||◌, ◌&&◌, option_and_then, nat_lt}
-use Rattle.std.specs.Option.{option_map_or}
+use Rattle.std.specs.{Prelude.{Option, Some, None, ◌||◌, ◌&&◌, option_and_then, nat_lt}, Option.option_map_or}
 use Rattle.gx_units.specs.declared.names.UserName.{UserName}
 use Rattle.gx_policy.specs.declared.policy.PolicyData.{PolicyData}
-use Rattle.gx_history.specs.declared.record.Asked.{Asked}
-use Rattle.gx_history.specs.declared.record.Login.{Login}
-use Rattle.gx_history.specs.declared.record.RecordData.{RecordData}
-use Rattle.gx_history.specs.declared.record.Request.{Request}
-use Rattle.gx_history.specs.declared.record.Request.TheVariants as requests
-use Rattle.gx_history.specs.declared.record.Step.TheVariants as steps
-use Rattle.gx_history.specs.declared.record.Verdict.{Verdict}
-use Rattle.gx_history.specs.declared.record.Verdict.TheVariants as verdicts
-use Rattle.gx_history.specs.Book.{rested_of}
-use Rattle.gx_history.specs.Executions.{sides}
-use Rattle.gx_history.specs.Orders.{Order, orders, orders_added, orders_made, size_asked, size_set, ends, ends_by_request, expires}
-use Rattle.gx_history.specs.Requests.{granted}
-use Rattle.gx_history.specs.Verdicts.{next}
-use Rattle.gx_history_laws.proofs.Adding.{granted_is}
-use Rattle.gx_history_laws.proofs.Keeping.{AddsNothing, EndsNone}
-use Rattle.gx_history_laws.proofs.Runs.{step_left}
+use Rattle.gx_history.specs.{declared.record.{Asked.Asked, Login.Login, RecordData.RecordData, Request.Request, Step.Step, Verdict.Verdict}, Book.rested_of, Executions.sides, Orders.{Order, orders, orders_added, orders_made, size_asked, size_set, ends, ends_by_request, expires}, Requests.granted, Verdicts.next}
+use Rattle.gx_history_laws.proofs.{Adding.granted_is, Keeping.{AddsNothing, EndsNone}, Runs.step_left}
 
 -- the record grants this request of a
 pub record Grants (r : RecordData) (a : Asked) (q : Request) : Type 0 where
-  pub asks : r.step ≡ steps.Asked a
-  pub grants : r.verdict ≡ verdicts.Granted
+  pub asks : r.step ≡ Step.Asked a
+  pub grants : r.verdict ≡ Verdict.Granted
   pub is_for : a.request ≡ q
 
 pub it_grants : (policy : PolicyData) (history : List RecordData) (a : Asked) (r : RecordData) (q : Request)
-    → next policy history (steps.Asked a) ≡ Some r → a.request ≡ q → r.verdict ≡ verdicts.Granted → Grants r a q
-it_grants policy history a r q left asks granted = record { asks = step_left policy history (steps.Asked a) r left; grants = granted; is_for = asks }
+    → next policy history (Step.Asked a) ≡ Some r → a.request ≡ q → r.verdict ≡ Verdict.Granted → Grants r a q
+it_grants policy history a r q left asks granted = record { asks = step_left policy history (Step.Asked a) r left; grants = granted; is_for = asks }
 
 -- what the record says of an earlier order
 pub size_by : (r : RecordData) (a : Asked) (q : Request) (o : Order) → Grants r a q → nat_lt o.number r.number ≡ true → size_set o r ≡ size_asked o a.user q
@@ -60,10 +45,10 @@ pub record IsQuiet (q : Request) : Type 0 where
   pub ends_none : (o : Order) (user : UserName) → ends_by_request o user q ≡ false
 
 -- a login and a logout make, size and end no order
-pub login_is_quiet : (m : Login) → IsQuiet (requests.Login m)
+pub login_is_quiet : (m : Login) → IsQuiet (Request.Login m)
 login_is_quiet m = record { makes_none = λ policy known r user. refl; sizes_none = λ o user. refl; ends_none = λ o user. refl }
 
-pub logout_is_quiet : IsQuiet requests.Logout
+pub logout_is_quiet : IsQuiet Request.Logout
 logout_is_quiet = record { makes_none = λ policy known r user. refl; sizes_none = λ o user. refl; ends_none = λ o user. refl }
 
 size_quiet : (r : RecordData) (a : Asked) (q : Request) (o : Order) → Grants r a q → IsQuiet q → size_set o r ≡ None

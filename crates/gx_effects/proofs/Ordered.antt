@@ -1,18 +1,11 @@
 -- The list in the order of prices has the best first.
-use Rattle.std.proofs.Common.{◌≡◌, Bool, true, false, not, List, [], ◌∷◌, ◌++◌, refl, cond, arith, fold}
+use Rattle.std.proofs.{Common.{◌≡◌, Bool, true, false, not, List, [], ◌∷◌, ◌++◌, refl, cond, arith, fold}, lemmas.Bool.le-ltb}
 use Rattle.std.specs.List.{filter, AllByRecursion}
-use Rattle.std.proofs.lemmas.Bool.{le-ltb}
 use Rattle.gx_units.specs.declared.names.Symbol.{Symbol}
-use Rattle.gx_policy.specs.declared.policy.PolicyData.{PolicyData}
-use Rattle.gx_policy.specs.Lists.{placed, IsInOrder}
-use Rattle.gx_history.specs.declared.live_order.LiveOrder.{LiveOrder}
-use Rattle.gx_history.specs.declared.record.RecordData.{RecordData}
-use Rattle.gx_history.specs.Live.{ahead, side, by_time}
-use Rattle.gx_history_laws.proofs.Adding.{all_pass}
-use Rattle.gx_history_laws.proofs.Numbers.{all_weaker}
-use Rattle.gx_history_laws.proofs.Owners.{all_both, filtered}
-use Rattle.gx_effects.proofs.Priority.{IsRanking}
-use Rattle.gx_effects.proofs.Sides.{prices_rank}
+use Rattle.gx_policy.specs.{declared.policy.PolicyData.PolicyData, Lists.{placed, IsInOrder}}
+use Rattle.gx_history.specs.{declared.{live_order.LiveOrder.LiveOrder, «record».RecordData.RecordData}, Live.{ahead, side, by_time}}
+use Rattle.gx_history_laws.proofs.{Adding.all_pass, Numbers.all_weaker, Owners.{all_both, filtered}}
+use Rattle.gx_effects.proofs.{Priority.IsRanking, Sides.prices_rank}
 
 -- y is no better than x
 abbrev pub IsNoBetter : {X : Type 0} → (X → X → Bool) → X → X → Type 0

@@ -1,46 +1,12 @@
 -- What every run keeps of its orders: numbers that differ, replaced orders that have ended, and one rest an order.
-use Rattle.std.proofs.Common.{◌≡◌, ℕ, ◌+◌, ◌<◌, ◌≤◌, Bool, true, false, not, List, [], ◌∷◌, ◌++◌, refl, ◌∙◌, ap, sym, cond, length, arith, length-append, inl, inr, ◌⊎◌}
-use Rattle.std.proofs.Math.Path.{subst}
-use Rattle.std.specs.Prelude.{Option, Some, None, find, option_to_list, ◌&&◌, ◌||◌, ◌==◌}
-use Rattle.std.specs.Option.{option_map_or}
-use Rattle.std.specs.List.{list_any, AllByRecursion}
-use Rattle.std.proofs.lemmas.Bool.{lt-ltb, eq-eqb}
-use Rattle.std.proofs.lemmas.List.{append-nil}
-use Rattle.gx_units.specs.declared.names.AccountName.{AccountName}
-use Rattle.gx_units.specs.declared.names.Token.{Token}
-use Rattle.gx_units.specs.declared.names.UserName.{UserName}
-use Rattle.gx_units.specs.Names.{same_user, same_token}
-use Rattle.gx_ouch.specs.declared.inbound.EnterOrder.{EnterOrder}
-use Rattle.gx_ouch.specs.declared.inbound.ReplaceOrder.{ReplaceOrder}
-use Rattle.gx_policy.specs.declared.policy.PolicyData.{PolicyData}
-use Rattle.gx_policy.specs.People.{account_of}
-use Rattle.gx_history.specs.declared.live_order.LiveOrder.{LiveOrder}
-use Rattle.gx_history.specs.declared.record.Asked.{Asked}
-use Rattle.gx_history.specs.declared.record.RecordData.{RecordData}
-use Rattle.gx_history.specs.declared.record.Request.{Request}
-use Rattle.gx_history.specs.declared.record.Request.TheVariants as requests
-use Rattle.gx_history.specs.declared.record.Step.{Step}
-use Rattle.gx_history.specs.declared.record.Step.TheVariants as steps
-use Rattle.gx_history.specs.declared.record.Verdict.{Verdict}
-use Rattle.gx_history.specs.declared.record.Verdict.TheVariants as verdicts
-use Rattle.gx_history.specs.Book.{rested, rested_of}
-use Rattle.gx_history.specs.Executions.{done, executions}
-use Rattle.gx_history.specs.Live.{waiting, has_come, live, open_now}
-use Rattle.gx_history.specs.MayMove.{MayRest}
-use Rattle.gx_history.specs.Orders.{total, Order, orders, orders_added, orders_made, order_under, order_numbered, entered, replacing, is_dead, ends, ends_by_request, expires}
-use Rattle.gx_history.specs.Requests.{granted, is_judged}
-use Rattle.gx_history.specs.Verdicts.{next, IsLegal}
-use Rattle.gx_history.specs.World.{world}
-use Rattle.gx_history_laws.proofs.Adding.{user_is, token_is, user_is_itself, token_is_itself, found_passes, all_pass}
-use Rattle.gx_history_laws.proofs.Granting.{legal_keeps, asked_is_judged}
-use Rattle.gx_history_laws.proofs.Judging.{both}
-use Rattle.gx_history_laws.proofs.NextOrders.{orders_none, orders_next, is_dead_next, rested_next}
-use Rattle.gx_history_laws.proofs.Numbers.{all_weaker, number_left}
-use Rattle.gx_history_laws.proofs.Owners.{all_both, filtered, last_such_is}
-use Rattle.gx_effects.proofs.Among.{all_and}
-use Rattle.gx_effects.proofs.Apart.{AreApart, IsApartFrom, apart_next, apart_are_found}
-use Rattle.gx_effects.proofs.Entered.{all_found_of, open_parts}
-use Rattle.gx_effects.proofs.Matches.{may_match}
+use Rattle.std.proofs.{Common.{◌≡◌, ℕ, ◌+◌, ◌<◌, ◌≤◌, Bool, true, false, not, List, [], ◌∷◌, ◌++◌, refl, ◌∙◌, ap, sym, cond, length, arith, length-append, inl, inr, ◌⊎◌}, Math.Path.subst, lemmas.{Bool.{lt-ltb, eq-eqb}, List.append-nil}}
+use Rattle.std.specs.{Prelude.{Option, Some, None, find, option_to_list, ◌&&◌, ◌||◌, ◌==◌}, Option.option_map_or, List.{list_any, AllByRecursion}}
+use Rattle.gx_units.specs.{declared.names.{AccountName.AccountName, Token.Token, UserName.UserName}, Names.{same_user, same_token}}
+use Rattle.gx_ouch.specs.declared.inbound.{EnterOrder.EnterOrder, ReplaceOrder.ReplaceOrder}
+use Rattle.gx_policy.specs.{declared.policy.PolicyData.PolicyData, People.account_of}
+use Rattle.gx_history.specs.{declared.{live_order.LiveOrder.LiveOrder, «record».{Asked.Asked, RecordData.RecordData, Request.Request, Step.Step, Verdict.Verdict}}, Book.{rested, rested_of}, Executions.{done, executions}, Live.{waiting, has_come, live, open_now}, MayMove.MayRest, Orders.{total, Order, orders, orders_added, orders_made, order_under, order_numbered, entered, replacing, is_dead, ends, ends_by_request, expires}, Requests.{granted, is_judged}, Verdicts.{next, IsLegal}, World.world}
+use Rattle.gx_history_laws.proofs.{Adding.{user_is, token_is, user_is_itself, token_is_itself, found_passes, all_pass}, Granting.{legal_keeps, asked_is_judged}, Judging.both, NextOrders.{orders_none, orders_next, is_dead_next, rested_next}, Numbers.{all_weaker, number_left}, Owners.{all_both, filtered, last_such_is}}
+use Rattle.gx_effects.proofs.{Among.all_and, Apart.{AreApart, IsApartFrom, apart_next, apart_are_found}, Entered.{all_found_of, open_parts}, Matches.may_match}
 
 abbrev pub number_of : Order → ℕ
 number_of o = o.number
@@ -101,7 +67,7 @@ all_kept policy history orderly =
     zipped (o ∷ os) a b c = ((a.0, b.0, c.0), zipped os a.1 b.1 c.1)
 
 -- the record of a granted Replace ends the order in whose place it puts another
-replaced_has_ended : (o : Order) (r : RecordData) (a : Asked) (m : ReplaceOrder) → granted r ≡ Some a → a.request ≡ requests.Replace m → o.number < r.number
+replaced_has_ended : (o : Order) (r : RecordData) (a : Asked) (m : ReplaceOrder) → granted r ≡ Some a → a.request ≡ Request.Replace m → o.number < r.number
     → same_user o.user a.user ≡ true → same_token o.token m.existing_token ≡ true → ends o r ≡ true
 replaced_has_ended o r a m grants asks early his under =
     let user : o.user ≡ a.user = user_is o.user a.user his in
@@ -143,7 +109,7 @@ what_it_adds policy history r orderly place = by_grant (granted r) refl
     adds : List Order → Type 0
     adds os = (orders_added policy known r ≡ os)
 
-    by_replace : (a : Asked) (m : ReplaceOrder) → granted r ≡ Some a → a.request ≡ requests.Replace m → (found : Option Order) → order_under known a.user m.existing_token ≡ found
+    by_replace : (a : Asked) (m : ReplaceOrder) → granted r ≡ Some a → a.request ≡ Request.Replace m → (found : Option Order) → order_under known a.user m.existing_token ≡ found
         → orders_added policy known r ≡ option_map_or (λ (o : Order). replacing r m o ∷ []) found [] → (orders_added policy known r ≡ []) ⊎ AddsOrder policy history r
     by_replace a m g asks None e same = inl same
     by_replace a m g asks (Some o) e same =
@@ -171,13 +137,13 @@ what_it_adds policy history r orderly place = by_grant (granted r) refl
 
     by_request : (a : Asked) → granted r ≡ Some a → (q : Request) → a.request ≡ q → orders_added policy known r ≡ orders_made policy known r a.user q
         → (orders_added policy known r ≡ []) ⊎ AddsOrder policy history r
-    by_request a g (requests.Login m) asks same = inl same
-    by_request a g requests.Logout asks same = inl same
-    by_request a g (requests.Unreadable m) asks same = inl same
-    by_request a g (requests.Enter m) asks same = by_enter a m (account_of policy a.user) same
-    by_request a g (requests.Replace m) asks same = by_replace a m g asks (order_under known a.user m.existing_token) refl same
-    by_request a g (requests.Cancel m) asks same = inl same
-    by_request a g (requests.Command c) asks same = inl same
+    by_request a g (Request.Login m) asks same = inl same
+    by_request a g Request.Logout asks same = inl same
+    by_request a g (Request.Unreadable m) asks same = inl same
+    by_request a g (Request.Enter m) asks same = by_enter a m (account_of policy a.user) same
+    by_request a g (Request.Replace m) asks same = by_replace a m g asks (order_under known a.user m.existing_token) refl same
+    by_request a g (Request.Cancel m) asks same = inl same
+    by_request a g (Request.Command c) asks same = inl same
 
     by_grant : (found : Option Asked) → granted r ≡ found → (orders_added policy known r ≡ []) ⊎ AddsOrder policy history r
     by_grant None g = inl (ap (λ (x : Option Asked). option_map_or (λ (a : Asked). orders_made policy known r a.user a.request) x []) g)
@@ -258,16 +224,16 @@ pub record NewRest (history : List RecordData) (number : ℕ) : Type 0 where
   pub has_not : list_any (λ n. n == number) (rested history) ≡ false
   pub within : number ≤ length history
 
-new_rest : (policy : PolicyData) (history : List RecordData) (r : RecordData) (number : ℕ) → IsOrderly policy history → next policy history r.step ≡ Some r → r.verdict ≡ verdicts.Rested number → NewRest history number
+new_rest : (policy : PolicyData) (history : List RecordData) (r : RecordData) (number : ℕ) → IsOrderly policy history → next policy history r.step ≡ Some r → r.verdict ≡ Verdict.Rested number → NewRest history number
 new_rest policy history r number orderly left rests = by_step r.step refl
   where
     by_step : (s : Step) → r.step ≡ s → NewRest history number
-    by_step (steps.Asked a) asks =
+    by_step (Step.Asked a) asks =
         let judged : is_judged r.verdict ≡ true = asked_is_judged policy history a r (ap (next policy history) (sym asks) ∙ left) in
         let not_judged : is_judged r.verdict ≡ false = ap is_judged rests in
         cc
-    by_step (steps.Matching handed) asks =
-        let may : MayRest (world policy history) r number = may_match policy history handed r (verdicts.Rested number) (ap (next policy history) (sym asks) ∙ left) rests in
+    by_step (Step.Matching handed) asks =
+        let may : MayRest (world policy history) r number = may_match policy history handed r (Verdict.Rested number) (ap (next policy history) (sym asks) ∙ left) rests in
         let his : WaitsWithin history may.first = (subst (AllByRecursion (WaitsWithin history)) may.comes_first (waiting_within policy history orderly.within)).0 in
         record {
           has_not = ap (λ (k : ℕ). list_any (λ n. n == k) (rested history)) may.has_number ∙ his.0;
@@ -307,11 +273,11 @@ rests_after policy history r orderly left = by_verdict r.verdict refl
         second false x = x
 
     by_verdict : (v : Verdict) → r.verdict ≡ v → RestsAreOrderly history now
-    by_verdict verdicts.Granted e = none (ap rested_of e)
-    by_verdict (verdicts.Denied rule) e = none (ap rested_of e)
-    by_verdict (verdicts.Filled f) e = none (ap rested_of e)
-    by_verdict (verdicts.Expired n) e = none (ap rested_of e)
-    by_verdict (verdicts.Rested n) e =
+    by_verdict Verdict.Granted e = none (ap rested_of e)
+    by_verdict (Verdict.Denied rule) e = none (ap rested_of e)
+    by_verdict (Verdict.Filled f) e = none (ap rested_of e)
+    by_verdict (Verdict.Expired n) e = none (ap rested_of e)
+    by_verdict (Verdict.Rested n) e =
         let new : NewRest history n = new_rest policy history r n orderly left e in
         of_list (rested history ++ n ∷ []) (rested_next history r ∙ ap (λ (found : Option ℕ). rested history ++ option_to_list found) (ap rested_of e))
         (all_both (λ (k : ℕ). k ≤ length history) (rested history) (n ∷ []) orderly.rested_within (new.within, tt))

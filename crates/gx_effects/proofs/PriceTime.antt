@@ -1,19 +1,11 @@
 -- At one price the orders rest in the order in which they came to rest.
-use Rattle.std.proofs.Common.{◌≡◌, ℕ, Bool, true, false, not, List, [], ◌∷◌, ◌++◌, refl, ◌∙◌, ap, sym, cond, fold, append_assoc}
-use Rattle.std.specs.Prelude.{nat_lt}
-use Rattle.std.specs.List.{filter, AllByRecursion}
-use Rattle.std.proofs.lemmas.Bool.{eqb-true}
-use Rattle.std.proofs.lemmas.List.{append-nil}
+use Rattle.std.proofs.{Common.{◌≡◌, ℕ, Bool, true, false, not, List, [], ◌∷◌, ◌++◌, refl, ◌∙◌, ap, sym, cond, fold, append_assoc}, lemmas.{Bool.eqb-true, List.append-nil}}
+use Rattle.std.specs.{Prelude.nat_lt, List.{filter, AllByRecursion}}
 use Rattle.gx_units.specs.declared.names.Symbol.{Symbol}
-use Rattle.gx_policy.specs.declared.policy.PolicyData.{PolicyData}
-use Rattle.gx_policy.specs.Lists.{placed}
-use Rattle.gx_history.specs.declared.live_order.LiveOrder.{LiveOrder}
-use Rattle.gx_history.specs.declared.record.RecordData.{RecordData}
-use Rattle.gx_history.specs.Live.{by_time, has_price, ahead, side}
+use Rattle.gx_policy.specs.{declared.policy.PolicyData.PolicyData, Lists.placed}
+use Rattle.gx_history.specs.{declared.{live_order.LiveOrder.LiveOrder, «record».RecordData.RecordData}, Live.{by_time, has_price, ahead, side}}
 use Rattle.gx_history_laws.proofs.Adding.{all_pass}
-use Rattle.gx_effects.proofs.Ordered.{not_ahead_of_itself}
-use Rattle.gx_effects.proofs.Priority.{in_order_filter}
-use Rattle.gx_effects.proofs.Sides.{prices_rank}
+use Rattle.gx_effects.proofs.{Ordered.not_ahead_of_itself, Priority.in_order_filter, Sides.prices_rank}
 
 abbrev HasPrice : ℕ → LiveOrder → Type 0
 HasPrice price s = has_price price s ≡ true

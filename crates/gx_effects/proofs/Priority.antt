@@ -1,10 +1,6 @@
 -- What a filter leaves of a list in the order of prices is the order of what the filter leaves.
-use Rattle.std.proofs.Common.{◌≡◌, ℕ, ◌<◌, ◌≤◌, Bool, true, false, not, List, [], ◌∷◌, ◌++◌, refl, ◌∙◌, ap, sym, cond, arith, append_assoc, fold}
-use Rattle.std.specs.Prelude.{nat_lt}
-use Rattle.std.specs.List.{filter}
-use Rattle.std.proofs.lemmas.Bool.{lt-ltb, le-ltb, ltb-true, ltb-false}
-use Rattle.std.proofs.lemmas.List.{append-nil}
-use Rattle.std.proofs.lemmas.List.Elements.{filter-append}
+use Rattle.std.proofs.{Common.{◌≡◌, ℕ, ◌<◌, ◌≤◌, Bool, true, false, not, List, [], ◌∷◌, ◌++◌, refl, ◌∙◌, ap, sym, cond, arith, append_assoc, fold}, lemmas.{Bool.{lt-ltb, le-ltb, ltb-true, ltb-false}, List.{append-nil, Elements.filter-append}}}
+use Rattle.std.specs.{Prelude.nat_lt, List.filter}
 use Rattle.gx_policy.specs.Lists.{placed, in_order}
 use Rattle.gx_effects.proofs.Placing.{filter_swap, placed_filter}
 

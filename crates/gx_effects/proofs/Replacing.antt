@@ -1,32 +1,11 @@
 -- A granted Replace asks for more than its chain has executed, and its own record neither ends nor sizes the order that it makes; the size that a Cancel sets.
-use Rattle.std.proofs.Common.{◌≡◌, ℕ, ◌+◌, ◌<◌, ◌≤◌, Bool, true, false, not, List, [], ◌∷◌, refl, ◌∙◌, ap, sym, length, arith}
-use Rattle.std.specs.Prelude.{Option, Some, None, ◌&&◌, ◌==◌, nat_lt, nat_le, option_map}
-use Rattle.std.specs.Option.{option_map_or}
-use Rattle.std.proofs.lemmas.Bool.{le-ltb, leb-false}
-use Rattle.gx_ouch.specs.declared.inbound.CancelOrder.{CancelOrder}
-use Rattle.gx_ouch.specs.declared.inbound.ReplaceOrder.{ReplaceOrder}
-use Rattle.gx_policy.specs.declared.policy.PolicyData.{PolicyData}
-use Rattle.gx_policy.specs.declared.rule_name.RuleName.TheVariants.{P12}
-use Rattle.gx_policy.specs.Lists.{where_true}
-use Rattle.gx_history.specs.declared.facts.ProposedOrder.{ProposedOrder}
-use Rattle.gx_history.specs.declared.live_order.LiveOrder.{LiveOrder}
-use Rattle.gx_history.specs.declared.record.Asked.{Asked}
-use Rattle.gx_history.specs.declared.record.RecordData.{RecordData}
-use Rattle.gx_history.specs.declared.record.Request.TheVariants as requests
-use Rattle.gx_history.specs.declared.record.Step.TheVariants as steps
-use Rattle.gx_history.specs.declared.record.Verdict.TheVariants as verdicts
-use Rattle.gx_history.specs.Executions.{Execution, done, executed, executions}
-use Rattle.gx_history.specs.Live.{live, live_under}
-use Rattle.gx_history.specs.Orders.{Order, orders, orders_made, replacing, ends, size_set}
-use Rattle.gx_history.specs.Rules.{forbids}
-use Rattle.gx_history.specs.Verdicts.{next, facts_now, IsLegal}
-use Rattle.gx_history_laws.proofs.Granting.{is_no_bar}
-use Rattle.gx_history_laws.proofs.Legality.{done_of_replacement}
-use Rattle.gx_history_laws.proofs.Numbers.{all_weaker}
-use Rattle.gx_effects.proofs.NamedOrders.{named_is}
-use Rattle.gx_effects.proofs.Naming.{IsToldApart, FindsOne, is_under_swapped}
-use Rattle.gx_effects.proofs.NewOrders.{none_executed, fills_are_within, and_late, none_late}
-use Rattle.gx_effects.proofs.OrderRequests.{Grants, size_by}
+use Rattle.std.proofs.{Common.{◌≡◌, ℕ, ◌+◌, ◌<◌, ◌≤◌, Bool, true, false, not, List, [], ◌∷◌, refl, ◌∙◌, ap, sym, length, arith}, lemmas.Bool.{le-ltb, leb-false}}
+use Rattle.std.specs.{Prelude.{Option, Some, None, ◌&&◌, ◌==◌, nat_lt, nat_le, option_map}, Option.option_map_or}
+use Rattle.gx_ouch.specs.declared.inbound.{CancelOrder.CancelOrder, ReplaceOrder.ReplaceOrder}
+use Rattle.gx_policy.specs.{declared.{policy.PolicyData.PolicyData, rule_name.RuleName.TheVariants.P12}, Lists.where_true}
+use Rattle.gx_history.specs.{declared.{facts.ProposedOrder.ProposedOrder, live_order.LiveOrder.LiveOrder, «record».{Asked.Asked, RecordData.RecordData, Request.Request, Step.Step, Verdict.Verdict}}, Executions.{Execution, done, executed, executions}, Live.{live, live_under}, Orders.{Order, orders, orders_made, replacing, ends, size_set}, Rules.forbids, Verdicts.{next, facts_now, IsLegal}}
+use Rattle.gx_history_laws.proofs.{Granting.is_no_bar, Legality.done_of_replacement, Numbers.all_weaker}
+use Rattle.gx_effects.proofs.{NamedOrders.named_is, Naming.{IsToldApart, FindsOne, is_under_swapped}, NewOrders.{none_executed, fills_are_within, and_late, none_late}, OrderRequests.{Grants, size_by}}
 
 -- the order that a Replace proposes
 abbrev proposed_by : ReplaceOrder → LiveOrder → ProposedOrder
@@ -47,14 +26,14 @@ abbrev is_too_small : ProposedOrder → Bool
 is_too_small w = not w.is_new && nat_le w.shares w.done
 
 pub more_than_done : (policy : PolicyData) (history : List RecordData) (a : Asked) (r : RecordData) (m : ReplaceOrder) (s : LiveOrder)
-    → next policy history (steps.Asked a) ≡ Some r → r.verdict ≡ verdicts.Granted → a.request ≡ requests.Replace m
+    → next policy history (Step.Asked a) ≡ Some r → r.verdict ≡ Verdict.Granted → a.request ≡ Request.Replace m
     → live_under (live policy history) a.user m.existing_token ≡ Some s → s.done < m.shares
 more_than_done policy history a r m s left granted asks found =
     leb-false m.shares s.done
     (sym
     (ap (forbids P12 (facts_now policy history a)) asks
     ∙ ap (λ (o : Option LiveOrder). option_map_or is_too_small (option_map (proposed_by m) o) false)
-    (named_is policy history a (requests.Replace m) m.existing_token asks refl ∙ found))
+    (named_is policy history a (Request.Replace m) m.existing_token asks refl ∙ found))
     ∙ is_no_bar policy history a r left granted P12)
 
 never_before : (n : ℕ) → nat_lt n n ≡ false
@@ -78,11 +57,11 @@ done_before policy history r m o legal place =
     omega arith
 
 pub made : (policy : PolicyData) (history : List RecordData) (r : RecordData) (a : Asked) (m : ReplaceOrder) (s : LiveOrder) → (one : FindsOne policy history a.user m.existing_token s)
-    → orders_made policy (orders policy history) r a.user (requests.Replace m) ≡ replacing r m one.known.order ∷ []
+    → orders_made policy (orders policy history) r a.user (Request.Replace m) ≡ replacing r m one.known.order ∷ []
 made policy history r a m s one = ap (λ (found : Option Order). option_map_or (λ (o : Order). replacing r m o ∷ []) found []) one.is_last
 
 -- the size that it sets
-pub size_of : (r : RecordData) (a : Asked) (m : CancelOrder) (o x : Order) → Grants r a (requests.Cancel m) → nat_lt x.number r.number ≡ true → IsToldApart a.user m.token o x
+pub size_of : (r : RecordData) (a : Asked) (m : CancelOrder) (o x : Order) → Grants r a (Request.Cancel m) → nat_lt x.number r.number ≡ true → IsToldApart a.user m.token o x
     → size_set x r ≡ where_true (x.number == o.number) m.shares
 size_of r a m o x g early apart =
-    size_by r a (requests.Cancel m) x g early ∙ ap (λ (b : Bool). where_true b m.shares) (is_under_swapped a.user m.token x ∙ apart.by_number)
+    size_by r a (Request.Cancel m) x g early ∙ ap (λ (b : Bool). where_true b m.shares) (is_under_swapped a.user m.token x ∙ apart.by_number)

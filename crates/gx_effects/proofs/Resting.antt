@@ -1,27 +1,10 @@
 -- What is known of each live order, by its number alone.
-use Rattle.std.proofs.Common.{◌≡◌, ℕ, Bool, true, false, not, List, ◌∷◌, refl, ◌∙◌, ap, sym, cond}
-use Rattle.std.proofs.Math.Path.{subst}
-use Rattle.std.specs.Prelude.{Some, None, ◌&&◌, is_some, nat_lt}
-use Rattle.std.specs.List.{AllByRecursion, filter}
-use Rattle.gx_policy.specs.declared.policy.PolicyData.{PolicyData}
-use Rattle.gx_policy.specs.People.{stock_named}
-use Rattle.gx_history.specs.declared.live_order.LiveOrder.{LiveOrder}
-use Rattle.gx_history.specs.declared.record.RecordData.{RecordData}
-use Rattle.gx_history.specs.Book.{rested}
-use Rattle.gx_history.specs.Executions.{done, executions}
-use Rattle.gx_history.specs.Live.{has_come, live, live_numbered, open_now, open_order, waiting}
-use Rattle.gx_history.specs.Orders.{Order, is_dead, orders, total}
-use Rattle.gx_history.specs.Verdicts.{IsLegal}
-use Rattle.gx_history_laws.proofs.Adding.{all_pass}
-use Rattle.gx_history_laws.proofs.Listed.{IsListed, orders_are_listed}
-use Rattle.gx_history_laws.proofs.Numbers.{all_weaker}
-use Rattle.gx_history_laws.proofs.Order.{some_same}
-use Rattle.gx_history_laws.proofs.Owners.{filtered}
-use Rattle.gx_effects.proofs.Among.{all_and}
-use Rattle.gx_effects.proofs.Apart.{apart_are_found}
-use Rattle.gx_effects.proofs.Entered.{all_found_of}
-use Rattle.gx_effects.proofs.Known.{live_apart}
-use Rattle.gx_effects.proofs.Orderly.{legal_is_orderly}
+use Rattle.std.proofs.{Common.{◌≡◌, ℕ, Bool, true, false, not, List, ◌∷◌, refl, ◌∙◌, ap, sym, cond}, Math.Path.subst}
+use Rattle.std.specs.{Prelude.{Some, None, ◌&&◌, is_some, nat_lt}, List.{AllByRecursion, filter}}
+use Rattle.gx_policy.specs.{declared.policy.PolicyData.PolicyData, People.stock_named}
+use Rattle.gx_history.specs.{declared.{live_order.LiveOrder.LiveOrder, «record».RecordData.RecordData}, Book.rested, Executions.{done, executions}, Live.{has_come, live, live_numbered, open_now, open_order, waiting}, Orders.{Order, is_dead, orders, total}, Verdicts.IsLegal}
+use Rattle.gx_history_laws.proofs.{Adding.all_pass, Listed.{IsListed, orders_are_listed}, Numbers.all_weaker, Order.some_same, Owners.filtered}
+use Rattle.gx_effects.proofs.{Among.all_and, Apart.apart_are_found, Entered.all_found_of, Known.live_apart, Orderly.legal_is_orderly}
 
 clash : {b : Bool} → b ≡ true → b ≡ false → ⊥
 clash h k = cc

@@ -1,33 +1,11 @@
 -- Matching steps end: each leaves fewer orders that wait or fewer that live.
-use Rattle.std.proofs.Common.{◌≡◌, ℕ, zero, suc, ◌+◌, ◌<◌, ◌≤◌, Bool, true, false, not, List, [], ◌∷◌, ◌++◌, refl, ◌∙◌, ap, sym, cond, length, arith, append_assoc}
-use Rattle.std.proofs.Math.Path.{subst}
-use Rattle.std.specs.Prelude.{Option, Some, None, min, ◌==◌, ◌||◌, nat_lt}
-use Rattle.std.specs.List.{AllByRecursion, cons_option, filter, filter_map}
-use Rattle.std.proofs.lemmas.Bool.{eq-eqb, le-ltb, ltb-false, ltb-true}
-use Rattle.std.proofs.lemmas.List.{append-nil}
+use Rattle.std.proofs.{Common.{◌≡◌, ℕ, zero, suc, ◌+◌, ◌<◌, ◌≤◌, Bool, true, false, not, List, [], ◌∷◌, ◌++◌, refl, ◌∙◌, ap, sym, cond, length, arith, append_assoc}, Math.Path.subst, lemmas.{Bool.{eq-eqb, le-ltb, ltb-false, ltb-true}, List.append-nil}}
+use Rattle.std.specs.{Prelude.{Option, Some, None, min, ◌==◌, ◌||◌, nat_lt}, List.{AllByRecursion, cons_option, filter, filter_map}}
 use Rattle.gx_policy.specs.declared.policy.PolicyData.{PolicyData}
-use Rattle.gx_history.specs.declared.live_order.LiveOrder.{LiveOrder}
-use Rattle.gx_history.specs.declared.record.Fill.{Fill}
-use Rattle.gx_history.specs.declared.record.RecordData.{RecordData}
-use Rattle.gx_history.specs.declared.record.Step.TheVariants as steps
-use Rattle.gx_history.specs.declared.record.Verdict.{Verdict}
-use Rattle.gx_history.specs.declared.record.Verdict.TheVariants as verdicts
-use Rattle.gx_history.specs.Live.{waiting, live_numbered, live}
-use Rattle.gx_history.specs.LiveOrders.{shares_open}
-use Rattle.gx_history.specs.Matching.{matching}
-use Rattle.gx_history.specs.MayMove.{MayExpire, MayRest}
-use Rattle.gx_history.specs.Settling.{most_matches, settle_on, settled_within, settled, AddsMatches}
-use Rattle.gx_history.specs.Turns.{Turn, becomes, new_in, turned, while_open}
+use Rattle.gx_history.specs.{declared.{live_order.LiveOrder.LiveOrder, «record».{Fill.Fill, RecordData.RecordData, Step.Step, Verdict.Verdict}}, Live.{waiting, live_numbered, live}, LiveOrders.shares_open, Matching.matching, MayMove.{MayExpire, MayRest}, Settling.{most_matches, settle_on, settled_within, settled, AddsMatches}, Turns.{Turn, becomes, new_in, turned, while_open}, Verdicts.next, World.{turn_by, world}}
 use Rattle.gx_history.specs.Turns as turns
-use Rattle.gx_history.specs.Verdicts.{next}
-use Rattle.gx_history.specs.World.{turn_by, world}
-use Rattle.gx_history_laws.proofs.Owners.{all_both}
-use Rattle.gx_history_laws.proofs.Runs.{step_left, idle_where_none_waits}
-use Rattle.gx_effects.proofs.Fills.{IsFill, is_fill}
-use Rattle.gx_effects.proofs.Live.{by_match}
-use Rattle.gx_effects.proofs.Matches.{idle_where_empty, may_match}
-use Rattle.gx_effects.proofs.Orderly.{IsOrderly, orderly_next}
-use Rattle.gx_effects.proofs.Sides.{puts_to_rest, waits_rested, waits_turned}
+use Rattle.gx_history_laws.proofs.{Owners.all_both, Runs.{step_left, idle_where_none_waits}}
+use Rattle.gx_effects.proofs.{Fills.{IsFill, is_fill}, Live.by_match, Matches.{idle_where_empty, may_match}, Orderly.{IsOrderly, orderly_next}, Sides.{puts_to_rest, waits_rested, waits_turned}}
 
 -- what goes on is no more
 no_more : {X : Type 0} (f : X → Option X) (xs : List X) → length (filter_map f xs) ≤ length xs
@@ -67,12 +45,12 @@ second_of true b h = refl
 second_of false b h = h
 
 -- the lists after a matching step
-live_then : (policy : PolicyData) (history : List RecordData) (handed : ℕ) (r : RecordData) (v : Verdict) → IsOrderly policy history → next policy history (steps.Matching handed) ≡ Some r → r.verdict ≡ v
-    → live policy (history ++ r ∷ []) ≡ turned (turn_by policy (world policy history) r v (steps.Matching handed)) (live policy history)
+live_then : (policy : PolicyData) (history : List RecordData) (handed : ℕ) (r : RecordData) (v : Verdict) → IsOrderly policy history → next policy history (Step.Matching handed) ≡ Some r → r.verdict ≡ v
+    → live policy (history ++ r ∷ []) ≡ turned (turn_by policy (world policy history) r v (Step.Matching handed)) (live policy history)
 live_then policy history handed r v orderly left e = by_match policy history handed r orderly left v e
 
-waits_then : (policy : PolicyData) (history : List RecordData) (handed : ℕ) (r : RecordData) (v : Verdict) (turn : Turn) → IsOrderly policy history → next policy history (steps.Matching handed) ≡ Some r → r.verdict ≡ v
-    → turn_by policy (world policy history) r v (steps.Matching handed) ≡ turn → puts_to_rest turn ≡ false → new_in turn ≡ [] → waiting policy (history ++ r ∷ []) ≡ filter_map (becomes turn) (waiting policy history)
+waits_then : (policy : PolicyData) (history : List RecordData) (handed : ℕ) (r : RecordData) (v : Verdict) (turn : Turn) → IsOrderly policy history → next policy history (Step.Matching handed) ≡ Some r → r.verdict ≡ v
+    → turn_by policy (world policy history) r v (Step.Matching handed) ≡ turn → puts_to_rest turn ≡ false → new_in turn ≡ [] → waiting policy (history ++ r ∷ []) ≡ filter_map (becomes turn) (waiting policy history)
 unfolding waiting
 waits_then policy history handed r v turn orderly left e is goes none =
     ap (filter (λ (o : LiveOrder). o.waits)) (live_then policy history handed r v orderly left e ∙ ap (λ (x : Turn). turned x (live policy history)) is)
@@ -87,15 +65,15 @@ fewer_first : (a b c d : ℕ) → a < c → b ≤ d → a + b < c + d
 fewer_first a b c d h k = omega arith
 
 -- a fill leaves fewer: the taker no longer waits, or the maker no longer lives
-fill_leaves_fewer : (policy : PolicyData) (history : List RecordData) (handed : ℕ) (r : RecordData) (f : Fill) → IsOrderly policy history → next policy history (steps.Matching handed) ≡ Some r → r.verdict ≡ verdicts.Filled f → (is : IsFill policy history r f)
+fill_leaves_fewer : (policy : PolicyData) (history : List RecordData) (handed : ℕ) (r : RecordData) (f : Fill) → IsOrderly policy history → next policy history (Step.Matching handed) ≡ Some r → r.verdict ≡ Verdict.Filled f → (is : IsFill policy history r f)
     → most_matches policy (history ++ r ∷ []) < most_matches policy history
 fill_leaves_fewer policy history handed r f orderly left e is = at (nat_lt (shares_open is.may.maker) (shares_open is.may.taker)) refl (ap (λ (x : Fill). x.shares) is.may.is_theirs)
   where
     lives : live policy (history ++ r ∷ []) ≡ filter_map (becomes (turns.Fills f)) (live policy history)
-    lives = live_then policy history handed r (verdicts.Filled f) orderly left e ∙ append-nil (filter_map (becomes (turns.Fills f)) (live policy history))
+    lives = live_then policy history handed r (Verdict.Filled f) orderly left e ∙ append-nil (filter_map (becomes (turns.Fills f)) (live policy history))
 
     waits : waiting policy (history ++ r ∷ []) ≡ filter_map (becomes (turns.Fills f)) (waiting policy history)
-    waits = waits_then policy history handed r (verdicts.Filled f) (turns.Fills f) orderly left e refl refl refl
+    waits = waits_then policy history handed r (Verdict.Filled f) (turns.Fills f) orderly left e refl refl refl
 
     few_live : length (live policy (history ++ r ∷ [])) ≤ length (live policy history)
     few_live = subst (λ (os : List LiveOrder). length os ≤ length (live policy history)) (sym lives) (no_more (becomes (turns.Fills f)) (live policy history))
@@ -136,53 +114,53 @@ first_leaves number first others e =
         at true h = omega arith
         at false h = omega arith
 
-waits_at_rest : (policy : PolicyData) (history : List RecordData) (handed : ℕ) (r : RecordData) (number : ℕ) → IsOrderly policy history → next policy history (steps.Matching handed) ≡ Some r → r.verdict ≡ verdicts.Rested number
+waits_at_rest : (policy : PolicyData) (history : List RecordData) (handed : ℕ) (r : RecordData) (number : ℕ) → IsOrderly policy history → next policy history (Step.Matching handed) ≡ Some r → r.verdict ≡ Verdict.Rested number
     → waiting policy (history ++ r ∷ []) ≡ filter (λ (o : LiveOrder). not (number == o.number)) (waiting policy history)
 unfolding waiting
-waits_at_rest policy history handed r number orderly left e = ap (filter (λ (o : LiveOrder). o.waits)) (live_then policy history handed r (verdicts.Rested number) orderly left e) ∙ waits_rested number (live policy history)
+waits_at_rest policy history handed r number orderly left e = ap (filter (λ (o : LiveOrder). o.waits)) (live_then policy history handed r (Verdict.Rested number) orderly left e) ∙ waits_rested number (live policy history)
 
-rest_leaves_fewer : (policy : PolicyData) (history : List RecordData) (handed : ℕ) (r : RecordData) (number : ℕ) → IsOrderly policy history → next policy history (steps.Matching handed) ≡ Some r → r.verdict ≡ verdicts.Rested number
+rest_leaves_fewer : (policy : PolicyData) (history : List RecordData) (handed : ℕ) (r : RecordData) (number : ℕ) → IsOrderly policy history → next policy history (Step.Matching handed) ≡ Some r → r.verdict ≡ Verdict.Rested number
     → most_matches policy (history ++ r ∷ []) < most_matches policy history
 rest_leaves_fewer policy history handed r number orderly left e =
-    let may : MayRest (world policy history) r number = may_match policy history handed r (verdicts.Rested number) left e in
-    let lives : length (live policy (history ++ r ∷ [])) ≡ length (filter_map (becomes (turns.Rests number)) (live policy history)) = ap length (live_then policy history handed r (verdicts.Rested number) orderly left e ∙ append-nil (filter_map (becomes (turns.Rests number)) (live policy history))) in
+    let may : MayRest (world policy history) r number = may_match policy history handed r (Verdict.Rested number) left e in
+    let lives : length (live policy (history ++ r ∷ [])) ≡ length (filter_map (becomes (turns.Rests number)) (live policy history)) = ap length (live_then policy history handed r (Verdict.Rested number) orderly left e ∙ append-nil (filter_map (becomes (turns.Rests number)) (live policy history))) in
     let few : length (filter_map (becomes (turns.Rests number)) (live policy history)) ≤ length (live policy history) = no_more (becomes (turns.Rests number)) (live policy history) in
     let waits : length (waiting policy (history ++ r ∷ [])) ≡ length (filter (λ (o : LiveOrder). not (number == o.number)) (may.first ∷ may.waiting)) = ap length (waits_at_rest policy history handed r number orderly left e ∙ ap (filter (λ (o : LiveOrder). not (number == o.number))) may.comes_first) in
     let less : length (filter (λ (o : LiveOrder). not (number == o.number)) (may.first ∷ may.waiting)) ≤ length may.waiting = first_leaves number may.first may.waiting may.has_number in
     let was : length (waiting policy history) ≡ suc (length may.waiting) = ap length may.comes_first in
     omega arith
 
-end_leaves_fewer : (policy : PolicyData) (history : List RecordData) (handed : ℕ) (r : RecordData) (number : ℕ) → IsOrderly policy history → next policy history (steps.Matching handed) ≡ Some r → r.verdict ≡ verdicts.Expired number → most_matches policy (history ++ r ∷ []) < most_matches policy history
+end_leaves_fewer : (policy : PolicyData) (history : List RecordData) (handed : ℕ) (r : RecordData) (number : ℕ) → IsOrderly policy history → next policy history (Step.Matching handed) ≡ Some r → r.verdict ≡ Verdict.Expired number → most_matches policy (history ++ r ∷ []) < most_matches policy history
 end_leaves_fewer policy history handed r number orderly left e =
-    let may : MayExpire (world policy history) r number = may_match policy history handed r (verdicts.Expired number) left e in
-    let lives : length (live policy (history ++ r ∷ [])) ≡ length (filter_map (becomes (turns.Ends number)) (live policy history)) = ap length (live_then policy history handed r (verdicts.Expired number) orderly left e ∙ append-nil (filter_map (becomes (turns.Ends number)) (live policy history))) in
+    let may : MayExpire (world policy history) r number = may_match policy history handed r (Verdict.Expired number) left e in
+    let lives : length (live policy (history ++ r ∷ [])) ≡ length (filter_map (becomes (turns.Ends number)) (live policy history)) = ap length (live_then policy history handed r (Verdict.Expired number) orderly left e ∙ append-nil (filter_map (becomes (turns.Ends number)) (live policy history))) in
     let few : length (filter_map (becomes (turns.Ends number)) (live policy history)) ≤ length (live policy history) = no_more (becomes (turns.Ends number)) (live policy history) in
     let gone : becomes (turns.Ends number) may.first ≡ None = ap (λ (b : Bool). cond {A = Option LiveOrder} b None (Some may.first)) (eq-eqb number may.first.number may.has_number) in
     let waits : length (waiting policy (history ++ r ∷ [])) ≡ length (filter_map (becomes (turns.Ends number)) may.waiting) =
-    ap length (waits_then policy history handed r (verdicts.Expired number) (turns.Ends number) orderly left e refl refl refl ∙ ap (filter_map (becomes (turns.Ends number))) may.comes_first ∙ ap (λ (x : Option LiveOrder). cons_option x (filter_map (becomes (turns.Ends number)) may.waiting)) gone) in
+    ap length (waits_then policy history handed r (Verdict.Expired number) (turns.Ends number) orderly left e refl refl refl ∙ ap (filter_map (becomes (turns.Ends number))) may.comes_first ∙ ap (λ (x : Option LiveOrder). cons_option x (filter_map (becomes (turns.Ends number)) may.waiting)) gone) in
     let less : length (filter_map (becomes (turns.Ends number)) may.waiting) ≤ length may.waiting = no_more (becomes (turns.Ends number)) may.waiting in
     let was : length (waiting policy history) ≡ suc (length may.waiting) = ap length may.comes_first in
     omega arith
 
 -- each matching step leaves fewer
-pub match_leaves_fewer : (policy : PolicyData) (history : List RecordData) (handed : ℕ) (r : RecordData) → IsOrderly policy history → next policy history (steps.Matching handed) ≡ Some r
+pub match_leaves_fewer : (policy : PolicyData) (history : List RecordData) (handed : ℕ) (r : RecordData) → IsOrderly policy history → next policy history (Step.Matching handed) ≡ Some r
     → most_matches policy (history ++ r ∷ []) < most_matches policy history
 match_leaves_fewer policy history handed r orderly left = by_verdict r.verdict refl
   where
     by_verdict : (v : Verdict) → r.verdict ≡ v → most_matches policy (history ++ r ∷ []) < most_matches policy history
-    by_verdict verdicts.Granted e = absurd (may_match policy history handed r verdicts.Granted left e)
-    by_verdict (verdicts.Denied rule) e = absurd (may_match policy history handed r (verdicts.Denied rule) left e)
-    by_verdict (verdicts.Filled f) e = fill_leaves_fewer policy history handed r f orderly left e (is_fill policy history handed r f orderly left e)
-    by_verdict (verdicts.Rested n) e = rest_leaves_fewer policy history handed r n orderly left e
-    by_verdict (verdicts.Expired n) e = end_leaves_fewer policy history handed r n orderly left e
+    by_verdict Verdict.Granted e = absurd (may_match policy history handed r Verdict.Granted left e)
+    by_verdict (Verdict.Denied rule) e = absurd (may_match policy history handed r (Verdict.Denied rule) left e)
+    by_verdict (Verdict.Filled f) e = fill_leaves_fewer policy history handed r f orderly left e (is_fill policy history handed r f orderly left e)
+    by_verdict (Verdict.Rested n) e = rest_leaves_fewer policy history handed r n orderly left e
+    by_verdict (Verdict.Expired n) e = end_leaves_fewer policy history handed r n orderly left e
 
 -- the records after it are orderly as well
-pub match_is_orderly : (policy : PolicyData) (history : List RecordData) (handed : ℕ) (r : RecordData) → IsOrderly policy history → next policy history (steps.Matching handed) ≡ Some r → IsOrderly policy (history ++ r ∷ [])
+pub match_is_orderly : (policy : PolicyData) (history : List RecordData) (handed : ℕ) (r : RecordData) → IsOrderly policy history → next policy history (Step.Matching handed) ≡ Some r → IsOrderly policy (history ++ r ∷ [])
 match_is_orderly policy history handed r orderly left =
-    orderly_next policy history r orderly (ap (next policy history) (step_left policy history (steps.Matching handed) r left) ∙ left)
+    orderly_next policy history r orderly (ap (next policy history) (step_left policy history (Step.Matching handed) r left) ∙ left)
 
 -- where nothing waits and nothing lives there is no matching step
-none_to_match : (policy : PolicyData) (history : List RecordData) (moment : ℕ) → most_matches policy history ≤ 0 → next policy history (steps.Matching moment) ≡ None
+none_to_match : (policy : PolicyData) (history : List RecordData) (moment : ℕ) → most_matches policy history ≤ 0 → next policy history (Step.Matching moment) ≡ None
 none_to_match policy history moment h = (idle_where_none_waits policy history moment).1 (nothing (waiting policy history) (none (length (waiting policy history)) (length (live policy history)) h))
   where
     none : (n m : ℕ) → n + m ≤ 0 → n ≤ 0
@@ -198,9 +176,9 @@ enough : (policy : PolicyData) (n m : ℕ) (history : List RecordData) (moment :
 enough policy zero zero history moment orderly h k = refl
 enough policy zero (suc m) history moment orderly h k = sym (ap (settle_on (λ longer. settled_within m policy longer moment) history) (none_to_match policy history moment h))
 enough policy (suc n) zero history moment orderly h k = ap (settle_on (λ longer. settled_within n policy longer moment) history) (none_to_match policy history moment k)
-enough policy (suc n) (suc m) history moment orderly h k = at (next policy history (steps.Matching moment)) refl (λ longer. enough policy n m longer moment)
+enough policy (suc n) (suc m) history moment orderly h k = at (next policy history (Step.Matching moment)) refl (λ longer. enough policy n m longer moment)
   where
-    at : (found : Option RecordData) → next policy history (steps.Matching moment) ≡ found
+    at : (found : Option RecordData) → next policy history (Step.Matching moment) ≡ found
         → ((longer : List RecordData) → IsOrderly policy longer → most_matches policy longer ≤ n → most_matches policy longer ≤ m → settled_within n policy longer moment ≡ settled_within m policy longer moment)
         → settle_on (λ longer. settled_within n policy longer moment) history found ≡ settle_on (λ longer. settled_within m policy longer moment) history found
     at None e deeper = refl
@@ -212,7 +190,7 @@ enough policy (suc n) (suc m) history moment orderly h k = at (next policy histo
         one_less x y = omega arith
 
 -- where there is no matching step, nothing settles
-pub settled_idle : (policy : PolicyData) (history : List RecordData) (moment : ℕ) → next policy history (steps.Matching moment) ≡ None → settled policy history moment ≡ history
+pub settled_idle : (policy : PolicyData) (history : List RecordData) (moment : ℕ) → next policy history (Step.Matching moment) ≡ None → settled policy history moment ≡ history
 unfolding settled
 settled_idle policy history moment none = at (most_matches policy history)
   where
@@ -221,7 +199,7 @@ settled_idle policy history moment none = at (most_matches policy history)
     at (suc n) = ap (settle_on (λ longer. settled_within n policy longer moment) history) none
 
 -- a matching step is one of those that settle
-pub settled_step : (policy : PolicyData) (history : List RecordData) (moment : ℕ) (r : RecordData) → IsOrderly policy history → next policy history (steps.Matching moment) ≡ Some r
+pub settled_step : (policy : PolicyData) (history : List RecordData) (moment : ℕ) (r : RecordData) → IsOrderly policy history → next policy history (Step.Matching moment) ≡ Some r
     → settled policy history moment ≡ settled policy (history ++ r ∷ []) moment
 unfolding settled
 settled_step policy history moment r orderly left = at (most_matches policy history) (match_leaves_fewer policy history moment r orderly left)
@@ -233,25 +211,25 @@ settled_step policy history moment r orderly left = at (most_matches policy hist
         ∙ enough policy n (most_matches policy (history ++ r ∷ [])) (history ++ r ∷ []) moment (match_is_orderly policy history moment r orderly left) (omega arith) (omega arith)
 
 -- what settles keeps whatever each matching step keeps
-pub settled_keeps : (policy : PolicyData) (moment : ℕ) (Keeps : List RecordData → Type 0) → ((history : List RecordData) (r : RecordData) → Keeps history → next policy history (steps.Matching moment) ≡ Some r → Keeps (history ++ r ∷ []))
+pub settled_keeps : (policy : PolicyData) (moment : ℕ) (Keeps : List RecordData → Type 0) → ((history : List RecordData) (r : RecordData) → Keeps history → next policy history (Step.Matching moment) ≡ Some r → Keeps (history ++ r ∷ []))
     → (n : ℕ) (history : List RecordData) → Keeps history → Keeps (settled_within n policy history moment)
 settled_keeps policy moment Keeps step zero history kept = kept
-settled_keeps policy moment Keeps step (suc n) history kept = at (next policy history (steps.Matching moment)) refl (λ longer. settled_keeps policy moment Keeps step n longer)
+settled_keeps policy moment Keeps step (suc n) history kept = at (next policy history (Step.Matching moment)) refl (λ longer. settled_keeps policy moment Keeps step n longer)
   where
-    at : (found : Option RecordData) → next policy history (steps.Matching moment) ≡ found → ((longer : List RecordData) → Keeps longer → Keeps (settled_within n policy longer moment))
+    at : (found : Option RecordData) → next policy history (Step.Matching moment) ≡ found → ((longer : List RecordData) → Keeps longer → Keeps (settled_within n policy longer moment))
         → Keeps (settle_on (λ longer. settled_within n policy longer moment) history found)
     at None e deeper = kept
     at (Some r) e deeper = deeper (history ++ r ∷ []) (step history r kept e)
 
 -- and then nothing waits
 settled_within_ends : (policy : PolicyData) (n : ℕ) (history : List RecordData) (moment : ℕ) → IsOrderly policy history → most_matches policy history ≤ n
-    → next policy (settled_within n policy history moment) (steps.Matching moment) ≡ None
+    → next policy (settled_within n policy history moment) (Step.Matching moment) ≡ None
 settled_within_ends policy zero history moment orderly h = none_to_match policy history moment h
-settled_within_ends policy (suc n) history moment orderly h = at (next policy history (steps.Matching moment)) refl (λ longer. settled_within_ends policy n longer moment)
+settled_within_ends policy (suc n) history moment orderly h = at (next policy history (Step.Matching moment)) refl (λ longer. settled_within_ends policy n longer moment)
   where
-    at : (found : Option RecordData) → next policy history (steps.Matching moment) ≡ found
-        → ((longer : List RecordData) → IsOrderly policy longer → most_matches policy longer ≤ n → next policy (settled_within n policy longer moment) (steps.Matching moment) ≡ None)
-        → next policy (settle_on (λ longer. settled_within n policy longer moment) history found) (steps.Matching moment) ≡ None
+    at : (found : Option RecordData) → next policy history (Step.Matching moment) ≡ found
+        → ((longer : List RecordData) → IsOrderly policy longer → most_matches policy longer ≤ n → next policy (settled_within n policy longer moment) (Step.Matching moment) ≡ None)
+        → next policy (settle_on (λ longer. settled_within n policy longer moment) history found) (Step.Matching moment) ≡ None
     at None e deeper = e
     at (Some r) e deeper =
         let fewer : most_matches policy (history ++ r ∷ []) < most_matches policy history = match_leaves_fewer policy history moment r orderly e in
@@ -274,10 +252,10 @@ settled_adds policy history moment =
     settled_keeps policy moment (λ (h : List RecordData). AddsMatches history h moment) one_more (most_matches policy history) history
     (record { more = []; goes_on = sym (append-nil history); are_matches = tt })
   where
-    one_more : (h : List RecordData) (r : RecordData) → AddsMatches history h moment → next policy h (steps.Matching moment) ≡ Some r → AddsMatches history (h ++ r ∷ []) moment
+    one_more : (h : List RecordData) (r : RecordData) → AddsMatches history h moment → next policy h (Step.Matching moment) ≡ Some r → AddsMatches history (h ++ r ∷ []) moment
     one_more h r adds left = record {
       more = adds.more ++ r ∷ [];
       goes_on = ap (λ (rs : List RecordData). rs ++ r ∷ []) adds.goes_on ∙ append_assoc history adds.more (r ∷ []);
       are_matches =
-          all_both (λ (x : RecordData). x.step ≡ steps.Matching moment) adds.more (r ∷ []) adds.are_matches (step_left policy h (steps.Matching moment) r left, tt);
+          all_both (λ (x : RecordData). x.step ≡ Step.Matching moment) adds.more (r ∷ []) adds.are_matches (step_left policy h (Step.Matching moment) r left, tt);
     }

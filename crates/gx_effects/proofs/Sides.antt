@@ -1,49 +1,12 @@
 -- What one more record makes of those that wait, and of each side of the book.
-use Rattle.std.proofs.Common.{◌≡◌, ℕ, ◌+◌, ◌≤◌, Bool, true, false, not, List, [], ◌∷◌, ◌++◌, refl, ◌∙◌, ap, sym, cond, fold, length, arith}
-use Rattle.std.proofs.Math.Path.{subst}
-use Rattle.std.specs.Prelude.{Option, Some, None, ◌||◌, ◌&&◌, ◌==◌, nat_lt, option_and_then, option_to_list}
-use Rattle.std.specs.Option.{option_map_or}
-use Rattle.std.specs.List.{AllByRecursion, cons_option, filter, filter_map}
-use Rattle.std.proofs.lemmas.Bool.{eq-eqb, eqb-true, ne_eqb}
-use Rattle.std.proofs.lemmas.List.{append-nil}
-use Rattle.std.proofs.lemmas.List.Elements.{filter-append, filter_map-append}
-use Rattle.std.proofs.lemmas.List.Sums.{fold-append}
-use Rattle.gx_units.specs.declared.names.AccountName.{AccountName}
-use Rattle.gx_units.specs.declared.names.Symbol.{Symbol}
-use Rattle.gx_units.specs.Names.{same_stock}
+use Rattle.std.proofs.{Common.{◌≡◌, ℕ, ◌+◌, ◌≤◌, Bool, true, false, not, List, [], ◌∷◌, ◌++◌, refl, ◌∙◌, ap, sym, cond, fold, length, arith}, Math.Path.subst, lemmas.{Bool.{eq-eqb, eqb-true, ne_eqb}, List.{append-nil, Elements.{filter-append, filter_map-append}, Sums.fold-append}}}
+use Rattle.std.specs.{Prelude.{Option, Some, None, ◌||◌, ◌&&◌, ◌==◌, nat_lt, option_and_then, option_to_list}, Option.option_map_or, List.{AllByRecursion, cons_option, filter, filter_map}}
+use Rattle.gx_units.specs.{declared.names.{AccountName.AccountName, Symbol.Symbol}, Names.same_stock}
 use Rattle.gx_ouch.specs.declared.outbound.OrderTerms.{OrderTerms}
-use Rattle.gx_policy.specs.declared.policy.PolicyData.{PolicyData}
-use Rattle.gx_policy.specs.Lists.{in_order, placed}
-use Rattle.gx_policy.specs.People.{account_of}
-use Rattle.gx_history.specs.declared.live_order.LiveOrder.{LiveOrder}
-use Rattle.gx_history.specs.declared.record.Asked.{Asked}
-use Rattle.gx_history.specs.declared.record.RecordData.{RecordData}
-use Rattle.gx_history.specs.declared.record.Request.{Request}
-use Rattle.gx_history.specs.declared.record.Request.TheVariants as requests
-use Rattle.gx_history.specs.declared.record.Step.{Step}
-use Rattle.gx_history.specs.declared.record.Step.TheVariants as steps
-use Rattle.gx_history.specs.declared.record.Verdict.{Verdict}
-use Rattle.gx_history.specs.declared.record.Verdict.TheVariants as verdicts
-use Rattle.gx_history.specs.Book.{is_on, rested, rested_of}
-use Rattle.gx_history.specs.Live.{waiting, ahead, is_there, side, has_come, live_numbered, live, live_under}
-use Rattle.gx_history.specs.LiveOrders.{replacement_order}
-use Rattle.gx_history.specs.MayMove.{MayRest}
-use Rattle.gx_history.specs.Orders.{ends_account}
-use Rattle.gx_history.specs.Requests.{is_judged}
-use Rattle.gx_history.specs.Turns.{Turn, Keeps, Adds, Sizes, Replaces, EndsAll, Fills, Rests, Ends, becomes, new_in, new_order, side_turned, turned, waiting_turned, while_open}
-use Rattle.gx_history.specs.Verdicts.{IsLegal, next}
-use Rattle.gx_history.specs.declared.moves.Move.TheVariants as moves
-use Rattle.gx_history.specs.declared.moves.Move.{Move}
-use Rattle.gx_history.specs.World.{SidesGoOn, WaitingGoesOn, World, move_asked, turn_by, turn_in, turn_of, world}
-use Rattle.gx_history_laws.proofs.Granting.{asked_is_judged}
-use Rattle.gx_history_laws.proofs.NextOrders.{rested_next}
-use Rattle.gx_history_laws.proofs.Numbers.{all_weaker, number_left}
-use Rattle.gx_effects.proofs.Apart.{AreApart}
-use Rattle.gx_effects.proofs.Known.{first_waiting, live_apart, number_found}
-use Rattle.gx_effects.proofs.Live.{each_turned, live_next}
-use Rattle.gx_effects.proofs.Matches.{may_match}
-use Rattle.gx_effects.proofs.Orderly.{IsOrderly, legal_is_orderly}
-use Rattle.gx_effects.proofs.Priority.{IsParted, IsRanking, lower, no_lower, placed_parted}
+use Rattle.gx_policy.specs.{declared.policy.PolicyData.PolicyData, Lists.{in_order, placed}, People.account_of}
+use Rattle.gx_history.specs.{declared.{live_order.LiveOrder.LiveOrder, «record».{Asked.Asked, RecordData.RecordData, Request.Request, Step.Step, Verdict.Verdict}, moves.Move.Move}, Book.{is_on, rested, rested_of}, Live.{waiting, ahead, is_there, side, has_come, live_numbered, live, live_under}, LiveOrders.replacement_order, MayMove.MayRest, Orders.ends_account, Requests.is_judged, Turns.{Turn, Keeps, Adds, Sizes, Replaces, EndsAll, Fills, Rests, Ends, becomes, new_in, new_order, side_turned, turned, waiting_turned, while_open}, Verdicts.{IsLegal, next}, World.{SidesGoOn, WaitingGoesOn, World, move_asked, turn_by, turn_in, turn_of, world}}
+use Rattle.gx_history_laws.proofs.{Granting.asked_is_judged, NextOrders.rested_next, Numbers.{all_weaker, number_left}}
+use Rattle.gx_effects.proofs.{Apart.AreApart, Known.{first_waiting, live_apart, number_found}, Live.{each_turned, live_next}, Matches.may_match, Orderly.{IsOrderly, legal_is_orderly}, Priority.{IsParted, IsRanking, lower, no_lower, placed_parted}}
 
 -- an order that goes on has its number and its terms, and waits as before unless it is put to rest
 abbrev pub IsSame : Bool → LiveOrder → LiveOrder → Type 0
@@ -172,24 +135,24 @@ abbrev pub AreNew : RecordData → Turn → Type 0
 AreNew r turn = AllByRecursion (λ (o : LiveOrder). (o.number ≡ r.number) × (o.waits ≡ true)) (new_in turn)
 
 -- what holds of what no order or account does, and of what each does, holds of what the one that is found does
-found_turns : {U : Type 0} (P : Turn → Type 0) (make : U → Move) → P Keeps → ((u : U) → P (turn_in (make u))) → (found : Option U) → P (turn_in (option_map_or make found moves.Nothing))
+found_turns : {U : Type 0} (P : Turn → Type 0) (make : U → Move) → P Keeps → ((u : U) → P (turn_in (make u))) → (found : Option U) → P (turn_in (option_map_or make found Move.Nothing))
 found_turns P make none each None = none
 found_turns P make none each (Some u) = each u
 
 new_asked : (policy : PolicyData) (w : World) (r : RecordData) (a : Asked) (q : Request) → AreNew r (turn_in (move_asked policy w r a q))
-new_asked policy w r a (requests.Enter m) = found_turns (AreNew r) (λ (account : AccountName). moves.Adds (new_order policy r a.user account m)) tt (λ account. ((refl, refl), tt)) (account_of policy a.user)
-new_asked policy w r a (requests.Replace m) = found_turns (AreNew r) (λ (old : LiveOrder). moves.Replaces old (replacement_order r m old)) tt (λ old. ((refl, refl), tt)) (live_under w.live a.user m.existing_token)
-new_asked policy w r a (requests.Cancel m) = found_turns (AreNew r) (λ (cut : LiveOrder). moves.Sizes cut m.shares) tt (λ cut. tt) (live_under w.live a.user m.token)
+new_asked policy w r a (Request.Enter m) = found_turns (AreNew r) (λ (account : AccountName). Move.Adds (new_order policy r a.user account m)) tt (λ account. ((refl, refl), tt)) (account_of policy a.user)
+new_asked policy w r a (Request.Replace m) = found_turns (AreNew r) (λ (old : LiveOrder). Move.Replaces old (replacement_order r m old)) tt (λ old. ((refl, refl), tt)) (live_under w.live a.user m.existing_token)
+new_asked policy w r a (Request.Cancel m) = found_turns (AreNew r) (λ (cut : LiveOrder). Move.Sizes cut m.shares) tt (λ cut. tt) (live_under w.live a.user m.token)
 new_asked policy w r a other = tt
 
 pub new_by : (policy : PolicyData) (w : World) (r : RecordData) (v : Verdict) (s : Step) → AreNew r (turn_by policy w r v s)
-new_by policy w r verdicts.Granted (steps.Asked a) = new_asked policy w r a a.request
-new_by policy w r verdicts.Granted (steps.Matching handed) = tt
-new_by policy w r (verdicts.Denied rule) (steps.Asked a) = tt
-new_by policy w r (verdicts.Denied rule) (steps.Matching handed) = tt
-new_by policy w r (verdicts.Filled f) s = tt
-new_by policy w r (verdicts.Rested number) s = tt
-new_by policy w r (verdicts.Expired number) s = tt
+new_by policy w r Verdict.Granted (Step.Asked a) = new_asked policy w r a a.request
+new_by policy w r Verdict.Granted (Step.Matching handed) = tt
+new_by policy w r (Verdict.Denied rule) (Step.Asked a) = tt
+new_by policy w r (Verdict.Denied rule) (Step.Matching handed) = tt
+new_by policy w r (Verdict.Filled f) s = tt
+new_by policy w r (Verdict.Rested number) s = tt
+new_by policy w r (Verdict.Expired number) s = tt
 
 -- those that wait
 pub waits_turned : (r : RecordData) (turn : Turn) (os : List LiveOrder) → puts_to_rest turn ≡ false → AreNew r turn → filter (λ (o : LiveOrder). o.waits) (turned turn os) ≡ turned turn (filter (λ (o : LiveOrder). o.waits) os)
@@ -336,19 +299,19 @@ abbrev GoesOn : Turn → Type 0
 GoesOn turn = puts_to_rest turn ≡ false
 
 goes_by : (policy : PolicyData) (w : World) (r : RecordData) (a : Asked) (q : Request) → GoesOn (turn_in (move_asked policy w r a q))
-goes_by policy w r a (requests.Enter m) = found_turns GoesOn (λ (account : AccountName). moves.Adds (new_order policy r a.user account m)) refl (λ account. refl) (account_of policy a.user)
-goes_by policy w r a (requests.Replace m) = found_turns GoesOn (λ (old : LiveOrder). moves.Replaces old (replacement_order r m old)) refl (λ old. refl) (live_under w.live a.user m.existing_token)
-goes_by policy w r a (requests.Cancel m) = found_turns GoesOn (λ (cut : LiveOrder). moves.Sizes cut m.shares) refl (λ cut. refl) (live_under w.live a.user m.token)
+goes_by policy w r a (Request.Enter m) = found_turns GoesOn (λ (account : AccountName). Move.Adds (new_order policy r a.user account m)) refl (λ account. refl) (account_of policy a.user)
+goes_by policy w r a (Request.Replace m) = found_turns GoesOn (λ (old : LiveOrder). Move.Replaces old (replacement_order r m old)) refl (λ old. refl) (live_under w.live a.user m.existing_token)
+goes_by policy w r a (Request.Cancel m) = found_turns GoesOn (λ (cut : LiveOrder). Move.Sizes cut m.shares) refl (λ cut. refl) (live_under w.live a.user m.token)
 goes_by policy w r a other = refl
 
 pub goes : (policy : PolicyData) (w : World) (r : RecordData) (v : Verdict) (s : Step) → rested_of v ≡ None → GoesOn (turn_by policy w r v s)
-goes policy w r verdicts.Granted (steps.Asked a) h = goes_by policy w r a a.request
-goes policy w r verdicts.Granted (steps.Matching handed) h = refl
-goes policy w r (verdicts.Denied rule) (steps.Asked a) h = refl
-goes policy w r (verdicts.Denied rule) (steps.Matching handed) h = refl
-goes policy w r (verdicts.Filled f) s h = refl
-goes policy w r (verdicts.Rested number) s h = cc
-goes policy w r (verdicts.Expired number) s h = refl
+goes policy w r Verdict.Granted (Step.Asked a) h = goes_by policy w r a a.request
+goes policy w r Verdict.Granted (Step.Matching handed) h = refl
+goes policy w r (Verdict.Denied rule) (Step.Asked a) h = refl
+goes policy w r (Verdict.Denied rule) (Step.Matching handed) h = refl
+goes policy w r (Verdict.Filled f) s h = refl
+goes policy w r (Verdict.Rested number) s h = cc
+goes policy w r (Verdict.Expired number) s h = refl
 
 -- a record that puts none to rest
 side_kept : (policy : PolicyData) (history : List RecordData) (step : Step) (r : RecordData) (stock : Symbol) (buy : Bool) → IsLegal policy history → next policy history step ≡ Some r → (v : Verdict) → r.verdict ≡ v → rested_of v ≡ None
@@ -363,24 +326,24 @@ side_kept policy history step r stock buy legal left v e none =
     ∙ other_turn turn (live policy history) stock buy (side policy history stock buy) (goes policy (world policy history) r v r.step none)
 
 -- a record that does
-side_more : (policy : PolicyData) (history : List RecordData) (handed : ℕ) (r : RecordData) (stock : Symbol) (buy : Bool) (number : ℕ) → IsLegal policy history → next policy history (steps.Matching handed) ≡ Some r → r.verdict ≡ verdicts.Rested number
+side_more : (policy : PolicyData) (history : List RecordData) (handed : ℕ) (r : RecordData) (stock : Symbol) (buy : Bool) (number : ℕ) → IsLegal policy history → next policy history (Step.Matching handed) ≡ Some r → r.verdict ≡ Verdict.Rested number
     → side policy (history ++ r ∷ []) stock buy ≡ side_turned (Rests number) (live policy history) stock buy (side policy history stock buy)
 unfolding side
 side_more policy history handed r stock buy number legal left e =
     let orderly : IsOrderly policy history = legal_is_orderly policy history legal in
-    let may : MayRest (world policy history) r number = may_match policy history handed r (verdicts.Rested number) left e in
+    let may : MayRest (world policy history) r number = may_match policy history handed r (Verdict.Rested number) left e in
     ap (λ (ns : List ℕ). side_of (live policy (history ++ r ∷ [])) ns stock buy) (rested_next history r ∙ ap (λ (v : Verdict). rested history ++ option_to_list (rested_of v)) e)
-    ∙ ap (λ (os : List LiveOrder). side_of os (rested history ++ number ∷ []) stock buy) (live_next policy history (steps.Matching handed) r legal left ∙ ap (λ (x : Verdict). turned (turn_by policy (world policy history) r x r.step) (live policy history)) e)
+    ∙ ap (λ (os : List LiveOrder). side_of os (rested history ++ number ∷ []) stock buy) (live_next policy history (Step.Matching handed) r legal left ∙ ap (λ (x : Verdict). turned (turn_by policy (world policy history) r x r.step) (live policy history)) e)
     ∙ side_rests number (live policy history) (rested history) stock buy (live_apart policy history orderly) (none_of number (rested history) (ap (has_come (rested history)) may.has_number ∙ (first_waiting policy history may.first may.waiting orderly may.comes_first).has_not_rested))
 
 by_verdict : (policy : PolicyData) (history : List RecordData) (step : Step) (r : RecordData) (stock : Symbol) (buy : Bool) → IsLegal policy history → next policy history step ≡ Some r → (v : Verdict) → r.verdict ≡ v
     → side policy (history ++ r ∷ []) stock buy ≡ side_turned (turn_by policy (world policy history) r v r.step) (live policy history) stock buy (side policy history stock buy)
-by_verdict policy history step r stock buy legal left verdicts.Granted e = side_kept policy history step r stock buy legal left verdicts.Granted e refl
-by_verdict policy history step r stock buy legal left (verdicts.Denied rule) e = side_kept policy history step r stock buy legal left (verdicts.Denied rule) e refl
-by_verdict policy history step r stock buy legal left (verdicts.Filled f) e = side_kept policy history step r stock buy legal left (verdicts.Filled f) e refl
-by_verdict policy history step r stock buy legal left (verdicts.Expired number) e = side_kept policy history step r stock buy legal left (verdicts.Expired number) e refl
-by_verdict policy history (steps.Asked a) r stock buy legal left (verdicts.Rested number) e = let judged : false ≡ true = ap is_judged (sym e) ∙ asked_is_judged policy history a r left in cc
-by_verdict policy history (steps.Matching handed) r stock buy legal left (verdicts.Rested number) e = side_more policy history handed r stock buy number legal left e
+by_verdict policy history step r stock buy legal left Verdict.Granted e = side_kept policy history step r stock buy legal left Verdict.Granted e refl
+by_verdict policy history step r stock buy legal left (Verdict.Denied rule) e = side_kept policy history step r stock buy legal left (Verdict.Denied rule) e refl
+by_verdict policy history step r stock buy legal left (Verdict.Filled f) e = side_kept policy history step r stock buy legal left (Verdict.Filled f) e refl
+by_verdict policy history step r stock buy legal left (Verdict.Expired number) e = side_kept policy history step r stock buy legal left (Verdict.Expired number) e refl
+by_verdict policy history (Step.Asked a) r stock buy legal left (Verdict.Rested number) e = let judged : false ≡ true = ap is_judged (sym e) ∙ asked_is_judged policy history a r left in cc
+by_verdict policy history (Step.Matching handed) r stock buy legal left (Verdict.Rested number) e = side_more policy history handed r stock buy number legal left e
 
 pub side_next : SidesGoOn
 side_next policy history step r stock buy legal left = by_verdict policy history step r stock buy legal left r.verdict refl

@@ -1,37 +1,12 @@
 -- A Kill ends the rest of a sweep: until a Lift no matching step fills an order of the account.
-use Rattle.std.proofs.Common.{◌≡◌, ℕ, true, false, List, [], ◌∷◌, ◌++◌, refl, ◌∙◌, ap, sym, append_assoc}
-use Rattle.std.proofs.Math.Path.{subst}
-use Rattle.std.specs.Prelude.{Some, ◌==◌}
-use Rattle.std.specs.List.{AllByRecursion, filter_map}
-use Rattle.std.proofs.lemmas.List.{append-nil}
-use Rattle.gx_units.specs.declared.names.AccountName.{AccountName}
-use Rattle.gx_units.specs.Names.{same_account}
+use Rattle.std.proofs.{Common.{◌≡◌, ℕ, true, false, List, [], ◌∷◌, ◌++◌, refl, ◌∙◌, ap, sym, append_assoc}, Math.Path.subst, lemmas.List.append-nil}
+use Rattle.std.specs.{Prelude.{Some, ◌==◌}, List.{AllByRecursion, filter_map}}
+use Rattle.gx_units.specs.{declared.names.AccountName.AccountName, Names.same_account}
 use Rattle.gx_policy.specs.declared.policy.PolicyData.{PolicyData}
-use Rattle.gx_history.specs.declared.live_order.LiveOrder.{LiveOrder}
-use Rattle.gx_history.specs.declared.record.Fill.{Fill}
-use Rattle.gx_history.specs.declared.record.RecordData.{RecordData}
-use Rattle.gx_history.specs.declared.record.Step.TheVariants as steps
-use Rattle.gx_history.specs.declared.record.Verdict.{Verdict}
-use Rattle.gx_history.specs.declared.record.Verdict.TheVariants as verdicts
-use Rattle.gx_history.specs.Executions.{Execution, executions, sides}
-use Rattle.gx_history.specs.InForce.{is_killed}
-use Rattle.gx_history.specs.Live.{live}
-use Rattle.gx_history.specs.Settling.{most_matches, settled, FillsNoneOf}
+use Rattle.gx_history.specs.{declared.{live_order.LiveOrder.LiveOrder, «record».{Fill.Fill, RecordData.RecordData, Step.Step, Verdict.Verdict}}, Executions.{Execution, executions, sides}, InForce.is_killed, Live.live, Settling.{most_matches, settled, FillsNoneOf}, Turns.{Turn, becomes}, Verdicts.{next, IsLegal}}
 use Rattle.gx_history.specs.Turns as turns
-use Rattle.gx_history.specs.Turns.{Turn, becomes}
-use Rattle.gx_history.specs.Verdicts.{next, IsLegal}
-use Rattle.gx_history_laws.proofs.NextOrders.{executions_next}
-use Rattle.gx_history_laws.proofs.Owners.{all_both}
-use Rattle.gx_effects.proofs.Entered.{all_found_of}
-use Rattle.gx_effects.proofs.Fills.{IsFill, is_fill, sides_are}
-use Rattle.gx_effects.proofs.KilledAccounts.{IsOthers, killed_have_no_live}
-use Rattle.gx_effects.proofs.Known.{IsKnown}
-use Rattle.gx_effects.proofs.Live.{by_match}
-use Rattle.gx_effects.proofs.Matches.{may_match}
-use Rattle.gx_effects.proofs.NewOrders.{found_is}
-use Rattle.gx_effects.proofs.Orderly.{IsOrderly, legal_is_orderly}
-use Rattle.gx_effects.proofs.Settling.{match_is_orderly, settled_keeps}
-use Rattle.gx_effects.proofs.Sides.{becomes_same}
+use Rattle.gx_history_laws.proofs.{NextOrders.executions_next, Owners.all_both}
+use Rattle.gx_effects.proofs.{Entered.all_found_of, Fills.{IsFill, is_fill, sides_are}, KilledAccounts.{IsOthers, killed_have_no_live}, Known.IsKnown, Live.by_match, Matches.may_match, NewOrders.found_is, Orderly.{IsOrderly, legal_is_orderly}, Settling.{match_is_orderly, settled_keeps}, Sides.becomes_same}
 
 -- no live order is of the account
 abbrev AreOthers : PolicyData → List RecordData → AccountName → Type 0
@@ -54,7 +29,7 @@ is_of_another policy history account o others known =
 
 -- a matching step adds none of the account, and fills none
 match_leaves_alone : (policy : PolicyData) (history : List RecordData) (handed : ℕ) (r : RecordData) (account : AccountName) → IsOrderly policy history → AreOthers policy history account
-    → next policy history (steps.Matching handed) ≡ Some r → AreOthers policy (history ++ r ∷ []) account × AreOfOthers account (sides policy history r.verdict)
+    → next policy history (Step.Matching handed) ≡ Some r → AreOthers policy (history ++ r ∷ []) account × AreOfOthers account (sides policy history r.verdict)
 match_leaves_alone policy history handed r account orderly others left = by r.verdict refl
   where
     then : (turn : Turn) → live policy (history ++ r ∷ []) ≡ filter_map (becomes turn) (live policy history) ++ [] → AreOthers policy (history ++ r ∷ []) account
@@ -69,17 +44,17 @@ match_leaves_alone policy history handed r account orderly others left = by r.ve
         (is_of_another policy history account is.may.taker others is.taker_waits.known, (is_of_another policy history account is.may.maker others is.maker_rests.known, tt))
 
     by : (v : Verdict) → r.verdict ≡ v → AreOthers policy (history ++ r ∷ []) account × AreOfOthers account (sides policy history r.verdict)
-    by verdicts.Granted e = absurd (may_match policy history handed r verdicts.Granted left e)
-    by (verdicts.Denied rule) e = absurd (may_match policy history handed r (verdicts.Denied rule) left e)
-    by (verdicts.Filled f) e = (then (turns.Fills f) (by_match policy history handed r orderly left (verdicts.Filled f) e), both f (is_fill policy history handed r f orderly left e))
-    by (verdicts.Rested n) e = (then (turns.Rests n) (by_match policy history handed r orderly left (verdicts.Rested n) e), none (verdicts.Rested n) e refl)
-    by (verdicts.Expired n) e = (then (turns.Ends n) (by_match policy history handed r orderly left (verdicts.Expired n) e), none (verdicts.Expired n) e refl)
+    by Verdict.Granted e = absurd (may_match policy history handed r Verdict.Granted left e)
+    by (Verdict.Denied rule) e = absurd (may_match policy history handed r (Verdict.Denied rule) left e)
+    by (Verdict.Filled f) e = (then (turns.Fills f) (by_match policy history handed r orderly left (Verdict.Filled f) e), both f (is_fill policy history handed r f orderly left e))
+    by (Verdict.Rested n) e = (then (turns.Rests n) (by_match policy history handed r orderly left (Verdict.Rested n) e), none (Verdict.Rested n) e refl)
+    by (Verdict.Expired n) e = (then (turns.Ends n) (by_match policy history handed r orderly left (Verdict.Expired n) e), none (Verdict.Expired n) e refl)
 
 abbrev GoesOnWithout : PolicyData → List RecordData → AccountName → List RecordData → Type 0
 GoesOnWithout policy history account h = IsOrderly policy h × AreOthers policy h account × FillsNoneOf policy history h account
 
 one_more : (policy : PolicyData) (history : List RecordData) (account : AccountName) (moment : ℕ) (h : List RecordData) (r : RecordData) → GoesOnWithout policy history account h
-    → next policy h (steps.Matching moment) ≡ Some r → GoesOnWithout policy history account (h ++ r ∷ [])
+    → next policy h (Step.Matching moment) ≡ Some r → GoesOnWithout policy history account (h ++ r ∷ [])
 one_more policy history account moment h r kept left =
     let alone : AreOthers policy (h ++ r ∷ []) account × AreOfOthers account (sides policy h r.verdict) = match_leaves_alone policy h moment r account kept.0 kept.1 left in (
       match_is_orderly policy h moment r kept.0 left,

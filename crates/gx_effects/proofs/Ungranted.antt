@@ -1,18 +1,12 @@
 -- A record that grants nothing makes and sizes no order, and ends one at most by its verdict.
 use Rattle.std.proofs.Common.{◌≡◌, ℕ, Bool, true, false, List, [], refl, ◌∙◌, ap, cond}
-use Rattle.std.specs.Prelude.{Option, None, ◌||◌, ◌&&◌, option_and_then, nat_lt}
-use Rattle.std.specs.Option.{option_map_or}
+use Rattle.std.specs.{Prelude.{Option, None, ◌||◌, ◌&&◌, option_and_then, nat_lt}, Option.option_map_or}
 use Rattle.gx_policy.specs.declared.policy.PolicyData.{PolicyData}
-use Rattle.gx_history.specs.declared.record.Asked.{Asked}
-use Rattle.gx_history.specs.declared.record.RecordData.{RecordData}
-use Rattle.gx_history.specs.declared.record.Step.TheVariants as steps
-use Rattle.gx_history.specs.declared.record.Verdict.{Verdict}
-use Rattle.gx_history.specs.Orders.{Order, orders, orders_added, orders_made, size_asked, size_set, ends, ends_by_request, expires}
-use Rattle.gx_history.specs.Requests.{granted, is_granted, asked}
+use Rattle.gx_history.specs.{declared.record.{Asked.Asked, RecordData.RecordData, Step.Step, Verdict.Verdict}, Orders.{Order, orders, orders_added, orders_made, size_asked, size_set, ends, ends_by_request, expires}, Requests.{granted, is_granted, asked}}
 use Rattle.gx_history_laws.proofs.NextOrders.{or_not}
 
 -- a matching step asks for nothing
-pub match_grants_nothing : (r : RecordData) (handed : ℕ) → r.step ≡ steps.Matching handed → granted r ≡ None
+pub match_grants_nothing : (r : RecordData) (handed : ℕ) → r.step ≡ Step.Matching handed → granted r ≡ None
 match_grants_nothing r handed e =
     ap (λ (found : Option Asked). cond (is_granted r.verdict) found None) (ap asked e)
     ∙ elim (is_granted r.verdict) as (λ b. cond {A = Option Asked} b None None ≡ None) [ true ↦ refl | false ↦ refl ]

@@ -1,60 +1,14 @@
 -- One more record moves the world by what it does.
-use Rattle.std.proofs.Common.{◌≡◌, ℕ, ◌-◌, Bool, true, false, List, [], ◌∷◌, ◌++◌, refl, ◌∙◌, ap, sym, cond, map, fold}
-use Rattle.std.proofs.Math.Path.{subst}
-use Rattle.std.specs.Prelude.{Option, Some, None, not, ◌&&◌, is_some, option_to_list}
-use Rattle.std.specs.Option.{option_map_or}
-use Rattle.std.specs.List.{cons_option, filter, filter_map, flat_map}
-use Rattle.std.proofs.lemmas.List.{append-nil, length_push, map-append}
-use Rattle.std.proofs.lemmas.List.Sums.{fold_push}
-use Rattle.gx_units.specs.declared.names.AccountName.{AccountName}
-use Rattle.gx_units.specs.declared.names.Symbol.{Symbol}
-use Rattle.gx_units.specs.declared.names.Token.{Token}
-use Rattle.gx_units.specs.declared.names.UserName.{UserName}
-use Rattle.gx_units.specs.Names.{same_token, same_user}
-use Rattle.gx_ouch.specs.declared.letters.CancelReason.TheVariants as cancels
-use Rattle.gx_desk.specs.declared.Action.{Action}
-use Rattle.gx_desk.specs.declared.Action.TheVariants as actions
-use Rattle.gx_desk.specs.declared.AnswerCode.TheVariants as codes
-use Rattle.gx_desk.specs.declared.Command.{Command}
-use Rattle.gx_policy.specs.declared.policy.PolicyData.{PolicyData}
-use Rattle.gx_policy.specs.Lists.{in_order, where_true}
-use Rattle.gx_policy.specs.People.{account_of}
-use Rattle.gx_history.specs.declared.live_order.LiveOrder.{LiveOrder}
-use Rattle.gx_history.specs.declared.record.Asked.{Asked}
-use Rattle.gx_history.specs.declared.record.RecordData.{RecordData}
-use Rattle.gx_history.specs.declared.record.Request.{Request}
-use Rattle.gx_history.specs.declared.record.Request.TheVariants as requests
-use Rattle.gx_history.specs.declared.record.Step.{Step}
-use Rattle.gx_history.specs.declared.record.Step.TheVariants as steps
-use Rattle.gx_history.specs.declared.record.Verdict.{Verdict}
-use Rattle.gx_history.specs.declared.record.Verdict.TheVariants as verdicts
-use Rattle.gx_history.specs.declared.report.Message.{Message}
-use Rattle.gx_history.specs.declared.report.Report.{Report}
-use Rattle.gx_history.specs.Book.{rested}
-use Rattle.gx_history.specs.Executions.{executions, sides, sides_in}
-use Rattle.gx_history.specs.InForce.{is_entitled, is_killed, kill_or_lift_of}
-use Rattle.gx_history.specs.Live.{ahead, is_there, waiting, side, live, live_numbered, live_under}
-use Rattle.gx_history.specs.LiveOrders.{replacement_order, shares_open}
-use Rattle.gx_history.specs.Orders.{ends_account, entered}
-use Rattle.gx_history.specs.Streams.{accepted, answer, canceled_of, day_end, copy_of, ended_of, expired_of, granted_code, lift_code, replaced_of, reported, reports_of_denial, reports_of_execution, reports_of_grant, stream, to_user}
+use Rattle.std.proofs.{Common.{◌≡◌, ℕ, ◌-◌, Bool, true, false, List, [], ◌∷◌, ◌++◌, refl, ◌∙◌, ap, sym, cond, map, fold}, Math.Path.subst, lemmas.List.{append-nil, length_push, map-append, Sums.fold_push}}
+use Rattle.std.specs.{Prelude.{Option, Some, None, not, ◌&&◌, is_some, option_to_list}, Option.option_map_or, List.{cons_option, filter, filter_map, flat_map}}
+use Rattle.gx_units.specs.{declared.names.{AccountName.AccountName, Symbol.Symbol, Token.Token, UserName.UserName}, Names.{same_token, same_user}}
+use Rattle.gx_ouch.specs.declared.letters.CancelReason.{CancelReason}
+use Rattle.gx_desk.specs.declared.{Action.Action, AnswerCode.AnswerCode, Command.Command}
+use Rattle.gx_policy.specs.{declared.policy.PolicyData.PolicyData, Lists.{in_order, where_true}, People.account_of}
+use Rattle.gx_history.specs.{declared.{live_order.LiveOrder.LiveOrder, «record».{Asked.Asked, RecordData.RecordData, Request.Request, Step.Step, Verdict.Verdict}, report.{Message.Message, Report.Report}, moves.Move.{Move, TheVariants.{Nothing, Denies, PutsOn, Adds, Sizes, Replaces, Commands, Fills, Rests, Expires}}}, Book.rested, Executions.{executions, sides, sides_in}, InForce.{is_entitled, is_killed, kill_or_lift_of}, Live.{ahead, is_there, waiting, side, live, live_numbered, live_under}, LiveOrders.{replacement_order, shares_open}, Orders.{ends_account, entered}, Streams.{accepted, answer, canceled_of, day_end, copy_of, ended_of, expired_of, granted_code, lift_code, replaced_of, reported, reports_of_denial, reports_of_execution, reports_of_grant, stream, to_user}, Turns.{Turn, new_order, side_turned, turned, waiting_turned}, Verdicts.IsLegal, World.{World, world, commanded, move_asked, move_by, move_of, moved, stepped, turn_in, turn_of, WorldGoesOn, WorldsAreRuns}}
 use Rattle.gx_history.specs.Turns as turns
-use Rattle.gx_history.specs.Turns.{Turn, new_order, side_turned, turned, waiting_turned}
-use Rattle.gx_history.specs.Verdicts.{IsLegal}
-use Rattle.gx_history.specs.declared.moves.Move.{Move}
-use Rattle.gx_history.specs.declared.moves.Move.TheVariants.{Nothing, Denies, PutsOn, Adds, Sizes, Replaces, Commands, Fills, Rests, Expires}
-use Rattle.gx_history.specs.World.{World, world, commanded, move_asked, move_by, move_of, moved, stepped, turn_in, turn_of, WorldGoesOn, WorldsAreRuns}
-use Rattle.gx_history_laws.proofs.Adding.{found_passes, user_is}
-use Rattle.gx_history_laws.proofs.Granting.{legal_keeps}
-use Rattle.gx_history_laws.proofs.Judging.{both}
-use Rattle.gx_history_laws.proofs.Keeping.{AddsNothing, EndsNone}
-use Rattle.gx_history_laws.proofs.Moves.{InForce, in_force_next}
-use Rattle.gx_history_laws.proofs.Names.{account_is_itself}
-use Rattle.gx_history_laws.proofs.NextInForce.{last_moment_next}
-use Rattle.gx_history_laws.proofs.NextOrders.{executions_next, is_token_used_next, orders_next, rested_next}
-use Rattle.gx_history_laws.proofs.NextReports.{legal_next, legal_none, stream_next}
-use Rattle.gx_effects.proofs.Commanding.{GrantsCommand, kill_by_command, none_ended, tells}
-use Rattle.gx_effects.proofs.Live.{live_next, live_stays}
-use Rattle.gx_effects.proofs.Sides.{side_next, waiting_next}
+use Rattle.gx_history_laws.proofs.{Adding.{found_passes, user_is}, Granting.legal_keeps, Judging.both, Keeping.{AddsNothing, EndsNone}, Moves.{InForce, in_force_next}, Names.account_is_itself, NextInForce.last_moment_next, NextOrders.{executions_next, is_token_used_next, orders_next, rested_next}, NextReports.{legal_next, legal_none, stream_next}}
+use Rattle.gx_effects.proofs.{Commanding.{GrantsCommand, kill_by_command, none_ended, tells}, Live.{live_next, live_stays}, Sides.{side_next, waiting_next}}
 
 -- what the move makes of the lists
 pub all_stay : (os : List LiveOrder) → filter_map (λ (o : LiveOrder). Some o) os ≡ os
@@ -82,14 +36,14 @@ as_they_are : (w then : World) → then.live ≡ w.live → then.waiting ≡ w.w
 as_they_are w then l k s = record { lives = stay w.live ∙ sym l; waits = stay w.waiting ∙ sym k; rests = λ stock buy. all_stay (w.resting stock buy) ∙ sym (s stock buy) }
 
 lists_commanded : (policy : PolicyData) (r : RecordData) (officer : UserName) (c : Command) (w : World) (action : Action) → Lists w (commanded policy r officer c action w) (turns.EndsAll action)
-lists_commanded policy r officer c w (actions.Kill account) = record { lives = refl; waits = refl; rests = λ stock buy. refl }
-lists_commanded policy r officer c w actions.CloseDay = record { lives = refl; waits = refl; rests = λ stock buy. refl }
-lists_commanded policy r officer c w (actions.Lift account) = record { lives = stay w.live; waits = stay w.waiting; rests = λ stock buy. all_stay (w.resting stock buy) }
-lists_commanded policy r officer c w (actions.SetLimit name limit) = record { lives = stay w.live; waits = stay w.waiting; rests = λ stock buy. all_stay (w.resting stock buy) }
-lists_commanded policy r officer c w (actions.Restrict name stock) = record { lives = stay w.live; waits = stay w.waiting; rests = λ stock buy. all_stay (w.resting stock buy) }
-lists_commanded policy r officer c w (actions.Unrestrict name stock) = record { lives = stay w.live; waits = stay w.waiting; rests = λ stock buy. all_stay (w.resting stock buy) }
-lists_commanded policy r officer c w (actions.Grant reader account) = record { lives = stay w.live; waits = stay w.waiting; rests = λ stock buy. all_stay (w.resting stock buy) }
-lists_commanded policy r officer c w (actions.Revoke reader account) = record { lives = stay w.live; waits = stay w.waiting; rests = λ stock buy. all_stay (w.resting stock buy) }
+lists_commanded policy r officer c w (Action.Kill account) = record { lives = refl; waits = refl; rests = λ stock buy. refl }
+lists_commanded policy r officer c w Action.CloseDay = record { lives = refl; waits = refl; rests = λ stock buy. refl }
+lists_commanded policy r officer c w (Action.Lift account) = record { lives = stay w.live; waits = stay w.waiting; rests = λ stock buy. all_stay (w.resting stock buy) }
+lists_commanded policy r officer c w (Action.SetLimit name limit) = record { lives = stay w.live; waits = stay w.waiting; rests = λ stock buy. all_stay (w.resting stock buy) }
+lists_commanded policy r officer c w (Action.Restrict name stock) = record { lives = stay w.live; waits = stay w.waiting; rests = λ stock buy. all_stay (w.resting stock buy) }
+lists_commanded policy r officer c w (Action.Unrestrict name stock) = record { lives = stay w.live; waits = stay w.waiting; rests = λ stock buy. all_stay (w.resting stock buy) }
+lists_commanded policy r officer c w (Action.Grant reader account) = record { lives = stay w.live; waits = stay w.waiting; rests = λ stock buy. all_stay (w.resting stock buy) }
+lists_commanded policy r officer c w (Action.Revoke reader account) = record { lives = stay w.live; waits = stay w.waiting; rests = λ stock buy. all_stay (w.resting stock buy) }
 
 lists_moved : (policy : PolicyData) (r : RecordData) (w : World) (m : Move) → Lists w (moved policy r m w) (turn_in m)
 lists_moved policy r w Nothing = as_they_are w w refl refl (λ stock buy. refl)
@@ -126,61 +80,61 @@ lasting policy history r action user told stays no_end = ap (λ (ms : List Messa
 
 tells_action : (policy : PolicyData) (history : List RecordData) (a : Asked) (r : RecordData) (c : Command) → GrantsCommand r a c.action → (action : Action) → c.action ≡ action → (user : UserName)
     → stream policy history user ++ map (reported r) (ended_of (live policy history) action user ++ day_end policy action user ++ to_user a.user user (answer r c (granted_code policy (history ++ r ∷ []) action))) ≡ (commanded policy r a.user c action (world policy history)).streams user
-tells_action policy history a r c g (actions.Kill account) acts user =
-    ap (λ (ms : List Message). stream policy history user ++ map (reported r) (ms ++ to_user a.user user (answer r c codes.Done))) (append-nil (ended_of (live policy history) (actions.Kill account) user))
-tells_action policy history a r c g (actions.Lift account) acts user =
-    ap (λ (ms : List Message). stream policy history user ++ map (reported r) ms) (lasting policy history r (actions.Lift account) user (to_user a.user user (answer r c (lift_code (is_killed policy (history ++ r ∷ []) account)))) (λ account. refl) refl)
+tells_action policy history a r c g (Action.Kill account) acts user =
+    ap (λ (ms : List Message). stream policy history user ++ map (reported r) (ms ++ to_user a.user user (answer r c AnswerCode.Done))) (append-nil (ended_of (live policy history) (Action.Kill account) user))
+tells_action policy history a r c g (Action.Lift account) acts user =
+    ap (λ (ms : List Message). stream policy history user ++ map (reported r) ms) (lasting policy history r (Action.Lift account) user (to_user a.user user (answer r c (lift_code (is_killed policy (history ++ r ∷ []) account)))) (λ account. refl) refl)
     ∙ ap (λ (x : Option (List UserName)). stream policy history user ++ map (reported r) (to_user a.user user (answer r c (lift_code (is_some x)))))
     (kill_by_command policy history r a c.action account (Some (Some a.user)) g (ap (kill_or_lift_of account a.user) acts ∙ ap (λ (b : Bool). where_true b (Some a.user)) (account_is_itself account)))
-tells_action policy history a r c g (actions.SetLimit rule limit) acts user = ap (λ (ms : List Message). stream policy history user ++ map (reported r) ms) (lasting policy history r (actions.SetLimit rule limit) user (to_user a.user user (answer r c codes.Done)) (λ account. refl) refl)
-tells_action policy history a r c g (actions.Restrict rule stock) acts user = ap (λ (ms : List Message). stream policy history user ++ map (reported r) ms) (lasting policy history r (actions.Restrict rule stock) user (to_user a.user user (answer r c codes.Done)) (λ account. refl) refl)
-tells_action policy history a r c g (actions.Unrestrict rule stock) acts user = ap (λ (ms : List Message). stream policy history user ++ map (reported r) ms) (lasting policy history r (actions.Unrestrict rule stock) user (to_user a.user user (answer r c codes.Done)) (λ account. refl) refl)
-tells_action policy history a r c g (actions.Grant written account) acts user = ap (λ (ms : List Message). stream policy history user ++ map (reported r) ms) (lasting policy history r (actions.Grant written account) user (to_user a.user user (answer r c codes.Done)) (λ account. refl) refl)
-tells_action policy history a r c g (actions.Revoke written account) acts user = ap (λ (ms : List Message). stream policy history user ++ map (reported r) ms) (lasting policy history r (actions.Revoke written account) user (to_user a.user user (answer r c codes.Done)) (λ account. refl) refl)
-tells_action policy history a r c g actions.CloseDay acts user = refl
+tells_action policy history a r c g (Action.SetLimit rule limit) acts user = ap (λ (ms : List Message). stream policy history user ++ map (reported r) ms) (lasting policy history r (Action.SetLimit rule limit) user (to_user a.user user (answer r c AnswerCode.Done)) (λ account. refl) refl)
+tells_action policy history a r c g (Action.Restrict rule stock) acts user = ap (λ (ms : List Message). stream policy history user ++ map (reported r) ms) (lasting policy history r (Action.Restrict rule stock) user (to_user a.user user (answer r c AnswerCode.Done)) (λ account. refl) refl)
+tells_action policy history a r c g (Action.Unrestrict rule stock) acts user = ap (λ (ms : List Message). stream policy history user ++ map (reported r) ms) (lasting policy history r (Action.Unrestrict rule stock) user (to_user a.user user (answer r c AnswerCode.Done)) (λ account. refl) refl)
+tells_action policy history a r c g (Action.Grant written account) acts user = ap (λ (ms : List Message). stream policy history user ++ map (reported r) ms) (lasting policy history r (Action.Grant written account) user (to_user a.user user (answer r c AnswerCode.Done)) (λ account. refl) refl)
+tells_action policy history a r c g (Action.Revoke written account) acts user = ap (λ (ms : List Message). stream policy history user ++ map (reported r) ms) (lasting policy history r (Action.Revoke written account) user (to_user a.user user (answer r c AnswerCode.Done)) (λ account. refl) refl)
+tells_action policy history a r c g Action.CloseDay acts user = refl
 
-tells_request : (policy : PolicyData) (history : List RecordData) (a : Asked) (r : RecordData) → r.step ≡ steps.Asked a → r.verdict ≡ verdicts.Granted → (q : Request) → a.request ≡ q → (user : UserName)
+tells_request : (policy : PolicyData) (history : List RecordData) (a : Asked) (r : RecordData) → r.step ≡ Step.Asked a → r.verdict ≡ Verdict.Granted → (q : Request) → a.request ≡ q → (user : UserName)
     → stream policy history user ++ map (reported r) (reports_of_grant policy history r a.user q user) ≡ (moved policy r (move_asked policy (world policy history) r a q) (world policy history)).streams user
-tells_request policy history a r s e (requests.Login m) is user = append-nil (stream policy history user)
-tells_request policy history a r s e requests.Logout is user = append-nil (stream policy history user)
-tells_request policy history a r s e (requests.Unreadable m) is user = append-nil (stream policy history user)
-tells_request policy history a r s e (requests.Enter m) is user = at (account_of policy a.user)
+tells_request policy history a r s e (Request.Login m) is user = append-nil (stream policy history user)
+tells_request policy history a r s e Request.Logout is user = append-nil (stream policy history user)
+tells_request policy history a r s e (Request.Unreadable m) is user = append-nil (stream policy history user)
+tells_request policy history a r s e (Request.Enter m) is user = at (account_of policy a.user)
   where
     at : (found : Option AccountName)
         → stream policy history user ++ map (reported r) (to_user a.user user (flat_map accepted (option_map_or (λ (account : AccountName). entered policy r a.user account m ∷ []) found [])))
         ≡ (moved policy r (option_map_or (λ (account : AccountName). Adds (new_order policy r a.user account m)) found Nothing) (world policy history)).streams user
     at None = told_nothing r (stream policy history user) a.user user
     at (Some account) = refl
-tells_request policy history a r s e (requests.Replace m) is user = at (live_under (live policy history) a.user m.existing_token) (is_his (live policy history) a.user m.existing_token)
+tells_request policy history a r s e (Request.Replace m) is user = at (live_under (live policy history) a.user m.existing_token) (is_his (live policy history) a.user m.existing_token)
   where
     at : (found : Option LiveOrder) → ((o : LiveOrder) → found ≡ Some o → o.user ≡ a.user)
         → stream policy history user ++ map (reported r) (to_user a.user user (flat_map (λ (old : LiveOrder). replaced_of old (replacement_order r m old)) (option_to_list found)))
         ≡ (moved policy r (option_map_or (λ (old : LiveOrder). Replaces old (replacement_order r m old)) found Nothing) (world policy history)).streams user
     at None his = told_nothing r (stream policy history user) a.user user
     at (Some old) his = ap (λ (x : UserName). stream policy history user ++ map (reported r) (to_user x user (replaced_of old (replacement_order r m old)))) (sym (his old refl))
-tells_request policy history a r s e (requests.Cancel m) is user = at (live_under (live policy history) a.user m.token) (is_his (live policy history) a.user m.token)
+tells_request policy history a r s e (Request.Cancel m) is user = at (live_under (live policy history) a.user m.token) (is_his (live policy history) a.user m.token)
   where
     at : (found : Option LiveOrder) → ((o : LiveOrder) → found ≡ Some o → o.user ≡ a.user)
-        → stream policy history user ++ map (reported r) (to_user a.user user (flat_map (λ (cut : LiveOrder). canceled_of cancels.UserRequested (shares_open cut - (m.shares - cut.done)) cut) (option_to_list found)))
+        → stream policy history user ++ map (reported r) (to_user a.user user (flat_map (λ (cut : LiveOrder). canceled_of CancelReason.UserRequested (shares_open cut - (m.shares - cut.done)) cut) (option_to_list found)))
         ≡ (moved policy r (option_map_or (λ (cut : LiveOrder). Sizes cut m.shares) found Nothing) (world policy history)).streams user
     at None his = told_nothing r (stream policy history user) a.user user
-    at (Some cut) his = ap (λ (x : UserName). stream policy history user ++ map (reported r) (to_user x user (canceled_of cancels.UserRequested (shares_open cut - (m.shares - cut.done)) cut))) (sym (his cut refl))
-tells_request policy history a r s e (requests.Command c) is user = tells_action policy history a r c (record { asks = s; grants = e; command = c; is_command = is; is_for = refl }) c.action refl user
+    at (Some cut) his = ap (λ (x : UserName). stream policy history user ++ map (reported r) (to_user x user (canceled_of CancelReason.UserRequested (shares_open cut - (m.shares - cut.done)) cut))) (sym (his cut refl))
+tells_request policy history a r s e (Request.Command c) is user = tells_action policy history a r c (record { asks = s; grants = e; command = c; is_command = is; is_for = refl }) c.action refl user
 
 joined : {X Y : Type 0} (f : X → Y) (xs : List Y) (es cs : List X) → xs ++ (map f es ++ map f cs) ≡ xs ++ map f (es ++ cs)
 joined f xs es cs = ap (λ ys. xs ++ ys) (sym (map-append f es cs))
 
 tells_by : (policy : PolicyData) (history : List RecordData) (r : RecordData) (user : UserName) (v : Verdict) (s : Step) → r.verdict ≡ v → r.step ≡ s
     → stream policy history user ++ tells policy history r user v s ≡ (moved policy r (move_by policy (world policy history) r v s) (world policy history)).streams user
-tells_by policy history r user verdicts.Granted (steps.Asked a) e is =
+tells_by policy history r user Verdict.Granted (Step.Asked a) e is =
     ap (λ (ms : List Report). stream policy history user ++ ms) (append-nil (map (reported r) (reports_of_grant policy history r a.user a.request user))) ∙ tells_request policy history a r is e a.request refl user
-tells_by policy history r user verdicts.Granted (steps.Matching handed) e is = append-nil (stream policy history user)
-tells_by policy history r user (verdicts.Denied rule) (steps.Asked a) e is = ap (λ (ms : List Report). stream policy history user ++ ms) (append-nil (map (reported r) (to_user a.user user (reports_of_denial policy r rule a.request))))
-tells_by policy history r user (verdicts.Denied rule) (steps.Matching handed) e is = append-nil (stream policy history user)
-tells_by policy history r user (verdicts.Filled f) s e is =
-    joined (reported r) (stream policy history user) (flat_map (reports_of_execution r user) (sides policy history (verdicts.Filled f))) (flat_map (copy_of (is_entitled policy history) r user) (sides policy history (verdicts.Filled f)))
-tells_by policy history r user (verdicts.Rested number) s e is = append-nil (stream policy history user)
-tells_by policy history r user (verdicts.Expired number) s e is = ap (λ (ms : List Report). stream policy history user ++ ms) (append-nil (map (reported r) (expired_of (live policy history) number user)))
+tells_by policy history r user Verdict.Granted (Step.Matching handed) e is = append-nil (stream policy history user)
+tells_by policy history r user (Verdict.Denied rule) (Step.Asked a) e is = ap (λ (ms : List Report). stream policy history user ++ ms) (append-nil (map (reported r) (to_user a.user user (reports_of_denial policy r rule a.request))))
+tells_by policy history r user (Verdict.Denied rule) (Step.Matching handed) e is = append-nil (stream policy history user)
+tells_by policy history r user (Verdict.Filled f) s e is =
+    joined (reported r) (stream policy history user) (flat_map (reports_of_execution r user) (sides policy history (Verdict.Filled f))) (flat_map (copy_of (is_entitled policy history) r user) (sides policy history (Verdict.Filled f)))
+tells_by policy history r user (Verdict.Rested number) s e is = append-nil (stream policy history user)
+tells_by policy history r user (Verdict.Expired number) s e is = ap (λ (ms : List Report). stream policy history user ++ ms) (append-nil (map (reported r) (expired_of (live policy history) number user)))
 
 -- whatever the history
 pub told : (policy : PolicyData) (history : List RecordData) (r : RecordData) → Tells policy history r (move_of policy (world policy history) r)

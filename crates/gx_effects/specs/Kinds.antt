@@ -1,41 +1,11 @@
 -- What the world is after a record of each kind, in plain words.
-use Rattle.std.specs.Prelude.{◌≡◌, ℕ, ◌+◌, ◌-◌, ◌<◌, true, false, ◌||◌, is_some, List, [], ◌∷◌, ◌++◌, map, Option, Some, None, if◌then◌else◌}
-use Rattle.std.specs.List.{flat_map}
-use Rattle.gx_units.specs.declared.names.AccountName.{AccountName}
-use Rattle.gx_units.specs.declared.names.RuleId.{RuleId}
-use Rattle.gx_units.specs.declared.names.Symbol.{Symbol}
-use Rattle.gx_units.specs.Names.{same_user}
-use Rattle.gx_ouch.specs.declared.inbound.CancelOrder.{CancelOrder}
-use Rattle.gx_ouch.specs.declared.inbound.EnterOrder.{EnterOrder}
-use Rattle.gx_ouch.specs.declared.inbound.ReplaceOrder.{ReplaceOrder}
-use Rattle.gx_ouch.specs.declared.letters.CancelReason.TheVariants as cancels
-use Rattle.gx_desk.specs.declared.Action.TheVariants as actions
-use Rattle.gx_desk.specs.declared.AnswerCode.TheVariants as codes
-use Rattle.gx_desk.specs.declared.Command.{Command}
-use Rattle.gx_desk.specs.declared.WrittenName.{WrittenName}
-use Rattle.gx_policy.specs.declared.policy.PolicyData.{PolicyData}
-use Rattle.gx_policy.specs.declared.rule_name.RuleName.{RuleName}
-use Rattle.gx_policy.specs.People.{account_of}
-use Rattle.gx_history.specs.declared.live_order.LiveOrder.{LiveOrder}
-use Rattle.gx_history.specs.declared.record.Asked.{Asked}
-use Rattle.gx_history.specs.declared.record.Fill.{Fill}
-use Rattle.gx_history.specs.declared.record.Login.{Login}
-use Rattle.gx_history.specs.declared.record.RecordData.{RecordData}
-use Rattle.gx_history.specs.declared.record.Request.{Request}
-use Rattle.gx_history.specs.declared.record.Request.TheVariants as requests
-use Rattle.gx_history.specs.declared.record.Step.TheVariants as steps
-use Rattle.gx_history.specs.declared.record.Verdict.{Verdict}
-use Rattle.gx_history.specs.declared.record.Verdict.TheVariants as verdicts
-use Rattle.gx_history.specs.Executions.{sides_in}
-use Rattle.gx_history.specs.InForce.{adding, change_rule, kill_after, removing, with_limit, with_stocks}
-use Rattle.gx_history.specs.Live.{live, live_under, of_others}
-use Rattle.gx_history.specs.LiveOrders.{replacement_order, shares_open}
-use Rattle.gx_history.specs.Orders.{entered, orders, orders_made, record_uses}
-use Rattle.gx_history.specs.Streams.{answer, canceled_of, copy_of, day_end, ended_of, expired_of, lift_code, replaced_of, reports_of_denial, reports_of_execution, stream, to_user}
+use Rattle.gx_policy.specs.{Kinds.{with_limit, with_stocks}, declared.{policy.PolicyData.PolicyData, rule_name.RuleName.RuleName}, People.account_of}
+use Rattle.std.specs.{Prelude.{◌≡◌, ℕ, ◌+◌, ◌-◌, ◌<◌, true, false, ◌||◌, is_some, List, [], ◌∷◌, ◌++◌, map, Option, Some, None, if◌then◌else◌}, List.flat_map}
+use Rattle.gx_units.specs.{declared.names.{AccountName.AccountName, RuleId.RuleId, Symbol.Symbol}, Names.same_user}
+use Rattle.gx_ouch.specs.declared.{inbound.{CancelOrder.CancelOrder, EnterOrder.EnterOrder, ReplaceOrder.ReplaceOrder}, letters.CancelReason.CancelReason}
+use Rattle.gx_desk.specs.declared.{Action.Action, AnswerCode.AnswerCode, Command.Command, WrittenName.WrittenName}
+use Rattle.gx_history.specs.{declared.{live_order.LiveOrder.LiveOrder, «record».{Asked.Asked, Fill.Fill, Login.Login, RecordData.RecordData, Request.Request, Step.Step, Verdict.Verdict}}, Executions.sides_in, InForce.{adding, change_rule, kill_after, removing}, Live.{live, live_under, of_others}, LiveOrders.{replacement_order, shares_open}, Orders.{entered, orders, orders_made, record_uses}, Streams.{answer, canceled_of, copy_of, day_end, ended_of, expired_of, lift_code, replaced_of, reports_of_denial, reports_of_execution, stream, to_user}, Turns.new_order, Verdicts.{IsLegal, next}, World.{World, accepted_of, tell, tell_each, turned_world, with_kill, with_rule, with_sight, world}}
 use Rattle.gx_history.specs.Turns as turns
-use Rattle.gx_history.specs.Turns.{new_order}
-use Rattle.gx_history.specs.Verdicts.{IsLegal, next}
-use Rattle.gx_history.specs.World.{World, accepted_of, tell, tell_each, turned_world, with_kill, with_rule, with_sight, world}
 
 -- the world so, with one record more than before: its number and its moment
 abbrev pub counted : World → RecordData → World → World
@@ -48,19 +18,19 @@ recorded before r now = record (counted before r now) { tokens = λ user token. 
 -- whatever the records before, the granted request makes this of the world, and records it
 abbrev pub MakesAlways : Request → (PolicyData → Asked → RecordData → World → World) → Type 0
 MakesAlways q made = (policy : PolicyData) (history : List RecordData) (a : Asked) (r : RecordData)
-    → next policy history (steps.Asked a) ≡ Some r → a.request ≡ q → r.verdict ≡ verdicts.Granted
+    → next policy history (Step.Asked a) ≡ Some r → a.request ≡ q → r.verdict ≡ Verdict.Granted
     → world policy (history ++ r ∷ []) ≡ recorded (world policy history) r (made policy a r (world policy history))
 
 -- and of each legal day
 abbrev pub Makes : Request → (PolicyData → Asked → RecordData → World → World) → Type 0
 Makes q made = (policy : PolicyData) (history : List RecordData) (a : Asked) (r : RecordData)
-    → IsLegal policy history → next policy history (steps.Asked a) ≡ Some r → a.request ≡ q → r.verdict ≡ verdicts.Granted
+    → IsLegal policy history → next policy history (Step.Asked a) ≡ Some r → a.request ≡ q → r.verdict ≡ Verdict.Granted
     → world policy (history ++ r ∷ []) ≡ recorded (world policy history) r (made policy a r (world policy history))
 
 -- a denial tells at most who asked, and changes nothing else
 abbrev pub DenialsTellWhoAsked : Type 0
 DenialsTellWhoAsked = (policy : PolicyData) (history : List RecordData) (a : Asked) (r : RecordData) (rule : RuleName)
-    → next policy history (steps.Asked a) ≡ Some r → r.verdict ≡ verdicts.Denied rule
+    → next policy history (Step.Asked a) ≡ Some r → r.verdict ≡ Verdict.Denied rule
     → let w = world policy history in
     world policy (history ++ r ∷ []) ≡ recorded w r (record w { streams = tell r a.user (reports_of_denial policy r rule a.request) w.streams })
 
@@ -70,16 +40,16 @@ with_line a line w = record w { lines = λ other. if same_user a.user other then
 
 -- a Login puts its user on its line, and changes nothing else
 abbrev pub LoginsPutOn : Type 0
-LoginsPutOn = (m : Login) → MakesAlways (requests.Login m) (λ policy a r w. with_line a (Some a.line) w)
+LoginsPutOn = (m : Login) → MakesAlways (Request.Login m) (λ policy a r w. with_line a (Some a.line) w)
 
 -- a Logout puts him on none
 abbrev pub LogoutsPutOff : Type 0
-LogoutsPutOff = MakesAlways requests.Logout (λ policy a r w. with_line a None w)
+LogoutsPutOff = MakesAlways Request.Logout (λ policy a r w. with_line a None w)
 
 -- an Enter's order is the last of the orders, of the live ones and of those that wait; its user is told, and nothing else changes
 abbrev pub EntersComeLast : Type 0
 EntersComeLast = (policy : PolicyData) (history : List RecordData) (a : Asked) (r : RecordData) (m : EnterOrder) (account : AccountName)
-    → IsLegal policy history → next policy history (steps.Asked a) ≡ Some r → a.request ≡ requests.Enter m → r.verdict ≡ verdicts.Granted → account_of policy a.user ≡ Some account
+    → IsLegal policy history → next policy history (Step.Asked a) ≡ Some r → a.request ≡ Request.Enter m → r.verdict ≡ Verdict.Granted → account_of policy a.user ≡ Some account
     → let w = world policy history in
     let new = new_order policy r a.user account m in
     world policy (history ++ r ∷ [])
@@ -96,12 +66,12 @@ pub record CutsOne (policy : PolicyData) (history : List RecordData) (a : Asked)
   pub is_named : live_under (live policy history) a.user m.token ≡ Some cut
   pub is_less : m.shares - cut.done < shares_open cut
   pub makes : world policy (history ++ r ∷ []) ≡ recorded (world policy history) r (record (turned_world (turns.Sizes cut.number m.shares) (world policy history)) {
-    streams = tell r cut.user (canceled_of cancels.UserRequested (shares_open cut - (m.shares - cut.done)) cut) (stream policy history);
+    streams = tell r cut.user (canceled_of CancelReason.UserRequested (shares_open cut - (m.shares - cut.done)) cut) (stream policy history);
   })
 
 abbrev pub CancelsLeaveFewer : Type 0
 CancelsLeaveFewer = (policy : PolicyData) (history : List RecordData) (a : Asked) (r : RecordData) (m : CancelOrder)
-    → IsLegal policy history → next policy history (steps.Asked a) ≡ Some r → a.request ≡ requests.Cancel m → r.verdict ≡ verdicts.Granted → CutsOne policy history a r m
+    → IsLegal policy history → next policy history (Step.Asked a) ≡ Some r → a.request ≡ Request.Cancel m → r.verdict ≡ Verdict.Granted → CutsOne policy history a r m
 
 -- a Replace ends its user's live order under the existing token, and its own, which has shares open, comes last of the orders, of the live ones and of those that wait; he is told,
 -- and nothing else changes
@@ -110,29 +80,29 @@ pub record ReplacesOne (policy : PolicyData) (history : List RecordData) (a : As
   pub is_named : live_under (live policy history) a.user m.existing_token ≡ Some old
   pub some_open : old.done < m.shares
   pub makes : world policy (history ++ r ∷ []) ≡ recorded (world policy history) r (record (turned_world (turns.Replaces old.number (replacement_order r m old)) (world policy history)) {
-    orders = orders policy history ++ orders_made policy (orders policy history) r a.user (requests.Replace m);
+    orders = orders policy history ++ orders_made policy (orders policy history) r a.user (Request.Replace m);
     streams = tell r old.user (replaced_of old (replacement_order r m old)) (stream policy history);
   })
 
 abbrev pub ReplacesComeLast : Type 0
 ReplacesComeLast = (policy : PolicyData) (history : List RecordData) (a : Asked) (r : RecordData) (m : ReplaceOrder)
-    → IsLegal policy history → next policy history (steps.Asked a) ≡ Some r → a.request ≡ requests.Replace m → r.verdict ≡ verdicts.Granted → ReplacesOne policy history a r m
+    → IsLegal policy history → next policy history (Step.Asked a) ≡ Some r → a.request ≡ Request.Replace m → r.verdict ≡ Verdict.Granted → ReplacesOne policy history a r m
 
 -- a Kill leaves the orders of other accounts, each in its place, and the account killed, not yet lifted by anyone; each user is told of his that ended
 abbrev pub KillsLeaveTheOthers : Type 0
-KillsLeaveTheOthers = (c : Command) (account : AccountName) → c.action ≡ actions.Kill account
-    → Makes (requests.Command c) (λ policy a r w. record w {
+KillsLeaveTheOthers = (c : Command) (account : AccountName) → c.action ≡ Action.Kill account
+    → Makes (Request.Command c) (λ policy a r w. record w {
       live = of_others account w.live;
       waiting = of_others account w.waiting;
       resting = λ stock buy. of_others account (w.resting stock buy);
       kills = with_kill account (λ before. Some []) w.kills;
-      streams = tell_each r (λ user. ended_of w.live (actions.Kill account) user ++ to_user a.user user (answer r c codes.Done)) w.streams;
+      streams = tell_each r (λ user. ended_of w.live (Action.Kill account) user ++ to_user a.user user (answer r c AnswerCode.Done)) w.streams;
     })
 
 -- a Lift counts its officer, and brings no order back
 abbrev pub LiftsBringNoneBack : Type 0
-LiftsBringNoneBack = (c : Command) (account : AccountName) → c.action ≡ actions.Lift account
-    → Makes (requests.Command c) (λ policy a r w.
+LiftsBringNoneBack = (c : Command) (account : AccountName) → c.action ≡ Action.Lift account
+    → Makes (Request.Command c) (λ policy a r w.
     let lifted = kill_after policy.lifters (Some (Some a.user)) in
     record w {
       kills = with_kill account lifted w.kills;
@@ -141,47 +111,47 @@ LiftsBringNoneBack = (c : Command) (account : AccountName) → c.action ≡ acti
 
 -- Set Limit, Restrict and Unrestrict change the one rule of their name, and nothing else; the officer is told
 abbrev pub SetLimitsChangeOneRule : Type 0
-SetLimitsChangeOneRule = (c : Command) (name : RuleId) (limit : ℕ) → c.action ≡ actions.SetLimit name limit
-    → Makes (requests.Command c) (λ policy a r w. with_rule r a.user c (map (change_rule name (with_limit limit)) w.rules) w)
+SetLimitsChangeOneRule = (c : Command) (name : RuleId) (limit : ℕ) → c.action ≡ Action.SetLimit name limit
+    → Makes (Request.Command c) (λ policy a r w. with_rule r a.user c (map (change_rule name (with_limit limit)) w.rules) w)
 
 abbrev pub RestrictsChangeOneRule : Type 0
-RestrictsChangeOneRule = (c : Command) (name : RuleId) (stock : Symbol) → c.action ≡ actions.Restrict name stock
-    → Makes (requests.Command c) (λ policy a r w. with_rule r a.user c (map (change_rule name (with_stocks (adding stock))) w.rules) w)
+RestrictsChangeOneRule = (c : Command) (name : RuleId) (stock : Symbol) → c.action ≡ Action.Restrict name stock
+    → Makes (Request.Command c) (λ policy a r w. with_rule r a.user c (map (change_rule name (with_stocks (adding stock))) w.rules) w)
 
 abbrev pub UnrestrictsChangeOneRule : Type 0
-UnrestrictsChangeOneRule = (c : Command) (name : RuleId) (stock : Symbol) → c.action ≡ actions.Unrestrict name stock
-    → Makes (requests.Command c) (λ policy a r w. with_rule r a.user c (map (change_rule name (with_stocks (removing stock))) w.rules) w)
+UnrestrictsChangeOneRule = (c : Command) (name : RuleId) (stock : Symbol) → c.action ≡ Action.Unrestrict name stock
+    → Makes (Request.Command c) (λ policy a r w. with_rule r a.user c (map (change_rule name (with_stocks (removing stock))) w.rules) w)
 
 -- Grant and Revoke change whether the reader so written sees the one account, and nothing else; the officer is told
 abbrev pub GrantsChangeOneSight : Type 0
-GrantsChangeOneSight = (c : Command) (written : WrittenName) (account : AccountName) → c.action ≡ actions.Grant written account
-    → Makes (requests.Command c) (λ policy a r w. record w { sight = with_sight policy written account true w.sight; streams = tell r a.user (answer r c codes.Done) w.streams })
+GrantsChangeOneSight = (c : Command) (written : WrittenName) (account : AccountName) → c.action ≡ Action.Grant written account
+    → Makes (Request.Command c) (λ policy a r w. record w { sight = with_sight policy written account true w.sight; streams = tell r a.user (answer r c AnswerCode.Done) w.streams })
 
 abbrev pub RevokesChangeOneSight : Type 0
-RevokesChangeOneSight = (c : Command) (written : WrittenName) (account : AccountName) → c.action ≡ actions.Revoke written account
-    → Makes (requests.Command c) (λ policy a r w. record w { sight = with_sight policy written account false w.sight; streams = tell r a.user (answer r c codes.Done) w.streams })
+RevokesChangeOneSight = (c : Command) (written : WrittenName) (account : AccountName) → c.action ≡ Action.Revoke written account
+    → Makes (Request.Command c) (λ policy a r w. record w { sight = with_sight policy written account false w.sight; streams = tell r a.user (answer r c AnswerCode.Done) w.streams })
 
 -- Close Day leaves no order, and the day closed; each user is told of his orders that ended, and each trader of the day's end
 abbrev pub ClosesLeaveNone : Type 0
-ClosesLeaveNone = (c : Command) → c.action ≡ actions.CloseDay
-    → Makes (requests.Command c) (λ policy a r w. record w {
+ClosesLeaveNone = (c : Command) → c.action ≡ Action.CloseDay
+    → Makes (Request.Command c) (λ policy a r w. record w {
       live = [];
       waiting = [];
       resting = λ stock buy. [];
       closed = true;
-      streams = tell_each r (λ user. ended_of w.live actions.CloseDay user ++ day_end policy actions.CloseDay user ++ to_user a.user user (answer r c codes.Done)) w.streams;
+      streams = tell_each r (λ user. ended_of w.live Action.CloseDay user ++ day_end policy Action.CloseDay user ++ to_user a.user user (answer r c AnswerCode.Done)) w.streams;
     })
 
 -- of each legal day, a matching step with this verdict makes this of the world, and records it
 abbrev pub Matches : Verdict → (RecordData → World → World) → Type 0
 Matches v made = (policy : PolicyData) (history : List RecordData) (handed : ℕ) (r : RecordData)
-    → IsLegal policy history → next policy history (steps.Matching handed) ≡ Some r → r.verdict ≡ v
+    → IsLegal policy history → next policy history (Step.Matching handed) ≡ Some r → r.verdict ≡ v
     → world policy (history ++ r ∷ []) ≡ counted (world policy history) r (made r (world policy history))
 
 -- a fill takes its shares off what its two orders have open, each in its place, or ends it; their users are told, and the readers who see their accounts, and nothing else changes
 abbrev pub FillsTakeFromTwo : Type 0
-FillsTakeFromTwo = (f : Fill) → Matches (verdicts.Filled f) (λ r w.
-    let both = sides_in w.orders (verdicts.Filled f) in
+FillsTakeFromTwo = (f : Fill) → Matches (Verdict.Filled f) (λ r w.
+    let both = sides_in w.orders (Verdict.Filled f) in
     record (turned_world (turns.Fills f) w) {
       executions = w.executions ++ both;
       streams = tell_each r (λ user. flat_map (reports_of_execution r user) both ++ flat_map (copy_of w.sight r user) both) w.streams;
@@ -189,16 +159,16 @@ FillsTakeFromTwo = (f : Fill) → Matches (verdicts.Filled f) (λ r w.
 
 -- an order that comes to rest leaves those that wait for its side of the book; nobody is told, and nothing else changes
 abbrev pub RestsMoveOne : Type 0
-RestsMoveOne = (number : ℕ) → Matches (verdicts.Rested number) (λ r w. turned_world (turns.Rests number) w)
+RestsMoveOne = (number : ℕ) → Matches (Verdict.Rested number) (λ r w. turned_world (turns.Rests number) w)
 
 -- an order that expires lives no more; its user is told, and nothing else changes
 abbrev pub ExpiriesEndOne : Type 0
-ExpiriesEndOne = (number : ℕ) → Matches (verdicts.Expired number) (λ r w. record (turned_world (turns.Ends number) w) { streams = tell_each r (expired_of w.live number) w.streams })
+ExpiriesEndOne = (number : ℕ) → Matches (Verdict.Expired number) (λ r w. record (turned_world (turns.Ends number) w) { streams = tell_each r (expired_of w.live number) w.streams })
 
 -- a matching step makes no order, uses no token, and changes nothing that is in force
 abbrev pub MatchesKeepInForce : Type 0
 MatchesKeepInForce = (policy : PolicyData) (history : List RecordData) (handed : ℕ) (r : RecordData)
-    → IsLegal policy history → next policy history (steps.Matching handed) ≡ Some r
+    → IsLegal policy history → next policy history (Step.Matching handed) ≡ Some r
     → let w = world policy history in
     let now = world policy (history ++ r ∷ []) in
     now ≡ record now { orders = w.orders; tokens = w.tokens; rules = w.rules; kills = w.kills; closed = w.closed; lines = w.lines; sight = w.sight }

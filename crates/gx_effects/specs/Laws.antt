@@ -1,29 +1,8 @@
 -- What holds in every legal history.
-use Rattle.std.specs.Prelude.{◌≡◌, ℕ, Bool, IsFalse, IsTrue, ◌+◌, ◌↔◌, List, [], ◌∷◌, ◌++◌, None, Some, option_and_then}
-use Rattle.std.specs.List.{AllByRecursion, filter}
-use Rattle.gx_units.specs.declared.names.AccountName.{AccountName}
-use Rattle.gx_units.specs.declared.names.Symbol.{Symbol}
-use Rattle.gx_units.specs.declared.names.Token.{Token}
-use Rattle.gx_units.specs.declared.names.UserName.{UserName}
-use Rattle.gx_policy.specs.declared.policy.PolicyData.{PolicyData}
-use Rattle.gx_policy.specs.Lists.{IsInOrder}
-use Rattle.gx_policy.specs.People.{account_of}
-use Rattle.gx_history.specs.declared.live_order.LiveOrder.{LiveOrder}
-use Rattle.gx_history.specs.declared.record.Asked.{Asked}
-use Rattle.gx_history.specs.declared.record.Fill.{Fill}
-use Rattle.gx_history.specs.declared.record.RecordData.{RecordData}
-use Rattle.gx_history.specs.declared.record.Step.TheVariants as steps
-use Rattle.gx_history.specs.declared.record.Verdict.TheVariants as verdicts
-use Rattle.gx_history.specs.Executions.{executions}
-use Rattle.gx_history.specs.InForce.{is_killed}
-use Rattle.gx_history.specs.Live.{IsAtRest, by_time, has_price, waiting, ahead, is_there, side, live_numbered, live, live_under, open_now}
-use Rattle.gx_history.specs.LiveOrders.{shares_open}
-use Rattle.gx_history.specs.Matched.{AreUncrossed, HasNoOrders, IsFair}
-use Rattle.gx_history.specs.Matching.{matching}
-use Rattle.gx_history.specs.Orders.{order_under, orders}
-use Rattle.gx_history.specs.Requests.{is_order}
-use Rattle.gx_history.specs.Settling.{settled, AddsMatches, FillsNoneOf}
-use Rattle.gx_history.specs.Verdicts.{Follows, IsLegal, next}
+use Rattle.std.specs.{Prelude.{◌≡◌, ℕ, Bool, IsFalse, IsTrue, ◌+◌, ◌↔◌, List, [], ◌∷◌, ◌++◌, None, Some, option_and_then}, List.{AllByRecursion, filter}}
+use Rattle.gx_units.specs.declared.names.{AccountName.AccountName, Symbol.Symbol, Token.Token, UserName.UserName}
+use Rattle.gx_policy.specs.{declared.policy.PolicyData.PolicyData, Lists.IsInOrder, People.account_of}
+use Rattle.gx_history.specs.{declared.{live_order.LiveOrder.LiveOrder, «record».{Asked.Asked, Fill.Fill, RecordData.RecordData, Step.Step, Verdict.Verdict}}, Executions.executions, InForce.is_killed, Live.{IsAtRest, by_time, has_price, waiting, ahead, is_there, side, live_numbered, live, live_under, open_now}, LiveOrders.shares_open, Matched.{AreUncrossed, HasNoOrders, IsFair}, Matching.matching, Orders.{order_under, orders}, Requests.is_order, Settling.{settled, AddsMatches, FillsNoneOf}, Verdicts.{Follows, IsLegal, next}}
 use Rattle.gx_effects.specs.Lifts.{EndsKill}
 
 -- in a legal history no live order is of a killed account
@@ -39,7 +18,7 @@ KilledHaveNoOrders = (policy : PolicyData) (history : List RecordData) (account 
 -- a fill is between two live orders that have its shares open
 abbrev pub FillsAreFair : Type 0
 FillsAreFair = (policy : PolicyData) (history : List RecordData) (handed : ℕ) (r : RecordData) (f : Fill)
-    → IsLegal policy history → next policy history (steps.Matching handed) ≡ Some r → r.verdict ≡ verdicts.Filled f → IsFair policy history f
+    → IsLegal policy history → next policy history (Step.Matching handed) ≡ Some r → r.verdict ≡ Verdict.Filled f → IsFair policy history f
 
 -- no order rests behind one with a worse price
 abbrev pub RestingByPrice : Type 0
@@ -52,7 +31,7 @@ RestingByTime = (policy : PolicyData) (history : List RecordData) (stock : Symbo
 
 -- where nothing waits, settling changes nothing
 abbrev pub SettledWhereIdle : Type 0
-SettledWhereIdle = (policy : PolicyData) (history : List RecordData) (moment : ℕ) → next policy history (steps.Matching moment) ≡ None → settled policy history moment ≡ history
+SettledWhereIdle = (policy : PolicyData) (history : List RecordData) (moment : ℕ) → next policy history (Step.Matching moment) ≡ None → settled policy history moment ≡ history
 
 -- and when it has settled, nothing is left to match
 abbrev pub SettledLeavesNone : Type 0
@@ -80,7 +59,7 @@ RestingWhole = (policy : PolicyData) (history : List RecordData) (stock : Symbol
 -- settling begins with the matching step that there is
 abbrev pub SettledStepByStep : Type 0
 SettledStepByStep = (policy : PolicyData) (history : List RecordData) (moment : ℕ) (r : RecordData)
-    → IsLegal policy history → next policy history (steps.Matching moment) ≡ Some r → settled policy history moment ≡ settled policy (history ++ r ∷ []) moment
+    → IsLegal policy history → next policy history (Step.Matching moment) ≡ Some r → settled policy history moment ≡ settled policy (history ++ r ∷ []) moment
 
 -- it adds records of matching steps at that moment
 abbrev pub SettledByMatches : Type 0
@@ -95,7 +74,7 @@ KillsEndByLifts = (policy : PolicyData) (history : List RecordData) (r : RecordD
 -- a matching step leaves no record exactly where no order waits to be matched
 abbrev pub IdleWhereNoneWaits : Type 0
 IdleWhereNoneWaits = (policy : PolicyData) (history : List RecordData) (handed : ℕ)
-    → next policy history (steps.Matching handed) ≡ None ↔ waiting policy history ≡ []
+    → next policy history (Step.Matching handed) ≡ None ↔ waiting policy history ≡ []
 
 -- there is nothing to match exactly where no order waits
 abbrev pub NothingWhereNoneWaits : Type 0
@@ -104,7 +83,7 @@ NothingWhereNoneWaits = (policy : PolicyData) (history : List RecordData) → ma
 -- no Enter or Replace of a killed account is granted
 abbrev pub KilledPlaceNoOrders : Type 0
 KilledPlaceNoOrders = (policy : PolicyData) (history : List RecordData) (a : Asked) (r : RecordData) (account : AccountName)
-    → next policy history (steps.Asked a) ≡ Some r → r.verdict ≡ verdicts.Granted → IsTrue (is_order a.request) → account_of policy a.user ≡ Some account
+    → next policy history (Step.Asked a) ≡ Some r → r.verdict ≡ Verdict.Granted → IsTrue (is_order a.request) → account_of policy a.user ≡ Some account
     → IsFalse (is_killed policy history account)
 
 -- a live order is found under its number

@@ -1,25 +1,13 @@
 -- How a kill ends: by the last of as many different officers as the policy asks for, each entitled to lift the account.
-use Rattle.std.specs.Prelude.{◌≡◌, ◌+◌, Bool, true, false, ◌&&◌, IsTrue, IsFalse, List, Option, Some, length}
-use Rattle.std.specs.List.{AllByRecursion}
-use Rattle.gx_units.specs.declared.names.AccountName.{AccountName}
-use Rattle.gx_units.specs.declared.names.UserName.{UserName}
-use Rattle.gx_desk.specs.declared.Action.TheVariants as actions
-use Rattle.gx_policy.specs.declared.policy.PolicyData.{PolicyData}
-use Rattle.gx_policy.specs.declared.policy.Powers.{Powers}
-use Rattle.gx_policy.specs.declared.policy.Role.{Role}
-use Rattle.gx_policy.specs.declared.policy.Role.TheVariants as roles
-use Rattle.gx_policy.specs.declared.policy.Scope.{Scope}
-use Rattle.gx_policy.specs.People.{covers, role_in}
-use Rattle.gx_history.specs.declared.record.Asked.{Asked}
-use Rattle.gx_history.specs.declared.record.RecordData.{RecordData}
-use Rattle.gx_history.specs.declared.record.Step.TheVariants as steps
-use Rattle.gx_history.specs.declared.record.Verdict.TheVariants as verdicts
-use Rattle.gx_history.specs.InForce.{has_lifted, kill_in_force, lifters_asked}
-use Rattle.gx_history.specs.Requests.{action_of}
+use Rattle.std.specs.{Prelude.{◌≡◌, ◌+◌, Bool, true, false, ◌&&◌, IsTrue, IsFalse, List, Option, Some, length}, List.AllByRecursion}
+use Rattle.gx_units.specs.declared.names.{AccountName.AccountName, UserName.UserName}
+use Rattle.gx_desk.specs.declared.Action.{Action}
+use Rattle.gx_policy.specs.{declared.policy.{PolicyData.PolicyData, Powers.Powers, Role.Role, Scope.Scope}, People.{covers, role_in}}
+use Rattle.gx_history.specs.{declared.record.{Asked.Asked, RecordData.RecordData, Step.Step, Verdict.Verdict}, InForce.{has_lifted, kill_in_force, lifters_asked}, Requests.action_of}
 
 -- an officer with the power to lift, and the account in his scope
 abbrev pub may_lift : Option Role → AccountName → Bool
-may_lift (Some (roles.Officer powers scope)) account = powers.lift && covers scope account
+may_lift (Some (Role.Officer powers scope)) account = powers.lift && covers scope account
 may_lift other account = false
 
 -- the officer is entitled to lift the account
@@ -29,12 +17,12 @@ IsEntitled policy account officer = IsTrue (may_lift (role_in policy.users offic
 -- the record is a Lift of the account, granted to an officer who has the power for it and the account in his scope
 pub record IsGrantedLift (policy : PolicyData) (account : AccountName) (r : RecordData) : Type 0 where
   pub asked : Asked
-  pub is_its_step : r.step ≡ steps.Asked asked
-  pub is_granted : r.verdict ≡ verdicts.Granted
-  pub is_lift : action_of asked.request ≡ Some (actions.Lift account)
+  pub is_its_step : r.step ≡ Step.Asked asked
+  pub is_granted : r.verdict ≡ Verdict.Granted
+  pub is_lift : action_of asked.request ≡ Some (Action.Lift account)
   pub powers : Powers
   pub scope : Scope
-  pub is_officer : role_in policy.users asked.user ≡ Some (roles.Officer powers scope)
+  pub is_officer : role_in policy.users asked.user ≡ Some (Role.Officer powers scope)
   pub has_power : powers.lift ≡ true
   pub has_account : covers scope account ≡ true
 

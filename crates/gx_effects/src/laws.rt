@@ -1,9 +1,7 @@
 //! Laws of what a record changes and of what matching comes to, each as what a function without a body ensures.
 
-ghost use Rattle.gx_effects.specs.Kinds.{CancelsLeaveFewer, ClosesLeaveNone, DenialsTellWhoAsked, EntersComeLast, ExpiriesEndOne, FillsTakeFromTwo, GrantsChangeOneSight, KillsLeaveTheOthers, LiftsBringNoneBack, LoginsPutOn, LogoutsPutOff, MatchesKeepInForce, ReplacesComeLast, RestsMoveOne, RestrictsChangeOneRule, RevokesChangeOneSight, SetLimitsChangeOneRule, UnrestrictsChangeOneRule};
-ghost use Rattle.gx_effects.specs.Laws.{FillsAreFair, IdleWhereNoneWaits, KilledAreNotFilled, KilledAreNotLive, KilledHaveNoOrders, KilledPlaceNoOrders, KillsEndByLifts, LiveOrdersAreFound, LiveOrdersAreTheOne, NeverCrossed, NothingWhereNoneWaits, RestingAlone, RestingByPrice, RestingByTime, RestingWhole, SettledByMatches, SettledLeavesNone, SettledStepByStep, SettledWhereIdle, TotalsAreOpenAndDone};
-ghost use Rattle.gx_history.specs.MayMove.{MovesAreAllowed};
-ghost use Rattle.gx_history.specs.World.{LiveGoesOn, SidesGoOn, WaitingGoesOn, WorldGoesOn, WorldsAreRuns};
+ghost use Rattle.gx_effects.specs.{Kinds.{CancelsLeaveFewer, ClosesLeaveNone, DenialsTellWhoAsked, EntersComeLast, ExpiriesEndOne, FillsTakeFromTwo, GrantsChangeOneSight, KillsLeaveTheOthers, LiftsBringNoneBack, LoginsPutOn, LogoutsPutOff, MatchesKeepInForce, ReplacesComeLast, RestsMoveOne, RestrictsChangeOneRule, RevokesChangeOneSight, SetLimitsChangeOneRule, UnrestrictsChangeOneRule}, Laws.{FillsAreFair, IdleWhereNoneWaits, KilledAreNotFilled, KilledAreNotLive, KilledHaveNoOrders, KilledPlaceNoOrders, KillsEndByLifts, LiveOrdersAreFound, LiveOrdersAreTheOne, NeverCrossed, NothingWhereNoneWaits, RestingAlone, RestingByPrice, RestingByTime, RestingWhole, SettledByMatches, SettledLeavesNone, SettledStepByStep, SettledWhereIdle, TotalsAreOpenAndDone}};
+ghost use Rattle.gx_history.specs.{MayMove.MovesAreAllowed, World.{LiveGoesOn, SidesGoOn, WaitingGoesOn, WorldGoesOn, WorldsAreRuns}};
 
 /// What one more record makes of the live orders.
 pub fn live_orders_turn()

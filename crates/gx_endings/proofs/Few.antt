@@ -1,23 +1,9 @@
 -- Live orders are no more than records.
-use Rattle.std.proofs.Common.{◌≡◌, ℕ, ◌+◌, ◌<◌, ◌≤◌, ◌^◌, arith, List, [], ◌∷◌, ◌++◌, length, length-append}
-use Rattle.std.specs.Prelude.{Option, Some, None, fold, filter_map}
-use Rattle.std.specs.Option.{option_map_or}
-use Rattle.std.specs.List.{cons_option}
-use Rattle.std.proofs.lemmas.List.Sums.{count_by-le-length, length-filter}
-use Rattle.gx_units.specs.Names.{same_account}
-use Rattle.gx_units.specs.declared.names.AccountName.{AccountName}
-use Rattle.gx_units.specs.declared.names.UserName.{UserName}
-use Rattle.gx_policy.specs.declared.policy.PolicyData.{PolicyData}
-use Rattle.gx_policy.specs.People.{account_of}
-use Rattle.gx_history.specs.declared.live_order.LiveOrder.{LiveOrder}
-use Rattle.gx_history.specs.declared.record.Asked.{Asked}
-use Rattle.gx_history.specs.declared.record.RecordData.{RecordData}
-use Rattle.gx_history.specs.declared.record.Request.{Request}
-use Rattle.gx_history.specs.declared.record.Request.TheVariants as requests
-use Rattle.gx_history.specs.Executions.{executions}
-use Rattle.gx_history.specs.Live.{live, open_now}
-use Rattle.gx_history.specs.Orders.{Order, entered, order_under, orders, orders_added, orders_made, orders_with, replacing}
-use Rattle.gx_history.specs.Requests.{granted}
+use Rattle.std.proofs.{Common.{◌≡◌, ℕ, ◌+◌, ◌<◌, ◌≤◌, ◌^◌, arith, List, [], ◌∷◌, ◌++◌, length, length-append}, lemmas.List.Sums.{count_by-le-length, length-filter}}
+use Rattle.std.specs.{Prelude.{Option, Some, None, fold, filter_map}, Option.option_map_or, List.cons_option}
+use Rattle.gx_units.specs.{Names.same_account, declared.names.{AccountName.AccountName, UserName.UserName}}
+use Rattle.gx_policy.specs.{declared.policy.PolicyData.PolicyData, People.account_of}
+use Rattle.gx_history.specs.{declared.{live_order.LiveOrder.LiveOrder, «record».{Asked.Asked, RecordData.RecordData, Request.Request}}, Executions.executions, Live.{live, open_now}, Orders.{Order, entered, order_under, orders, orders_added, orders_made, orders_with, replacing}, Requests.granted}
 use Rattle.gx_slab.specs.Slabs.{of_account}
 
 -- a list is no longer with some of it mapped
@@ -34,13 +20,13 @@ at_most_one f None = omega arith
 at_most_one f (Some x) = omega arith
 
 one_is_made : (policy : PolicyData) (known : List Order) (r : RecordData) (user : UserName) (q : Request) → length (orders_made policy known r user q) ≤ 1
-one_is_made policy known r user (requests.Enter m) = at_most_one (λ (account : AccountName). entered policy r user account m) (account_of policy user)
-one_is_made policy known r user (requests.Replace m) = at_most_one (λ (o : Order). replacing r m o) (order_under known user m.existing_token)
-one_is_made policy known r user (requests.Login m) = omega arith
-one_is_made policy known r user requests.Logout = omega arith
-one_is_made policy known r user (requests.Unreadable m) = omega arith
-one_is_made policy known r user (requests.Cancel m) = omega arith
-one_is_made policy known r user (requests.Command c) = omega arith
+one_is_made policy known r user (Request.Enter m) = at_most_one (λ (account : AccountName). entered policy r user account m) (account_of policy user)
+one_is_made policy known r user (Request.Replace m) = at_most_one (λ (o : Order). replacing r m o) (order_under known user m.existing_token)
+one_is_made policy known r user (Request.Login m) = omega arith
+one_is_made policy known r user Request.Logout = omega arith
+one_is_made policy known r user (Request.Unreadable m) = omega arith
+one_is_made policy known r user (Request.Cancel m) = omega arith
+one_is_made policy known r user (Request.Command c) = omega arith
 
 one_is_added : (policy : PolicyData) (known : List Order) (r : RecordData) → length (orders_added policy known r) ≤ 1
 one_is_added policy known r = by (granted r)

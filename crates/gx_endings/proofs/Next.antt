@@ -1,19 +1,10 @@
 -- What is kept, once one more record is looked at.
-use Rattle.std.proofs.Common.{◌≡◌, List, [], ◌∷◌, ◌++◌, refl, ap, sym, ◌∙◌}
-use Rattle.std.specs.Prelude.{Option, Some, None, filter_map, option_to_list}
-use Rattle.std.specs.List.{cons_option, flat_map}
-use Rattle.std.proofs.lemmas.Grind.{flat_map-append}
-use Rattle.std.proofs.lemmas.List.{append-nil}
-use Rattle.std.proofs.lemmas.List.Elements.{filter_map-append}
-use Rattle.gx_policy.specs.declared.policy.PolicyData.{PolicyData}
-use Rattle.gx_policy.specs.Lists.{each_with_earlier}
+use Rattle.std.proofs.{Common.{◌≡◌, List, [], ◌∷◌, ◌++◌, refl, ap, sym, ◌∙◌}, lemmas.{Grind.flat_map-append, List.{append-nil, Elements.filter_map-append}}}
+use Rattle.std.specs.{Prelude.{Option, Some, None, filter_map, option_to_list}, List.{cons_option, flat_map}}
+use Rattle.gx_policy.specs.{declared.policy.PolicyData.PolicyData, Lists.each_with_earlier}
 use Rattle.gx_history.specs.declared.record.RecordData.{RecordData}
 use Rattle.gx_history_laws.proofs.Pushing.{each_after_next}
-use Rattle.gx_endings.specs.declared.commands.CommandRow.{CommandRow}
-use Rattle.gx_endings.specs.declared.endings.Ending.{Ending}
-use Rattle.gx_endings.specs.Commands.{command_by, command_rows}
-use Rattle.gx_endings.specs.declared.order_ends.OrderEnd.{OrderEnd}
-use Rattle.gx_endings.specs.Endings.{Grows, ending_by, endings, order_ends, order_ends_by}
+use Rattle.gx_endings.specs.{declared.{commands.CommandRow.CommandRow, endings.Ending.Ending, order_ends.OrderEnd.OrderEnd}, Commands.{command_by, command_rows}, Endings.{Grows, ending_by, endings, order_ends, order_ends_by}}
 
 one_found : {Y : Type 0} (found : Option Y) → cons_option found [] ≡ option_to_list found
 one_found None = refl

@@ -1,35 +1,26 @@
 -- What officers asked for, and what stood in front of it.
-use Rattle.std.specs.Prelude.{ℕ, Bool, List, Option, Some, None, option_and_then, option_map}
-use Rattle.std.specs.List.{filter_map}
+use Rattle.std.specs.{Prelude.{ℕ, Bool, List, Option, Some, None, option_and_then, option_map}, List.filter_map}
 use Rattle.gx_units.specs.declared.names.UserName.{UserName}
 use Rattle.gx_desk.specs.declared.Action.{Action}
-use Rattle.gx_desk.specs.declared.Action.TheVariants as actions
-use Rattle.gx_policy.specs.declared.policy.PolicyData.{PolicyData}
-use Rattle.gx_policy.specs.declared.rule_name.RuleName.{RuleName}
-use Rattle.gx_policy.specs.Lists.{each_with_earlier}
-use Rattle.gx_history.specs.declared.record.Asked.{Asked}
-use Rattle.gx_history.specs.declared.record.RecordData.{RecordData}
-use Rattle.gx_history.specs.declared.record.Verdict.{Verdict}
-use Rattle.gx_history.specs.declared.record.Verdict.TheVariants as verdicts
-use Rattle.gx_history.specs.InForce.{is_killed}
-use Rattle.gx_history.specs.Requests.{action_of, asked}
+use Rattle.gx_policy.specs.{declared.{policy.PolicyData.PolicyData, rule_name.RuleName.RuleName}, Lists.each_with_earlier}
+use Rattle.gx_history.specs.{declared.record.{Asked.Asked, RecordData.RecordData, Verdict.Verdict}, InForce.is_killed, Requests.{action_of, asked}}
 use Rattle.gx_records.specs.State.{limit_in_force}
 use Rattle.gx_endings.specs.declared.commands.CommandRow.{CommandRow}
 
 -- the rule that denied it, if it was denied
 abbrev pub denied_by : Verdict → Option RuleName
-denied_by (verdicts.Denied rule) = Some rule
+denied_by (Verdict.Denied rule) = Some rule
 denied_by other = None
 
 -- of a Set Limit, the limit of its rule that was in force after these records
 abbrev pub limit_before : PolicyData → List RecordData → Action → Option ℕ
-limit_before policy earlier (actions.SetLimit rule limit) = limit_in_force policy earlier rule
+limit_before policy earlier (Action.SetLimit rule limit) = limit_in_force policy earlier rule
 limit_before policy earlier other = None
 
 -- of a Kill or a Lift, whether its account was killed after these records
 abbrev pub was_killed : PolicyData → List RecordData → Action → Option Bool
-was_killed policy earlier (actions.Kill account) = Some (is_killed policy earlier account)
-was_killed policy earlier (actions.Lift account) = Some (is_killed policy earlier account)
+was_killed policy earlier (Action.Kill account) = Some (is_killed policy earlier account)
+was_killed policy earlier (Action.Lift account) = Some (is_killed policy earlier account)
 was_killed policy earlier other = None
 
 -- the command with this action that the record shows, and what stood in front of it

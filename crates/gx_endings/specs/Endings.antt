@@ -1,24 +1,15 @@
 -- What granted Kills and Close Days ended.
-use Rattle.std.specs.Prelude.{◌≡◌, ℕ, List, [], ◌++◌, length, map, sum_by, Option, Some, None, option_and_then, option_map, option_to_list}
-use Rattle.std.specs.Option.{option_map_or}
-use Rattle.std.specs.List.{filter_map, flat_map}
+use Rattle.std.specs.{Prelude.{◌≡◌, ℕ, List, [], ◌++◌, length, map, sum_by, Option, Some, None, option_and_then, option_map, option_to_list}, Option.option_map_or, List.{filter_map, flat_map}}
 use Rattle.gx_desk.specs.declared.Action.{Action}
-use Rattle.gx_desk.specs.declared.Action.TheVariants as actions
-use Rattle.gx_policy.specs.declared.policy.PolicyData.{PolicyData}
-use Rattle.gx_policy.specs.Lists.{each_with_earlier}
-use Rattle.gx_history.specs.declared.live_order.LiveOrder.{LiveOrder}
-use Rattle.gx_history.specs.declared.record.RecordData.{RecordData}
-use Rattle.gx_history.specs.Live.{live}
-use Rattle.gx_history.specs.LiveOrders.{shares_open}
-use Rattle.gx_history.specs.Requests.{granted_action}
+use Rattle.gx_policy.specs.{declared.policy.PolicyData.PolicyData, Lists.each_with_earlier}
+use Rattle.gx_history.specs.{declared.{live_order.LiveOrder.LiveOrder, «record».RecordData.RecordData}, Live.live, LiveOrders.shares_open, Requests.granted_action}
 use Rattle.gx_slab.specs.Slabs.{of_account}
-use Rattle.gx_endings.specs.declared.endings.Ending.{Ending}
-use Rattle.gx_endings.specs.declared.order_ends.OrderEnd.{OrderEnd}
+use Rattle.gx_endings.specs.declared.{endings.Ending.Ending, order_ends.OrderEnd.OrderEnd}
 
 -- which of the live orders an action ends: a Kill those of its account, a Close Day all; None for any other action
 abbrev pub ended_by : List LiveOrder → Action → Option (List LiveOrder)
-ended_by live (actions.Kill account) = Some (of_account account live)
-ended_by live actions.CloseDay = Some live
+ended_by live (Action.Kill account) = Some (of_account account live)
+ended_by live Action.CloseDay = Some live
 ended_by live other = None
 
 -- the record of this number ended these orders: how many, and the shares that they had open

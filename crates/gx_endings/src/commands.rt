@@ -1,8 +1,7 @@
 //! What officers asked for, and what stood in front of it.
 
 ghost use Rattle.std.specs.Prelude.{◌≡◌};
-ghost use Rattle.gx_endings.specs.Commands.{command_asked, command_by, command_row};
-ghost use Rattle.gx_endings.specs.Commands.{denied_by, limit_before, was_killed};
+ghost use Rattle.gx_endings.specs.Commands.{command_asked, command_by, command_row, denied_by, limit_before, was_killed};
 
 use crate::lists::put_last;
 use gx_desk::Action;

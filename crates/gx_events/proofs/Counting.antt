@@ -1,14 +1,8 @@
 -- How one more record is counted within its minute.
-use Rattle.std.proofs.Common.{◌≡◌, ℕ, ◌+◌, Bool, true, false, not, min, List, [], ◌∷◌, ◌++◌, length, cond, refl, ◌∙◌, ap, arith}
-use Rattle.std.specs.Prelude.{Option, Some, None, ◌==◌, filter, unwrap_or, option_map, if◌then◌else◌}
-use Rattle.std.specs.Option.{option_map_or, option_or}
-use Rattle.std.specs.List.{last_or}
-use Rattle.std.proofs.lemmas.List.{length-append}
-use Rattle.std.proofs.lemmas.List.Elements.{filter-append}
-use Rattle.std.proofs.lemmas.Bool.Decides.{nat_tests}
+use Rattle.std.proofs.{Common.{◌≡◌, ℕ, ◌+◌, Bool, true, false, not, min, List, [], ◌∷◌, ◌++◌, length, cond, refl, ◌∙◌, ap, arith}, lemmas.{List.{length-append, Elements.filter-append}, Bool.Decides.nat_tests}}
+use Rattle.std.specs.{Prelude.{Option, Some, None, ◌==◌, filter, unwrap_or, option_map, if◌then◌else◌}, Option.{option_map_or, option_or}, List.last_or}
 use Rattle.gx_policy.specs.Lists.{behind_last, where_true}
-use Rattle.gx_history.specs.declared.record.RecordData.{RecordData}
-use Rattle.gx_history.specs.Verdicts.{last_moment}
+use Rattle.gx_history.specs.{declared.record.RecordData.RecordData, Verdicts.last_moment}
 use Rattle.gx_events.specs.Known.{counted, denied_within, denies_login, minute_of, most_counted, within}
 
 -- one more that does not pass the test stands behind the last that does

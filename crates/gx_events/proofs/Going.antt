@@ -1,18 +1,11 @@
 -- Lines of records behind others.
-use Rattle.std.proofs.Common.{◌≡◌, ℕ, ◌+◌, ◌<◌, List, [], ◌∷◌, ◌++◌, length, take, get_or, ◌∙◌, ap, sym, append_assoc}
+use Rattle.std.proofs.{Common.{◌≡◌, ℕ, ◌+◌, ◌<◌, List, [], ◌∷◌, ◌++◌, length, take, get_or, ◌∙◌, ap, sym, append_assoc}, lemmas.List.{append-nil, take_more, Concat.flat_map-append}}
 use Rattle.std.specs.Prelude.{flat_map}
-use Rattle.std.proofs.lemmas.List.{append-nil, take_more}
-use Rattle.std.proofs.lemmas.List.Concat.{flat_map-append}
-use Rattle.gx_policy.specs.declared.policy.PolicyData.{PolicyData}
-use Rattle.gx_policy.specs.Lists.{each_after}
-use Rattle.gx_history.specs.declared.record.RecordData.{RecordData}
+use Rattle.gx_policy.specs.{declared.policy.PolicyData.PolicyData, Lists.each_after}
+use Rattle.gx_history.specs.{declared.record.RecordData.RecordData, InForce.rules_in_force}
 use Rattle.gx_text.specs.declared.form.Form.{Form}
-use Rattle.gx_events.specs.Known.{Known, known_next, known_of}
-use Rattle.gx_events.specs.Laws.{LimitsAreInForce, LogsGoOn}
-use Rattle.gx_events.specs.Lines.{line_of, lines_behind, record_lines}
-use Rattle.gx_events.proofs.Knowing.{known_more}
-use Rattle.gx_events.proofs.Limiting.{limit_is_in}
-use Rattle.gx_history.specs.InForce.{rules_in_force}
+use Rattle.gx_events.specs.{Known.{Known, known_next, known_of}, Laws.{LimitsAreInForce, LogsGoOn}, Lines.{line_of, lines_behind, record_lines}}
+use Rattle.gx_events.proofs.{Knowing.known_more, Limiting.limit_is_in}
 
 each_after_both : {X : Type 0} (before xs ys : List X) → each_after before (xs ++ ys) ≡ each_after before xs ++ each_after (before ++ xs) ys
 each_after_both {X} before [] ys = ap (λ (front : List X). each_after front ys) (sym (append-nil before))

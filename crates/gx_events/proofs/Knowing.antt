@@ -1,19 +1,11 @@
 -- What is known after one more record.
-use Rattle.std.proofs.Common.{◌≡◌, ℕ, max, fold, List, [], ◌∷◌, ◌++◌, refl, ◌∙◌, ap, eq-eqb}
-use Rattle.std.specs.Prelude.{Option, Some, None}
-use Rattle.std.specs.Option.{option_map_or}
-use Rattle.std.specs.List.{filter_map, cons_option}
-use Rattle.std.proofs.lemmas.List.Elements.{filter_map-append}
-use Rattle.std.proofs.lemmas.List.Sums.{fold-append}
+use Rattle.std.proofs.{Common.{◌≡◌, ℕ, max, fold, List, [], ◌∷◌, ◌++◌, refl, ◌∙◌, ap, eq-eqb}, lemmas.List.{Elements.filter_map-append, Sums.fold-append}}
+use Rattle.std.specs.{Prelude.{Option, Some, None}, Option.option_map_or, List.{filter_map, cons_option}}
 use Rattle.gx_policy.specs.declared.policy.PolicyData.{PolicyData}
-use Rattle.gx_history.specs.declared.record.RecordData.{RecordData}
-use Rattle.gx_history.specs.InForce.{rules_in_force}
-use Rattle.gx_history.specs.Requests.{granted_action}
-use Rattle.gx_history.specs.Verdicts.{last_moment}
+use Rattle.gx_history.specs.{declared.record.RecordData.RecordData, InForce.rules_in_force, Requests.granted_action, Verdicts.last_moment}
 use Rattle.gx_history_laws.proofs.NextInForce.{last_moment_next, rules_in_force_next, rules_in_force_none}
 use Rattle.gx_events.specs.Known.{counted, denied_within, denies_login, highest_line, known_next, known_of, limits_of, login_line, minute_of}
-use Rattle.gx_events.proofs.Counting.{denied_is, denied_more}
-use Rattle.gx_events.proofs.Limiting.{limits_changed}
+use Rattle.gx_events.proofs.{Counting.{denied_is, denied_more}, Limiting.limits_changed}
 
 by_one : (highest : ℕ) (line : Option ℕ) → fold max highest (cons_option line []) ≡ option_map_or (max highest) line highest
 by_one highest None = refl

@@ -1,53 +1,32 @@
 -- What one more record does to the limits, and whose limits they are.
+use Rattle.gx_policy.specs.{Kinds.{limit_of, with_limit, with_stocks}, declared.policy.{FileRule.FileRule, RuleKind.RuleKind}}
 use Rattle.std.proofs.Common.{◌≡◌, ℕ, Bool, true, false, List, [], ◌∷◌, map, cond, refl, ◌∙◌, ap}
-use Rattle.std.specs.Prelude.{◌&&◌, Option, Some, None, is_some, option_and_then, find}
-use Rattle.std.specs.Option.{option_map_or}
-use Rattle.gx_units.specs.Names.{same_rule}
-use Rattle.gx_units.specs.declared.names.RuleId.{RuleId}
-use Rattle.gx_units.specs.declared.names.Symbol.{Symbol}
+use Rattle.std.specs.{Prelude.{◌&&◌, Option, Some, None, is_some, option_and_then, find}, Option.option_map_or}
+use Rattle.gx_units.specs.{Names.same_rule, declared.names.{RuleId.RuleId, Symbol.Symbol}}
 use Rattle.gx_desk.specs.declared.Action.{Action}
-use Rattle.gx_desk.specs.declared.Action.TheVariants as actions
-use Rattle.gx_policy.specs.declared.policy.FileRule.{FileRule}
-use Rattle.gx_policy.specs.declared.policy.RuleKind.{RuleKind}
-use Rattle.gx_policy.specs.declared.policy.RuleKind.TheVariants as kinds
-use Rattle.gx_history.specs.InForce.{adding, change_rule, changed, limit_of, removing, with_limit, with_stocks}
+use Rattle.gx_history.specs.InForce.{adding, change_rule, changed, removing}
 use Rattle.gx_rules.specs.Settings.{limit_in}
-use Rattle.gx_events.specs.declared.limits.RuleLimit.{RuleLimit}
-use Rattle.gx_events.specs.Known.{limit_entry, limit_named, limit_set, limits_after, limits_of}
+use Rattle.gx_events.specs.{declared.limits.RuleLimit.RuleLimit, Known.{limit_entry, limit_named, limit_set, limits_after, limits_of}}
 
 abbrev entry : RuleId → Option ℕ → RuleLimit
 entry name limit = record { rule = name; limit = limit }
 
 limit_with : (name : RuleId) (limit : ℕ) (kind : RuleKind)
     → limit_of (with_limit limit kind) ≡ cond (is_some (limit_of kind)) (Some limit) (limit_of kind)
-limit_with name limit (kinds.OrderShares before) = refl
-limit_with name limit (kinds.OrderValue before) = refl
-limit_with name limit (kinds.Collar before) = refl
-limit_with name limit (kinds.GrossShares before count) = refl
-limit_with name limit (kinds.GrossValue before count) = refl
-limit_with name limit (kinds.NetShares before count) = refl
-limit_with name limit (kinds.Halt stocks) = refl
-limit_with name limit (kinds.Restricted stocks) = refl
-limit_with name limit kinds.NoShort = refl
-limit_with name limit kinds.NoIso = refl
-limit_with name limit kinds.OddLot = refl
-limit_with name limit (kinds.Rate rate count) = refl
-limit_with name limit (kinds.Repeat repeat count) = refl
+limit_with name limit (RuleKind.Order kind before) = refl
+limit_with name limit (RuleKind.Exposure kind before count) = refl
+limit_with name limit (RuleKind.Listed kind stocks) = refl
+limit_with name limit (RuleKind.Plain kind) = refl
+limit_with name limit (RuleKind.Rate rate count) = refl
+limit_with name limit (RuleKind.Repeat repeat count) = refl
 
 limit_kept : (change : List Symbol → List Symbol) (kind : RuleKind) → limit_of (with_stocks change kind) ≡ limit_of kind
-limit_kept change (kinds.OrderShares before) = refl
-limit_kept change (kinds.OrderValue before) = refl
-limit_kept change (kinds.Collar before) = refl
-limit_kept change (kinds.GrossShares before count) = refl
-limit_kept change (kinds.GrossValue before count) = refl
-limit_kept change (kinds.NetShares before count) = refl
-limit_kept change (kinds.Halt stocks) = refl
-limit_kept change (kinds.Restricted stocks) = refl
-limit_kept change kinds.NoShort = refl
-limit_kept change kinds.NoIso = refl
-limit_kept change kinds.OddLot = refl
-limit_kept change (kinds.Rate rate count) = refl
-limit_kept change (kinds.Repeat repeat count) = refl
+limit_kept change (RuleKind.Order kind before) = refl
+limit_kept change (RuleKind.Exposure kind before count) = refl
+limit_kept change (RuleKind.Listed kind stocks) = refl
+limit_kept change (RuleKind.Plain kind) = refl
+limit_kept change (RuleKind.Rate rate count) = refl
+limit_kept change (RuleKind.Repeat repeat count) = refl
 
 -- one rule's limit, set
 one_set : (name : RuleId) (limit : ℕ) (rule : FileRule) → limit_entry (change_rule name (with_limit limit) rule) ≡ limit_set name limit (limit_entry rule)
@@ -83,14 +62,14 @@ all_kept name change (rule ∷ rules) =
     ∙ ap (λ (ls : List RuleLimit). limit_entry rule ∷ ls) (all_kept name change rules)
 
 by_action : (rules : List FileRule) (action : Action) → limits_of (changed rules action) ≡ limits_after (limits_of rules) action
-by_action rules (actions.SetLimit name limit) = all_set name limit rules
-by_action rules (actions.Restrict name stock) = all_kept name (adding stock) rules
-by_action rules (actions.Unrestrict name stock) = all_kept name (removing stock) rules
-by_action rules (actions.Kill account) = refl
-by_action rules (actions.Lift account) = refl
-by_action rules (actions.Grant reader account) = refl
-by_action rules (actions.Revoke reader account) = refl
-by_action rules actions.CloseDay = refl
+by_action rules (Action.SetLimit name limit) = all_set name limit rules
+by_action rules (Action.Restrict name stock) = all_kept name (adding stock) rules
+by_action rules (Action.Unrestrict name stock) = all_kept name (removing stock) rules
+by_action rules (Action.Kill account) = refl
+by_action rules (Action.Lift account) = refl
+by_action rules (Action.Grant reader account) = refl
+by_action rules (Action.Revoke reader account) = refl
+by_action rules Action.CloseDay = refl
 
 -- the limits of the rules after a granted command, if there is one
 pub limits_changed : (rules : List FileRule) (action : Option Action)

@@ -1,24 +1,10 @@
 -- Each event is one line.
-use Rattle.std.proofs.Common.{◌≡◌, ℕ, zero, suc, ◌-◌, ◌/◌, ◌%◌, Bool, true, false, not, cond, List, [], ◌∷◌, ◌++◌, codes, decimal, length, replicate, refl, ◌∙◌, ap, sym, append_assoc, arith}
-use Rattle.std.specs.Prelude.{◌==◌, ◌&&◌, ◌||◌, flat_map, Option, Some, None}
-use Rattle.std.specs.Fmt.{digits, digits_onto, digit_glyph}
-use Rattle.std.specs.List.{list_all}
-use Rattle.std.proofs.lemmas.Bool.Decides.{nat_tests}
-use Rattle.std.proofs.lemmas.List.Folds.{list_all-append}
+use Rattle.std.proofs.{Common.{◌≡◌, ℕ, zero, suc, ◌-◌, ◌/◌, ◌%◌, Bool, true, false, not, cond, List, [], ◌∷◌, ◌++◌, codes, decimal, length, replicate, refl, ◌∙◌, ap, sym, append_assoc, arith}, lemmas.{Bool.Decides.nat_tests, List.Folds.list_all-append}}
+use Rattle.std.specs.{Prelude.{◌==◌, ◌&&◌, ◌||◌, flat_map, Option, Some, None}, Fmt.{digits, digits_onto, digit_glyph}, List.list_all}
 use Rattle.gx_units.specs.Spelling.{without_right_spaces}
 use Rattle.gx_desk.specs.declared.Action.{Action}
-use Rattle.gx_desk.specs.declared.Action.TheVariants as actions
-use Rattle.gx_text.specs.Moments.{minute_text, moment_text, with_zeros}
-use Rattle.gx_text.specs.Shown.{hex_digit, hex_pair, is_printed, is_visible, json_byte, shown_byte}
-use Rattle.gx_text.specs.declared.moments.Decimals.TheVariants.{Six, Nine}
-use Rattle.gx_text.specs.declared.moments.Decimals.{Decimals}
-use Rattle.gx_events.specs.declared.event.Event.{Event}
-use Rattle.gx_events.specs.declared.event.Event.TheVariants as events
-use Rattle.gx_text.specs.declared.form.Form.TheVariants.{Text, Json}
-use Rattle.gx_events.specs.Words.{asked_text, done_text, event_text}
-use Rattle.gx_events.specs.Fields.{command_word, event_fields, named_fields}
-use Rattle.gx_events.specs.Laws.{EventsAreLines}
-use Rattle.gx_events.specs.Lines.{event_line, record_field, record_text}
+use Rattle.gx_text.specs.{Moments.{minute_text, moment_text, with_zeros}, Shown.{hex_digit, hex_pair, is_printed, is_visible, json_byte, shown_byte}, declared.{moments.Decimals.{TheVariants.{Six, Nine}, Decimals}, form.Form.TheVariants.{Text, Json}}}
+use Rattle.gx_events.specs.{declared.event.Event.Event, Words.{asked_text, done_text, event_text}, Fields.{command_word, event_fields, named_fields}, Laws.EventsAreLines, Lines.{event_line, record_field, record_text}}
 
 -- without a line's end
 abbrev inside : List ℕ → Bool
@@ -113,90 +99,90 @@ json_inside name = all_inside json_byte json_byte_inside (without_right_spaces n
 
 done_inside : (action : Action) (earlier : Option ℕ) → inside (done_text action earlier) ≡ true
 unfolding done_text
-done_inside (actions.Kill account) earlier = simp (list_all-append, name_inside)
-done_inside (actions.Lift account) earlier = simp (list_all-append, name_inside)
-done_inside (actions.SetLimit rule limit) None = simp (list_all-append, name_inside, decimal_inside)
-done_inside (actions.SetLimit rule limit) (Some before) = simp (list_all-append, name_inside, decimal_inside)
-done_inside (actions.Restrict rule stock) earlier = simp (list_all-append, name_inside)
-done_inside (actions.Unrestrict rule stock) earlier = simp (list_all-append, name_inside)
-done_inside (actions.Grant reader account) earlier = simp (list_all-append, name_inside)
-done_inside (actions.Revoke reader account) earlier = simp (list_all-append, name_inside)
-done_inside actions.CloseDay earlier = refl
+done_inside (Action.Kill account) earlier = simp (list_all-append, name_inside)
+done_inside (Action.Lift account) earlier = simp (list_all-append, name_inside)
+done_inside (Action.SetLimit rule limit) None = simp (list_all-append, name_inside, decimal_inside)
+done_inside (Action.SetLimit rule limit) (Some before) = simp (list_all-append, name_inside, decimal_inside)
+done_inside (Action.Restrict rule stock) earlier = simp (list_all-append, name_inside)
+done_inside (Action.Unrestrict rule stock) earlier = simp (list_all-append, name_inside)
+done_inside (Action.Grant reader account) earlier = simp (list_all-append, name_inside)
+done_inside (Action.Revoke reader account) earlier = simp (list_all-append, name_inside)
+done_inside Action.CloseDay earlier = refl
 
 asked_inside : (action : Action) → inside (asked_text action) ≡ true
 unfolding asked_text
-asked_inside (actions.Kill account) = name_inside account.bytes
-asked_inside (actions.Lift account) = name_inside account.bytes
-asked_inside (actions.SetLimit rule limit) = simp (list_all-append, name_inside, decimal_inside)
-asked_inside (actions.Restrict rule stock) = simp (list_all-append, name_inside)
-asked_inside (actions.Unrestrict rule stock) = simp (list_all-append, name_inside)
-asked_inside (actions.Grant reader account) = simp (list_all-append, name_inside)
-asked_inside (actions.Revoke reader account) = simp (list_all-append, name_inside)
-asked_inside actions.CloseDay = refl
+asked_inside (Action.Kill account) = name_inside account.bytes
+asked_inside (Action.Lift account) = name_inside account.bytes
+asked_inside (Action.SetLimit rule limit) = simp (list_all-append, name_inside, decimal_inside)
+asked_inside (Action.Restrict rule stock) = simp (list_all-append, name_inside)
+asked_inside (Action.Unrestrict rule stock) = simp (list_all-append, name_inside)
+asked_inside (Action.Grant reader account) = simp (list_all-append, name_inside)
+asked_inside (Action.Revoke reader account) = simp (list_all-append, name_inside)
+asked_inside Action.CloseDay = refl
 
 fields_inside : (action : Action) (earlier : Option ℕ) → inside (named_fields action earlier) ≡ true
 unfolding named_fields
-fields_inside (actions.Kill account) earlier = simp (list_all-append, json_inside)
-fields_inside (actions.Lift account) earlier = simp (list_all-append, json_inside)
-fields_inside (actions.SetLimit rule limit) None = simp (list_all-append, json_inside, decimal_inside)
-fields_inside (actions.SetLimit rule limit) (Some before) = simp (list_all-append, json_inside, decimal_inside)
-fields_inside (actions.Restrict rule stock) earlier = simp (list_all-append, json_inside)
-fields_inside (actions.Unrestrict rule stock) earlier = simp (list_all-append, json_inside)
-fields_inside (actions.Grant reader account) earlier = simp (list_all-append, json_inside)
-fields_inside (actions.Revoke reader account) earlier = simp (list_all-append, json_inside)
-fields_inside actions.CloseDay earlier = refl
+fields_inside (Action.Kill account) earlier = simp (list_all-append, json_inside)
+fields_inside (Action.Lift account) earlier = simp (list_all-append, json_inside)
+fields_inside (Action.SetLimit rule limit) None = simp (list_all-append, json_inside, decimal_inside)
+fields_inside (Action.SetLimit rule limit) (Some before) = simp (list_all-append, json_inside, decimal_inside)
+fields_inside (Action.Restrict rule stock) earlier = simp (list_all-append, json_inside)
+fields_inside (Action.Unrestrict rule stock) earlier = simp (list_all-append, json_inside)
+fields_inside (Action.Grant reader account) earlier = simp (list_all-append, json_inside)
+fields_inside (Action.Revoke reader account) earlier = simp (list_all-append, json_inside)
+fields_inside Action.CloseDay earlier = refl
 
 text_inside : (event : Event) → inside (event_text event) ≡ true
 unfolding event_text
-text_inside (events.LoggedIn user line) = simp (list_all-append, name_inside, decimal_inside)
-text_inside (events.LoggedOut user line) = simp (list_all-append, name_inside, decimal_inside)
-text_inside (events.LoginDenied user line rule) = simp (list_all-append, name_inside, decimal_inside)
-text_inside (events.MoreDenied count minute) = simp (list_all-append, minute_inside, decimal_inside)
-text_inside (events.Commanded user action earlier) = simp (list_all-append, done_inside, name_inside)
-text_inside (events.CommandDenied user action rule) = simp (list_all-append, asked_inside, name_inside)
-text_inside (events.RecordsUsed percent left) = simp (list_all-append, decimal_inside)
-text_inside (events.LinesUsed percent left) = simp (list_all-append, decimal_inside)
+text_inside (Event.LoggedIn user line) = simp (list_all-append, name_inside, decimal_inside)
+text_inside (Event.LoggedOut user line) = simp (list_all-append, name_inside, decimal_inside)
+text_inside (Event.LoginDenied user line rule) = simp (list_all-append, name_inside, decimal_inside)
+text_inside (Event.MoreDenied count minute) = simp (list_all-append, minute_inside, decimal_inside)
+text_inside (Event.Commanded user action earlier) = simp (list_all-append, done_inside, name_inside)
+text_inside (Event.CommandDenied user action rule) = simp (list_all-append, asked_inside, name_inside)
+text_inside (Event.RecordsUsed percent left) = simp (list_all-append, decimal_inside)
+text_inside (Event.LinesUsed percent left) = simp (list_all-append, decimal_inside)
 
 command_inside : (action : Action) → inside (command_word action) ≡ true
-command_inside (actions.Kill account) = refl
-command_inside (actions.Lift account) = refl
-command_inside (actions.SetLimit rule limit) = refl
-command_inside (actions.Restrict rule stock) = refl
-command_inside (actions.Unrestrict rule stock) = refl
-command_inside (actions.Grant reader account) = refl
-command_inside (actions.Revoke reader account) = refl
-command_inside actions.CloseDay = refl
+command_inside (Action.Kill account) = refl
+command_inside (Action.Lift account) = refl
+command_inside (Action.SetLimit rule limit) = refl
+command_inside (Action.Restrict rule stock) = refl
+command_inside (Action.Unrestrict rule stock) = refl
+command_inside (Action.Grant reader account) = refl
+command_inside (Action.Revoke reader account) = refl
+command_inside Action.CloseDay = refl
 
 json_fields_inside : (event : Event) → inside (event_fields event) ≡ true
 unfolding event_fields
-json_fields_inside (events.LoggedIn user line) = simp (list_all-append, json_inside, decimal_inside)
-json_fields_inside (events.LoggedOut user line) = simp (list_all-append, json_inside, decimal_inside)
-json_fields_inside (events.LoginDenied user line rule) = simp (list_all-append, json_inside, decimal_inside)
-json_fields_inside (events.MoreDenied count minute) = simp (list_all-append, minute_inside, decimal_inside)
-json_fields_inside (events.Commanded user action earlier) = simp (list_all-append, command_inside, json_inside, fields_inside)
-json_fields_inside (events.CommandDenied user action rule) = simp (list_all-append, command_inside, json_inside, fields_inside)
-json_fields_inside (events.RecordsUsed percent left) = simp (list_all-append, decimal_inside)
-json_fields_inside (events.LinesUsed percent left) = simp (list_all-append, decimal_inside)
+json_fields_inside (Event.LoggedIn user line) = simp (list_all-append, json_inside, decimal_inside)
+json_fields_inside (Event.LoggedOut user line) = simp (list_all-append, json_inside, decimal_inside)
+json_fields_inside (Event.LoginDenied user line rule) = simp (list_all-append, json_inside, decimal_inside)
+json_fields_inside (Event.MoreDenied count minute) = simp (list_all-append, minute_inside, decimal_inside)
+json_fields_inside (Event.Commanded user action earlier) = simp (list_all-append, command_inside, json_inside, fields_inside)
+json_fields_inside (Event.CommandDenied user action rule) = simp (list_all-append, command_inside, json_inside, fields_inside)
+json_fields_inside (Event.RecordsUsed percent left) = simp (list_all-append, decimal_inside)
+json_fields_inside (Event.LinesUsed percent left) = simp (list_all-append, decimal_inside)
 
 record_text_inside : (event : Event) (number : ℕ) → inside (record_text event number) ≡ true
-record_text_inside (events.LoggedIn user line) number = decimal_inside number
-record_text_inside (events.LoggedOut user line) number = decimal_inside number
-record_text_inside (events.LoginDenied user line rule) number = decimal_inside number
-record_text_inside (events.MoreDenied count minute) number = refl
-record_text_inside (events.Commanded user action earlier) number = decimal_inside number
-record_text_inside (events.CommandDenied user action rule) number = decimal_inside number
-record_text_inside (events.RecordsUsed percent left) number = decimal_inside number
-record_text_inside (events.LinesUsed percent left) number = decimal_inside number
+record_text_inside (Event.LoggedIn user line) number = decimal_inside number
+record_text_inside (Event.LoggedOut user line) number = decimal_inside number
+record_text_inside (Event.LoginDenied user line rule) number = decimal_inside number
+record_text_inside (Event.MoreDenied count minute) number = refl
+record_text_inside (Event.Commanded user action earlier) number = decimal_inside number
+record_text_inside (Event.CommandDenied user action rule) number = decimal_inside number
+record_text_inside (Event.RecordsUsed percent left) number = decimal_inside number
+record_text_inside (Event.LinesUsed percent left) number = decimal_inside number
 
 record_field_inside : (event : Event) (number : ℕ) → inside (record_field event number) ≡ true
-record_field_inside (events.LoggedIn user line) number = decimal_inside number
-record_field_inside (events.LoggedOut user line) number = decimal_inside number
-record_field_inside (events.LoginDenied user line rule) number = decimal_inside number
-record_field_inside (events.MoreDenied count minute) number = refl
-record_field_inside (events.Commanded user action earlier) number = decimal_inside number
-record_field_inside (events.CommandDenied user action rule) number = decimal_inside number
-record_field_inside (events.RecordsUsed percent left) number = decimal_inside number
-record_field_inside (events.LinesUsed percent left) number = decimal_inside number
+record_field_inside (Event.LoggedIn user line) number = decimal_inside number
+record_field_inside (Event.LoggedOut user line) number = decimal_inside number
+record_field_inside (Event.LoginDenied user line rule) number = decimal_inside number
+record_field_inside (Event.MoreDenied count minute) number = refl
+record_field_inside (Event.Commanded user action earlier) number = decimal_inside number
+record_field_inside (Event.CommandDenied user action rule) number = decimal_inside number
+record_field_inside (Event.RecordsUsed percent left) number = decimal_inside number
+record_field_inside (Event.LinesUsed percent left) number = decimal_inside number
 
 moment_inside : (decimals : Decimals) (moment : ℕ) → inside (moment_text decimals moment) ≡ true
 unfolding moment_text

@@ -3,11 +3,7 @@ use Rattle.std.proofs.Common.{refl}
 use Rattle.std.specs.Fmt.{digits}
 use Rattle.gx_history.specs.InForce.{rules_in_force}
 use Rattle.gx_text.specs.Moments.{minute_text, moment_text}
-use Rattle.gx_events.specs.Known.{known_of}
-use Rattle.gx_events.specs.Words.{asked_text, done_text, event_text}
-use Rattle.gx_events.specs.Fields.{event_fields, named_fields}
-use Rattle.gx_events.specs.Lines.{event_line}
-use Rattle.gx_events.specs.Sample.{CommandsAreTold, CommandsAreToldInJson, FullDaysAreTold, PeopleAreTold, PeopleAreToldInJson}
+use Rattle.gx_events.specs.{Known.known_of, Words.{asked_text, done_text, event_text}, Fields.{event_fields, named_fields}, Lines.event_line, Sample.{CommandsAreTold, CommandsAreToldInJson, FullDaysAreTold, PeopleAreTold, PeopleAreToldInJson}}
 
 pub people_are_told : PeopleAreTold
 unfolding digits rules_in_force minute_text moment_text known_of asked_text done_text event_text event_line

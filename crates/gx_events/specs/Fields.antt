@@ -1,12 +1,9 @@
 -- An event as the fields of a JSON object.
 use Rattle.std.specs.Prelude.{ℕ, List, [], ◌++◌, codes, decimal, Option, Some, None}
 use Rattle.gx_desk.specs.declared.Action.{Action}
-use Rattle.gx_desk.specs.declared.Action.TheVariants as actions
 use Rattle.gx_policy.specs.RuleNames.{written_rule}
-use Rattle.gx_text.specs.Moments.{minute_text}
-use Rattle.gx_text.specs.Shown.{json_name}
+use Rattle.gx_text.specs.{Moments.minute_text, Shown.json_name}
 use Rattle.gx_events.specs.declared.event.Event.{Event}
-use Rattle.gx_events.specs.declared.event.Event.TheVariants as events
 
 -- a key, behind what stands in front of it
 abbrev pub key : List ℕ → List ℕ
@@ -27,14 +24,14 @@ event_field word = codes ",\"event\":\"" ++ word ++ codes "\""
 
 -- the words of commands
 abbrev pub command_word : Action → List ℕ
-command_word (actions.Kill account) = codes "kill"
-command_word (actions.Lift account) = codes "lift"
-command_word (actions.SetLimit rule limit) = codes "limit"
-command_word (actions.Restrict rule stock) = codes "restrict"
-command_word (actions.Unrestrict rule stock) = codes "unrestrict"
-command_word (actions.Grant reader account) = codes "grant"
-command_word (actions.Revoke reader account) = codes "revoke"
-command_word actions.CloseDay = codes "close"
+command_word (Action.Kill account) = codes "kill"
+command_word (Action.Lift account) = codes "lift"
+command_word (Action.SetLimit rule limit) = codes "limit"
+command_word (Action.Restrict rule stock) = codes "restrict"
+command_word (Action.Unrestrict rule stock) = codes "unrestrict"
+command_word (Action.Grant reader account) = codes "grant"
+command_word (Action.Revoke reader account) = codes "revoke"
+command_word Action.CloseDay = codes "close"
 
 abbrev pub from_field : Option ℕ → List ℕ
 from_field None = []
@@ -42,14 +39,14 @@ from_field (Some limit) = number_field (codes "from") limit
 
 -- what a command names
 unfoldable pub named_fields : Action → Option ℕ → List ℕ
-named_fields (actions.Kill account) earlier = name_field (codes "account") account.bytes
-named_fields (actions.Lift account) earlier = name_field (codes "account") account.bytes
-named_fields (actions.SetLimit rule limit) earlier = name_field (codes "rule") rule.bytes ++ from_field earlier ++ number_field (codes "to") limit
-named_fields (actions.Restrict rule stock) earlier = name_field (codes "rule") rule.bytes ++ name_field (codes "stock") stock.bytes
-named_fields (actions.Unrestrict rule stock) earlier = name_field (codes "rule") rule.bytes ++ name_field (codes "stock") stock.bytes
-named_fields (actions.Grant reader account) earlier = name_field (codes "reader") reader.bytes ++ name_field (codes "account") account.bytes
-named_fields (actions.Revoke reader account) earlier = name_field (codes "reader") reader.bytes ++ name_field (codes "account") account.bytes
-named_fields actions.CloseDay earlier = []
+named_fields (Action.Kill account) earlier = name_field (codes "account") account.bytes
+named_fields (Action.Lift account) earlier = name_field (codes "account") account.bytes
+named_fields (Action.SetLimit rule limit) earlier = name_field (codes "rule") rule.bytes ++ from_field earlier ++ number_field (codes "to") limit
+named_fields (Action.Restrict rule stock) earlier = name_field (codes "rule") rule.bytes ++ name_field (codes "stock") stock.bytes
+named_fields (Action.Unrestrict rule stock) earlier = name_field (codes "rule") rule.bytes ++ name_field (codes "stock") stock.bytes
+named_fields (Action.Grant reader account) earlier = name_field (codes "reader") reader.bytes ++ name_field (codes "account") account.bytes
+named_fields (Action.Revoke reader account) earlier = name_field (codes "reader") reader.bytes ++ name_field (codes "account") account.bytes
+named_fields Action.CloseDay earlier = []
 
 -- the event, the user and the line
 abbrev pub login_fields : List ℕ → List ℕ → ℕ → List ℕ
@@ -64,15 +61,15 @@ abbrev pub used_fields : List ℕ → ℕ → ℕ → List ℕ
 used_fields word percent left = event_field word ++ number_field (codes "percent") percent ++ number_field (codes "left") left
 
 unfoldable pub event_fields : Event → List ℕ
-event_fields (events.LoggedIn user line) = login_fields (codes "login") user.bytes line
-event_fields (events.LoggedOut user line) = login_fields (codes "logout") user.bytes line
-event_fields (events.LoginDenied user line rule) =
+event_fields (Event.LoggedIn user line) = login_fields (codes "login") user.bytes line
+event_fields (Event.LoggedOut user line) = login_fields (codes "logout") user.bytes line
+event_fields (Event.LoginDenied user line rule) =
     login_fields (codes "login_denied") user.bytes line ++ name_field (codes "denied_by") (written_rule rule)
-event_fields (events.MoreDenied count minute) = count_fields (codes "more_logins_denied") minute count
-event_fields (events.Commanded user action earlier) =
+event_fields (Event.MoreDenied count minute) = count_fields (codes "more_logins_denied") minute count
+event_fields (Event.Commanded user action earlier) =
     event_field (command_word action) ++ name_field (codes "user") user.bytes ++ named_fields action earlier
-event_fields (events.CommandDenied user action rule) =
+event_fields (Event.CommandDenied user action rule) =
     event_field (command_word action ++ codes "_denied") ++ name_field (codes "user") user.bytes ++ named_fields action None
     ++ name_field (codes "denied_by") (written_rule rule)
-event_fields (events.RecordsUsed percent left) = used_fields (codes "records_used") percent left
-event_fields (events.LinesUsed percent left) = used_fields (codes "lines_used") percent left
+event_fields (Event.RecordsUsed percent left) = used_fields (codes "records_used") percent left
+event_fields (Event.LinesUsed percent left) = used_fields (codes "lines_used") percent left

@@ -1,21 +1,9 @@
 -- What the log knows of the records so far.
-use Rattle.std.specs.Prelude.{ℕ, ◌+◌, ◌/◌, ◌==◌, Bool, true, false, not, ◌&&◌, max, min, fold, if◌then◌else◌, List, map, find, length, filter, Option, Some, is_some, unwrap_or, option_and_then, option_map}
-use Rattle.std.specs.Option.{option_map_or}
-use Rattle.std.specs.List.{filter_map}
-use Rattle.gx_units.specs.Names.{same_rule}
-use Rattle.gx_units.specs.declared.names.RuleId.{RuleId}
+use Rattle.gx_policy.specs.{Kinds.limit_of, declared.policy.{FileRule.FileRule, PolicyData.PolicyData}, Lists.{behind_last, where_true}}
+use Rattle.std.specs.{Prelude.{ℕ, ◌+◌, ◌/◌, ◌==◌, Bool, true, false, not, ◌&&◌, max, min, fold, if◌then◌else◌, List, map, find, length, filter, Option, Some, is_some, unwrap_or, option_and_then, option_map}, Option.option_map_or, List.filter_map}
+use Rattle.gx_units.specs.{Names.same_rule, declared.names.RuleId.RuleId}
 use Rattle.gx_desk.specs.declared.Action.{Action}
-use Rattle.gx_desk.specs.declared.Action.TheVariants as actions
-use Rattle.gx_policy.specs.declared.policy.FileRule.{FileRule}
-use Rattle.gx_policy.specs.declared.policy.PolicyData.{PolicyData}
-use Rattle.gx_policy.specs.Lists.{behind_last, where_true}
-use Rattle.gx_history.specs.declared.record.Asked.{Asked}
-use Rattle.gx_history.specs.declared.record.RecordData.{RecordData}
-use Rattle.gx_history.specs.declared.record.Verdict.{Verdict}
-use Rattle.gx_history.specs.declared.record.Verdict.TheVariants as verdicts
-use Rattle.gx_history.specs.InForce.{limit_of, rules_in_force}
-use Rattle.gx_history.specs.Requests.{asked, granted_action, is_login}
-use Rattle.gx_history.specs.Verdicts.{last_moment}
+use Rattle.gx_history.specs.{declared.record.{Asked.Asked, RecordData.RecordData, Verdict.Verdict}, InForce.rules_in_force, Requests.{asked, granted_action, is_login}, Verdicts.last_moment}
 use Rattle.gx_events.specs.declared.limits.RuleLimit.{RuleLimit}
 
 -- the minute behind midnight
@@ -28,7 +16,7 @@ within minute records = unwrap_or (behind_last (λ (r : RecordData). not (minute
 
 -- the request was denied
 abbrev pub is_denied : Verdict → Bool
-is_denied (verdicts.Denied rule) = true
+is_denied (Verdict.Denied rule) = true
 is_denied other = false
 
 -- the login that is asked for, if one is
@@ -91,7 +79,7 @@ limit_set name limit l = if same_rule l.rule name && is_some l.limit then record
 
 -- the limits after a granted command
 abbrev pub limits_after : List RuleLimit → Action → List RuleLimit
-limits_after limits (actions.SetLimit name limit) = map (limit_set name limit) limits
+limits_after limits (Action.SetLimit name limit) = map (limit_set name limit) limits
 limits_after limits other = limits
 
 -- how many logins were denied so far within the minute

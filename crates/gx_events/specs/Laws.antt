@@ -1,15 +1,11 @@
 -- What the definitions say of every log.
-use Rattle.std.specs.Prelude.{ℕ, ◌==◌, not, IsTrue, [], ◌∷◌, ◌≡◌, List, ◌++◌}
-use Rattle.std.specs.List.{list_all}
+use Rattle.std.specs.{Prelude.{ℕ, ◌==◌, not, IsTrue, [], ◌∷◌, ◌≡◌, List, ◌++◌}, List.list_all}
 use Rattle.gx_units.specs.declared.names.RuleId.{RuleId}
 use Rattle.gx_policy.specs.declared.policy.PolicyData.{PolicyData}
-use Rattle.gx_history.specs.declared.record.RecordData.{RecordData}
-use Rattle.gx_history.specs.InForce.{rules_in_force}
+use Rattle.gx_history.specs.{declared.record.RecordData.RecordData, InForce.rules_in_force}
 use Rattle.gx_rules.specs.Settings.{limit_in}
 use Rattle.gx_text.specs.declared.form.Form.{Form}
-use Rattle.gx_events.specs.declared.event.Event.{Event}
-use Rattle.gx_events.specs.Known.{known_of, limit_named}
-use Rattle.gx_events.specs.Lines.{event_line, lines_behind, log_of}
+use Rattle.gx_events.specs.{declared.event.Event.Event, Known.{known_of, limit_named}, Lines.{event_line, lines_behind, log_of}}
 
 -- a log is told in pieces: the lines of more records stand behind those of the earlier ones
 abbrev pub LogsGoOn : Type 0

@@ -1,23 +1,13 @@
 -- The lines of the log.
-use Rattle.std.specs.Prelude.{ℕ, Bool, true, false, if◌then◌else◌, List, [], ◌++◌, codes, decimal, flat_map, Option}
-use Rattle.std.specs.Option.{option_map_or}
-use Rattle.gx_policy.specs.declared.policy.PolicyData.{PolicyData}
-use Rattle.gx_policy.specs.Lists.{each_after}
+use Rattle.std.specs.{Prelude.{ℕ, Bool, true, false, if◌then◌else◌, List, [], ◌++◌, codes, decimal, flat_map, Option}, Option.option_map_or}
+use Rattle.gx_policy.specs.{declared.policy.PolicyData.PolicyData, Lists.each_after}
 use Rattle.gx_history.specs.declared.record.RecordData.{RecordData}
-use Rattle.gx_text.specs.Moments.{moment_text}
-use Rattle.gx_text.specs.declared.moments.Decimals.TheVariants.{Six, Nine}
-use Rattle.gx_events.specs.declared.event.Event.{Event}
-use Rattle.gx_events.specs.declared.event.Event.TheVariants as events
-use Rattle.gx_text.specs.declared.form.Form.{Form}
-use Rattle.gx_text.specs.declared.form.Form.TheVariants.{Text, Json}
-use Rattle.gx_events.specs.Known.{Known, known_of}
-use Rattle.gx_events.specs.Events.{own_event, more_denied, records_used, lines_used, untold_denials}
-use Rattle.gx_events.specs.Words.{event_text}
-use Rattle.gx_events.specs.Fields.{event_fields, number_field}
+use Rattle.gx_text.specs.{Moments.moment_text, declared.{moments.Decimals.TheVariants.{Six, Nine}, form.Form.{Form, TheVariants.{Text, Json}}}}
+use Rattle.gx_events.specs.{declared.event.Event.Event, Known.{Known, known_of}, Events.{own_event, more_denied, records_used, lines_used, untold_denials}, Words.event_text, Fields.{event_fields, number_field}}
 
 -- the event is this record's, and not of the minute before it
 abbrev pub is_of_record : Event → Bool
-is_of_record (events.MoreDenied count minute) = false
+is_of_record (Event.MoreDenied count minute) = false
 is_of_record other = true
 
 -- the number of the record, where the event is the record's

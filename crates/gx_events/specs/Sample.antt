@@ -1,23 +1,9 @@
 -- The log of a sample day, line by line.
+use Rattle.gx_policy.specs.declared.{kinds.{ExposureLimit.ExposureLimit, ListKind.ListKind}, policy.{PolicyData.PolicyData, Count.TheVariants.Each, Lifters.TheVariants.Two, RuleKind.RuleKind, Scope.Scope}, rule_name.RuleName.RuleName}
 use Rattle.std.specs.Prelude.{ℕ, ◌≡◌, true, List, [], ◌∷◌, ◌++◌, codes, take}
-use Rattle.gx_units.specs.declared.names.AccountName.{AccountName}
-use Rattle.gx_units.specs.declared.names.RuleId.{RuleId}
-use Rattle.gx_units.specs.declared.names.Symbol.{Symbol}
-use Rattle.gx_units.specs.declared.names.UserName.{UserName}
+use Rattle.gx_units.specs.declared.names.{AccountName.AccountName, RuleId.RuleId, Symbol.Symbol, UserName.UserName}
 use Rattle.gx_desk.specs.declared.Action.{Action}
-use Rattle.gx_desk.specs.declared.Action.TheVariants as actions
-use Rattle.gx_policy.specs.declared.policy.PolicyData.{PolicyData}
-use Rattle.gx_policy.specs.declared.policy.Count.TheVariants.{Each}
-use Rattle.gx_policy.specs.declared.policy.Lifters.TheVariants.{Two}
-use Rattle.gx_policy.specs.declared.policy.RuleKind.TheVariants as kinds
-use Rattle.gx_policy.specs.declared.policy.Scope.TheVariants as scopes
-use Rattle.gx_policy.specs.declared.rule_name.RuleName.TheVariants as names
-use Rattle.gx_history.specs.declared.record.RecordData.{RecordData}
-use Rattle.gx_history.specs.declared.record.Request.{Request}
-use Rattle.gx_history.specs.declared.record.Request.TheVariants as requests
-use Rattle.gx_history.specs.declared.record.Step.TheVariants as steps
-use Rattle.gx_history.specs.declared.record.Verdict.{Verdict}
-use Rattle.gx_history.specs.declared.record.Verdict.TheVariants as verdicts
+use Rattle.gx_history.specs.declared.record.{RecordData.RecordData, Request.Request, Step.Step, Verdict.Verdict}
 use Rattle.gx_text.specs.declared.form.Form.TheVariants.{Text, Json}
 use Rattle.gx_events.specs.Lines.{log_of}
 
@@ -30,8 +16,8 @@ sample = record {
   stocks = [];
   users = [];
   rules =
-      record { name = record { bytes = codes "GROSS   " }; kind = kinds.GrossShares 4000000 Each; scope = scopes.All }
-      ∷ record { name = record { bytes = codes "HALT    " }; kind = kinds.Halt []; scope = scopes.All }
+      record { name = record { bytes = codes "GROSS   " }; kind = RuleKind.Exposure ExposureLimit.GrossShares 4000000 Each; scope = Scope.All }
+      ∷ record { name = record { bytes = codes "HALT    " }; kind = RuleKind.Listed ListKind.Halt []; scope = Scope.All }
       ∷ [];
 }
 
@@ -69,46 +55,46 @@ abbrev pub shown : ℕ → ℕ → UserName → ℕ → Request → Verdict → 
 shown number moment user line request verdict = record {
   number = number;
   moment = moment;
-  step = steps.Asked (record { line = line; user = user; request = request; handed = moment });
+  step = Step.Asked (record { line = line; user = user; request = request; handed = moment });
   verdict = verdict;
 }
 
 abbrev pub login : Request
-login = requests.Login (record { password_is_right = true; session_is_right = true; wanted = 1 })
+login = Request.Login (record { password_is_right = true; session_is_right = true; wanted = 1 })
 
 abbrev pub command : Action → Request
-command action = requests.Command (record { tag = record { bytes = codes "T             " }; action = action })
+command action = Request.Command (record { tag = record { bytes = codes "T             " }; action = action })
 
 -- a login, four that are denied within one minute, and the first record of another minute; two changes of one limit
 abbrev pub people : List RecordData
 people =
-    shown 1 morning olga 7 login verdicts.Granted
-    ∷ shown 2 morning mallory 8 login (verdicts.Denied names.L1)
-    ∷ shown 3 morning mallory 9 login (verdicts.Denied names.L1)
-    ∷ shown 4 morning mallory 10 login (verdicts.Denied names.L1)
-    ∷ shown 5 morning olga 7 (command (actions.SetLimit gross 5000000)) verdicts.Granted
-    ∷ shown 6 night olga 7 (command (actions.SetLimit gross 6000000)) verdicts.Granted
-    ∷ shown 7 night mallory 11 login (verdicts.Denied names.L3)
-    ∷ shown 8 night olga 7 requests.Logout verdicts.Granted
+    shown 1 morning olga 7 login Verdict.Granted
+    ∷ shown 2 morning mallory 8 login (Verdict.Denied RuleName.L1)
+    ∷ shown 3 morning mallory 9 login (Verdict.Denied RuleName.L1)
+    ∷ shown 4 morning mallory 10 login (Verdict.Denied RuleName.L1)
+    ∷ shown 5 morning olga 7 (command (Action.SetLimit gross 5000000)) Verdict.Granted
+    ∷ shown 6 night olga 7 (command (Action.SetLimit gross 6000000)) Verdict.Granted
+    ∷ shown 7 night mallory 11 login (Verdict.Denied RuleName.L3)
+    ∷ shown 8 night olga 7 Request.Logout Verdict.Granted
     ∷ []
 
 -- each command that is not Set Limit, a denied one, an order's cancel and a matching step
 abbrev pub commands : List RecordData
 commands =
-    shown 1 morning olga 7 (command (actions.Kill alfa)) verdicts.Granted
-    ∷ shown 2 morning bob 6 (command (actions.Kill alfa)) (verdicts.Denied names.Q2)
-    ∷ shown 3 morning bob 6 (command (actions.SetLimit gross 9)) (verdicts.Denied names.Q3)
-    ∷ record { number = 4; moment = morning; step = steps.Matching morning; verdict = verdicts.Rested 1 }
-    ∷ shown 5 morning olga 7 (command (actions.Lift alfa)) verdicts.Granted
-    ∷ shown 6 morning olga 7 (command (actions.Restrict halt test_stock)) verdicts.Granted
-    ∷ shown 7 morning olga 7 (command (actions.Grant (record { bytes = codes "rita  " }) alfa)) verdicts.Granted
-    ∷ shown 8 morning olga 7 (command actions.CloseDay) verdicts.Granted
-    ∷ shown 9 morning olga 7 (requests.Unreadable (record { length = 1; first = 63 })) (verdicts.Denied names.G3)
+    shown 1 morning olga 7 (command (Action.Kill alfa)) Verdict.Granted
+    ∷ shown 2 morning bob 6 (command (Action.Kill alfa)) (Verdict.Denied RuleName.Q2)
+    ∷ shown 3 morning bob 6 (command (Action.SetLimit gross 9)) (Verdict.Denied RuleName.Q3)
+    ∷ record { number = 4; moment = morning; step = Step.Matching morning; verdict = Verdict.Rested 1 }
+    ∷ shown 5 morning olga 7 (command (Action.Lift alfa)) Verdict.Granted
+    ∷ shown 6 morning olga 7 (command (Action.Restrict halt test_stock)) Verdict.Granted
+    ∷ shown 7 morning olga 7 (command (Action.Grant (record { bytes = codes "rita  " }) alfa)) Verdict.Granted
+    ∷ shown 8 morning olga 7 (command Action.CloseDay) Verdict.Granted
+    ∷ shown 9 morning olga 7 (Request.Unreadable (record { length = 1; first = 63 })) (Verdict.Denied RuleName.G3)
     ∷ []
 
 -- the first record at 90 hundredths of the day's records, with a login on the last line
 abbrev pub full : List RecordData
-full = shown 15099495 morning olga 65535 login verdicts.Granted ∷ []
+full = shown 15099495 morning olga 65535 login Verdict.Granted ∷ []
 
 abbrev pub PeopleAreTold : Type 0
 PeopleAreTold = log_of Text sample people ≡

@@ -2,13 +2,9 @@
 use Rattle.std.specs.Prelude.{ℕ, List, [], ◌++◌, codes, decimal, Option, Some, None}
 use Rattle.gx_units.specs.declared.names.UserName.{UserName}
 use Rattle.gx_desk.specs.declared.Action.{Action}
-use Rattle.gx_desk.specs.declared.Action.TheVariants as actions
-use Rattle.gx_policy.specs.RuleNames.{written_rule}
-use Rattle.gx_policy.specs.declared.rule_name.RuleName.{RuleName}
-use Rattle.gx_text.specs.Moments.{minute_text}
-use Rattle.gx_text.specs.Shown.{shown_name}
+use Rattle.gx_policy.specs.{RuleNames.written_rule, declared.rule_name.RuleName.RuleName}
+use Rattle.gx_text.specs.{Moments.minute_text, Shown.shown_name}
 use Rattle.gx_events.specs.declared.event.Event.{Event}
-use Rattle.gx_events.specs.declared.event.Event.TheVariants as events
 
 -- a name behind words
 abbrev pub of_name : List ℕ → List ℕ → List ℕ
@@ -37,26 +33,26 @@ from_text (Some limit) = codes " from " ++ decimal limit
 
 -- what a granted command did
 unfoldable pub done_text : Action → Option ℕ → List ℕ
-done_text (actions.Kill account) earlier = shown_name account.bytes ++ codes " killed"
-done_text (actions.Lift account) earlier = codes "Lift of " ++ shown_name account.bytes ++ codes " given"
-done_text (actions.SetLimit rule limit) earlier =
+done_text (Action.Kill account) earlier = shown_name account.bytes ++ codes " killed"
+done_text (Action.Lift account) earlier = codes "Lift of " ++ shown_name account.bytes ++ codes " given"
+done_text (Action.SetLimit rule limit) earlier =
     codes "limit of " ++ shown_name rule.bytes ++ codes " set" ++ from_text earlier ++ codes " to " ++ decimal limit
-done_text (actions.Restrict rule stock) earlier = between stock.bytes (codes " restricted under ") rule.bytes
-done_text (actions.Unrestrict rule stock) earlier = between stock.bytes (codes " unrestricted under ") rule.bytes
-done_text (actions.Grant reader account) earlier = between account.bytes (codes " granted to ") reader.bytes
-done_text (actions.Revoke reader account) earlier = between account.bytes (codes " revoked from ") reader.bytes
-done_text actions.CloseDay earlier = codes "day closed"
+done_text (Action.Restrict rule stock) earlier = between stock.bytes (codes " restricted under ") rule.bytes
+done_text (Action.Unrestrict rule stock) earlier = between stock.bytes (codes " unrestricted under ") rule.bytes
+done_text (Action.Grant reader account) earlier = between account.bytes (codes " granted to ") reader.bytes
+done_text (Action.Revoke reader account) earlier = between account.bytes (codes " revoked from ") reader.bytes
+done_text Action.CloseDay earlier = codes "day closed"
 
 -- what a command asks for
 unfoldable pub asked_text : Action → List ℕ
-asked_text (actions.Kill account) = of_name (codes "Kill of ") account.bytes
-asked_text (actions.Lift account) = of_name (codes "Lift of ") account.bytes
-asked_text (actions.SetLimit rule limit) = to_number (codes "Set Limit of ") rule.bytes limit
-asked_text (actions.Restrict rule stock) = of_both (codes "Restrict of ") stock.bytes (codes " under ") rule.bytes
-asked_text (actions.Unrestrict rule stock) = of_both (codes "Unrestrict of ") stock.bytes (codes " under ") rule.bytes
-asked_text (actions.Grant reader account) = of_both (codes "Grant of ") account.bytes (codes " to ") reader.bytes
-asked_text (actions.Revoke reader account) = of_both (codes "Revoke of ") account.bytes (codes " from ") reader.bytes
-asked_text actions.CloseDay = codes "Close Day"
+asked_text (Action.Kill account) = of_name (codes "Kill of ") account.bytes
+asked_text (Action.Lift account) = of_name (codes "Lift of ") account.bytes
+asked_text (Action.SetLimit rule limit) = to_number (codes "Set Limit of ") rule.bytes limit
+asked_text (Action.Restrict rule stock) = of_both (codes "Restrict of ") stock.bytes (codes " under ") rule.bytes
+asked_text (Action.Unrestrict rule stock) = of_both (codes "Unrestrict of ") stock.bytes (codes " under ") rule.bytes
+asked_text (Action.Grant reader account) = of_both (codes "Grant of ") account.bytes (codes " to ") reader.bytes
+asked_text (Action.Revoke reader account) = of_both (codes "Revoke of ") account.bytes (codes " from ") reader.bytes
+asked_text Action.CloseDay = codes "Close Day"
 
 abbrev pub by_user : UserName → List ℕ
 by_user user = of_name (codes " by ") user.bytes
@@ -73,11 +69,11 @@ abbrev pub minute_count : List ℕ → ℕ → ℕ → List ℕ
 minute_count words minute count = words ++ minute_text minute ++ codes ": " ++ decimal count
 
 unfoldable pub event_text : Event → List ℕ
-event_text (events.LoggedIn user line) = on_line user (codes " logged in on line ") line
-event_text (events.LoggedOut user line) = on_line user (codes " logged out on line ") line
-event_text (events.LoginDenied user line rule) = codes "login of " ++ on_line user (codes " on line ") line ++ denied_by rule
-event_text (events.MoreDenied count minute) = minute_count (codes "more logins denied within the minute of ") minute count
-event_text (events.Commanded user action earlier) = done_text action earlier ++ by_user user
-event_text (events.CommandDenied user action rule) = asked_text action ++ by_user user ++ denied_by rule
-event_text (events.RecordsUsed percent left) = used_text percent (codes " % of the day's records are used, ") left
-event_text (events.LinesUsed percent left) = used_text percent (codes " % of the day's lines are used, ") left
+event_text (Event.LoggedIn user line) = on_line user (codes " logged in on line ") line
+event_text (Event.LoggedOut user line) = on_line user (codes " logged out on line ") line
+event_text (Event.LoginDenied user line rule) = codes "login of " ++ on_line user (codes " on line ") line ++ denied_by rule
+event_text (Event.MoreDenied count minute) = minute_count (codes "more logins denied within the minute of ") minute count
+event_text (Event.Commanded user action earlier) = done_text action earlier ++ by_user user
+event_text (Event.CommandDenied user action rule) = asked_text action ++ by_user user ++ denied_by rule
+event_text (Event.RecordsUsed percent left) = used_text percent (codes " % of the day's records are used, ") left
+event_text (Event.LinesUsed percent left) = used_text percent (codes " % of the day's lines are used, ") left

@@ -1,12 +1,10 @@
 //! An event as the fields of a JSON object.
 
 ghost use Rattle.std.specs.Prelude.{◌≡◌, ◌++◌, codes, OnOk};
-ghost use Rattle.gx_events.specs.Fields.{command_word, count_fields, event_field, event_fields, from_field, key, login_fields, minute_field, name_field, named_fields, number_field, used_fields};
-ghost use Rattle.gx_events.specs.declared.event.Event.TheVariants.{LoginDenied, MoreDenied, Commanded, CommandDenied};
+ghost use Rattle.gx_events.specs.{Fields.{command_word, count_fields, event_field, event_fields, from_field, key, login_fields, minute_field, name_field, named_fields, number_field, used_fields}, declared.event.Event.TheVariants.{LoginDenied, MoreDenied, Commanded, CommandDenied}};
 ghost use Rattle.gx_desk.specs.declared.Action.TheVariants.{SetLimit};
 
 use crate::event::Event;
-use crate::words::written_rule;
 use gx_desk::Action;
 use gx_policy::RuleName;
 use gx_text::{append, append_json_name, append_minute, append_number};
@@ -139,7 +137,7 @@ fn append_login_denied_fields(
         ≡ text.old.items ++ event_fields (LoginDenied user.now line rule.now)) }
 {
     append_login_fields(text, b"login_denied", user, line)?;
-    append_name_field(text, b"denied_by", written_rule(rule))
+    append_name_field(text, b"denied_by", rule.written())
 }
 
 fn append_minute_field(text: &mut Vec<u8>, minute: u64) -> Result<(), OutOfMemory>
@@ -211,7 +209,7 @@ fn append_command_denied_fields(
     append_denied_field(text, action)?;
     append_name_field(text, b"user", &user.bytes)?;
     append_named_fields(text, action, None)?;
-    append_name_field(text, b"denied_by", written_rule(rule))
+    append_name_field(text, b"denied_by", rule.written())
 }
 
 fn append_used_fields(

@@ -1,8 +1,7 @@
 //! What is told of a request, by its verdict.
 
 ghost use Rattle.std.specs.Prelude.{◌≡◌};
-ghost use Rattle.gx_events.specs.Events.{command_event, login_event, logout_event};
-ghost use Rattle.gx_events.specs.Known.{denies_login, login_line};
+ghost use Rattle.gx_events.specs.{Events.{command_event, login_event, logout_event}, Known.{denies_login, login_line}};
 
 use crate::event::Event;
 use gx_desk::Action;

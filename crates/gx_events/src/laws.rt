@@ -1,7 +1,6 @@
 //! Laws of the definitions, each as what a function without a body ensures.
 
-ghost use Rattle.gx_events.specs.Laws.{EventsAreLines, LimitsAreInForce, LogsGoOn};
-ghost use Rattle.gx_events.specs.Sample.{CommandsAreTold, CommandsAreToldInJson, FullDaysAreTold, PeopleAreTold, PeopleAreToldInJson};
+ghost use Rattle.gx_events.specs.{Laws.{EventsAreLines, LimitsAreInForce, LogsGoOn}, Sample.{CommandsAreTold, CommandsAreToldInJson, FullDaysAreTold, PeopleAreTold, PeopleAreToldInJson}};
 
 /// A log is told in pieces: the lines of more records stand behind those of the earlier ones.
 pub fn logs_go_on()

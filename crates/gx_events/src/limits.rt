@@ -1,15 +1,14 @@
 //! The limits of the file's rules, as they are in force.
 
-ghost use Rattle.std.specs.Prelude.{◌≡◌, IfOk, find, map};
+ghost use Rattle.gx_policy.specs.Kinds.{limit_of};
+ghost use Rattle.std.specs.{Prelude.{◌≡◌, IfOk, find, map}, Option.option_map_or};
 ghost use Rattle.gx_units.specs.Names.{same_rule};
-ghost use Rattle.std.specs.Option.{option_map_or};
-ghost use Rattle.gx_history.specs.InForce.{limit_of};
-ghost use Rattle.gx_history.specs.Requests.{granted_action};
+ghost use Rattle.gx_history.specs.{Requests.granted_action};
 ghost use Rattle.gx_events.specs.Known.{limit_entry, limits_of, limit_named, limit_set, limits_after};
 
 use gx_desk::Action;
 use gx_history::record::{RecordData, Request, Step, Verdict};
-use gx_policy::{FileRule, RuleKind};
+use gx_policy::FileRule;
 use gx_units::{OutOfMemory, RuleId};
 use std::alloc::Global;
 use std::marker::Model;
@@ -19,26 +18,6 @@ use std::marker::Model;
 pub struct RuleLimit {
     pub rule: RuleId,
     pub limit: Option<u64>,
-}
-
-fn limit_of(kind: &RuleKind) -> Option<u64>
-    ensures { result ≡ limit_of kind.now }
-{
-    match kind {
-        RuleKind::OrderShares(limit) => Some(*limit),
-        RuleKind::OrderValue(limit) => Some(*limit),
-        RuleKind::Collar(limit) => Some(*limit),
-        RuleKind::GrossShares(limit, _) => Some(*limit),
-        RuleKind::GrossValue(limit, _) => Some(*limit),
-        RuleKind::NetShares(limit, _) => Some(*limit),
-        RuleKind::Halt(_)
-        | RuleKind::Restricted(_)
-        | RuleKind::NoShort
-        | RuleKind::NoIso
-        | RuleKind::OddLot
-        | RuleKind::Rate(..)
-        | RuleKind::Repeat(..) => None,
-    }
 }
 
 /// The command that the record grants, if it grants one.
@@ -60,7 +39,7 @@ impl RuleLimit {
     {
         RuleLimit {
             rule: rule.name,
-            limit: limit_of(&rule.kind),
+            limit: rule.kind.limit(),
         }
     }
 

@@ -1,9 +1,7 @@
 //! An event in words.
 
 ghost use Rattle.std.specs.Prelude.{◌≡◌, ◌++◌, decimal, OnOk};
-ghost use Rattle.gx_policy.specs.RuleNames.{written_rule};
-ghost use Rattle.gx_events.specs.Words.{asked_text, between, by_user, denied_by, done_text, event_text, from_text, minute_count, of_both, of_name, on_line, to_number, used_text};
-ghost use Rattle.gx_events.specs.declared.event.Event.TheVariants.{LoginDenied, MoreDenied, Commanded, CommandDenied, RecordsUsed, LinesUsed};
+ghost use Rattle.gx_events.specs.{Words.{asked_text, between, by_user, denied_by, done_text, event_text, from_text, minute_count, of_both, of_name, on_line, to_number, used_text}, declared.event.Event.TheVariants.{LoginDenied, MoreDenied, Commanded, CommandDenied, RecordsUsed, LinesUsed}};
 ghost use Rattle.gx_desk.specs.declared.Action.TheVariants.{SetLimit};
 
 use crate::event::Event;
@@ -11,40 +9,6 @@ use gx_desk::Action;
 use gx_policy::RuleName;
 use gx_text::{append, append_minute, append_name, append_number};
 use gx_units::{OutOfMemory, RuleId, UserName};
-
-/// A rule's name, as the audit writes it.
-pub(crate) fn written_rule(rule: &RuleName) -> &[u8]
-    ensures { result.now ≡ written_rule rule.now }
-{
-    match rule {
-        RuleName::L1 => b"L1",
-        RuleName::L2 => b"L2",
-        RuleName::L3 => b"L3",
-        RuleName::G1 => b"G1",
-        RuleName::G2 => b"G2",
-        RuleName::G3 => b"G3",
-        RuleName::I1 => b"I1",
-        RuleName::I2 => b"I2",
-        RuleName::I3 => b"I3",
-        RuleName::P1 => b"P1",
-        RuleName::P2 => b"P2",
-        RuleName::P3 => b"P3",
-        RuleName::P4 => b"P4",
-        RuleName::P5 => b"P5",
-        RuleName::P6 => b"P6",
-        RuleName::P7 => b"P7",
-        RuleName::P8 => b"P8",
-        RuleName::P9 => b"P9",
-        RuleName::P10 => b"P10",
-        RuleName::P11 => b"P11",
-        RuleName::P12 => b"P12",
-        RuleName::Q1 => b"Q1",
-        RuleName::Q2 => b"Q2",
-        RuleName::Q3 => b"Q3",
-        RuleName::Q4 => b"Q4",
-        RuleName::File(name) => &name.bytes,
-    }
-}
 
 /// Puts words and a name at the end of the text.
 fn append_of_name(text: &mut Vec<u8>, words: &[u8], name: &[u8]) -> Result<(), OutOfMemory>
@@ -221,7 +185,7 @@ fn append_by(text: &mut Vec<u8>, user: &UserName) -> Result<(), OutOfMemory>
 fn append_denied_by(text: &mut Vec<u8>, rule: &RuleName) -> Result<(), OutOfMemory>
     ensures { OnOk result (text.new.items ≡ text.old.items ++ denied_by rule.now) }
 {
-    append_of_name(text, b" denied by ", written_rule(rule))
+    append_of_name(text, b" denied by ", rule.written())
 }
 
 #[tactic(auto, unfolding(crate::specs::Words::event_text))]

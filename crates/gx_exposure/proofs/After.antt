@@ -1,26 +1,14 @@
 -- Records that grant no order of some accounts raise nothing that they have in all.
-use Rattle.std.proofs.Common.{◌≡◌, ℕ, ◌+◌, ◌≤◌, Bool, List, [], ◌∷◌, ◌++◌, length, drop, sym, ap, ◌∙◌, arith, append_assoc}
-use Rattle.std.proofs.Math.Path.{subst}
-use Rattle.std.proofs.Math.Seq.{drop-append_seam}
-use Rattle.std.proofs.lemmas.List.{append-nil, length-append}
-use Rattle.std.proofs.lemmas.List.Elements.{filter-append}
+use Rattle.std.proofs.{Common.{◌≡◌, ℕ, ◌+◌, ◌≤◌, Bool, List, [], ◌∷◌, ◌++◌, length, drop, sym, ap, ◌∙◌, arith, append_assoc}, Math.{Path.subst, Seq.drop-append_seam}, lemmas.List.{append-nil, length-append, Elements.filter-append}}
 use Rattle.std.specs.List.{filter, AllByRecursion}
 use Rattle.gx_units.specs.declared.names.AccountName.{AccountName}
-use Rattle.gx_policy.specs.declared.policy.PolicyData.{PolicyData}
-use Rattle.gx_history.specs.declared.record.RecordData.{RecordData}
-use Rattle.gx_history.specs.Executions.{Execution, executions, sides}
+use Rattle.gx_policy.specs.{declared.policy.PolicyData.PolicyData, Lists.{each_after, each_with_earlier}}
+use Rattle.gx_history.specs.{declared.record.RecordData.RecordData, Executions.{Execution, executions, sides}, Figures.{Positions, done_of_chosen, of_accounts, positions}, Orders.{Order, orders, orders_added}, Verdicts.{Follows, IsLegal}}
 use Rattle.gx_ouch.specs.declared.outbound.OrderTerms.{OrderTerms}
-use Rattle.gx_history.specs.Figures.{Positions, done_of_chosen, of_accounts, positions}
-use Rattle.gx_policy.specs.Lists.{each_after, each_with_earlier}
-use Rattle.gx_history.specs.Orders.{Order, orders, orders_added}
-use Rattle.gx_history.specs.Verdicts.{Follows, IsLegal}
-use Rattle.gx_history_laws.proofs.NextFigures.{done_more}
-use Rattle.gx_history_laws.proofs.NextOrders.{executions_next, orders_next}
-use Rattle.gx_history_laws.proofs.NextReports.{legal_next}
+use Rattle.gx_history_laws.proofs.{NextFigures.done_more, NextOrders.{executions_next, orders_next}, NextReports.legal_next}
 use Rattle.gx_positions.specs.Laws.{PositionsAreSound, PositionsGoOn, RecordsMayCome, granted_after, turn_after}
 use Rattle.gx_exposure.specs.Exposure.{executions_after, gained, gross_value, is_such, shares_of_chosen}
-use Rattle.gx_exposure.proofs.Steps.{AddsNone, AreWorth, adds_none, all_in_parts, gained-append, no_more_shares, no_more_value, shares_held, value_held}
-use Rattle.gx_exposure.proofs.Worth.{executions_are_worth}
+use Rattle.gx_exposure.proofs.{Steps.{AddsNone, AreWorth, adds_none, all_in_parts, gained-append, no_more_shares, no_more_value, shares_held, value_held}, Worth.executions_are_worth}
 
 -- what is known of positions
 pub record GoOn : Type 0 where

@@ -1,60 +1,16 @@
 -- What the record of a granted order shows: the figures that it was judged on, and what its order makes of them.
-use Rattle.std.proofs.Common.{◌≡◌, ℕ, ◌+◌, Bool, true, false, cond, List, [], ◌∷◌, ◌++◌, refl, sym, ap, ◌∙◌, arith, inl, inr, ◌⊎◌}
-use Rattle.std.proofs.Math.Path.{subst}
-use Rattle.std.proofs.lemmas.List.{append-nil}
-use Rattle.std.specs.Prelude.{Option, Some, None, option_map, ◌||◌}
-use Rattle.std.specs.Option.{option_map_or}
-use Rattle.std.specs.List.{filter_map, list_any}
-use Rattle.gx_units.specs.Money.{value}
-use Rattle.gx_units.specs.Names.{same_token, same_user}
-use Rattle.gx_units.specs.declared.names.AccountName.{AccountName}
-use Rattle.gx_ouch.specs.declared.inbound.EnterOrder.{EnterOrder}
-use Rattle.gx_ouch.specs.declared.inbound.ReplaceOrder.{ReplaceOrder}
-use Rattle.gx_ouch.specs.declared.outbound.OrderTerms.{OrderTerms}
-use Rattle.gx_history.specs.declared.live_order.LiveOrder.{LiveOrder}
-use Rattle.gx_history.specs.declared.facts.ProposedOrder.{ProposedOrder}
-use Rattle.gx_history.specs.declared.facts.StockSide.{StockSide}
-use Rattle.gx_policy.specs.declared.policy.PolicyData.{PolicyData}
-use Rattle.gx_history.specs.declared.record.Asked.{Asked}
-use Rattle.gx_history.specs.declared.record.RecordData.{RecordData}
-use Rattle.gx_history.specs.declared.record.Request.{Request}
-use Rattle.gx_history.specs.declared.record.Request.TheVariants as requests
-use Rattle.gx_history.specs.declared.record.Step.{Step}
-use Rattle.gx_history.specs.declared.record.Step.TheVariants as steps
-use Rattle.gx_history.specs.declared.record.Verdict.{Verdict}
-use Rattle.gx_history.specs.declared.record.Verdict.TheVariants as verdicts
-use Rattle.gx_history.specs.Asking.{facts, live_named}
-use Rattle.gx_history.specs.Book.{is_buy}
-use Rattle.gx_history.specs.Executions.{Execution}
-use Rattle.gx_history.specs.Figures.{Positions, done_of_chosen, done_value, live_value, on_side, open_of_chosen, open_value, positions, side_asked}
-use Rattle.gx_history.specs.Live.{live}
-use Rattle.gx_history.specs.LiveOrders.{is_under, replacement_order, shares_open}
-use Rattle.gx_history.specs.Orders.{Order, orders, orders_added}
-use Rattle.gx_policy.specs.People.{account_of}
-use Rattle.gx_history.specs.Requests.{is_order}
-use Rattle.gx_history.specs.Rules.{new_open, proposed}
-use Rattle.gx_history.specs.Turns.{Turn, Adds, Replaces, becomes, new_in, new_order}
-use Rattle.gx_history.specs.declared.moves.Move.TheVariants as moves
-use Rattle.gx_history.specs.World.{move_asked, turn_by, turn_in, world}
-use Rattle.gx_history.specs.Verdicts.{Follows, IsLegal, facts_now, next}
-use Rattle.gx_history_laws.proofs.Adding.{AddsNone, AddsOne, found_passes, user_is, what_is_added}
-use Rattle.gx_history_laws.proofs.Entering.{HasAccount, entered_has_account}
-use Rattle.gx_history_laws.proofs.Judging.{both}
-use Rattle.gx_history_laws.proofs.Owners.{IsHisAccounts, last_such_is, orders_are_their_users}
-use Rattle.gx_history_laws.proofs.Runs.{step_left}
-use Rattle.gx_effects.proofs.Among.{of_all}
-use Rattle.gx_effects.proofs.Known.{IsKnown, live_known}
-use Rattle.gx_effects.proofs.NamedOrders.{Names, named_is, names_live}
-use Rattle.gx_effects.proofs.Orderly.{legal_is_orderly}
-use Rattle.gx_effects.proofs.World.{all_stay}
-use Rattle.gx_positions.specs.Changing.{executed_by, positions_with}
-use Rattle.gx_positions.specs.Laws.{granted_after, turn_after}
-use Rattle.gx_positions.specs.Sound.{MayChange, MayCome}
-use Rattle.gx_positions.proofs.Granted.{proposed_by}
-use Rattle.gx_positions.proofs.Sums.{added, is_chosen, lost_by, replaced_loses, shares_of, value_of}
+use Rattle.std.proofs.{Common.{◌≡◌, ℕ, ◌+◌, Bool, true, false, cond, List, [], ◌∷◌, ◌++◌, refl, sym, ap, ◌∙◌, arith, inl, inr, ◌⊎◌}, Math.Path.subst, lemmas.List.append-nil}
+use Rattle.std.specs.{Prelude.{Option, Some, None, option_map, ◌||◌}, Option.option_map_or, List.{filter_map, list_any}}
+use Rattle.gx_units.specs.{Money.value, Names.{same_token, same_user}, declared.names.AccountName.AccountName}
+use Rattle.gx_ouch.specs.declared.{inbound.{EnterOrder.EnterOrder, ReplaceOrder.ReplaceOrder}, outbound.OrderTerms.OrderTerms}
+use Rattle.gx_history.specs.{declared.{live_order.LiveOrder.LiveOrder, facts.{ProposedOrder.ProposedOrder, StockSide.StockSide}, «record».{Asked.Asked, RecordData.RecordData, Request.Request, Step.Step, Verdict.Verdict}, moves.Move.Move}, Asking.{facts, live_named}, Book.is_buy, Executions.Execution, Figures.{Positions, done_of_chosen, done_value, live_value, on_side, open_of_chosen, open_value, positions, side_asked}, Live.live, LiveOrders.{is_under, replacement_order, shares_open}, Orders.{Order, orders, orders_added}, Requests.is_order, Rules.{new_open, proposed}, Turns.{Turn, Adds, Replaces, becomes, new_in, new_order}, World.{move_asked, turn_by, turn_in, world}, Verdicts.{Follows, IsLegal, facts_now, next}}
+use Rattle.gx_policy.specs.{declared.policy.PolicyData.PolicyData, People.account_of}
+use Rattle.gx_history_laws.proofs.{Adding.{AddsNone, AddsOne, found_passes, user_is, what_is_added}, Entering.{HasAccount, entered_has_account}, Judging.both, Owners.{IsHisAccounts, last_such_is, orders_are_their_users}, Runs.step_left}
+use Rattle.gx_effects.proofs.{Among.of_all, Known.{IsKnown, live_known}, NamedOrders.{Names, named_is, names_live}, Orderly.legal_is_orderly, World.all_stay}
+use Rattle.gx_positions.specs.{Changing.{executed_by, positions_with}, Laws.{granted_after, turn_after}, Sound.{MayChange, MayCome}}
+use Rattle.gx_positions.proofs.{Granted.proposed_by, Sums.{added, is_chosen, lost_by, replaced_loses, shares_of, value_of}}
 use Rattle.gx_exposure.specs.Exposure.{gross_value, is_such, shares_of_chosen}
-use Rattle.gx_exposure.proofs.After.{GoOn}
-use Rattle.gx_exposure.proofs.Steps.{shares_held, value_held}
+use Rattle.gx_exposure.proofs.{After.GoOn, Steps.{shares_held, value_held}}
 
 -- the record grants an order to the asker's account, on the side that the request is for, where the order is live that it replaces
 pub record GrantsOrder (policy : PolicyData) (before : List RecordData) (r : RecordData) : Type 0 where
@@ -62,8 +18,8 @@ pub record GrantsOrder (policy : PolicyData) (before : List RecordData) (r : Rec
   pub order : LiveOrder
   pub shown : ProposedOrder
   pub old : Option LiveOrder
-  pub is_left : next policy before (steps.Asked asked) ≡ Some r
-  pub is_granted : r.verdict ≡ verdicts.Granted
+  pub is_left : next policy before (Step.Asked asked) ≡ Some r
+  pub is_granted : r.verdict ≡ Verdict.Granted
   pub is_his : account_of policy asked.user ≡ Some order.account
   pub is_shown : proposed (facts_now policy before asked) asked.request ≡ Some shown
   pub is_replaced : (facts_now policy before asked).named ≡ old
@@ -119,7 +75,7 @@ module _ (held : Positions) (turn : Turn) (granted : List Order) (new : LiveOrde
       let counts = when (among new.account) (open_value new) h in
       omega (arith, lives, made, counts)
 
-module _ (laws : GoOn) (policy : PolicyData) (before : List RecordData) (r : RecordData) (a : Asked) (legal : IsLegal policy before) (left : next policy before (steps.Asked a) ≡ Some r) (is_granted : r.verdict ≡ verdicts.Granted) where
+module _ (laws : GoOn) (policy : PolicyData) (before : List RecordData) (r : RecordData) (a : Asked) (legal : IsLegal policy before) (left : next policy before (Step.Asked a) ≡ Some r) (is_granted : r.verdict ≡ Verdict.Granted) where
   abbrev held : Positions
   held = positions policy before
 
@@ -129,26 +85,26 @@ module _ (laws : GoOn) (policy : PolicyData) (before : List RecordData) (r : Rec
   turn_is : (q : Request) → a.request ≡ q → turn_after policy before r ≡ turn_in (move_asked policy (world policy before) r a q)
   turn_is q asks =
       ap (λ (v : Verdict). turn_by policy (world policy before) r v r.step) is_granted
-      ∙ ap (λ (s : Step). turn_by policy (world policy before) r verdicts.Granted s) (step_left policy before (steps.Asked a) r left)
+      ∙ ap (λ (s : Step). turn_by policy (world policy before) r Verdict.Granted s) (step_left policy before (Step.Asked a) r left)
       ∙ ap (λ (q : Request). turn_in (move_asked policy (world policy before) r a q)) asks
 
   positions_then : (turn : Turn) → turn_after policy before r ≡ turn → positions policy (before ++ r ∷ []) ≡ positions_with turn grants held
-  positions_then turn is = laws.go_on policy before (steps.Asked a) r legal left ∙ ap (λ (t : Turn). positions_with t grants held) is
+  positions_then turn is = laws.go_on policy before (Step.Asked a) r legal left ∙ ap (λ (t : Turn). positions_with t grants held) is
 
   may : (turn : Turn) → turn_after policy before r ≡ turn → MayChange policy held turn grants
-  may turn is = subst (λ (t : Turn). MayChange policy held t grants) is (laws.may_come policy before (steps.Asked a) r legal left)
+  may turn is = subst (λ (t : Turn). MayChange policy held t grants) is (laws.may_come policy before (Step.Asked a) r legal left)
 
   -- the one order that the record grants
   is_theirs : (new : LiveOrder) → MayCome policy held new grants → (chosen : AccountName → OrderTerms → Bool) → list_any (is_such chosen) grants ≡ true → is_chosen chosen new ≡ true
   is_theirs new come chosen h =
       (λ i. chosen (sym come.is_of.account i) (sym come.is_of.terms i)) ∙ one_theirs (is_such chosen come.grant) (sym (ap (list_any (is_such chosen)) come.is_granted) ∙ h)
 
-  by_enter : (m : EnterOrder) → a.request ≡ requests.Enter m → GrantsOrder policy before r
+  by_enter : (m : EnterOrder) → a.request ≡ Request.Enter m → GrantsOrder policy before r
   unfolding facts
   by_enter m asks =
       let his : HasAccount _ = entered_has_account policy before a r m left is_granted asks in
       let new : LiveOrder = new_order policy r a.user his.0 m in
-      let turns : turn_after policy before r ≡ Adds new = turn_is (requests.Enter m) asks ∙ ap (λ (found : Option AccountName). turn_in (option_map_or (λ (account : AccountName). moves.Adds (new_order policy r a.user account m)) found moves.Nothing)) his.1 in
+      let turns : turn_after policy before r ≡ Adds new = turn_is (Request.Enter m) asks ∙ ap (λ (found : Option AccountName). turn_in (option_map_or (λ (account : AccountName). Move.Adds (new_order policy r a.user account m)) found Move.Nothing)) his.1 in
       let come : MayCome policy held new grants = may (Adds new) turns in
       record {
         asked = a;
@@ -174,9 +130,9 @@ module _ (laws : GoOn) (policy : PolicyData) (before : List RecordData) (r : Rec
             omega (arith, after, stay);
       }
 
-  by_replace : (m : ReplaceOrder) → a.request ≡ requests.Replace m → GrantsOrder policy before r
+  by_replace : (m : ReplaceOrder) → a.request ≡ Request.Replace m → GrantsOrder policy before r
   by_replace m asks =
-      let named : Names policy before a.user m.existing_token = names_live policy before a r (requests.Replace m) m.existing_token left is_granted asks refl refl in
+      let named : Names policy before a.user m.existing_token = names_live policy before a r (Request.Replace m) m.existing_token left is_granted asks refl refl in
       let old : LiveOrder = named.0 in
       let new : LiveOrder = replacement_order r m old in
       let known : IsKnown policy before old = last_such_is (IsKnown policy before) (is_under a.user m.existing_token) (live policy before) old (live_known policy before (legal_is_orderly policy before legal)) named.1 in
@@ -184,9 +140,9 @@ module _ (laws : GoOn) (policy : PolicyData) (before : List RecordData) (r : Rec
       subst (λ (o : LiveOrder). account_of policy o.user ≡ Some o.account) known.of.is_it (of_all (IsHisAccounts policy) known.of.order (orders policy before) (orders_are_their_users policy before) known.of.is_known) in
       let same : old.user ≡ a.user = user_is old.user a.user (both (same_user old.user a.user) (same_token old.token m.existing_token) (found_passes (is_under a.user m.existing_token) (live policy before) old named.1)).0 in
       let turns : turn_after policy before r ≡ Replaces old.number new =
-      turn_is (requests.Replace m) asks ∙ ap (λ (found : Option LiveOrder). turn_in (option_map_or (λ (o : LiveOrder). moves.Replaces o (replacement_order r m o)) found moves.Nothing)) named.1 in
+      turn_is (Request.Replace m) asks ∙ ap (λ (found : Option LiveOrder). turn_in (option_map_or (λ (o : LiveOrder). Move.Replaces o (replacement_order r m o)) found Move.Nothing)) named.1 in
       let come : MayCome policy held new grants = (may (Replaces old.number new) turns).may_come in
-      let names : (facts_now policy before a).named ≡ Some old = named_is policy before a (requests.Replace m) m.existing_token asks refl ∙ named.1 in
+      let names : (facts_now policy before a).named ≡ Some old = named_is policy before a (Request.Replace m) m.existing_token asks refl ∙ named.1 in
       let distinct = (laws.are_sound policy before legal).numbers_differ in
       let goes = replaced_loses held old.number new old known.is_found in
       record {
@@ -220,14 +176,14 @@ pub grants_order : (laws : GoOn) (policy : PolicyData) (before : List RecordData
     → list_any (is_such chosen) (orders_added policy (orders policy before) r) ≡ true → GrantsOrder policy before r
 grants_order laws policy before r chosen legal follows adds = by (what_is_added policy before r follows)
   where
-    by_request : (a : Asked) → next policy before (steps.Asked a) ≡ Some r → r.verdict ≡ verdicts.Granted → (q : Request) → a.request ≡ q → is_order q ≡ true → GrantsOrder policy before r
-    by_request a left is_granted (requests.Enter m) asks h = by_enter laws policy before r a legal left is_granted m asks
-    by_request a left is_granted (requests.Replace m) asks h = by_replace laws policy before r a legal left is_granted m asks
-    by_request a left is_granted (requests.Login m) asks h = cc
-    by_request a left is_granted requests.Logout asks h = cc
-    by_request a left is_granted (requests.Unreadable m) asks h = cc
-    by_request a left is_granted (requests.Cancel m) asks h = cc
-    by_request a left is_granted (requests.Command c) asks h = cc
+    by_request : (a : Asked) → next policy before (Step.Asked a) ≡ Some r → r.verdict ≡ Verdict.Granted → (q : Request) → a.request ≡ q → is_order q ≡ true → GrantsOrder policy before r
+    by_request a left is_granted (Request.Enter m) asks h = by_enter laws policy before r a legal left is_granted m asks
+    by_request a left is_granted (Request.Replace m) asks h = by_replace laws policy before r a legal left is_granted m asks
+    by_request a left is_granted (Request.Login m) asks h = cc
+    by_request a left is_granted Request.Logout asks h = cc
+    by_request a left is_granted (Request.Unreadable m) asks h = cc
+    by_request a left is_granted (Request.Cancel m) asks h = cc
+    by_request a left is_granted (Request.Command c) asks h = cc
 
     by : AddsNone policy before r ⊎ AddsOne policy before r → GrantsOrder policy before r
     by (inl none) = let no : false ≡ true = sym (ap (list_any (is_such chosen)) none.adds) ∙ adds in cc

@@ -1,12 +1,8 @@
 -- What rules on running sums keep, by the laws of orders, fills and grants.
-use Rattle.gx_positions.proofs.Coming.{records_may_come}
-use Rattle.gx_positions.proofs.GoingOn.{positions_go_on}
-use Rattle.gx_positions.proofs.Sound.{positions_are_sound}
+use Rattle.gx_positions.proofs.{Coming.records_may_come, GoingOn.positions_go_on, Sound.positions_are_sound}
 use Rattle.gx_history.specs.Figures.{on_side}
 use Rattle.gx_exposure.specs.Laws.{GrossSharesAreKept, GrossValuesAreKept, NetSharesAreKept, NoneAskedNoneHeld, NoneAskedNoneOnSide}
-use Rattle.gx_exposure.proofs.After.{GoOn}
-use Rattle.gx_exposure.proofs.Kept.{net_stays_within, shares_stay_within, values_stay_within}
-use Rattle.gx_exposure.proofs.None.{no_shares, none_asked}
+use Rattle.gx_exposure.proofs.{After.GoOn, Kept.{net_stays_within, shares_stay_within, values_stay_within}, None.{no_shares, none_asked}}
 
 go_on : GoOn
 go_on = record { go_on = positions_go_on; may_come = records_may_come; are_sound = positions_are_sound }

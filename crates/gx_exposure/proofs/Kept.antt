@@ -1,55 +1,15 @@
 -- A rule on gross shares, gross value or net shares that was in force at the last grant of some accounts keeps its limit.
-use Rattle.std.proofs.Common.{◌≡◌, ℕ, ◌+◌, ◌-◌, ◌≤◌, pos, ◌+ℤ◌, ◌-ℤ◌, int_lt, Bool, true, false, cond, not, List, [], ◌∷◌, ◌++◌, length, refl, sym, ap, ◌∙◌, arith, append_assoc}
-use Rattle.std.proofs.Math.Path.{subst}
-use Rattle.std.specs.Prelude.{Option, Some, ◌&&◌}
-use Rattle.std.specs.Option.{option_map_or}
-use Rattle.std.specs.List.{AllByRecursion, list_any}
-use Rattle.std.proofs.lemmas.Bool.{ltb-false}
-use Rattle.std.proofs.lemmas.Int.{ints}
-use Rattle.gx_units.specs.Names.{same_stock}
-use Rattle.gx_units.specs.Money.{value}
-use Rattle.gx_units.specs.declared.names.AccountName.{AccountName}
-use Rattle.gx_history.specs.declared.facts.Facts.{Facts}
-use Rattle.gx_history.specs.declared.live_order.LiveOrder.{LiveOrder}
-use Rattle.gx_history.specs.declared.facts.ProposedOrder.{ProposedOrder}
-use Rattle.gx_history.specs.declared.facts.RuleFigures.{RuleFigures}
-use Rattle.gx_history.specs.declared.facts.StockSide.{StockSide}
-use Rattle.gx_policy.specs.declared.policy.Count.{Count}
-use Rattle.gx_policy.specs.declared.policy.Count.TheVariants as counts
-use Rattle.gx_policy.specs.declared.policy.FileRule.{FileRule}
-use Rattle.gx_policy.specs.declared.policy.PolicyData.{PolicyData}
-use Rattle.gx_policy.specs.declared.policy.RuleKind.{RuleKind}
-use Rattle.gx_policy.specs.declared.policy.RuleKind.TheVariants as kinds
-use Rattle.gx_policy.specs.declared.policy.Scope.{Scope}
-use Rattle.gx_history.specs.declared.record.Asked.{Asked}
-use Rattle.gx_history.specs.declared.record.RecordData.{RecordData}
-use Rattle.gx_history.specs.declared.record.Request.{Request}
-use Rattle.gx_history.specs.declared.record.Step.TheVariants as steps
-use Rattle.gx_history.specs.declared.record.Verdict.TheVariants as verdicts
-use Rattle.gx_history.specs.Asking.{facts}
-use Rattle.gx_history.specs.Book.{is_buy}
+use Rattle.gx_policy.specs.{declared.{kinds.ExposureLimit.ExposureLimit, policy.{Count.Count, FileRule.FileRule, PolicyData.PolicyData, RuleKind.RuleKind, Scope.Scope}}, People.covers}
+use Rattle.std.proofs.{Common.{◌≡◌, ℕ, ◌+◌, ◌-◌, ◌≤◌, pos, ◌+ℤ◌, ◌-ℤ◌, int_lt, Bool, true, false, cond, not, List, [], ◌∷◌, ◌++◌, length, refl, sym, ap, ◌∙◌, arith, append_assoc}, Math.Path.subst, lemmas.{Bool.ltb-false, Int.ints}}
+use Rattle.std.specs.{Prelude.{Option, Some, ◌&&◌}, Option.option_map_or, List.{AllByRecursion, list_any}}
+use Rattle.gx_units.specs.{Names.same_stock, Money.value, declared.names.AccountName.AccountName}
+use Rattle.gx_history.specs.{declared.{facts.{Facts.Facts, ProposedOrder.ProposedOrder, RuleFigures.RuleFigures, StockSide.StockSide}, live_order.LiveOrder.LiveOrder, «record».{Asked.Asked, RecordData.RecordData, Request.Request, Step.Step, Verdict.Verdict}}, Asking.facts, Book.{is_buy, is_on}, Executions.executions, Live.live, LiveOrders.shares_open, Figures.{counts_account, figures, kind_figures, net_done, no_figures, of_accounts, on_side, open_value, other_side, positions, side_done, side_live}, InForce.rules_in_force, Orders.Order, Rules.{kind_forbids, new_open, of_proposed, rule_forbids}, Verdicts.{Follows, IsLegal, facts_now, figures_asked, next, rules_now, with_figures}}
 use Rattle.gx_ouch.specs.declared.outbound.OrderTerms.{OrderTerms}
-use Rattle.gx_history.specs.Executions.{executions}
-use Rattle.gx_history.specs.Live.{live}
-use Rattle.gx_history.specs.LiveOrders.{shares_open}
-use Rattle.gx_history.specs.Book.{is_on}
-use Rattle.gx_history.specs.Figures.{counts_account, figures, kind_figures, net_done, no_figures, of_accounts, on_side, open_value, other_side, positions, side_done, side_live}
-use Rattle.gx_history.specs.InForce.{rules_in_force}
-use Rattle.gx_history.specs.Orders.{Order}
-use Rattle.gx_policy.specs.People.{covers}
-use Rattle.gx_history.specs.Rules.{kind_forbids, new_open, of_proposed, rule_forbids}
-use Rattle.gx_history.specs.Verdicts.{Follows, IsLegal, facts_now, figures_asked, next, rules_now, with_figures}
-use Rattle.gx_history_laws.proofs.Granting.{granted_passes, left_false, none_of_file, right_false}
-use Rattle.gx_history_laws.proofs.Judging.{both}
-use Rattle.gx_history_laws.proofs.Names.{account_is, stock_is}
-use Rattle.gx_history_laws.proofs.NextReports.{legal_before}
-use Rattle.gx_history_laws.proofs.Numbers.{all_weaker}
+use Rattle.gx_history_laws.proofs.{Granting.{granted_passes, left_false, none_of_file, right_false}, Judging.both, Names.{account_is, stock_is}, NextReports.legal_before, Numbers.all_weaker}
 use Rattle.gx_positions.proofs.Sums.{is_chosen}
-use Rattle.gx_exposure.specs.Exposure.{IsLastGrant, KeepsNet, KeepsShares, KeepsValue, executions_after, gained, gross_shares, gross_value, side_shares}
+use Rattle.gx_exposure.specs.{Exposure.{IsLastGrant, KeepsNet, KeepsShares, KeepsValue, executions_after, gained, gross_shares, gross_value, side_shares}, Laws.{GrossSharesAreKept, GrossValuesAreKept, NetSharesAreKept}}
 use Rattle.gx_effects.proofs.Among.{IsIn, all_are_in, of_all}
-use Rattle.gx_exposure.specs.Laws.{GrossSharesAreKept, GrossValuesAreKept, NetSharesAreKept}
-use Rattle.gx_exposure.proofs.After.{GoOn, done_stays, granted_to, legal_in_parts, no_more_shares_after, no_more_value_after}
-use Rattle.gx_exposure.proofs.Grants.{GrantsOrder, grants_order}
+use Rattle.gx_exposure.proofs.{After.{GoOn, done_stays, granted_to, legal_in_parts, no_more_shares_after, no_more_value_after}, Grants.{GrantsOrder, grants_order}}
 
 -- the file's rule passes the request
 abbrev Passes : PolicyData → List RecordData → Asked → FileRule → Type 0
@@ -64,7 +24,7 @@ all_pass forbids asked_of (rule ∷ rules) h =
     (left_false (forbids rule (asked_of rule)) others h, all_pass forbids asked_of rules (right_false (forbids rule (asked_of rule)) others h))
 
 -- each rule in force passes a granted request
-rules_pass : (policy : PolicyData) (before : List RecordData) (a : Asked) (r : RecordData) → next policy before (steps.Asked a) ≡ Some r → r.verdict ≡ verdicts.Granted
+rules_pass : (policy : PolicyData) (before : List RecordData) (a : Asked) (r : RecordData) → next policy before (Step.Asked a) ≡ Some r → r.verdict ≡ Verdict.Granted
     → AllByRecursion (Passes policy before a) (rules_in_force policy before)
 rules_pass policy before a r left granted =
     all_pass (rule_forbids (facts_now policy before a) a.request) (figures_asked policy (positions policy before) a.request (facts_now policy before a)) (rules_in_force policy before)
@@ -103,10 +63,10 @@ abbrev CountsTheSame : Count → Scope → AccountName → AccountName → Type 
 CountsTheSame count scope account asker = (covers scope asker ≡ true) × (counts_account count scope asker ≡ counts_account count scope account)
 
 counts_the_same : (count : Count) (scope : Scope) (account asker : AccountName) → covers scope account ≡ true → counts_account count scope account asker ≡ true → CountsTheSame count scope account asker
-counts_the_same counts.Each scope account asker covered counted =
+counts_the_same Count.Each scope account asker covered counted =
     let same : account ≡ asker = account_is account asker counted in
-    (ap (covers scope) (sym same) ∙ covered, ap (counts_account counts.Each scope) (sym same))
-counts_the_same counts.Together scope account asker covered counted = (counted, refl)
+    (ap (covers scope) (sym same) ∙ covered, ap (counts_account Count.Each scope) (sym same))
+counts_the_same Count.Together scope account asker covered counted = (counted, refl)
 
 -- an order on a side of a stock: whose it is, and which side
 stands_there : (among : AccountName → Bool) (side : StockSide) (o : LiveOrder) → is_chosen (on_side among side) o ≡ true
@@ -157,7 +117,7 @@ module _ (laws : GoOn) (policy : PolicyData) (before : List RecordData) (r : Rec
       let counted : among g.order.account ≡ true = g.theirs (of_accounts among) last.is_granted in
       let same : CountsTheSame count rule.scope account g.order.account = counts_the_same count rule.scope account g.order.account covered counted in
       let old_open : ℕ = option_map_or shares_open g.old 0 in
-      let low = ltb-false limit (gross_shares policy before (counts_account count rule.scope g.order.account) + new_open g.shown - old_open) (kind_passes policy before r g rule (kinds.GrossShares limit count) is same.0 (passed g rule was)) in
+      let low = ltb-false limit (gross_shares policy before (counts_account count rule.scope g.order.account) + new_open g.shown - old_open) (kind_passes policy before r g rule (RuleKind.Exposure ExposureLimit.GrossShares limit count) is same.0 (passed g rule was)) in
       let theirs = ap (gross_shares policy before) same.1 in
       let then_has = g.shares_then (of_accounts among) counted (g.old_theirs among counted) in
       let no_more = no_more_shares_after laws policy (of_accounts among) (before ++ r ∷ []) after legal_on (few (of_accounts among) last) in
@@ -171,7 +131,7 @@ module _ (laws : GoOn) (policy : PolicyData) (before : List RecordData) (r : Rec
       let counted : among g.order.account ≡ true = g.theirs (of_accounts among) last.is_granted in
       let same : CountsTheSame count rule.scope account g.order.account = counts_the_same count rule.scope account g.order.account covered counted in
       let old_value : ℕ = option_map_or open_value g.old 0 in
-      let low = ltb-false limit (gross_value policy before (counts_account count rule.scope g.order.account) + value (new_open g.shown) g.shown.price - old_value) (kind_passes policy before r g rule (kinds.GrossValue limit count) is same.0 (passed g rule was)) in
+      let low = ltb-false limit (gross_value policy before (counts_account count rule.scope g.order.account) + value (new_open g.shown) g.shown.price - old_value) (kind_passes policy before r g rule (RuleKind.Exposure ExposureLimit.GrossValue limit count) is same.0 (passed g rule was)) in
       let theirs = ap (gross_value policy before) same.1 in
       let then_has = g.value_then among counted in
       let no_more = no_more_value_after laws policy among (before ++ r ∷ []) after legal_on (few (of_accounts among) last) in
@@ -190,7 +150,7 @@ module _ (laws : GoOn) (policy : PolicyData) (before : List RecordData) (r : Rec
       let before_it : (AccountName → Bool) → Option StockSide → Bool = λ who there.
       int_lt (pos limit) (option_map_or (net_done (executions policy before) who) there (pos 0) +ℤ pos (option_map_or (side_live (live policy before) who) there 0) +ℤ pos (new_open g.shown) -ℤ pos old_open) in
       let passed : before_it among (Some side) ≡ false =
-      (λ i. before_it (sym same.1 i) (sym (g.is_there ∙ ap Some parts.1) i)) ∙ kind_passes policy before r g rule (kinds.NetShares limit count) is same.0 (passed g rule was) in
+      (λ i. before_it (sym same.1 i) (sym (g.is_there ∙ ap Some parts.1) i)) ∙ kind_passes policy before r g rule (RuleKind.Exposure ExposureLimit.NetShares limit count) is same.0 (passed g rule was) in
       let low = net_low limit (side_done (executions policy before) among side) (side_done (executions policy before) among (other_side side)) (side_live (live policy before) among side) (new_open g.shown) old_open passed in
       let then_has = g.shares_then (on_side among side) chosen (g.old_there among side chosen) in
       let no_more = no_more_shares_after laws policy (on_side among side) (before ++ r ∷ []) after legal_on (few (on_side among side) last) in

@@ -1,30 +1,13 @@
 -- Accounts that were granted no order have nothing.
-use Rattle.std.proofs.Common.{◌≡◌, ℕ, Bool, true, false, cond, List, [], ◌∷◌, map, refl, sym, ◌∙◌, arith}
-use Rattle.std.proofs.Math.Path.{subst}
-use Rattle.std.specs.Prelude.{Option, Some, None, nat_eq, option_to_list}
-use Rattle.std.specs.List.{filter, AllByRecursion}
-use Rattle.gx_units.specs.Money.{value}
-use Rattle.gx_units.specs.declared.names.AccountName.{AccountName}
-use Rattle.gx_ouch.specs.declared.letters.Liquidity.{Liquidity}
-use Rattle.gx_ouch.specs.declared.letters.Liquidity.TheVariants as liquidities
+use Rattle.std.proofs.{Common.{◌≡◌, ℕ, Bool, true, false, cond, List, [], ◌∷◌, map, refl, sym, ◌∙◌, arith}, Math.Path.subst}
+use Rattle.std.specs.{Prelude.{Option, Some, None, nat_eq, option_to_list}, List.{filter, AllByRecursion}}
+use Rattle.gx_units.specs.{Money.value, declared.names.AccountName.AccountName}
+use Rattle.gx_ouch.specs.declared.{letters.Liquidity.Liquidity, outbound.OrderTerms.OrderTerms}
 use Rattle.gx_policy.specs.declared.policy.PolicyData.{PolicyData}
-use Rattle.gx_history.specs.declared.record.Fill.{Fill}
-use Rattle.gx_history.specs.declared.record.RecordData.{RecordData}
-use Rattle.gx_history.specs.declared.record.Verdict.{Verdict}
-use Rattle.gx_history.specs.declared.record.Verdict.TheVariants as verdicts
-use Rattle.gx_ouch.specs.declared.outbound.OrderTerms.{OrderTerms}
-use Rattle.gx_history.specs.declared.live_order.LiveOrder.{LiveOrder}
-use Rattle.gx_history.specs.Executions.{Execution, executions, side_of, sides}
-use Rattle.gx_history.specs.Figures.{of_accounts}
-use Rattle.gx_history.specs.Live.{live}
-use Rattle.gx_history.specs.Orders.{Order, order_numbered, orders, orders_added}
-use Rattle.gx_history.specs.Verdicts.{IsLegal}
-use Rattle.gx_history_laws.proofs.Granting.{legal_keeps}
-use Rattle.gx_history_laws.proofs.NextOrders.{executions_next, executions_none, orders_next}
-use Rattle.gx_history_laws.proofs.Owners.{all_both}
+use Rattle.gx_history.specs.{declared.{«record».{Fill.Fill, RecordData.RecordData, Verdict.Verdict}, live_order.LiveOrder.LiveOrder}, Executions.{Execution, executions, side_of, sides}, Figures.of_accounts, Live.live, Orders.{Order, order_numbered, orders, orders_added}, Verdicts.IsLegal}
+use Rattle.gx_history_laws.proofs.{Granting.legal_keeps, NextOrders.{executions_next, executions_none, orders_next}, Owners.all_both}
 use Rattle.gx_effects.proofs.NewOrders.{found_is}
-use Rattle.gx_positions.proofs.Coming.{of_live}
-use Rattle.gx_positions.proofs.Sums.{done_are, done_value_are, is_chosen, none_of, shares_of, sum_of_none, value_of}
+use Rattle.gx_positions.proofs.{Coming.of_live, Sums.{done_are, done_value_are, is_chosen, none_of, shares_of, sum_of_none, value_of}}
 use Rattle.gx_exposure.specs.Exposure.{HasNothing, NoneIsGranted, is_such, shares_of_chosen}
 use Rattle.gx_exposure.proofs.Steps.{all_in_parts}
 
@@ -47,13 +30,13 @@ module _ (P : Order → Type 0) where
       at (Some o) e = (found_is P (λ (o : Order). nat_eq o.number number) known o h e, tt)
 
   sides_have : (policy : PolicyData) (before : List RecordData) (v : Verdict) → AllByRecursion P (orders policy before) → AllByRecursion (λ (e : Execution). P e.order) (sides policy before v)
-  sides_have policy before verdicts.Granted h = tt
-  sides_have policy before (verdicts.Denied rule) h = tt
-  sides_have policy before (verdicts.Filled f) h =
-      all_both (λ (e : Execution). P e.order) (side_of (orders policy before) f liquidities.Removed f.taker) (side_of (orders policy before) f liquidities.Added f.maker)
-      (side_has (orders policy before) f liquidities.Removed f.taker h) (side_has (orders policy before) f liquidities.Added f.maker h)
-  sides_have policy before (verdicts.Rested number) h = tt
-  sides_have policy before (verdicts.Expired number) h = tt
+  sides_have policy before Verdict.Granted h = tt
+  sides_have policy before (Verdict.Denied rule) h = tt
+  sides_have policy before (Verdict.Filled f) h =
+      all_both (λ (e : Execution). P e.order) (side_of (orders policy before) f Liquidity.Removed f.taker) (side_of (orders policy before) f Liquidity.Added f.maker)
+      (side_has (orders policy before) f Liquidity.Removed f.taker h) (side_has (orders policy before) f Liquidity.Added f.maker h)
+  sides_have policy before (Verdict.Rested number) h = tt
+  sides_have policy before (Verdict.Expired number) h = tt
 
   -- what holds of each order holds of those that executed
   pub executions_have : (policy : PolicyData) (history : List RecordData) → IsLegal policy history → AllByRecursion P (orders policy history) → AllByRecursion (λ (e : Execution). P e.order) (executions policy history)

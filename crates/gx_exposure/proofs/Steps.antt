@@ -1,25 +1,13 @@
 -- A turn that adds no order of some accounts raises nothing that they have in all.
-use Rattle.std.proofs.Common.{◌≡◌, ℕ, ◌+◌, ◌≤◌, Bool, true, false, cond, List, [], ◌∷◌, ◌++◌, length, refl, sym, ap, ◌∙◌, arith}
-use Rattle.std.proofs.Math.Path.{subst}
-use Rattle.std.specs.Prelude.{nat_eq}
-use Rattle.std.specs.List.{filter, filter_map, AllByRecursion, IsDistinct}
-use Rattle.std.proofs.lemmas.List.{append-nil, length-append}
-use Rattle.std.proofs.lemmas.List.Elements.{filter-append}
-use Rattle.gx_units.specs.Money.{value}
-use Rattle.gx_units.specs.declared.names.AccountName.{AccountName}
+use Rattle.std.proofs.{Common.{◌≡◌, ℕ, ◌+◌, ◌≤◌, Bool, true, false, cond, List, [], ◌∷◌, ◌++◌, length, refl, sym, ap, ◌∙◌, arith}, Math.Path.subst, lemmas.List.{append-nil, length-append, Elements.filter-append}}
+use Rattle.std.specs.{Prelude.nat_eq, List.{filter, filter_map, AllByRecursion, IsDistinct}}
+use Rattle.gx_units.specs.{Money.value, declared.names.AccountName.AccountName}
 use Rattle.gx_ouch.specs.declared.outbound.OrderTerms.{OrderTerms}
 use Rattle.gx_policy.specs.declared.policy.PolicyData.{PolicyData}
-use Rattle.gx_history.specs.declared.live_order.LiveOrder.{LiveOrder}
-use Rattle.gx_history.specs.declared.record.Fill.{Fill}
-use Rattle.gx_history.specs.Executions.{Execution}
-use Rattle.gx_history.specs.Figures.{Positions, done_of_chosen, done_value, live_value, of_accounts, open_of_chosen}
-use Rattle.gx_history.specs.Orders.{Order}
-use Rattle.gx_history.specs.Turns.{Turn, Adds, EndsAll, Ends, Fills, Keeps, Replaces, Rests, Sizes, becomes, new_in, turned}
+use Rattle.gx_history.specs.{declared.{live_order.LiveOrder.LiveOrder, «record».Fill.Fill}, Executions.Execution, Figures.{Positions, done_of_chosen, done_value, live_value, of_accounts, open_of_chosen}, Orders.Order, Turns.{Turn, Adds, EndsAll, Ends, Fills, Keeps, Replaces, Rests, Sizes, becomes, new_in, turned}}
 use Rattle.gx_effects.proofs.Fills.{both_sides, maker_side, taker_side}
-use Rattle.gx_positions.specs.Changing.{executed_by, positions_with}
-use Rattle.gx_positions.specs.Sound.{IsThere, MayChange, MayCome, MayFill, numbers_of}
-use Rattle.gx_positions.proofs.Small.{new_ones}
-use Rattle.gx_positions.proofs.Sums.{IsOpenSum, done_shares_filled, done_value_filled, filled_by, is_chosen, joined, no_rise_by, none_gains, none_of, shares_of, sides_are, sum_of_filter, sum_where-append, value_of}
+use Rattle.gx_positions.specs.{Changing.{executed_by, positions_with}, Sound.{IsThere, MayChange, MayCome, MayFill, numbers_of}}
+use Rattle.gx_positions.proofs.{Small.new_ones, Sums.{IsOpenSum, done_shares_filled, done_value_filled, filled_by, is_chosen, joined, no_rise_by, none_gains, none_of, shares_of, sides_are, sum_of_filter, sum_where-append, value_of}}
 use Rattle.gx_exposure.specs.Exposure.{gain, gained, is_such}
 
 -- what the orders that are chosen have in all

@@ -1,30 +1,12 @@
 -- What was executed is worth no more than at the order's own price, but for what a sell got above it.
-use Rattle.std.proofs.Common.{◌≡◌, ℕ, ◌+◌, ◌-◌, ◌≤◌, Bool, true, false, cond, leb, List, [], ◌∷◌, ◌++◌, refl, sym, ap, ◌∙◌, arith}
-use Rattle.std.proofs.Math.Path.{subst}
-use Rattle.std.proofs.Math.Nat.{mul-le-mul_left}
-use Rattle.std.proofs.lemmas.Bool.{leb-true}
-use Rattle.std.proofs.lemmas.List.{append-nil}
+use Rattle.std.proofs.{Common.{◌≡◌, ℕ, ◌+◌, ◌-◌, ◌≤◌, Bool, true, false, cond, leb, List, [], ◌∷◌, ◌++◌, refl, sym, ap, ◌∙◌, arith}, Math.{Path.subst, Nat.mul-le-mul_left}, lemmas.{Bool.leb-true, List.append-nil}}
 use Rattle.std.specs.Prelude.{Some}
 use Rattle.gx_units.specs.Money.{value}
 use Rattle.gx_policy.specs.declared.policy.PolicyData.{PolicyData}
-use Rattle.gx_history.specs.declared.record.Fill.{Fill}
-use Rattle.gx_history.specs.declared.record.RecordData.{RecordData}
-use Rattle.gx_history.specs.declared.record.Step.{Step}
-use Rattle.gx_history.specs.declared.record.Step.TheVariants as steps
-use Rattle.gx_history.specs.declared.record.Verdict.{Verdict}
-use Rattle.gx_history.specs.declared.record.Verdict.TheVariants as verdicts
+use Rattle.gx_history.specs.{declared.{«record».{Fill.Fill, RecordData.RecordData, Step.Step, Verdict.Verdict}, live_order.LiveOrder.LiveOrder}, Book.is_buy, Executions.{executions, sides}, Requests.is_judged, Verdicts.{Follows, IsLegal, next}}
 use Rattle.gx_ouch.specs.declared.outbound.OrderTerms.{OrderTerms}
-use Rattle.gx_history.specs.declared.live_order.LiveOrder.{LiveOrder}
-use Rattle.gx_history.specs.Book.{is_buy}
-use Rattle.gx_history.specs.Executions.{executions, sides}
-use Rattle.gx_history.specs.Requests.{is_judged}
-use Rattle.gx_history.specs.Verdicts.{Follows, IsLegal, next}
-use Rattle.gx_history_laws.proofs.Granting.{asked_is_judged, legal_keeps}
-use Rattle.gx_history_laws.proofs.NextOrders.{executions_next, executions_none}
-use Rattle.gx_history_laws.proofs.NextReports.{legal_next, legal_none}
-use Rattle.gx_history_laws.proofs.Owners.{all_both}
-use Rattle.gx_effects.proofs.Fills.{IsFill, both_sides, is_fill, sides_are}
-use Rattle.gx_effects.proofs.Orderly.{legal_is_orderly}
+use Rattle.gx_history_laws.proofs.{Granting.{asked_is_judged, legal_keeps}, NextOrders.{executions_next, executions_none}, NextReports.{legal_next, legal_none}, Owners.all_both}
+use Rattle.gx_effects.proofs.{Fills.{IsFill, both_sides, is_fill, sides_are}, Orderly.legal_is_orderly}
 use Rattle.gx_exposure.proofs.Steps.{AreWorth, IsWorth}
 
 -- a buy at or below its own price, or a sell at any
@@ -64,10 +46,10 @@ executions_are_worth policy history legal =
     as_before : (h : List RecordData) (r : RecordData) → AreWorth (executions policy h) → sides policy h r.verdict ≡ [] → AreWorth (executions policy (h ++ r ∷ []))
     as_before h r worth none = subst AreWorth (sym (executions_next policy h r ∙ ap (λ es. executions policy h ++ es) none ∙ append-nil (executions policy h))) worth
 
-    by_fill : (h : List RecordData) (r : RecordData) (f : Fill) (step : Step) → IsLegal policy h → AreWorth (executions policy h) → next policy h step ≡ Some r → r.verdict ≡ verdicts.Filled f
+    by_fill : (h : List RecordData) (r : RecordData) (f : Fill) (step : Step) → IsLegal policy h → AreWorth (executions policy h) → next policy h step ≡ Some r → r.verdict ≡ Verdict.Filled f
         → AreWorth (executions policy (h ++ r ∷ []))
-    by_fill h r f (steps.Asked a) legal worth left fills = let judged : false ≡ true = ap is_judged (sym fills) ∙ asked_is_judged policy h a r left in cc
-    by_fill h r f (steps.Matching handed) legal worth left fills =
+    by_fill h r f (Step.Asked a) legal worth left fills = let judged : false ≡ true = ap is_judged (sym fills) ∙ asked_is_judged policy h a r left in cc
+    by_fill h r f (Step.Matching handed) legal worth left fills =
         let is : IsFill policy h r f = is_fill policy h handed r f (legal_is_orderly policy h legal) left fills in
         subst AreWorth (sym (executions_next policy h r ∙ ap (λ es. executions policy h ++ es) (sides_are policy h r f is)))
         (all_both IsWorth (executions policy h) (both_sides f is.taker_waits.known.of.order is.maker_rests.known.of.order) worth (fill_is_worth policy h r f is))
@@ -76,8 +58,8 @@ executions_are_worth policy history legal =
     one_more h r legal worth follows = at r.verdict refl
       where
         at : (v : Verdict) → r.verdict ≡ v → AreWorth (executions policy (h ++ r ∷ []))
-        at verdicts.Granted e = as_before h r worth (ap (sides policy h) e)
-        at (verdicts.Denied rule) e = as_before h r worth (ap (sides policy h) e)
-        at (verdicts.Filled f) e = by_fill h r f r.step legal worth follows.is_next e
-        at (verdicts.Rested number) e = as_before h r worth (ap (sides policy h) e)
-        at (verdicts.Expired number) e = as_before h r worth (ap (sides policy h) e)
+        at Verdict.Granted e = as_before h r worth (ap (sides policy h) e)
+        at (Verdict.Denied rule) e = as_before h r worth (ap (sides policy h) e)
+        at (Verdict.Filled f) e = by_fill h r f r.step legal worth follows.is_next e
+        at (Verdict.Rested number) e = as_before h r worth (ap (sides policy h) e)
+        at (Verdict.Expired number) e = as_before h r worth (ap (sides policy h) e)

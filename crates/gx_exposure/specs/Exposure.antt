@@ -1,22 +1,9 @@
 -- What accounts have open and executed in all, and what the rules that limit it keep.
-use Rattle.std.specs.Prelude.{ℕ, ◌+◌, ◌-◌, ◌≤◌, ◌≡◌, Bool, IsTrue, List, [], ◌∷◌, ◌++◌, length, drop, sum_by, if◌then◌else◌}
-use Rattle.std.specs.List.{filter, list_any, AllByRecursion}
-use Rattle.gx_units.specs.Money.{value}
-use Rattle.gx_units.specs.declared.names.AccountName.{AccountName}
+use Rattle.gx_policy.specs.{declared.{kinds.ExposureLimit.ExposureLimit, policy.{Count.Count, FileRule.FileRule, PolicyData.PolicyData, RuleKind.RuleKind}}, People.covers}
+use Rattle.std.specs.{Prelude.{ℕ, ◌+◌, ◌-◌, ◌≤◌, ◌≡◌, Bool, IsTrue, List, [], ◌∷◌, ◌++◌, length, drop, sum_by, if◌then◌else◌}, List.{filter, list_any, AllByRecursion}}
+use Rattle.gx_units.specs.{Money.value, declared.names.AccountName.AccountName}
 use Rattle.gx_ouch.specs.declared.outbound.OrderTerms.{OrderTerms}
-use Rattle.gx_history.specs.declared.facts.StockSide.{StockSide}
-use Rattle.gx_policy.specs.declared.policy.Count.{Count}
-use Rattle.gx_policy.specs.declared.policy.FileRule.{FileRule}
-use Rattle.gx_policy.specs.declared.policy.PolicyData.{PolicyData}
-use Rattle.gx_policy.specs.declared.policy.RuleKind.TheVariants as kinds
-use Rattle.gx_history.specs.declared.record.RecordData.{RecordData}
-use Rattle.gx_history.specs.Book.{is_buy}
-use Rattle.gx_history.specs.Executions.{Execution, executions}
-use Rattle.gx_history.specs.Figures.{counts_account, done_of_chosen, done_value, live_value, of_accounts, on_side, open_of_chosen, other_side, side_done}
-use Rattle.gx_history.specs.InForce.{rules_in_force}
-use Rattle.gx_history.specs.Live.{live}
-use Rattle.gx_history.specs.Orders.{Order, orders, orders_added}
-use Rattle.gx_policy.specs.People.{covers}
+use Rattle.gx_history.specs.{declared.{facts.StockSide.StockSide, «record».RecordData.RecordData}, Book.is_buy, Executions.{Execution, executions}, Figures.{counts_account, done_of_chosen, done_value, live_value, of_accounts, on_side, open_of_chosen, other_side, side_done}, InForce.rules_in_force, Live.live, Orders.{Order, orders, orders_added}}
 
 -- the open shares of the orders that are chosen, and those that they executed
 abbrev pub shares_of_chosen : PolicyData → List RecordData → (AccountName → OrderTerms → Bool) → ℕ
@@ -58,7 +45,7 @@ pub record IsLastGrant (policy : PolicyData) (chosen : AccountName → OrderTerm
 -- The rule limits the shares of an account of its scope, or of all of them together: after their last grant they have no more.
 abbrev pub KeepsShares : PolicyData → List RecordData → RecordData → List RecordData → FileRule → Type 0
 KeepsShares policy before r after rule = (limit : ℕ) (count : Count) (account : AccountName)
-    → rule.kind ≡ kinds.GrossShares limit count → IsTrue (covers rule.scope account)
+    → rule.kind ≡ RuleKind.Exposure ExposureLimit.GrossShares limit count → IsTrue (covers rule.scope account)
     → let among = counts_account count rule.scope account in
     IsLastGrant policy (of_accounts among) before r after → gross_shares policy (before ++ r ∷ after) among ≤ limit
 
@@ -66,7 +53,7 @@ KeepsShares policy before r after rule = (limit : ℕ) (count : Count) (account 
 -- more, but for what their sells have got above their own prices since.
 abbrev pub KeepsValue : PolicyData → List RecordData → RecordData → List RecordData → FileRule → Type 0
 KeepsValue policy before r after rule = (limit : ℕ) (count : Count) (account : AccountName)
-    → rule.kind ≡ kinds.GrossValue limit count → IsTrue (covers rule.scope account)
+    → rule.kind ≡ RuleKind.Exposure ExposureLimit.GrossValue limit count → IsTrue (covers rule.scope account)
     → let among = counts_account count rule.scope account in
     IsLastGrant policy (of_accounts among) before r after
     → gross_value policy (before ++ r ∷ after) among ≤ limit + gained (executions_after policy (before ++ r ∷ []) (before ++ r ∷ after)) among
@@ -75,7 +62,7 @@ KeepsValue policy before r after rule = (limit : ℕ) (count : Count) (account :
 -- grant there it is no more than the limit and what they executed on the other side.
 abbrev pub KeepsNet : PolicyData → List RecordData → RecordData → List RecordData → FileRule → Type 0
 KeepsNet policy before r after rule = (limit : ℕ) (count : Count) (account : AccountName) (side : StockSide)
-    → rule.kind ≡ kinds.NetShares limit count → IsTrue (covers rule.scope account)
+    → rule.kind ≡ RuleKind.Exposure ExposureLimit.NetShares limit count → IsTrue (covers rule.scope account)
     → let among = counts_account count rule.scope account in
     IsLastGrant policy (on_side among side) before r after
     → side_shares policy (before ++ r ∷ after) among side ≤ limit + side_done (executions policy (before ++ r ∷ after)) among (other_side side)

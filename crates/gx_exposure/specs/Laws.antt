@@ -2,10 +2,7 @@
 use Rattle.std.specs.Prelude.{◌≡◌, Bool, List}
 use Rattle.gx_units.specs.declared.names.AccountName.{AccountName}
 use Rattle.gx_policy.specs.declared.policy.PolicyData.{PolicyData}
-use Rattle.gx_history.specs.declared.facts.StockSide.{StockSide}
-use Rattle.gx_history.specs.declared.record.RecordData.{RecordData}
-use Rattle.gx_history.specs.Figures.{of_accounts, on_side}
-use Rattle.gx_history.specs.Verdicts.{IsLegal}
+use Rattle.gx_history.specs.{declared.{facts.StockSide.StockSide, «record».RecordData.RecordData}, Figures.{of_accounts, on_side}, Verdicts.IsLegal}
 use Rattle.gx_exposure.specs.Exposure.{SharesStayWithin, ValuesStayWithin, NetStaysWithin, NoneIsGranted, HasNothing, side_shares}
 
 -- rules on gross shares

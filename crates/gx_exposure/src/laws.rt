@@ -1,7 +1,6 @@
 //! Laws of the rules on running sums, each as what a function without a body ensures.
 
-ghost use Rattle.gx_exposure.specs.Laws.{GrossSharesAreKept, GrossValuesAreKept, NetSharesAreKept};
-ghost use Rattle.gx_exposure.specs.Laws.{NoneAskedNoneHeld, NoneAskedNoneOnSide};
+ghost use Rattle.gx_exposure.specs.Laws.{GrossSharesAreKept, GrossValuesAreKept, NetSharesAreKept, NoneAskedNoneHeld, NoneAskedNoneOnSide};
 
 /// After the last grant of an order of some accounts, what they have open and executed is within the
 /// limit of each gross rule that was in force at that grant: in shares always, and in value but for

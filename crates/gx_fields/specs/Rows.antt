@@ -1,29 +1,18 @@
 -- A record as a row of fields, and the record of a row.
 use Rattle.std.specs.Prelude.{Option, Some, None, option_map}
 use Rattle.gx_desk.specs.declared.Action.{Action}
-use Rattle.gx_desk.specs.declared.Action.TheVariants as actions
-use Rattle.gx_history.specs.declared.record.RecordData.{RecordData}
-use Rattle.gx_history.specs.declared.record.Request.{Request}
-use Rattle.gx_history.specs.declared.record.Request.TheVariants as requests
-use Rattle.gx_history.specs.declared.record.Step.{Step}
-use Rattle.gx_history.specs.declared.record.Step.TheVariants as steps
-use Rattle.gx_history.specs.declared.record.Verdict.{Verdict}
-use Rattle.gx_history.specs.declared.record.Verdict.TheVariants as verdicts
+use Rattle.gx_history.specs.declared.record.{RecordData.RecordData, Request.Request, Step.Step, Verdict.Verdict}
 use Rattle.gx_script.specs.Words.{◌>>=◌}
-use Rattle.gx_fields.specs.declared.row.Row.{Row}
-use Rattle.gx_fields.specs.declared.row.RowKind.{RowKind}
-use Rattle.gx_fields.specs.declared.row.RowKind.TheVariants as kinds
-use Rattle.gx_fields.specs.declared.row.RowVerdict.{RowVerdict}
-use Rattle.gx_fields.specs.declared.row.RowVerdict.TheVariants as row_verdicts
+use Rattle.gx_fields.specs.declared.row.{Row.Row, RowKind.RowKind, RowVerdict.RowVerdict}
 
 -- no field but what each record has
 abbrev pub blank_row : Row
 blank_row = record {
   number = 0;
   moment = 0;
-  kind = kinds.Match;
+  kind = RowKind.Match;
   handed = 0;
-  verdict = row_verdicts.Granted;
+  verdict = RowVerdict.Granted;
   line = None;
   user = None;
   password_is_right = None;
@@ -60,22 +49,22 @@ blank_row = record {
 
 -- with the fields of a command
 abbrev pub with_action : Action → Row → Row
-with_action (actions.Kill account) row = record row { kind = kinds.Kill; named_account = Some account }
-with_action (actions.Lift account) row = record row { kind = kinds.Lift; named_account = Some account }
-with_action (actions.SetLimit rule limit) row = record row { kind = kinds.SetLimit; named_rule = Some rule; limit = Some limit }
-with_action (actions.Restrict rule stock) row = record row { kind = kinds.Restrict; named_rule = Some rule; stock = Some stock }
-with_action (actions.Unrestrict rule stock) row = record row { kind = kinds.Unrestrict; named_rule = Some rule; stock = Some stock }
-with_action (actions.Grant reader account) row = record row { kind = kinds.Grant; reader = Some reader; named_account = Some account }
-with_action (actions.Revoke reader account) row = record row { kind = kinds.Revoke; reader = Some reader; named_account = Some account }
-with_action actions.CloseDay row = record row { kind = kinds.CloseDay }
+with_action (Action.Kill account) row = record row { kind = RowKind.Kill; named_account = Some account }
+with_action (Action.Lift account) row = record row { kind = RowKind.Lift; named_account = Some account }
+with_action (Action.SetLimit rule limit) row = record row { kind = RowKind.SetLimit; named_rule = Some rule; limit = Some limit }
+with_action (Action.Restrict rule stock) row = record row { kind = RowKind.Restrict; named_rule = Some rule; stock = Some stock }
+with_action (Action.Unrestrict rule stock) row = record row { kind = RowKind.Unrestrict; named_rule = Some rule; stock = Some stock }
+with_action (Action.Grant reader account) row = record row { kind = RowKind.Grant; reader = Some reader; named_account = Some account }
+with_action (Action.Revoke reader account) row = record row { kind = RowKind.Revoke; reader = Some reader; named_account = Some account }
+with_action Action.CloseDay row = record row { kind = RowKind.CloseDay }
 
 -- with the fields of a request
 abbrev pub with_request : Request → Row → Row
-with_request (requests.Login m) row = record row { kind = kinds.Login; password_is_right = Some m.password_is_right; session_is_right = Some m.session_is_right; wanted = Some m.wanted }
-with_request requests.Logout row = record row { kind = kinds.Logout }
-with_request (requests.Unreadable m) row = record row { kind = kinds.Unreadable; length = Some m.length; first = Some m.first }
-with_request (requests.Enter m) row = record row {
-  kind = kinds.Enter;
+with_request (Request.Login m) row = record row { kind = RowKind.Login; password_is_right = Some m.password_is_right; session_is_right = Some m.session_is_right; wanted = Some m.wanted }
+with_request Request.Logout row = record row { kind = RowKind.Logout }
+with_request (Request.Unreadable m) row = record row { kind = RowKind.Unreadable; length = Some m.length; first = Some m.first }
+with_request (Request.Enter m) row = record row {
+  kind = RowKind.Enter;
   token = Some m.token;
   side = Some m.side;
   shares = Some m.shares;
@@ -90,8 +79,8 @@ with_request (requests.Enter m) row = record row {
   cross_type = Some m.cross_type;
   customer_type = Some m.customer_type;
 }
-with_request (requests.Replace m) row = record row {
-  kind = kinds.Replace;
+with_request (Request.Replace m) row = record row {
+  kind = RowKind.Replace;
   token = Some m.existing_token;
   new_token = Some m.replacement_token;
   shares = Some m.shares;
@@ -101,21 +90,21 @@ with_request (requests.Replace m) row = record row {
   intermarket_sweep = Some m.intermarket_sweep;
   minimum_quantity = Some m.minimum_quantity;
 }
-with_request (requests.Cancel m) row = record row { kind = kinds.Cancel; token = Some m.token; shares = Some m.shares }
-with_request (requests.Command c) row = with_action c.action (record row { tag = Some c.tag })
+with_request (Request.Cancel m) row = record row { kind = RowKind.Cancel; token = Some m.token; shares = Some m.shares }
+with_request (Request.Command c) row = with_action c.action (record row { tag = Some c.tag })
 
 -- with the fields of a step
 abbrev pub with_step : Step → Row → Row
-with_step (steps.Asked a) row = with_request a.request (record row { handed = a.handed; line = Some a.line; user = Some a.user })
-with_step (steps.Matching handed) row = record row { kind = kinds.Match; handed = handed }
+with_step (Step.Asked a) row = with_request a.request (record row { handed = a.handed; line = Some a.line; user = Some a.user })
+with_step (Step.Matching handed) row = record row { kind = RowKind.Match; handed = handed }
 
 -- with the fields of a verdict
 abbrev pub with_verdict : Verdict → Row → Row
-with_verdict verdicts.Granted row = record row { verdict = row_verdicts.Granted }
-with_verdict (verdicts.Denied rule) row = record row { verdict = row_verdicts.Denied; rule = Some rule }
-with_verdict (verdicts.Filled f) row = record row { verdict = row_verdicts.Filled; taker = Some f.taker; maker = Some f.maker; fill_shares = Some f.shares; fill_price = Some f.price }
-with_verdict (verdicts.Rested order) row = record row { verdict = row_verdicts.Rested; order = Some order }
-with_verdict (verdicts.Expired order) row = record row { verdict = row_verdicts.Expired; order = Some order }
+with_verdict Verdict.Granted row = record row { verdict = RowVerdict.Granted }
+with_verdict (Verdict.Denied rule) row = record row { verdict = RowVerdict.Denied; rule = Some rule }
+with_verdict (Verdict.Filled f) row = record row { verdict = RowVerdict.Filled; taker = Some f.taker; maker = Some f.maker; fill_shares = Some f.shares; fill_price = Some f.price }
+with_verdict (Verdict.Rested order) row = record row { verdict = RowVerdict.Rested; order = Some order }
+with_verdict (Verdict.Expired order) row = record row { verdict = RowVerdict.Expired; order = Some order }
 
 -- the row of a record
 abbrev pub row_of : RecordData → Row
@@ -123,29 +112,29 @@ row_of r = with_step r.step (with_verdict r.verdict (record blank_row { number =
 
 -- the command that a row of this kind asks for
 abbrev pub action_in : RowKind → Row → Option Action
-action_in kinds.Kill row = option_map actions.Kill row.named_account
-action_in kinds.Lift row = option_map actions.Lift row.named_account
-action_in kinds.SetLimit row = do
+action_in RowKind.Kill row = option_map Action.Kill row.named_account
+action_in RowKind.Lift row = option_map Action.Lift row.named_account
+action_in RowKind.SetLimit row = do
   rule ← row.named_rule
   limit ← row.limit
-  Some (actions.SetLimit rule limit)
-action_in kinds.Restrict row = do
+  Some (Action.SetLimit rule limit)
+action_in RowKind.Restrict row = do
   rule ← row.named_rule
   stock ← row.stock
-  Some (actions.Restrict rule stock)
-action_in kinds.Unrestrict row = do
+  Some (Action.Restrict rule stock)
+action_in RowKind.Unrestrict row = do
   rule ← row.named_rule
   stock ← row.stock
-  Some (actions.Unrestrict rule stock)
-action_in kinds.Grant row = do
+  Some (Action.Unrestrict rule stock)
+action_in RowKind.Grant row = do
   reader ← row.reader
   account ← row.named_account
-  Some (actions.Grant reader account)
-action_in kinds.Revoke row = do
+  Some (Action.Grant reader account)
+action_in RowKind.Revoke row = do
   reader ← row.reader
   account ← row.named_account
-  Some (actions.Revoke reader account)
-action_in kinds.CloseDay row = Some actions.CloseDay
+  Some (Action.Revoke reader account)
+action_in RowKind.CloseDay row = Some Action.CloseDay
 action_in other row = None
 
 -- the command with its tag
@@ -153,21 +142,21 @@ abbrev pub command_in : Row → Option Request
 command_in row = do
   tag ← row.tag
   action ← action_in row.kind row
-  Some (requests.Command (record { tag = tag; action = action }))
+  Some (Request.Command (record { tag = tag; action = action }))
 
 -- the request of a row of this kind
 abbrev pub request_in : RowKind → Row → Option Request
-request_in kinds.Login row = do
+request_in RowKind.Login row = do
   password ← row.password_is_right
   session ← row.session_is_right
   wanted ← row.wanted
-  Some (requests.Login (record { password_is_right = password; session_is_right = session; wanted = wanted }))
-request_in kinds.Logout row = Some requests.Logout
-request_in kinds.Unreadable row = do
+  Some (Request.Login (record { password_is_right = password; session_is_right = session; wanted = wanted }))
+request_in RowKind.Logout row = Some Request.Logout
+request_in RowKind.Unreadable row = do
   length ← row.length
   first ← row.first
-  Some (requests.Unreadable (record { length = length; first = first }))
-request_in kinds.Enter row = do
+  Some (Request.Unreadable (record { length = length; first = first }))
+request_in RowKind.Enter row = do
   token ← row.token
   side ← row.side
   shares ← row.shares
@@ -181,7 +170,7 @@ request_in kinds.Enter row = do
   minimum_quantity ← row.minimum_quantity
   cross_type ← row.cross_type
   customer_type ← row.customer_type
-  Some (requests.Enter (record {
+  Some (Request.Enter (record {
     token = token;
     side = side;
     shares = shares;
@@ -196,7 +185,7 @@ request_in kinds.Enter row = do
     cross_type = cross_type;
     customer_type = customer_type;
   }))
-request_in kinds.Replace row = do
+request_in RowKind.Replace row = do
   existing ← row.token
   replacement ← row.new_token
   shares ← row.shares
@@ -205,7 +194,7 @@ request_in kinds.Replace row = do
   display ← row.display
   intermarket_sweep ← row.intermarket_sweep
   minimum_quantity ← row.minimum_quantity
-  Some (requests.Replace (record {
+  Some (Request.Replace (record {
     existing_token = existing;
     replacement_token = replacement;
     shares = shares;
@@ -215,10 +204,10 @@ request_in kinds.Replace row = do
     intermarket_sweep = intermarket_sweep;
     minimum_quantity = minimum_quantity;
   }))
-request_in kinds.Cancel row = do
+request_in RowKind.Cancel row = do
   token ← row.token
   shares ← row.shares
-  Some (requests.Cancel (record { token = token; shares = shares }))
+  Some (Request.Cancel (record { token = token; shares = shares }))
 request_in other row = command_in row
 
 -- what was asked for, by whom and on which line
@@ -227,25 +216,25 @@ asked_in row = do
   line ← row.line
   user ← row.user
   request ← request_in row.kind row
-  Some (steps.Asked (record { line = line; user = user; request = request; handed = row.handed }))
+  Some (Step.Asked (record { line = line; user = user; request = request; handed = row.handed }))
 
 -- the step of a row of this kind
 abbrev pub step_in : RowKind → Row → Option Step
-step_in kinds.Match row = Some (steps.Matching row.handed)
+step_in RowKind.Match row = Some (Step.Matching row.handed)
 step_in other row = asked_in row
 
 -- the verdict of a row
 abbrev pub verdict_in : RowVerdict → Row → Option Verdict
-verdict_in row_verdicts.Granted row = Some verdicts.Granted
-verdict_in row_verdicts.Denied row = option_map verdicts.Denied row.rule
-verdict_in row_verdicts.Filled row = do
+verdict_in RowVerdict.Granted row = Some Verdict.Granted
+verdict_in RowVerdict.Denied row = option_map Verdict.Denied row.rule
+verdict_in RowVerdict.Filled row = do
   taker ← row.taker
   maker ← row.maker
   shares ← row.fill_shares
   price ← row.fill_price
-  Some (verdicts.Filled (record { taker = taker; maker = maker; shares = shares; price = price }))
-verdict_in row_verdicts.Rested row = option_map verdicts.Rested row.order
-verdict_in row_verdicts.Expired row = option_map verdicts.Expired row.order
+  Some (Verdict.Filled (record { taker = taker; maker = maker; shares = shares; price = price }))
+verdict_in RowVerdict.Rested row = option_map Verdict.Rested row.order
+verdict_in RowVerdict.Expired row = option_map Verdict.Expired row.order
 
 -- the record of a row, if it is one's
 unfoldable pub record_of : Row → Option RecordData

@@ -1,8 +1,7 @@
 //! Lines of CSV.
 
 ghost use Rattle.std.specs.Prelude.{◌≡◌, map, IfOk};
-ghost use Rattle.csv.specs.Records.{fields_of};
-ghost use Rattle.csv.specs.Writing.{default_writer, row_text};
+ghost use Rattle.csv.specs.{Records.fields_of, Writing.{default_writer, row_text}};
 ghost use Rattle.gx_fields.specs.Cells.{cell_text};
 
 use crate::cell::{Cell, NAMES};

@@ -1,13 +1,13 @@
 //! Why a request was denied, in words.
 
 ghost use Rattle.std.specs.Prelude.{◌≡◌, option_copied};
-ghost use Rattle.gx_history.specs.Reasons.{kind_reason, reject_reason};
+ghost use Rattle.gx_history.specs.Reasons.{reject_reason};
 ghost use Rattle.gx_policy.specs.People.{rule_in};
 ghost use Rattle.gx_policy.specs.declared.rule_name.RuleName.TheVariants as names;
-ghost use Rattle.gx_fields.specs.Reasons.{built_in_words, reason_of, reason_of_kind, reason_words};
+ghost use Rattle.gx_fields.specs.Reasons.{built_in_words, reason_of, reason_words};
 
 use gx_ouch::RejectReason;
-use gx_policy::{FileRule, Policy, RuleKind, RuleName};
+use gx_policy::{FileRule, KindName, Policy, RuleName};
 use gx_units::RuleId;
 
 /// Why a request was denied.
@@ -15,32 +15,8 @@ use gx_units::RuleId;
 pub enum Reason {
     /// By a built-in rule.
     BuiltIn(RuleName),
-    /// Stock is halted.
-    Halt,
-    /// Stock is restricted.
-    Restricted,
-    /// Short sales are not taken.
-    NoShort,
-    /// Intermarket sweeps are not taken.
-    NoIso,
-    /// Shares are no multiple of 100.
-    OddLot,
-    /// More shares than one order may have.
-    OrderShares,
-    /// More value than one order may have.
-    OrderValue,
-    /// Price is off the collar.
-    Collar,
-    /// More open and executed shares than the limit.
-    GrossShares,
-    /// More open and executed value than the limit.
-    GrossValue,
-    /// More shares on a side than the limit.
-    NetShares,
-    /// More orders than the limit in the window.
-    Rate,
-    /// More like orders than the limit.
-    Repeat,
+    /// By a rule of the file of this kind.
+    OfKind(KindName),
 }
 
 /// The rule of this name.
@@ -50,33 +26,12 @@ pub fn rule_in<'a>(rules: &'a [FileRule], name: RuleId) -> Option<&'a FileRule>
     rules.iter().find(|rule| rule.name == name)
 }
 
-/// Why a rule of the file forbids.
-fn reason_of_kind(kind: &RuleKind) -> Reason
-    ensures { result ≡ reason_of_kind kind.now }
-{
-    match kind {
-        RuleKind::Halt(_) => Reason::Halt,
-        RuleKind::Restricted(_) => Reason::Restricted,
-        RuleKind::NoShort => Reason::NoShort,
-        RuleKind::NoIso => Reason::NoIso,
-        RuleKind::OddLot => Reason::OddLot,
-        RuleKind::OrderShares(_) => Reason::OrderShares,
-        RuleKind::OrderValue(_) => Reason::OrderValue,
-        RuleKind::Collar(_) => Reason::Collar,
-        RuleKind::GrossShares(_, _) => Reason::GrossShares,
-        RuleKind::GrossValue(_, _) => Reason::GrossValue,
-        RuleKind::NetShares(_, _) => Reason::NetShares,
-        RuleKind::Rate(_, _) => Reason::Rate,
-        RuleKind::Repeat(_, _) => Reason::Repeat,
-    }
-}
-
 /// Why the rule forbids; `None` where it is none of the policy's.
 pub fn reason_of(policy: &Policy, rule: RuleName) -> Option<Reason>
     ensures { result ≡ reason_of policy.now rule }
 {
     match rule {
-        RuleName::File(name) => Some(reason_of_kind(&rule_in(policy.rules(), name)?.kind)),
+        RuleName::File(name) => Some(Reason::OfKind(rule_in(policy.rules(), name)?.kind.name())),
         _ => Some(Reason::BuiltIn(rule)),
     }
 }
@@ -122,41 +77,8 @@ impl Reason {
     {
         match self {
             Reason::BuiltIn(rule) => built_in_words(rule),
-            Reason::Halt => b"stock is halted",
-            Reason::Restricted => b"stock is restricted",
-            Reason::NoShort => b"short sales are not taken",
-            Reason::NoIso => b"intermarket sweeps are not taken",
-            Reason::OddLot => b"shares are no multiple of 100",
-            Reason::OrderShares => b"more shares than one order may have",
-            Reason::OrderValue => b"more value than one order may have",
-            Reason::Collar => b"price is off the collar",
-            Reason::GrossShares => b"more open and executed shares than the limit",
-            Reason::GrossValue => b"more open and executed value than the limit",
-            Reason::NetShares => b"more shares on a side than the limit",
-            Reason::Rate => b"more orders than the limit in the window",
-            Reason::Repeat => b"more like orders than the limit",
+            Reason::OfKind(kind) => kind.meaning(),
         }
-    }
-}
-
-/// The reason of the Rejected that answers a denial by a rule of the file of this kind.
-fn reject_of_kind(kind: &RuleKind) -> RejectReason
-    ensures { result ≡ kind_reason kind.now }
-{
-    match kind {
-        RuleKind::Halt(_) => RejectReason::Halted,
-        RuleKind::Restricted(_) => RejectReason::RestrictedStock,
-        RuleKind::NoShort => RejectReason::ShortSale,
-        RuleKind::NoIso => RejectReason::IntermarketSweep,
-        RuleKind::OddLot => RejectReason::OddLot,
-        RuleKind::OrderShares(_) => RejectReason::SharesExceedSafety,
-        RuleKind::OrderValue(_) => RejectReason::DollarLimit,
-        RuleKind::Collar(_) => RejectReason::InvalidPrice,
-        RuleKind::GrossShares(_, _) => RejectReason::SharesLimit,
-        RuleKind::GrossValue(_, _) => RejectReason::DollarLimit,
-        RuleKind::NetShares(_, _) => RejectReason::SharesLimit,
-        RuleKind::Rate(_, _) => RejectReason::Other,
-        RuleKind::Repeat(_, _) => RejectReason::Other,
     }
 }
 
@@ -177,7 +99,7 @@ pub fn reject_of(policy: &Policy, rule: RuleName) -> Option<RejectReason>
         RuleName::P10 => Some(RejectReason::NotAllowedInCross),
         RuleName::P11 => Some(RejectReason::Other),
         RuleName::P12 => Some(RejectReason::Other),
-        RuleName::File(name) => Some(reject_of_kind(&rule_in(policy.rules(), name)?.kind)),
+        RuleName::File(name) => Some(rule_in(policy.rules(), name)?.kind.name().reject_reason()),
         _ => None,
     }
 }

@@ -1,13 +1,11 @@
 //! The texts of cells.
 
-ghost use Rattle.std.specs.Prelude.{◌≡◌, ◌++◌, [], OnOk, IfOk, decimal};
-ghost use Rattle.std.specs.Option.{option_map_or};
+ghost use Rattle.std.specs.{Prelude.{◌≡◌, ◌++◌, [], OnOk, IfOk, decimal}, Option.option_map_or};
 ghost use Rattle.gx_text.specs.Shown.{shown, shown_name};
 ghost use Rattle.gx_fields.specs.Cells.{cell_text, kind_words, right_words, verdict_words};
 
 use crate::cell::Cell;
 use crate::row::{RowKind, RowVerdict};
-use gx_audit_bytes::rule_bytes;
 use gx_text::{Decimals, append, append_moment, append_name, append_number, append_shown};
 use gx_units::OutOfMemory;
 use std::alloc::Global;
@@ -111,7 +109,7 @@ pub fn append_cell(text: &mut Vec<u8>, cell: &Cell) -> Result<(), OutOfMemory>
         Cell::Verdict(verdict) => append(text, verdict_words(*verdict)),
         Cell::Right(Some(true)) => append(text, b"right"),
         Cell::Right(Some(false)) => append(text, b"wrong"),
-        Cell::Rule(Some(name)) => append_name(text, &rule_bytes(*name)),
+        Cell::Rule(Some(name)) => append_name(text, &name.id().bytes),
         Cell::Reason(Some(reason)) => append(text, reason.words()),
         Cell::Reject(Some(reason)) => append_shown(text, &[reason.letter()]),
         _ => Ok(()),

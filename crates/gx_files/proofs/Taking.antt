@@ -1,7 +1,6 @@
 -- A file that is taken piece by piece.
-use Rattle.std.proofs.Common.{ℕ, ◌+◌, ◌≤◌, List, ◌++◌, Option, length, length-append, arith}
+use Rattle.std.proofs.{Common.{ℕ, ◌+◌, ◌≤◌, List, ◌++◌, Option, length, length-append, arith}, KnownBytes.Consumes-trans}
 use Rattle.std.specs.Io.KnownBytes.{Consumes}
-use Rattle.std.proofs.KnownBytes.{Consumes-trans}
 use Rattle.gx_files.specs.Reading.{TakesAtMost}
 
 -- behind some bytes a few more were taken

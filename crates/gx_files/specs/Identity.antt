@@ -1,8 +1,6 @@
 -- Which files are one.
 use Rattle.std.specs.Prelude.{Bool, false, ◌&&◌, nat_eq, Option, None, Some, if◌then◌else◌}
-use Rattle.gx_files.specs.declared.identity.FileIdentity.{FileIdentity}
-use Rattle.gx_files.specs.declared.identity.SharedFile.{SharedFile}
-use Rattle.gx_files.specs.declared.identity.SharedFile.TheVariants.{PolicyAndJournal, PolicyAndAudit, JournalAndAudit}
+use Rattle.gx_files.specs.declared.identity.{FileIdentity.FileIdentity, SharedFile.{SharedFile, TheVariants.{PolicyAndJournal, PolicyAndAudit, JournalAndAudit}}}
 
 -- both are there, on one device and of one number
 abbrev pub are_one : Option FileIdentity → Option FileIdentity → Bool

@@ -1,8 +1,6 @@
 -- How much of a file is read.
-use Rattle.std.specs.Prelude.{◌≡◌, ℕ, ◌<◌, ◌≤◌, List, ◌++◌, length, Option}
-use Rattle.std.specs.Io.KnownBytes.{Consumes}
+use Rattle.std.specs.{Prelude.{◌≡◌, ℕ, ◌<◌, ◌≤◌, List, ◌++◌, length, Option}, Io.KnownBytes.Consumes}
 use Rattle.gx_files.specs.declared.reading.ReadFault.{ReadFault}
-use Rattle.gx_files.specs.declared.reading.ReadFault.TheVariants as faults
 
 -- of what was left no more than so many bytes were taken
 pub record TakesAtMost (left left' : Option (List ℕ)) (most : ℕ) : Type 0 where
@@ -19,6 +17,6 @@ pub record ReadsMore (left left' : Option (List ℕ)) (before after : List ℕ) 
 
 -- of the counts of failed calls of a reader, before and after: it is blamed exactly where a call of it failed
 abbrev pub IsBlamed : (reads reads' : ℕ) → ReadFault → Type 0
-IsBlamed reads reads' faults.ReadFailed = reads < reads'
-IsBlamed reads reads' faults.OutOfMemory = reads' ≡ reads
-IsBlamed reads reads' faults.TooLong = reads' ≡ reads
+IsBlamed reads reads' ReadFault.ReadFailed = reads < reads'
+IsBlamed reads reads' ReadFault.OutOfMemory = reads' ≡ reads
+IsBlamed reads reads' ReadFault.TooLong = reads' ≡ reads

@@ -1,8 +1,6 @@
 //! Files that no other program may make longer or shorter.
 
-ghost use Rattle.std.specs.Prelude.{◌≡◌, ◌+◌, ◌-◌, ◌^◌, min, IfOk, OnErr, OnOk};
-ghost use Rattle.std.specs.Io.{WritesAtMost};
-ghost use Rattle.std.specs.Io.KnownBytes.{Keeps, WriteAppends};
+ghost use Rattle.std.specs.{Prelude.{◌≡◌, ◌+◌, ◌-◌, ◌^◌, min, IfOk, OnErr, OnOk}, Io.{WritesAtMost, KnownBytes.{Keeps, WriteAppends}}};
 
 use std::fs::File;
 use std::io;

@@ -1,19 +1,8 @@
 -- The live orders: as they stand by number, as they wait, and as they rest in the book.
-use Rattle.std.specs.Prelude.{◌≡◌, IsTrue, IsFalse, ℕ, Bool, ◌&&◌, ◌==◌, nat_lt, not, List, Option, Some, None, if◌then◌else◌}
-use Rattle.std.specs.List.{filter, filter_map, find, list_any}
-use Rattle.gx_units.specs.declared.names.AccountName.{AccountName}
-use Rattle.gx_units.specs.declared.names.Symbol.{Symbol}
-use Rattle.gx_units.specs.declared.names.Token.{Token}
-use Rattle.gx_units.specs.declared.names.UserName.{UserName}
-use Rattle.gx_units.specs.Names.{same_account, same_stock}
-use Rattle.gx_policy.specs.declared.policy.PolicyData.{PolicyData}
-use Rattle.gx_policy.specs.Lists.{in_order, last_such}
-use Rattle.gx_history.specs.declared.live_order.LiveOrder.{LiveOrder}
-use Rattle.gx_history.specs.declared.record.RecordData.{RecordData}
-use Rattle.gx_history.specs.Book.{is_buy, is_on, rested}
-use Rattle.gx_history.specs.Executions.{Execution, done, executions}
-use Rattle.gx_history.specs.LiveOrders.{is_under}
-use Rattle.gx_history.specs.Orders.{Order, is_dead, orders, total}
+use Rattle.std.specs.{Prelude.{◌≡◌, IsTrue, IsFalse, ℕ, Bool, ◌&&◌, ◌==◌, nat_lt, not, List, Option, Some, None, if◌then◌else◌}, List.{filter, filter_map, find, list_any}}
+use Rattle.gx_units.specs.{declared.names.{AccountName.AccountName, Symbol.Symbol, Token.Token, UserName.UserName}, Names.{same_account, same_stock}}
+use Rattle.gx_policy.specs.{declared.policy.PolicyData.PolicyData, Lists.{in_order, last_such}}
+use Rattle.gx_history.specs.{declared.{live_order.LiveOrder.LiveOrder, «record».RecordData.RecordData}, Book.{is_buy, is_on, rested}, Executions.{Execution, done, executions}, LiveOrders.is_under, Orders.{Order, is_dead, orders, total}}
 
 -- the order, with this size, of which so much is executed
 abbrev pub open_order : Order → ℕ → ℕ → Bool → LiveOrder

@@ -1,13 +1,8 @@
 -- What is kept of one live order.
 use Rattle.std.specs.Prelude.{ℕ, ◌-◌, Bool, true, ◌&&◌}
-use Rattle.gx_units.specs.declared.names.Token.{Token}
-use Rattle.gx_units.specs.declared.names.UserName.{UserName}
-use Rattle.gx_units.specs.Names.{same_user, same_token}
-use Rattle.gx_ouch.specs.declared.inbound.ReplaceOrder.{ReplaceOrder}
-use Rattle.gx_ouch.specs.declared.outbound.OrderTerms.{OrderTerms}
-use Rattle.gx_history.specs.declared.live_order.LiveOrder.{LiveOrder}
-use Rattle.gx_history.specs.declared.live_order.UserToken.{UserToken}
-use Rattle.gx_history.specs.declared.record.RecordData.{RecordData}
+use Rattle.gx_units.specs.{declared.names.{Token.Token, UserName.UserName}, Names.{same_user, same_token}}
+use Rattle.gx_ouch.specs.declared.{inbound.ReplaceOrder.ReplaceOrder, outbound.OrderTerms.OrderTerms}
+use Rattle.gx_history.specs.declared.{live_order.{LiveOrder.LiveOrder, UserToken.UserToken}, «record».RecordData.RecordData}
 
 -- the shares that may still be executed
 abbrev pub shares_open : LiveOrder → ℕ

@@ -1,16 +1,8 @@
 -- What is so of the book and of each fill.
-use Rattle.std.specs.Prelude.{◌≡◌, ◌<◌, ◌≤◌, ◌==◌, not, IsTrue, IsFalse, true, false, List, Some}
-use Rattle.std.specs.List.{AllByRecursion, list_any}
-use Rattle.gx_units.specs.declared.names.AccountName.{AccountName}
-use Rattle.gx_units.specs.declared.names.Symbol.{Symbol}
-use Rattle.gx_units.specs.Names.{same_account}
+use Rattle.std.specs.{Prelude.{◌≡◌, ◌<◌, ◌≤◌, ◌==◌, not, IsTrue, IsFalse, true, false, List, Some}, List.{AllByRecursion, list_any}}
+use Rattle.gx_units.specs.{declared.names.{AccountName.AccountName, Symbol.Symbol}, Names.same_account}
 use Rattle.gx_policy.specs.declared.policy.PolicyData.{PolicyData}
-use Rattle.gx_history.specs.declared.live_order.LiveOrder.{LiveOrder}
-use Rattle.gx_history.specs.declared.record.Fill.{Fill}
-use Rattle.gx_history.specs.declared.record.RecordData.{RecordData}
-use Rattle.gx_history.specs.Live.{is_buy_order, is_there, live, live_numbered, side, waiting}
-use Rattle.gx_history.specs.LiveOrders.{shares_open}
-use Rattle.gx_history.specs.Matching.{crosses}
+use Rattle.gx_history.specs.{declared.{live_order.LiveOrder.LiveOrder, «record».{Fill.Fill, RecordData.RecordData}}, Live.{is_buy_order, is_there, live, live_numbered, side, waiting}, LiveOrders.shares_open, Matching.crosses}
 
 -- A fill is between two live orders of one stock and of two sides, found under their numbers, at the price of the one that rested, and for some shares that both have open.
 pub record IsFair (policy : PolicyData) (before : List RecordData) (f : Fill) : Type 0 where

@@ -1,23 +1,7 @@
 -- Why a record may move the world as it does: what is known of its move before it.
-use Rattle.std.specs.Prelude.{◌≡◌, ℕ, ◌-◌, ◌<◌, ◌==◌, not, is_some, IsTrue, IsFalse, List, ◌∷◌, Some, None}
-use Rattle.std.specs.List.{AllByRecursion}
-use Rattle.gx_policy.specs.declared.policy.PolicyData.{PolicyData}
-use Rattle.gx_policy.specs.Lists.{where_true}
-use Rattle.gx_policy.specs.People.{account_of}
-use Rattle.gx_history.specs.declared.live_order.LiveOrder.{LiveOrder}
-use Rattle.gx_history.specs.declared.record.Fill.{Fill}
-use Rattle.gx_history.specs.declared.record.RecordData.{RecordData}
-use Rattle.gx_history.specs.declared.record.Step.{Step}
-use Rattle.gx_history.specs.Asking.{names_known_by}
-use Rattle.gx_history.specs.Live.{is_buy_order, live_under}
-use Rattle.gx_history.specs.LiveOrders.{shares_open}
-use Rattle.gx_history.specs.Matching.{crosses, fill_with, is_immediate, meets_none}
-use Rattle.gx_history.specs.Orders.{Order, ends, size_set}
-use Rattle.gx_history.specs.Requests.{asked}
-use Rattle.gx_history.specs.Verdicts.{IsLegal, next}
-use Rattle.gx_history.specs.declared.moves.Move.{Move}
-use Rattle.gx_history.specs.declared.moves.Move.TheVariants.{Nothing, Denies, PutsOn, Adds, Sizes, Replaces, Commands, Fills, Rests, Expires}
-use Rattle.gx_history.specs.World.{World, move_of, world}
+use Rattle.std.specs.{Prelude.{◌≡◌, ℕ, ◌-◌, ◌<◌, ◌==◌, not, is_some, IsTrue, IsFalse, List, ◌∷◌, Some, None}, List.AllByRecursion}
+use Rattle.gx_policy.specs.{declared.policy.PolicyData.PolicyData, Lists.where_true, People.account_of}
+use Rattle.gx_history.specs.{declared.{live_order.LiveOrder.LiveOrder, «record».{Fill.Fill, RecordData.RecordData, Step.Step}, moves.Move.{Move, TheVariants.{Nothing, Denies, PutsOn, Adds, Sizes, Replaces, Commands, Fills, Rests, Expires}}}, Asking.names_known_by, Live.{is_buy_order, live_under}, LiveOrders.shares_open, Matching.{crosses, fill_with, is_immediate, meets_none}, Orders.{Order, ends, size_set}, Requests.asked, Verdicts.{IsLegal, next}, World.{World, move_of, world}}
 
 -- those that rest on the other side of the order's stock, the best first
 abbrev pub opposite : World → LiveOrder → List LiveOrder

@@ -1,10 +1,7 @@
 -- The readers whom commands name.
-use Rattle.std.specs.Prelude.{◌&&◌, List, Option, Some}
-use Rattle.std.specs.List.{find}
-use Rattle.gx_desk.specs.Names.{is_written}
-use Rattle.gx_desk.specs.declared.WrittenName.{WrittenName}
-use Rattle.gx_policy.specs.declared.policy.User.{User}
-use Rattle.gx_policy.specs.People.{is_reader}
+use Rattle.std.specs.{Prelude.{◌&&◌, List, Option, Some}, List.find}
+use Rattle.gx_desk.specs.{Names.is_written, declared.WrittenName.WrittenName}
+use Rattle.gx_policy.specs.{declared.policy.User.User, People.is_reader}
 
 -- the reader whom an officer names, in the policy's own spelling
 abbrev pub reader_in : List User → WrittenName → Option User

@@ -1,19 +1,10 @@
 -- What becomes of each live order, and of the lists that they stand in, by what a record does to them.
-use Rattle.std.specs.Option.{option_map_or}
-use Rattle.std.specs.Prelude.{ℕ, ◌+◌, Bool, true, false, ◌||◌, ◌==◌, nat_lt, not, List, [], ◌∷◌, ◌++◌, Option, Some, None, if◌then◌else◌}
-use Rattle.std.specs.List.{filter, filter_map}
-use Rattle.gx_units.specs.declared.names.AccountName.{AccountName}
-use Rattle.gx_units.specs.declared.names.Symbol.{Symbol}
-use Rattle.gx_units.specs.declared.names.UserName.{UserName}
+use Rattle.std.specs.{Option.option_map_or, Prelude.{ℕ, ◌+◌, Bool, true, false, ◌||◌, ◌==◌, nat_lt, not, List, [], ◌∷◌, ◌++◌, Option, Some, None, if◌then◌else◌}, List.{filter, filter_map}}
+use Rattle.gx_units.specs.declared.names.{AccountName.AccountName, Symbol.Symbol, UserName.UserName}
 use Rattle.gx_ouch.specs.declared.inbound.EnterOrder.{EnterOrder}
 use Rattle.gx_desk.specs.declared.Action.{Action}
-use Rattle.gx_policy.specs.declared.policy.PolicyData.{PolicyData}
-use Rattle.gx_policy.specs.Lists.{placed}
-use Rattle.gx_history.specs.declared.live_order.LiveOrder.{LiveOrder}
-use Rattle.gx_history.specs.declared.record.Fill.{Fill}
-use Rattle.gx_history.specs.declared.record.RecordData.{RecordData}
-use Rattle.gx_history.specs.Live.{ahead, is_there, live_numbered, open_order}
-use Rattle.gx_history.specs.Orders.{ends_account, entered}
+use Rattle.gx_policy.specs.{declared.policy.PolicyData.PolicyData, Lists.placed}
+use Rattle.gx_history.specs.{declared.{live_order.LiveOrder.LiveOrder, «record».{Fill.Fill, RecordData.RecordData}}, Live.{ahead, is_there, live_numbered, open_order}, Orders.{ends_account, entered}}
 
 -- what a record does to the live orders: nothing, or it adds one, sizes the one of a number, puts one in the place of that of a number, ends those of the
 -- accounts that an action is for, fills two, puts one to rest, or ends one

@@ -1,47 +1,11 @@
 -- All that a record can change, as one value, and what each record makes of it.
-use Rattle.gx_history.specs.declared.moves.Move.{Move}
-use Rattle.gx_history.specs.declared.moves.Move.TheVariants.{Nothing, Denies, PutsOn, Adds, Sizes, Replaces, Commands, Fills, Rests, Expires}
-use Rattle.std.specs.Option.{option_map_or}
-use Rattle.std.specs.Prelude.{◌≡◌, ℕ, ◌+◌, ◌-◌, Bool, true, false, ◌&&◌, ◌||◌, is_some, length, List, [], ◌∷◌, ◌++◌, map, fold, Option, Some, None, if◌then◌else◌}
-use Rattle.std.specs.List.{flat_map}
-use Rattle.gx_units.specs.declared.names.AccountName.{AccountName}
-use Rattle.gx_units.specs.declared.names.Symbol.{Symbol}
-use Rattle.gx_units.specs.declared.names.Token.{Token}
-use Rattle.gx_units.specs.declared.names.UserName.{UserName}
-use Rattle.gx_units.specs.Names.{same_account, same_user}
-use Rattle.gx_ouch.specs.declared.letters.CancelReason.TheVariants as cancels
-use Rattle.gx_ouch.specs.declared.outbound.Outbound.TheVariants as outbounds
-use Rattle.gx_desk.specs.declared.Action.{Action}
-use Rattle.gx_desk.specs.declared.Action.TheVariants as actions
-use Rattle.gx_desk.specs.declared.AnswerCode.TheVariants as codes
-use Rattle.gx_desk.specs.declared.Command.{Command}
-use Rattle.gx_desk.specs.declared.WrittenName.{WrittenName}
-use Rattle.gx_desk.specs.Names.{is_written}
-use Rattle.gx_policy.specs.declared.policy.FileRule.{FileRule}
-use Rattle.gx_policy.specs.declared.policy.PolicyData.{PolicyData}
-use Rattle.gx_policy.specs.declared.rule_name.RuleName.{RuleName}
-use Rattle.gx_policy.specs.People.{account_of, is_reader, role_in}
-use Rattle.gx_history.specs.declared.live_order.LiveOrder.{LiveOrder}
-use Rattle.gx_history.specs.declared.record.Asked.{Asked}
-use Rattle.gx_history.specs.declared.record.RecordData.{RecordData}
-use Rattle.gx_history.specs.declared.record.Request.{Request}
-use Rattle.gx_history.specs.declared.record.Request.TheVariants as requests
-use Rattle.gx_history.specs.declared.record.Step.{Step}
-use Rattle.gx_history.specs.declared.record.Step.TheVariants as steps
-use Rattle.gx_history.specs.declared.record.Verdict.{Verdict}
-use Rattle.gx_history.specs.declared.record.Verdict.TheVariants as verdicts
-use Rattle.gx_history.specs.declared.report.Message.{Message}
-use Rattle.gx_history.specs.declared.report.Message.TheVariants as messages
-use Rattle.gx_history.specs.declared.report.Report.{Report}
-use Rattle.gx_history.specs.Executions.{Execution, executions, sides_in}
-use Rattle.gx_history.specs.InForce.{adding, change_rule, is_closed, is_entitled, kill_after, kill_in_force, line_of, removing, rules_in_force, with_limit, with_stocks}
-use Rattle.gx_history.specs.Live.{live, live_under, side, waiting}
-use Rattle.gx_history.specs.LiveOrders.{replacement_order, shares_open}
-use Rattle.gx_history.specs.Orders.{Order, is_token_used, orders, orders_with, record_uses}
-use Rattle.gx_history.specs.Streams.{answer, canceled_of, copy_of, day_end, ended_of, expired_of, lift_code, replaced_of, reported, reports_of_denial, reports_of_execution, stream, to_user}
+use Rattle.gx_policy.specs.{Kinds.{with_limit, with_stocks}, declared.{policy.{FileRule.FileRule, PolicyData.PolicyData}, rule_name.RuleName.RuleName}, People.{account_of, is_reader, role_in}}
+use Rattle.gx_history.specs.{declared.{moves.Move.{Move, TheVariants.{Nothing, Denies, PutsOn, Adds, Sizes, Replaces, Commands, Fills, Rests, Expires}}, live_order.LiveOrder.LiveOrder, «record».{Asked.Asked, RecordData.RecordData, Request.Request, Step.Step, Verdict.Verdict}, report.{Message.Message, Report.Report}}, Executions.{Execution, executions, sides_in}, InForce.{adding, change_rule, is_closed, is_entitled, kill_after, kill_in_force, line_of, removing, rules_in_force}, Live.{live, live_under, side, waiting}, LiveOrders.{replacement_order, shares_open}, Orders.{Order, is_token_used, orders, orders_with, record_uses}, Streams.{answer, canceled_of, copy_of, day_end, ended_of, expired_of, lift_code, replaced_of, reported, reports_of_denial, reports_of_execution, stream, to_user}, Turns.{Turn, new_order, side_turned, turned, waiting_turned}, Verdicts.{IsLegal, last_moment, next}}
+use Rattle.std.specs.{Option.option_map_or, Prelude.{◌≡◌, ℕ, ◌+◌, ◌-◌, Bool, true, false, ◌&&◌, ◌||◌, is_some, length, List, [], ◌∷◌, ◌++◌, map, fold, Option, Some, None, if◌then◌else◌}, List.flat_map}
+use Rattle.gx_units.specs.{declared.names.{AccountName.AccountName, Symbol.Symbol, Token.Token, UserName.UserName}, Names.{same_account, same_user}}
+use Rattle.gx_ouch.specs.declared.{letters.CancelReason.CancelReason, outbound.Outbound.Outbound}
+use Rattle.gx_desk.specs.{declared.{Action.Action, AnswerCode.AnswerCode, Command.Command, WrittenName.WrittenName}, Names.is_written}
 use Rattle.gx_history.specs.Turns as turns
-use Rattle.gx_history.specs.Turns.{Turn, new_order, side_turned, turned, waiting_turned}
-use Rattle.gx_history.specs.Verdicts.{IsLegal, last_moment, next}
 
 -- all that a record can change
 pub record World : Type 0 where
@@ -81,31 +45,31 @@ world policy history = record {
 
 -- what a granted request does
 abbrev pub move_asked : PolicyData → World → RecordData → Asked → Request → Move
-move_asked policy w r a (requests.Login m) = PutsOn a.user (Some a.line)
-move_asked policy w r a requests.Logout = PutsOn a.user None
-move_asked policy w r a (requests.Unreadable m) = Nothing
-move_asked policy w r a (requests.Enter m) = option_map_or (λ (account : AccountName). Adds (new_order policy r a.user account m)) (account_of policy a.user) Nothing
-move_asked policy w r a (requests.Replace m) = option_map_or (λ (old : LiveOrder). Replaces old (replacement_order r m old)) (live_under w.live a.user m.existing_token) Nothing
-move_asked policy w r a (requests.Cancel m) = option_map_or (λ (cut : LiveOrder). Sizes cut m.shares) (live_under w.live a.user m.token) Nothing
-move_asked policy w r a (requests.Command c) = Commands a.user c
+move_asked policy w r a (Request.Login m) = PutsOn a.user (Some a.line)
+move_asked policy w r a Request.Logout = PutsOn a.user None
+move_asked policy w r a (Request.Unreadable m) = Nothing
+move_asked policy w r a (Request.Enter m) = option_map_or (λ (account : AccountName). Adds (new_order policy r a.user account m)) (account_of policy a.user) Nothing
+move_asked policy w r a (Request.Replace m) = option_map_or (λ (old : LiveOrder). Replaces old (replacement_order r m old)) (live_under w.live a.user m.existing_token) Nothing
+move_asked policy w r a (Request.Cancel m) = option_map_or (λ (cut : LiveOrder). Sizes cut m.shares) (live_under w.live a.user m.token) Nothing
+move_asked policy w r a (Request.Command c) = Commands a.user c
 
 -- what a granted step does
 abbrev pub move_granted : PolicyData → World → RecordData → Step → Move
-move_granted policy w r (steps.Asked a) = move_asked policy w r a a.request
-move_granted policy w r (steps.Matching handed) = Nothing
+move_granted policy w r (Step.Asked a) = move_asked policy w r a a.request
+move_granted policy w r (Step.Matching handed) = Nothing
 
 -- what a denied step does
 abbrev pub move_denied : RuleName → Step → Move
-move_denied rule (steps.Asked a) = Denies a rule
-move_denied rule (steps.Matching handed) = Nothing
+move_denied rule (Step.Asked a) = Denies a rule
+move_denied rule (Step.Matching handed) = Nothing
 
 -- what a verdict does
 abbrev pub move_by : PolicyData → World → RecordData → Verdict → Step → Move
-move_by policy w r verdicts.Granted step = move_granted policy w r step
-move_by policy w r (verdicts.Denied rule) step = move_denied rule step
-move_by policy w r (verdicts.Filled f) step = Fills f
-move_by policy w r (verdicts.Rested number) step = Rests number
-move_by policy w r (verdicts.Expired number) step = Expires number
+move_by policy w r Verdict.Granted step = move_granted policy w r step
+move_by policy w r (Verdict.Denied rule) step = move_denied rule step
+move_by policy w r (Verdict.Filled f) step = Fills f
+move_by policy w r (Verdict.Rested number) step = Rests number
+move_by policy w r (Verdict.Expired number) step = Expires number
 
 -- what the record does
 abbrev pub move_of : PolicyData → World → RecordData → Move
@@ -144,11 +108,11 @@ tell_each r told streams user = streams user ++ map (reported r) (told user)
 
 -- Accepted: the order, with the number of its record
 abbrev pub accepted_of : LiveOrder → List Message
-accepted_of o = messages.Order (outbounds.Accepted (record { token = o.token; terms = o.terms; order_reference = o.number })) ∷ []
+accepted_of o = Message.Order (Outbound.Accepted (record { token = o.token; terms = o.terms; order_reference = o.number })) ∷ []
 
 -- the rules so, and the officer has his answer
 abbrev pub with_rule : RecordData → UserName → Command → List FileRule → World → World
-with_rule r officer c rules w = record w { rules = rules; streams = tell r officer (answer r c codes.Done) w.streams }
+with_rule r officer c rules w = record w { rules = rules; streams = tell r officer (answer r c AnswerCode.Done) w.streams }
 
 -- the reader so written sees the account from now on, or does not
 abbrev pub with_sight : PolicyData → WrittenName → AccountName → Bool → (UserName → AccountName → Bool) → UserName → AccountName → Bool
@@ -161,22 +125,22 @@ with_kill account change kills other = if same_account account other then change
 
 -- what the officer's granted command makes of the world
 abbrev pub commanded : PolicyData → RecordData → UserName → Command → Action → World → World
-commanded policy r officer c (actions.Kill account) w = record (turned_world (turns.EndsAll (actions.Kill account)) w) {
+commanded policy r officer c (Action.Kill account) w = record (turned_world (turns.EndsAll (Action.Kill account)) w) {
   kills = with_kill account (λ before. Some []) w.kills;
-  streams = tell_each r (λ user. ended_of w.live (actions.Kill account) user ++ to_user officer user (answer r c codes.Done)) w.streams;
+  streams = tell_each r (λ user. ended_of w.live (Action.Kill account) user ++ to_user officer user (answer r c AnswerCode.Done)) w.streams;
 }
-commanded policy r officer c (actions.Lift account) w = record w {
+commanded policy r officer c (Action.Lift account) w = record w {
   kills = with_kill account (kill_after policy.lifters (Some (Some officer))) w.kills;
   streams = tell r officer (answer r c (lift_code (is_some (kill_after policy.lifters (Some (Some officer)) (w.kills account))))) w.streams;
 }
-commanded policy r officer c (actions.SetLimit name limit) w = with_rule r officer c (map (change_rule name (with_limit limit)) w.rules) w
-commanded policy r officer c (actions.Restrict name stock) w = with_rule r officer c (map (change_rule name (with_stocks (adding stock))) w.rules) w
-commanded policy r officer c (actions.Unrestrict name stock) w = with_rule r officer c (map (change_rule name (with_stocks (removing stock))) w.rules) w
-commanded policy r officer c (actions.Grant written account) w = record w { sight = with_sight policy written account true w.sight; streams = tell r officer (answer r c codes.Done) w.streams }
-commanded policy r officer c (actions.Revoke written account) w = record w { sight = with_sight policy written account false w.sight; streams = tell r officer (answer r c codes.Done) w.streams }
-commanded policy r officer c actions.CloseDay w = record (turned_world (turns.EndsAll actions.CloseDay) w) {
+commanded policy r officer c (Action.SetLimit name limit) w = with_rule r officer c (map (change_rule name (with_limit limit)) w.rules) w
+commanded policy r officer c (Action.Restrict name stock) w = with_rule r officer c (map (change_rule name (with_stocks (adding stock))) w.rules) w
+commanded policy r officer c (Action.Unrestrict name stock) w = with_rule r officer c (map (change_rule name (with_stocks (removing stock))) w.rules) w
+commanded policy r officer c (Action.Grant written account) w = record w { sight = with_sight policy written account true w.sight; streams = tell r officer (answer r c AnswerCode.Done) w.streams }
+commanded policy r officer c (Action.Revoke written account) w = record w { sight = with_sight policy written account false w.sight; streams = tell r officer (answer r c AnswerCode.Done) w.streams }
+commanded policy r officer c Action.CloseDay w = record (turned_world (turns.EndsAll Action.CloseDay) w) {
   closed = true;
-  streams = tell_each r (λ user. ended_of w.live actions.CloseDay user ++ day_end policy actions.CloseDay user ++ to_user officer user (answer r c codes.Done)) w.streams;
+  streams = tell_each r (λ user. ended_of w.live Action.CloseDay user ++ day_end policy Action.CloseDay user ++ to_user officer user (answer r c AnswerCode.Done)) w.streams;
 }
 
 -- what a move makes of the world
@@ -185,11 +149,11 @@ moved policy r Nothing w = w
 moved policy r (Denies a rule) w = record w { streams = tell r a.user (reports_of_denial policy r rule a.request) w.streams }
 moved policy r (PutsOn user line) w = record w { lines = λ other. if same_user user other then line else w.lines other }
 moved policy r (Adds new) w = record (turned_world (turns.Adds new) w) { streams = tell r new.user (accepted_of new) w.streams }
-moved policy r (Sizes cut size) w = record (turned_world (turns.Sizes cut.number size) w) { streams = tell r cut.user (canceled_of cancels.UserRequested (shares_open cut - (size - cut.done)) cut) w.streams }
+moved policy r (Sizes cut size) w = record (turned_world (turns.Sizes cut.number size) w) { streams = tell r cut.user (canceled_of CancelReason.UserRequested (shares_open cut - (size - cut.done)) cut) w.streams }
 moved policy r (Replaces old new) w = record (turned_world (turns.Replaces old.number new) w) { streams = tell r old.user (replaced_of old new) w.streams }
 moved policy r (Commands officer c) w = commanded policy r officer c c.action w
 moved policy r (Fills f) w = record (turned_world (turns.Fills f) w) {
-  streams = tell_each r (λ user. flat_map (reports_of_execution r user) (sides_in w.orders (verdicts.Filled f)) ++ flat_map (copy_of w.sight r user) (sides_in w.orders (verdicts.Filled f))) w.streams;
+  streams = tell_each r (λ user. flat_map (reports_of_execution r user) (sides_in w.orders (Verdict.Filled f)) ++ flat_map (copy_of w.sight r user) (sides_in w.orders (Verdict.Filled f))) w.streams;
 }
 moved policy r (Rests number) w = turned_world (turns.Rests number) w
 moved policy r (Expires number) w = record (turned_world (turns.Ends number) w) { streams = tell_each r (expired_of w.live number) w.streams }

@@ -1,41 +1,12 @@
 -- What a record that follows adds to the orders: nothing, or the one order of a granted Enter or Replace.
-use Rattle.std.proofs.Common.{◌≡◌, ℕ, Bool, true, false, List, [], ◌∷◌, refl, ◌∙◌, ap, sym, cond, inl, inr, ◌⊎◌}
-use Rattle.std.specs.Prelude.{Option, Some, None, is_none, ◌&&◌, ◌||◌, nat_lt, not, filter}
-use Rattle.std.specs.Option.{option_map_or}
-use Rattle.std.specs.List.{cons_option, filter_map, list_any, last_or, AllByRecursion}
-use Rattle.std.proofs.lemmas.Slice.Eq.{bytes_eq-Decides}
-use Rattle.gx_units.specs.declared.names.AccountName.{AccountName}
-use Rattle.gx_units.specs.declared.names.Token.{Token}
-use Rattle.gx_units.specs.declared.names.UserName.{UserName}
-use Rattle.gx_units.specs.Names.{same_user, same_token}
-use Rattle.gx_ouch.specs.declared.inbound.EnterOrder.{EnterOrder}
-use Rattle.gx_ouch.specs.declared.inbound.ReplaceOrder.{ReplaceOrder}
-use Rattle.gx_policy.specs.declared.policy.PolicyData.{PolicyData}
-use Rattle.gx_policy.specs.declared.rule_name.RuleName.TheVariants.{I1, I2}
-use Rattle.gx_policy.specs.Lists.{last_such}
-use Rattle.gx_policy.specs.People.{role_in}
-use Rattle.gx_history.specs.declared.live_order.LiveOrder.{LiveOrder}
-use Rattle.gx_history.specs.declared.record.Asked.{Asked}
-use Rattle.gx_history.specs.declared.record.RecordData.{RecordData}
-use Rattle.gx_history.specs.declared.record.Request.{Request}
-use Rattle.gx_history.specs.declared.record.Request.TheVariants as requests
-use Rattle.gx_history.specs.declared.record.Step.{Step}
-use Rattle.gx_history.specs.declared.record.Step.TheVariants as steps
-use Rattle.gx_history.specs.declared.record.Verdict.{Verdict}
-use Rattle.gx_history.specs.declared.record.Verdict.TheVariants as verdicts
-use Rattle.gx_history.specs.Asking.{facts, live_named}
-use Rattle.gx_history.specs.Book.{rested}
-use Rattle.gx_history.specs.Executions.{Execution, done, executions}
-use Rattle.gx_history.specs.Live.{has_come, live, live_under, open_now, open_order}
-use Rattle.gx_history.specs.LiveOrders.{is_under}
-use Rattle.gx_history.specs.Orders.{is_dead, total, Order, orders, orders_added, orders_made, order_under, entered, replacing, is_token_used}
-use Rattle.gx_history.specs.Requests.{granted, asked, is_granted, is_order, new_token}
-use Rattle.gx_history.specs.Rules.{forbids}
-use Rattle.gx_history.specs.Verdicts.{next, facts_now, Follows}
+use Rattle.std.proofs.{Common.{◌≡◌, ℕ, Bool, true, false, List, [], ◌∷◌, refl, ◌∙◌, ap, sym, cond, inl, inr, ◌⊎◌}, lemmas.Slice.Eq.bytes_eq-Decides}
+use Rattle.std.specs.{Prelude.{Option, Some, None, is_none, ◌&&◌, ◌||◌, nat_lt, not, filter}, Option.option_map_or, List.{cons_option, filter_map, list_any, last_or, AllByRecursion}}
+use Rattle.gx_units.specs.{declared.names.{AccountName.AccountName, Token.Token, UserName.UserName}, Names.{same_user, same_token}}
+use Rattle.gx_ouch.specs.declared.inbound.{EnterOrder.EnterOrder, ReplaceOrder.ReplaceOrder}
+use Rattle.gx_policy.specs.{declared.{policy.PolicyData.PolicyData, rule_name.RuleName.TheVariants.{I1, I2}}, Lists.last_such, People.role_in}
+use Rattle.gx_history.specs.{declared.{live_order.LiveOrder.LiveOrder, «record».{Asked.Asked, RecordData.RecordData, Request.Request, Step.Step, Verdict.Verdict}}, Asking.{facts, live_named}, Book.rested, Executions.{Execution, done, executions}, Live.{has_come, live, live_under, open_now, open_order}, LiveOrders.is_under, Orders.{is_dead, total, Order, orders, orders_added, orders_made, order_under, entered, replacing, is_token_used}, Requests.{granted, asked, is_granted, is_order, new_token}, Rules.forbids, Verdicts.{next, facts_now, Follows}}
 use Rattle.gx_history_laws.specs.Laws.{grants_order}
-use Rattle.gx_history_laws.proofs.Entering.{HasAccount, entered_has_account}
-use Rattle.gx_history_laws.proofs.Granting.{is_no_bar}
-use Rattle.gx_history_laws.proofs.Owners.{found_last, nothing_found}
+use Rattle.gx_history_laws.proofs.{Entering.{HasAccount, entered_has_account}, Granting.is_no_bar, Owners.{found_last, nothing_found}}
 
 -- names that are the same byte for byte are equal
 pub user_is : (a b : UserName) → same_user a b ≡ true → a ≡ b
@@ -112,14 +83,14 @@ under_known policy history user token h =
     any_found (λ (o : Order). same_user o.user user && same_token o.token token) (orders policy history)
     (any_live (executions policy history) history user token (orders policy history) (found_any (is_under user token) (filter_map (open_now (executions policy history) history) (orders policy history)) h))
 
-named_at : (policy : PolicyData) (history : List RecordData) (a : Asked) (m : ReplaceOrder) → a.request ≡ requests.Replace m
+named_at : (policy : PolicyData) (history : List RecordData) (a : Asked) (m : ReplaceOrder) → a.request ≡ Request.Replace m
     → (facts_now policy history a).named ≡ live_under (live policy history) a.user m.existing_token
 unfolding facts
 named_at policy history a m e = ap (live_named policy history a.user) e
 
 -- a granted Replace names an order
 replaced_is_known : (policy : PolicyData) (history : List RecordData) (a : Asked) (r : RecordData) (m : ReplaceOrder)
-    → next policy history (steps.Asked a) ≡ Some r → r.verdict ≡ verdicts.Granted → a.request ≡ requests.Replace m
+    → next policy history (Step.Asked a) ≡ Some r → r.verdict ≡ Verdict.Granted → a.request ≡ Request.Replace m
     → is_none (order_under (orders policy history) a.user m.existing_token) ≡ false
 replaced_is_known policy history a r m e granted asks =
     under_known policy history a.user m.existing_token
@@ -132,15 +103,15 @@ pub record AddsNone (policy : PolicyData) (history : List RecordData) (r : Recor
 pub record AddsOne (policy : PolicyData) (history : List RecordData) (r : RecordData) : Type 0 where
   pub a : Asked
   pub o : Order
-  pub asks : r.step ≡ steps.Asked a
-  pub grants : r.verdict ≡ verdicts.Granted
+  pub asks : r.step ≡ Step.Asked a
+  pub grants : r.verdict ≡ Verdict.Granted
   pub is_for_order : is_order a.request ≡ true
   pub under : new_token a.request ≡ Some o.token
   pub his : o.user ≡ a.user
   pub numbered : o.number ≡ r.number
   pub adds : orders_added policy (orders policy history) r ≡ o ∷ []
 
-pub granted_is : (r : RecordData) (a : Asked) → r.step ≡ steps.Asked a → r.verdict ≡ verdicts.Granted → granted r ≡ Some a
+pub granted_is : (r : RecordData) (a : Asked) → r.step ≡ Step.Asked a → r.verdict ≡ Verdict.Granted → granted r ≡ Some a
 granted_is r a asks grants = ap (λ (v : Verdict). cond (is_granted v) (asked r.step) None) grants ∙ ap asked asks
 
 nothing_granted : (policy : PolicyData) (history : List RecordData) (r : RecordData) → granted r ≡ None → AddsNone policy history r
@@ -157,7 +128,7 @@ no_order policy history r a q g e makes is_none_for = record {
   grants_none = ap (λ (found : Option Asked). option_map_or (λ (x : Asked). is_order x.request) found false) g ∙ ap is_order e ∙ is_none_for;
 }
 
-one_order : (policy : PolicyData) (history : List RecordData) (r : RecordData) (a : Asked) (q : Request) (o : Order) → r.step ≡ steps.Asked a → r.verdict ≡ verdicts.Granted → a.request ≡ q
+one_order : (policy : PolicyData) (history : List RecordData) (r : RecordData) (a : Asked) (q : Request) (o : Order) → r.step ≡ Step.Asked a → r.verdict ≡ Verdict.Granted → a.request ≡ q
     → orders_made policy (orders policy history) r a.user q ≡ o ∷ [] → is_order q ≡ true → new_token q ≡ Some o.token → o.user ≡ a.user → o.number ≡ r.number → AddsOne policy history r
 one_order policy history r a q o asks grants e makes for_order under his numbered = record {
   a = a;
@@ -172,15 +143,15 @@ one_order policy history r a q o asks grants e makes for_order under his numbere
       ∙ ap (orders_made policy (orders policy history) r a.user) e ∙ makes;
 }
 
-enter_adds : (policy : PolicyData) (history : List RecordData) (r : RecordData) (a : Asked) (m : EnterOrder) → next policy history (steps.Asked a) ≡ Some r
-    → r.step ≡ steps.Asked a → r.verdict ≡ verdicts.Granted → a.request ≡ requests.Enter m → AddsOne policy history r
+enter_adds : (policy : PolicyData) (history : List RecordData) (r : RecordData) (a : Asked) (m : EnterOrder) → next policy history (Step.Asked a) ≡ Some r
+    → r.step ≡ Step.Asked a → r.verdict ≡ Verdict.Granted → a.request ≡ Request.Enter m → AddsOne policy history r
 enter_adds policy history r a m left asks grants e =
     let his : HasAccount (role_in policy.users a.user) = entered_has_account policy history a r m left grants e in
-    one_order policy history r a (requests.Enter m) (entered policy r a.user his.0 m) asks grants e
+    one_order policy history r a (Request.Enter m) (entered policy r a.user his.0 m) asks grants e
     (ap (λ (found : Option AccountName). option_map_or (λ (account : AccountName). entered policy r a.user account m ∷ []) found []) his.1) refl refl refl refl
 
-replace_adds : (policy : PolicyData) (history : List RecordData) (r : RecordData) (a : Asked) (m : ReplaceOrder) → next policy history (steps.Asked a) ≡ Some r
-    → r.step ≡ steps.Asked a → r.verdict ≡ verdicts.Granted → a.request ≡ requests.Replace m → AddsOne policy history r
+replace_adds : (policy : PolicyData) (history : List RecordData) (r : RecordData) (a : Asked) (m : ReplaceOrder) → next policy history (Step.Asked a) ≡ Some r
+    → r.step ≡ Step.Asked a → r.verdict ≡ Verdict.Granted → a.request ≡ Request.Replace m → AddsOne policy history r
 replace_adds policy history r a m left asks grants e = at (order_under (orders policy history) a.user m.existing_token) refl (replaced_is_known policy history a r m left grants e)
   where
     is_his : Order → Bool
@@ -193,7 +164,7 @@ replace_adds policy history r a m left asks grants e = at (order_under (orders p
     at : (found : Option Order) → order_under (orders policy history) a.user m.existing_token ≡ found → is_none found ≡ false → AddsOne policy history r
     at None f h = cc
     at (Some o) f h =
-        one_order policy history r a (requests.Replace m) (replacing r m o) asks grants e
+        one_order policy history r a (Request.Replace m) (replacing r m o) asks grants e
         (ap (λ (found : Option Order). option_map_or (λ (x : Order). replacing r m x ∷ []) found []) f) refl refl
         (user_is o.user a.user (first (same_user o.user a.user) (same_token o.token m.existing_token)
         (found_passes (λ (x : Order). same_user x.user a.user && same_token x.token m.existing_token) (orders policy history) o f))) refl
@@ -204,33 +175,33 @@ what_is_added policy history r follows = by_verdict r.verdict refl
     none_of : (v : Verdict) → r.verdict ≡ v → is_granted v ≡ false → AddsNone policy history r
     none_of v e h = nothing_granted policy history r (ap (λ (w : Verdict). cond (is_granted w) (asked r.step) None) e ∙ ap (λ (b : Bool). cond b (asked r.step) None) h)
 
-    by_request : (a : Asked) (q : Request) → r.step ≡ steps.Asked a → r.verdict ≡ verdicts.Granted → a.request ≡ q → next policy history (steps.Asked a) ≡ Some r
+    by_request : (a : Asked) (q : Request) → r.step ≡ Step.Asked a → r.verdict ≡ Verdict.Granted → a.request ≡ q → next policy history (Step.Asked a) ≡ Some r
         → AddsNone policy history r ⊎ AddsOne policy history r
-    by_request a (requests.Login m) asks grants e left = inl (no_order policy history r a (requests.Login m) (granted_is r a asks grants) e refl refl)
-    by_request a requests.Logout asks grants e left = inl (no_order policy history r a requests.Logout (granted_is r a asks grants) e refl refl)
-    by_request a (requests.Unreadable m) asks grants e left = inl (no_order policy history r a (requests.Unreadable m) (granted_is r a asks grants) e refl refl)
-    by_request a (requests.Enter m) asks grants e left = inr (enter_adds policy history r a m left asks grants e)
-    by_request a (requests.Replace m) asks grants e left = inr (replace_adds policy history r a m left asks grants e)
-    by_request a (requests.Cancel m) asks grants e left = inl (no_order policy history r a (requests.Cancel m) (granted_is r a asks grants) e refl refl)
-    by_request a (requests.Command c) asks grants e left = inl (no_order policy history r a (requests.Command c) (granted_is r a asks grants) e refl refl)
+    by_request a (Request.Login m) asks grants e left = inl (no_order policy history r a (Request.Login m) (granted_is r a asks grants) e refl refl)
+    by_request a Request.Logout asks grants e left = inl (no_order policy history r a Request.Logout (granted_is r a asks grants) e refl refl)
+    by_request a (Request.Unreadable m) asks grants e left = inl (no_order policy history r a (Request.Unreadable m) (granted_is r a asks grants) e refl refl)
+    by_request a (Request.Enter m) asks grants e left = inr (enter_adds policy history r a m left asks grants e)
+    by_request a (Request.Replace m) asks grants e left = inr (replace_adds policy history r a m left asks grants e)
+    by_request a (Request.Cancel m) asks grants e left = inl (no_order policy history r a (Request.Cancel m) (granted_is r a asks grants) e refl refl)
+    by_request a (Request.Command c) asks grants e left = inl (no_order policy history r a (Request.Command c) (granted_is r a asks grants) e refl refl)
 
-    by_step : (s : Step) → r.step ≡ s → r.verdict ≡ verdicts.Granted → AddsNone policy history r ⊎ AddsOne policy history r
-    by_step (steps.Asked a) asks grants = by_request a a.request asks grants refl (ap (next policy history) (sym asks) ∙ follows.is_next)
-    by_step (steps.Matching handed) asks grants = inl (nothing_granted policy history r (ap (λ (v : Verdict). cond (is_granted v) (asked r.step) None) grants ∙ ap asked asks))
+    by_step : (s : Step) → r.step ≡ s → r.verdict ≡ Verdict.Granted → AddsNone policy history r ⊎ AddsOne policy history r
+    by_step (Step.Asked a) asks grants = by_request a a.request asks grants refl (ap (next policy history) (sym asks) ∙ follows.is_next)
+    by_step (Step.Matching handed) asks grants = inl (nothing_granted policy history r (ap (λ (v : Verdict). cond (is_granted v) (asked r.step) None) grants ∙ ap asked asks))
 
     by_verdict : (v : Verdict) → r.verdict ≡ v → AddsNone policy history r ⊎ AddsOne policy history r
-    by_verdict verdicts.Granted e = by_step r.step refl e
-    by_verdict (verdicts.Denied rule) e = inl (none_of (verdicts.Denied rule) e refl)
-    by_verdict (verdicts.Filled f) e = inl (none_of (verdicts.Filled f) e refl)
-    by_verdict (verdicts.Rested n) e = inl (none_of (verdicts.Rested n) e refl)
-    by_verdict (verdicts.Expired n) e = inl (none_of (verdicts.Expired n) e refl)
+    by_verdict Verdict.Granted e = by_step r.step refl e
+    by_verdict (Verdict.Denied rule) e = inl (none_of (Verdict.Denied rule) e refl)
+    by_verdict (Verdict.Filled f) e = inl (none_of (Verdict.Filled f) e refl)
+    by_verdict (Verdict.Rested n) e = inl (none_of (Verdict.Rested n) e refl)
+    by_verdict (Verdict.Expired n) e = inl (none_of (Verdict.Expired n) e refl)
 
 -- the new token of an order that is added was not used before
 pub added_is_unused : (policy : PolicyData) (history : List RecordData) (r : RecordData) (one : AddsOne policy history r) → Follows policy (history, r)
     → is_token_used history one.o.user one.o.token ≡ false
 unfolding facts
 added_is_unused policy history r one follows =
-    let left : next policy history (steps.Asked one.a) ≡ Some r = ap (next policy history) (sym one.asks) ∙ follows.is_next in
+    let left : next policy history (Step.Asked one.a) ≡ Some r = ap (next policy history) (sym one.asks) ∙ follows.is_next in
     ap (λ (user : UserName). is_token_used history user one.o.token) one.his
     ∙ ap (λ (found : Option Token). option_map_or (is_token_used history one.a.user) found false) (sym one.under)
     ∙ ap (λ (b : Bool). b && option_map_or (is_token_used history one.a.user) (new_token one.a.request) false) (sym one.is_for_order)

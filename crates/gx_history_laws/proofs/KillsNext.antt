@@ -1,20 +1,9 @@
 -- What one more record does to the Kill of an account.
-use Rattle.std.proofs.Common.{◌≡◌, Bool, true, false, not, List, [], ◌∷◌, ◌++◌, refl, ◌∙◌, ap, sym, cond}
-use Rattle.std.specs.Prelude.{Option, Some, None, is_some, is_none, option_map, option_and_then, ◌||◌}
-use Rattle.std.specs.Option.{option_or}
-use Rattle.std.specs.List.{cons_option, filter, filter_map, list_any}
-use Rattle.std.proofs.lemmas.List.{append-nil}
-use Rattle.std.proofs.lemmas.List.Elements.{filter-append, filter_map-append}
-use Rattle.gx_units.specs.Names.{same_user}
-use Rattle.gx_units.specs.declared.names.AccountName.{AccountName}
-use Rattle.gx_units.specs.declared.names.UserName.{UserName}
-use Rattle.gx_policy.specs.declared.policy.Lifters.{Lifters}
-use Rattle.gx_policy.specs.declared.policy.Lifters.TheVariants as lifters
-use Rattle.gx_policy.specs.declared.policy.PolicyData.{PolicyData}
-use Rattle.gx_history.specs.declared.record.RecordData.{RecordData}
-use Rattle.gx_history.specs.InForce.{fewer_than, has_lifted, is_killed, kill_after, kill_in_force, kill_or_lift_of, kills_and_lifts, lifters_asked, officers_of, with_officer}
-use Rattle.gx_policy.specs.Lists.{behind_last, once, where_true}
-use Rattle.gx_history.specs.Requests.{granted_mark}
+use Rattle.std.proofs.{Common.{◌≡◌, Bool, true, false, not, List, [], ◌∷◌, ◌++◌, refl, ◌∙◌, ap, sym, cond}, lemmas.List.{append-nil, Elements.{filter-append, filter_map-append}}}
+use Rattle.std.specs.{Prelude.{Option, Some, None, is_some, is_none, option_map, option_and_then, ◌||◌}, Option.option_or, List.{cons_option, filter, filter_map, list_any}}
+use Rattle.gx_units.specs.{Names.same_user, declared.names.{AccountName.AccountName, UserName.UserName}}
+use Rattle.gx_policy.specs.{declared.policy.{Lifters.Lifters, PolicyData.PolicyData}, Lists.{behind_last, once, where_true}}
+use Rattle.gx_history.specs.{declared.record.RecordData.RecordData, InForce.{fewer_than, has_lifted, is_killed, kill_after, kill_in_force, kill_or_lift_of, kills_and_lifts, lifters_asked, officers_of, with_officer}, Requests.granted_mark}
 use Rattle.gx_history_laws.proofs.Adding.{user_is}
 
 behind_last_next : {X : Type 0} (test : X → Bool) (xs : List X) (x : X)
@@ -104,15 +93,15 @@ officers_next lifts officer =
 still_enough : (asked : Lifters) (officers : List UserName) (officer : UserName)
     → fewer_than (lifters_asked asked) (with_officer officer officers)
     ≡ option_and_then (λ (found : List UserName). fewer_than (lifters_asked asked) (with_officer officer found)) (fewer_than (lifters_asked asked) officers)
-still_enough lifters.One [] officer = refl
-still_enough lifters.One (first ∷ more) officer = by (has_lifted officer (first ∷ more))
+still_enough Lifters.One [] officer = refl
+still_enough Lifters.One (first ∷ more) officer = by (has_lifted officer (first ∷ more))
   where
     by : (b : Bool) → fewer_than 1 (cond b (first ∷ more) (first ∷ more ++ officer ∷ [])) ≡ None
     by true = refl
     by false = refl
-still_enough lifters.Two [] officer = refl
-still_enough lifters.Two (first ∷ []) officer = refl
-still_enough lifters.Two (first ∷ second ∷ more) officer = by (has_lifted officer (first ∷ second ∷ more))
+still_enough Lifters.Two [] officer = refl
+still_enough Lifters.Two (first ∷ []) officer = refl
+still_enough Lifters.Two (first ∷ second ∷ more) officer = by (has_lifted officer (first ∷ second ∷ more))
   where
     by : (b : Bool) → fewer_than 2 (cond b (first ∷ second ∷ more) (first ∷ second ∷ more ++ officer ∷ [])) ≡ None
     by true = refl
@@ -120,8 +109,8 @@ still_enough lifters.Two (first ∷ second ∷ more) officer = by (has_lifted of
 
 -- a Kill that nobody has lifted is in force, however many officers are asked for
 fresh_kill : (asked : Lifters) → fewer_than (lifters_asked asked) [] ≡ Some []
-fresh_kill lifters.One = refl
-fresh_kill lifters.Two = refl
+fresh_kill Lifters.One = refl
+fresh_kill Lifters.Two = refl
 
 abbrev kill_of : Lifters → List (Option UserName) → Option (List UserName)
 kill_of asked marks = option_and_then (fewer_than (lifters_asked asked)) (option_map officers_of (behind_last is_none marks))

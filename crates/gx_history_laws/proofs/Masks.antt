@@ -1,8 +1,6 @@
 -- Accounts as bits: which account a bit is, and how great the number is.
-use Rattle.std.proofs.Common.{◌≡◌, ℕ, zero, suc, ◌+◌, ◌*◌, ◌/◌, ◌%◌, ◌^◌, ◌<◌, ◌≤◌, ◌==◌, nat_lt, Bool, true, false, List, [], ◌∷◌, length, refl, ◌∙◌, sym, ap, arith, if◌then◌else◌, ◌&&◌}
-use Rattle.std.specs.Prelude.{Option, Some, option_map}
-use Rattle.std.specs.List.{slice_get}
-use Rattle.std.proofs.Math.Nat.{div-div-eq-div-mul, pow-succ'}
+use Rattle.std.proofs.{Common.{◌≡◌, ℕ, zero, suc, ◌+◌, ◌*◌, ◌/◌, ◌%◌, ◌^◌, ◌<◌, ◌≤◌, ◌==◌, nat_lt, Bool, true, false, List, [], ◌∷◌, length, refl, ◌∙◌, sym, ap, arith, if◌then◌else◌, ◌&&◌}, Math.Nat.{div-div-eq-div-mul, pow-succ'}}
+use Rattle.std.specs.{Prelude.{Option, Some, option_map}, List.slice_get}
 use Rattle.gx_units.specs.declared.names.AccountName.{AccountName}
 use Rattle.gx_policy.specs.declared.policy.Account.{Account}
 use Rattle.gx_history.specs.Masks.{has_account, mask_by}

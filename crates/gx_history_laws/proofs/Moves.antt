@@ -1,37 +1,11 @@
 -- What one more record makes of all that is in force, by what it does.
 use Rattle.std.proofs.Common.{◌≡◌, ℕ, Bool, true, false, List, [], ◌∷◌, ◌++◌, refl, ◌∙◌, ap, sym, cond}
-use Rattle.std.specs.Prelude.{Option, Some, None, ◌||◌, ◌&&◌, option_and_then, unwrap_or}
-use Rattle.std.specs.Option.{option_map_or}
-use Rattle.gx_units.specs.declared.names.AccountName.{AccountName}
-use Rattle.gx_units.specs.declared.names.UserName.{UserName}
-use Rattle.gx_units.specs.Names.{same_account, same_user}
-use Rattle.gx_desk.specs.declared.Action.{Action}
-use Rattle.gx_desk.specs.declared.Action.TheVariants as actions
-use Rattle.gx_desk.specs.declared.Command.{Command}
-use Rattle.gx_desk.specs.Names.{is_written}
-use Rattle.gx_policy.specs.declared.policy.PolicyData.{PolicyData}
-use Rattle.gx_policy.specs.Lists.{where_true}
-use Rattle.gx_policy.specs.People.{account_of, is_reader, role_in}
-use Rattle.gx_history.specs.declared.live_order.LiveOrder.{LiveOrder}
-use Rattle.gx_history.specs.declared.record.Asked.{Asked}
-use Rattle.gx_history.specs.declared.record.RecordData.{RecordData}
-use Rattle.gx_history.specs.declared.record.Request.{Request}
-use Rattle.gx_history.specs.declared.record.Request.TheVariants as requests
-use Rattle.gx_history.specs.declared.record.Step.{Step}
-use Rattle.gx_history.specs.declared.record.Step.TheVariants as steps
-use Rattle.gx_history.specs.declared.record.Verdict.{Verdict}
-use Rattle.gx_history.specs.declared.record.Verdict.TheVariants as verdicts
-use Rattle.gx_history.specs.InForce.{changed, grant_or_revoke_of, is_close, is_closed, is_entitled, kill_after, kill_in_force, kill_or_lift_of, line_by, line_of, rules_in_force}
-use Rattle.gx_history.specs.Live.{live_under}
-use Rattle.gx_history.specs.LiveOrders.{replacement_order}
-use Rattle.gx_history.specs.Requests.{action_of, asked, is_granted, granted, granted_mark}
-use Rattle.gx_history.specs.Turns.{new_order}
-use Rattle.gx_history.specs.declared.moves.Move.{Move}
-use Rattle.gx_history.specs.declared.moves.Move.TheVariants.{Nothing, PutsOn, Adds, Sizes, Replaces, Commands}
-use Rattle.gx_history.specs.World.{World, world, commanded, move_asked, move_by, move_of, moved}
-use Rattle.gx_history_laws.proofs.Keeping.{others_not}
-use Rattle.gx_history_laws.proofs.KillsNext.{kill_in_force_next}
-use Rattle.gx_history_laws.proofs.NextInForce.{is_closed_next, is_entitled_next, line_of_next, rules_in_force_next, rules_with}
+use Rattle.std.specs.{Prelude.{Option, Some, None, ◌||◌, ◌&&◌, option_and_then, unwrap_or}, Option.option_map_or}
+use Rattle.gx_units.specs.{declared.names.{AccountName.AccountName, UserName.UserName}, Names.{same_account, same_user}}
+use Rattle.gx_desk.specs.{declared.{Action.Action, Command.Command}, Names.is_written}
+use Rattle.gx_policy.specs.{declared.policy.PolicyData.PolicyData, Lists.where_true, People.{account_of, is_reader, role_in}}
+use Rattle.gx_history.specs.{declared.{live_order.LiveOrder.LiveOrder, «record».{Asked.Asked, RecordData.RecordData, Request.Request, Step.Step, Verdict.Verdict}, moves.Move.{Move, TheVariants.{Nothing, PutsOn, Adds, Sizes, Replaces, Commands}}}, InForce.{changed, grant_or_revoke_of, is_close, is_closed, is_entitled, kill_after, kill_in_force, kill_or_lift_of, line_by, line_of, rules_in_force}, Live.live_under, LiveOrders.replacement_order, Requests.{action_of, asked, is_granted, granted, granted_mark}, Turns.new_order, World.{World, world, commanded, move_asked, move_by, move_of, moved}}
+use Rattle.gx_history_laws.proofs.{Keeping.others_not, KillsNext.kill_in_force_next, NextInForce.{is_closed_next, is_entitled_next, line_of_next, rules_in_force_next, rules_with}}
 
 -- of what a move does, what concerns lines and settings
 data Force : Type 0 where
@@ -45,9 +19,9 @@ force_in (Commands officer c) = Orders officer c.action
 force_in other = Keeps
 
 abbrev force_asked : Asked → Request → Force
-force_asked a (requests.Login m) = Puts a.user (Some a.line)
-force_asked a requests.Logout = Puts a.user None
-force_asked a (requests.Command c) = Orders a.user c.action
+force_asked a (Request.Login m) = Puts a.user (Some a.line)
+force_asked a Request.Logout = Puts a.user None
+force_asked a (Request.Command c) = Orders a.user c.action
 force_asked a other = Keeps
 
 abbrev force_granted : Option Asked → Force
@@ -71,63 +45,63 @@ found_keeps make same None = refl
 found_keeps make same (Some u) = same u
 
 force_of_asked : (policy : PolicyData) (w : World) (r : RecordData) (a : Asked) (q : Request) → force_in (move_asked policy w r a q) ≡ force_asked a q
-force_of_asked policy w r a (requests.Enter m) = found_keeps (λ (account : AccountName). Adds (new_order policy r a.user account m)) (λ account. refl) (account_of policy a.user)
-force_of_asked policy w r a (requests.Replace m) = found_keeps (λ (old : LiveOrder). Replaces old (replacement_order r m old)) (λ old. refl) (live_under w.live a.user m.existing_token)
-force_of_asked policy w r a (requests.Cancel m) = found_keeps (λ (cut : LiveOrder). Sizes cut m.shares) (λ cut. refl) (live_under w.live a.user m.token)
+force_of_asked policy w r a (Request.Enter m) = found_keeps (λ (account : AccountName). Adds (new_order policy r a.user account m)) (λ account. refl) (account_of policy a.user)
+force_of_asked policy w r a (Request.Replace m) = found_keeps (λ (old : LiveOrder). Replaces old (replacement_order r m old)) (λ old. refl) (live_under w.live a.user m.existing_token)
+force_of_asked policy w r a (Request.Cancel m) = found_keeps (λ (cut : LiveOrder). Sizes cut m.shares) (λ cut. refl) (live_under w.live a.user m.token)
 force_of_asked policy w r a other = refl
 
 force_of : (policy : PolicyData) (w : World) (r : RecordData) (v : Verdict) (s : Step) → force_in (move_by policy w r v s) ≡ force_granted (cond (is_granted v) (asked s) None)
-force_of policy w r verdicts.Granted (steps.Asked a) = force_of_asked policy w r a a.request
-force_of policy w r verdicts.Granted (steps.Matching handed) = refl
-force_of policy w r (verdicts.Denied rule) (steps.Asked a) = refl
-force_of policy w r (verdicts.Denied rule) (steps.Matching handed) = refl
-force_of policy w r (verdicts.Filled f) s = refl
-force_of policy w r (verdicts.Rested number) s = refl
-force_of policy w r (verdicts.Expired number) s = refl
+force_of policy w r Verdict.Granted (Step.Asked a) = force_of_asked policy w r a a.request
+force_of policy w r Verdict.Granted (Step.Matching handed) = refl
+force_of policy w r (Verdict.Denied rule) (Step.Asked a) = refl
+force_of policy w r (Verdict.Denied rule) (Step.Matching handed) = refl
+force_of policy w r (Verdict.Filled f) s = refl
+force_of policy w r (Verdict.Rested number) s = refl
+force_of policy w r (Verdict.Expired number) s = refl
 
 -- what is marked is marked by that force
 marked : {X : Type 0} (mark : UserName → Action → Option X) (found : Option Asked) → option_and_then (λ (a : Asked). option_and_then (mark a.user) (action_of a.request)) found ≡ mark_in mark (force_granted found)
 marked mark None = refl
 marked mark (Some a) = elim a.request as (λ (q : Request). option_and_then (mark a.user) (action_of q) ≡ mark_in mark (force_asked a q)) [
-  | requests.Login m ↦ refl
-  | requests.Logout ↦ refl
-  | requests.Unreadable m ↦ refl
-  | requests.Enter m ↦ refl
-  | requests.Replace m ↦ refl
-  | requests.Cancel m ↦ refl
-  | requests.Command c ↦ refl
+  | Request.Login m ↦ refl
+  | Request.Logout ↦ refl
+  | Request.Unreadable m ↦ refl
+  | Request.Enter m ↦ refl
+  | Request.Replace m ↦ refl
+  | Request.Cancel m ↦ refl
+  | Request.Command c ↦ refl
 ]
 
 acted : (found : Option Asked) → option_and_then (λ (a : Asked). action_of a.request) found ≡ mark_in as_it_is (force_granted found)
 acted None = refl
 acted (Some a) = elim a.request as (λ (q : Request). action_of q ≡ mark_in as_it_is (force_asked a q)) [
-  | requests.Login m ↦ refl
-  | requests.Logout ↦ refl
-  | requests.Unreadable m ↦ refl
-  | requests.Enter m ↦ refl
-  | requests.Replace m ↦ refl
-  | requests.Cancel m ↦ refl
-  | requests.Command c ↦ refl
+  | Request.Login m ↦ refl
+  | Request.Logout ↦ refl
+  | Request.Unreadable m ↦ refl
+  | Request.Enter m ↦ refl
+  | Request.Replace m ↦ refl
+  | Request.Cancel m ↦ refl
+  | Request.Command c ↦ refl
 ]
 
 lined : (user : UserName) (found : Option Asked) → option_and_then (λ (a : Asked). line_by user a a.request) found ≡ line_in user (force_granted found)
 lined user None = refl
 lined user (Some a) = elim a.request as (λ (q : Request). line_by user a q ≡ line_in user (force_asked a q)) [
-  | requests.Login m ↦ refl
-  | requests.Logout ↦ refl
-  | requests.Unreadable m ↦ refl
-  | requests.Enter m ↦ refl
-  | requests.Replace m ↦ refl
-  | requests.Cancel m ↦ refl
-  | requests.Command c ↦ refl
+  | Request.Login m ↦ refl
+  | Request.Logout ↦ refl
+  | Request.Unreadable m ↦ refl
+  | Request.Enter m ↦ refl
+  | Request.Replace m ↦ refl
+  | Request.Cancel m ↦ refl
+  | Request.Command c ↦ refl
 ]
 
 -- each word in force, moved
 kill_commanded : (policy : PolicyData) (r : RecordData) (officer : UserName) (c : Command) (account : AccountName) (w : World) (action : Action)
     → kill_after policy.lifters (kill_or_lift_of account officer action) (w.kills account) ≡ (commanded policy r officer c action w).kills account
-kill_commanded policy r officer c account w (actions.Kill named) =
+kill_commanded policy r officer c account w (Action.Kill named) =
     elim (same_account named account) as (λ b. kill_after policy.lifters (where_true b None) (w.kills account) ≡ cond b (Some []) (w.kills account)) [ true ↦ refl | false ↦ refl ]
-kill_commanded policy r officer c account w (actions.Lift named) =
+kill_commanded policy r officer c account w (Action.Lift named) =
     elim (same_account named account) as (λ b. kill_after policy.lifters (where_true b (Some officer)) (w.kills account) ≡ cond b (kill_after policy.lifters (Some (Some officer)) (w.kills account)) (w.kills account))
     [ true ↦ refl | false ↦ refl ]
 kill_commanded policy r officer c account w other = refl
@@ -141,14 +115,14 @@ line_moved : (policy : PolicyData) (r : RecordData) (user : UserName) (w : World
 line_moved policy r user w (PutsOn named line) =
     elim (same_user named user) as (λ b. unwrap_or (where_true b line) (w.lines user) ≡ cond b line (w.lines user)) [ true ↦ refl | false ↦ refl ]
 line_moved policy r user w (Commands officer c) = elim c.action as (λ (x : Action). w.lines user ≡ (commanded policy r officer c x w).lines user) [
-  | actions.Kill account ↦ refl
-  | actions.Lift account ↦ refl
-  | actions.SetLimit rule limit ↦ refl
-  | actions.Restrict rule stock ↦ refl
-  | actions.Unrestrict rule stock ↦ refl
-  | actions.Grant reader account ↦ refl
-  | actions.Revoke reader account ↦ refl
-  | actions.CloseDay ↦ refl
+  | Action.Kill account ↦ refl
+  | Action.Lift account ↦ refl
+  | Action.SetLimit rule limit ↦ refl
+  | Action.Restrict rule stock ↦ refl
+  | Action.Unrestrict rule stock ↦ refl
+  | Action.Grant reader account ↦ refl
+  | Action.Revoke reader account ↦ refl
+  | Action.CloseDay ↦ refl
 ]
 line_moved policy r user w other = refl
 
@@ -162,27 +136,27 @@ or_ever false = refl
 
 closed_moved : (policy : PolicyData) (r : RecordData) (w : World) (m : Move) → (w.closed || option_map_or is_close (mark_in as_it_is (force_in m)) false) ≡ (moved policy r m w).closed
 closed_moved policy r w (Commands officer c) = elim c.action as (λ (x : Action). (w.closed || is_close x) ≡ (commanded policy r officer c x w).closed) [
-  | actions.Kill account ↦ or_never w.closed
-  | actions.Lift account ↦ or_never w.closed
-  | actions.SetLimit rule limit ↦ or_never w.closed
-  | actions.Restrict rule stock ↦ or_never w.closed
-  | actions.Unrestrict rule stock ↦ or_never w.closed
-  | actions.Grant reader account ↦ or_never w.closed
-  | actions.Revoke reader account ↦ or_never w.closed
-  | actions.CloseDay ↦ or_ever w.closed
+  | Action.Kill account ↦ or_never w.closed
+  | Action.Lift account ↦ or_never w.closed
+  | Action.SetLimit rule limit ↦ or_never w.closed
+  | Action.Restrict rule stock ↦ or_never w.closed
+  | Action.Unrestrict rule stock ↦ or_never w.closed
+  | Action.Grant reader account ↦ or_never w.closed
+  | Action.Revoke reader account ↦ or_never w.closed
+  | Action.CloseDay ↦ or_ever w.closed
 ]
 closed_moved policy r w other = or_never w.closed
 
 rules_moved : (policy : PolicyData) (r : RecordData) (w : World) (m : Move) → rules_with w.rules (mark_in as_it_is (force_in m)) ≡ (moved policy r m w).rules
 rules_moved policy r w (Commands officer c) = elim c.action as (λ (x : Action). changed w.rules x ≡ (commanded policy r officer c x w).rules) [
-  | actions.Kill account ↦ refl
-  | actions.Lift account ↦ refl
-  | actions.SetLimit rule limit ↦ refl
-  | actions.Restrict rule stock ↦ refl
-  | actions.Unrestrict rule stock ↦ refl
-  | actions.Grant reader account ↦ refl
-  | actions.Revoke reader account ↦ refl
-  | actions.CloseDay ↦ refl
+  | Action.Kill account ↦ refl
+  | Action.Lift account ↦ refl
+  | Action.SetLimit rule limit ↦ refl
+  | Action.Restrict rule stock ↦ refl
+  | Action.Unrestrict rule stock ↦ refl
+  | Action.Grant reader account ↦ refl
+  | Action.Revoke reader account ↦ refl
+  | Action.CloseDay ↦ refl
 ]
 rules_moved policy r w other = refl
 
@@ -201,8 +175,8 @@ same_either false x = refl
 
 sight_commanded : (policy : PolicyData) (r : RecordData) (officer : UserName) (c : Command) (reader : UserName) (account : AccountName) (w : World) (action : Action)
     → cond (is_reader (role_in policy.users reader)) (unwrap_or (grant_or_revoke_of reader account officer action) (w.sight reader account)) (w.sight reader account) ≡ (commanded policy r officer c action w).sight reader account
-sight_commanded policy r officer c reader account w (actions.Grant written named) = sight_by (is_reader (role_in policy.users reader)) (is_written written reader && same_account named account) true (w.sight reader account)
-sight_commanded policy r officer c reader account w (actions.Revoke written named) = sight_by (is_reader (role_in policy.users reader)) (is_written written reader && same_account named account) false (w.sight reader account)
+sight_commanded policy r officer c reader account w (Action.Grant written named) = sight_by (is_reader (role_in policy.users reader)) (is_written written reader && same_account named account) true (w.sight reader account)
+sight_commanded policy r officer c reader account w (Action.Revoke written named) = sight_by (is_reader (role_in policy.users reader)) (is_written written reader && same_account named account) false (w.sight reader account)
 sight_commanded policy r officer c reader account w other = same_either (is_reader (role_in policy.users reader)) (w.sight reader account)
 
 sight_moved : (policy : PolicyData) (r : RecordData) (reader : UserName) (account : AccountName) (w : World) (m : Move)

@@ -1,17 +1,8 @@
 -- Names: those that are the same byte for byte are equal, and a sound policy's differ.
-use Rattle.std.proofs.Common.{◌≡◌, ℕ, ◌≤◌, arith, length, nat_le, true, List, refl, ap}
+use Rattle.std.proofs.{Common.{◌≡◌, ℕ, ◌≤◌, arith, length, nat_le, true, List, refl, ap}, lemmas.Slice.Eq.bytes_eq-Decides}
 use Rattle.std.specs.Cmp.Lexicographic.{nat_list_eq_equiv}
-use Rattle.std.proofs.lemmas.Slice.Eq.{bytes_eq-Decides}
-use Rattle.gx_units.specs.Names.{same_account, same_stock, same_token, same_user}
-use Rattle.gx_units.specs.declared.names.AccountName.{AccountName}
-use Rattle.gx_units.specs.declared.names.Symbol.{Symbol}
-use Rattle.gx_units.specs.declared.names.Token.{Token}
-use Rattle.gx_units.specs.declared.names.UserName.{UserName}
-use Rattle.gx_policy.specs.declared.policy.Account.{Account}
-use Rattle.gx_policy.specs.declared.policy.PolicyData.{PolicyData}
-use Rattle.gx_policy.specs.declared.policy.User.{User}
-use Rattle.gx_policy.specs.Lists.{are_distinct}
-use Rattle.gx_policy.specs.Soundness.{is_sound, is_within_limits, names_differ}
+use Rattle.gx_units.specs.{Names.{same_account, same_stock, same_token, same_user}, declared.names.{AccountName.AccountName, Symbol.Symbol, Token.Token, UserName.UserName}}
+use Rattle.gx_policy.specs.{declared.policy.{Account.Account, PolicyData.PolicyData, User.User}, Lists.are_distinct, Soundness.{is_sound, is_within_limits, names_differ}}
 use Rattle.gx_history_laws.proofs.Judging.{both}
 
 pub same_user_flip : (a b : UserName) → same_user a b ≡ same_user b a

@@ -1,12 +1,8 @@
 -- Tables and the lists that they stand for, whatever the keys.
-use Rattle.std.proofs.Common.{◌≡◌, ℕ, ◌+◌, ◌<◌, Bool, true, false, cond, not, List, [], ◌∷◌, ◌++◌, map, refl, ◌∙◌, sym, ap, subst, length, take, drop, get_or, append_assoc}
-use Rattle.std.specs.Prelude.{Some, None}
-use Rattle.std.specs.List.{list_any, AllByRecursion, IsDistinct}
-use Rattle.std.specs.Map.{keys_of, lookup, set_value}
-use Rattle.std.proofs.lemmas.List.{take_more, take-append-drop}
+use Rattle.std.proofs.{Common.{◌≡◌, ℕ, ◌+◌, ◌<◌, Bool, true, false, cond, not, List, [], ◌∷◌, ◌++◌, map, refl, ◌∙◌, sym, ap, subst, length, take, drop, get_or, append_assoc}, lemmas.List.{take_more, take-append-drop}}
+use Rattle.std.specs.{Prelude.{Some, None}, List.{list_any, AllByRecursion, IsDistinct}, Map.{keys_of, lookup, set_value}}
 use Rattle.gx_policy.specs.Lists.{are_distinct}
-use Rattle.gx_history_laws.proofs.Judging.{both}
-use Rattle.gx_history_laws.proofs.Order.{none_among}
+use Rattle.gx_history_laws.proofs.{Judging.both, Order.none_among}
 
 -- where none is found, none has the key
 pub none_found : {K V : Type 0} (same : K → K → Bool) (key : K) (entries : List (K × V)) → None ≡ lookup (same key) entries

@@ -1,54 +1,30 @@
 -- What the definitions say of every policy, every history and every request.
-use Rattle.std.specs.Option.{option_map_or}
-use Rattle.std.specs.Prelude.{ℕ, ◌<◌, ◌^◌, option_map, ◌≡◌, ◌+◌, ◌≤◌, ◌||◌, unwrap_or, is_some, length, List, [], ◌∷◌, ◌++◌, map, Some, ◌↔◌, IsTrue, IsFalse, Bool, false, ◌&&◌, filter}
-use Rattle.std.specs.List.{list_any, slice_get, AllByRecursion}
-use Rattle.gx_units.specs.declared.names.AccountName.{AccountName}
-use Rattle.gx_units.specs.declared.names.Token.{Token}
-use Rattle.gx_units.specs.declared.names.UserName.{UserName}
-use Rattle.gx_units.specs.Names.{same_user, same_token}
+use Rattle.std.specs.{Option.option_map_or, Prelude.{ℕ, ◌<◌, ◌^◌, option_map, ◌≡◌, ◌+◌, ◌≤◌, ◌||◌, unwrap_or, is_some, length, List, [], ◌∷◌, ◌++◌, map, Some, ◌↔◌, IsTrue, IsFalse, Bool, false, ◌&&◌, filter}, List.{list_any, slice_get, AllByRecursion}}
+use Rattle.gx_units.specs.{declared.names.{AccountName.AccountName, Token.Token, UserName.UserName}, Names.{same_user, same_token}}
 use Rattle.gx_desk.specs.declared.Action.{Action}
-use Rattle.gx_policy.specs.declared.policy.Account.{Account}
-use Rattle.gx_policy.specs.declared.policy.PolicyData.{PolicyData}
-use Rattle.gx_policy.specs.declared.rule_name.RuleName.{RuleName}
-use Rattle.gx_policy.specs.Lists.{are_distinct}
-use Rattle.gx_policy.specs.People.{account_of, stock_named}
-use Rattle.gx_policy.specs.Soundness.{is_sound}
-use Rattle.gx_history.specs.declared.live_order.LiveOrder.{LiveOrder}
-use Rattle.gx_history.specs.declared.record.Asked.{Asked}
-use Rattle.gx_history.specs.declared.record.RecordData.{RecordData}
-use Rattle.gx_history.specs.declared.record.Step.{Step}
-use Rattle.gx_history.specs.declared.record.Step.TheVariants as steps
-use Rattle.gx_history.specs.declared.record.Verdict.TheVariants as verdicts
-use Rattle.gx_history.specs.InForce.{is_closed, kill_after, kill_in_force, kill_or_lift_of, line_of, login_or_logout_of, record_closes}
-use Rattle.gx_history.specs.Live.{live}
-use Rattle.gx_history.specs.Masks.{has_account, mask_by}
-use Rattle.gx_history.specs.Orders.{Order, orders, ends_account, is_token_used, record_uses}
-use Rattle.gx_history.specs.Requests.{granted, granted_action, granted_mark, is_order}
-use Rattle.gx_history.specs.Rules.{applies, written_order, IsFirstForbidding}
-use Rattle.gx_history.specs.Showing.{is_askable, is_showable}
-use Rattle.gx_history.specs.Streams.{stream, reports_of}
-use Rattle.gx_history.specs.Verdicts.{verdict, facts_now, rules_now, next, last_moment, moment_of, run, day_limit, Follows, IsLegal}
+use Rattle.gx_policy.specs.{declared.{policy.{Account.Account, PolicyData.PolicyData}, rule_name.RuleName.RuleName}, Lists.are_distinct, People.{account_of, stock_named}, Soundness.is_sound}
+use Rattle.gx_history.specs.{declared.{live_order.LiveOrder.LiveOrder, «record».{Asked.Asked, RecordData.RecordData, Step.Step, Verdict.Verdict}}, InForce.{is_closed, kill_after, kill_in_force, kill_or_lift_of, line_of, login_or_logout_of, record_closes}, Live.live, Masks.{has_account, mask_by}, Orders.{Order, orders, ends_account, is_token_used, record_uses}, Requests.{granted, granted_action, granted_mark, is_order}, Rules.{applies, written_order, IsFirstForbidding}, Showing.{is_askable, is_showable}, Streams.{stream, reports_of}, Verdicts.{verdict, facts_now, rules_now, next, last_moment, moment_of, run, day_limit, Follows, IsLegal}}
 
 -- a request leaves one record: the next number, the moment, the request and its verdict
 abbrev pub RequestsLeaveRecords : Type 0
 RequestsLeaveRecords = (policy : PolicyData) (history : List RecordData) (a : Asked)
-    → next policy history (steps.Asked a)
-    ≡ Some (record { number = length history + 1; moment = moment_of history (steps.Asked a); step = steps.Asked a; verdict = verdict policy history a })
+    → next policy history (Step.Asked a)
+    ≡ Some (record { number = length history + 1; moment = moment_of history (Step.Asked a); step = Step.Asked a; verdict = verdict policy history a })
 
 -- a request is granted exactly where no rule of the written order forbids it
 abbrev pub GrantedWhereNoneForbids : Type 0
 GrantedWhereNoneForbids = (policy : PolicyData) (history : List RecordData) (a : Asked)
-    → verdict policy history a ≡ verdicts.Granted ↔ IsFalse (list_any (applies (facts_now policy history a) a.request) (written_order (rules_now policy history a)))
+    → verdict policy history a ≡ Verdict.Granted ↔ IsFalse (list_any (applies (facts_now policy history a) a.request) (written_order (rules_now policy history a)))
 
 -- a denial names a rule exactly where that rule is the first that forbids
 abbrev pub DeniedByTheFirst : Type 0
 DeniedByTheFirst = (policy : PolicyData) (history : List RecordData) (a : Asked) (name : RuleName)
-    → verdict policy history a ≡ verdicts.Denied name ↔ IsFirstForbidding (rules_now policy history a) (facts_now policy history a) a.request name
+    → verdict policy history a ≡ Verdict.Denied name ↔ IsFirstForbidding (rules_now policy history a) (facts_now policy history a) a.request name
 
 -- the audit can show the record of each request, under a sound policy
 abbrev pub RequestsAreShown : Type 0
 RequestsAreShown = (policy : PolicyData) (history : List RecordData) (a : Asked) (r : RecordData)
-    → IsTrue (is_sound policy) → IsTrue (is_askable a) → next policy history (steps.Asked a) ≡ Some r → IsTrue (is_showable r)
+    → IsTrue (is_sound policy) → IsTrue (is_askable a) → next policy history (Step.Asked a) ≡ Some r → IsTrue (is_showable r)
 
 -- a history is legal exactly where its beginning is, and its last record is what its step leaves
 abbrev pub LegalGoesOn : Type 0

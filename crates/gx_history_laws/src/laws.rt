@@ -1,7 +1,6 @@
 //! Laws of the definitions, each as what a function without a body ensures.
 
-ghost use Rattle.gx_history_laws.specs.Laws.{RequestsLeaveRecords, GrantedWhereNoneForbids, DeniedByTheFirst, RequestsAreShown, LegalGoesOn, RunsAreLegal, LegalAreRuns, NumbersArePlaces, OrdersAreGrants, OrderNumbersAreWithin, TokensDiffer, AccountsAreTheUsers, StocksAreListed, LiveHaveOpen, EndedAreNotLive, TokensGrow, LinesGoOn, KillsGoOn, DaysEnd, MomentsGoOn, StreamsGrow};
-ghost use Rattle.gx_history_laws.specs.Laws.{MasksAreExact, MasksAreWithin};
+ghost use Rattle.gx_history_laws.specs.Laws.{RequestsLeaveRecords, GrantedWhereNoneForbids, DeniedByTheFirst, RequestsAreShown, LegalGoesOn, RunsAreLegal, LegalAreRuns, NumbersArePlaces, OrdersAreGrants, OrderNumbersAreWithin, TokensDiffer, AccountsAreTheUsers, StocksAreListed, LiveHaveOpen, EndedAreNotLive, TokensGrow, LinesGoOn, KillsGoOn, DaysEnd, MomentsGoOn, StreamsGrow, MasksAreExact, MasksAreWithin};
 
 /// A request leaves a record of its verdict: granted where no rule forbids, else denied by the first that does.
 pub fn requests_are_judged()

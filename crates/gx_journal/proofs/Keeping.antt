@@ -1,17 +1,14 @@
 -- What a journal keeps, call by call.
-use Rattle.std.proofs.Common.{◌≡◌, ℕ, ◌+◌, ◌-◌, ◌<◌, ◌≤◌, Bool, true, false, List, ◌++◌, Option, None, length, take, drop, min, is_some, refl, sym, ap, ◌∙◌, subst, arith}
+use Rattle.gx_devices.specs.{declared.fault.WriteFault.WriteFault, Devices.IsFront}
+use Rattle.std.proofs.{Common.{◌≡◌, ℕ, ◌+◌, ◌-◌, ◌<◌, ◌≤◌, Bool, true, false, List, ◌++◌, Option, None, length, take, drop, min, is_some, refl, sym, ap, ◌∙◌, subst, arith}, lemmas.List.{length-take, length-drop, take_all, take-append-drop, take-append-le}}
 use Rattle.std.specs.Io.KnownBytes.{Appends}
-use Rattle.std.proofs.lemmas.List.{length-take, length-drop, take_all, take-append-drop, take-append-le}
 use mathlib.Core.List.{IsPrefix}
-use Rattle.gx_devices.specs.Devices.{IsFront}
-use Rattle.gx_policy.specs.declared.policy.PolicyData.{PolicyData}
+use Rattle.gx_policy.specs.{declared.policy.PolicyData.PolicyData, Lists.slice}
 use Rattle.gx_history.specs.declared.record.RecordData.{RecordData}
 use Rattle.gx_audit_bytes.specs.declared.version.AuditVersion.{AuditVersion}
-use Rattle.gx_policy.specs.Lists.{slice}
 use Rattle.gx_pass.specs.declared.view.Holds.{Holds}
 use Rattle.gx_pass.proofs.Fronts.{prefix_length}
 use Rattle.gx_door.specs.Acts.{IsLater}
-use Rattle.gx_journal.specs.declared.fault.JournalFault.{JournalFault}
 use Rattle.gx_journal.specs.Journals.{added, is_broken, journal_bytes, known, IsGrown, IsKept, JournalData, TapeData}
 use Rattle.gx_journal.proofs.Rolling.{added_later, cut_there, cut_written, more_written, none_added, piece_size}
 
@@ -20,7 +17,7 @@ clash true t f = absurd (cc f)
 clash false t f = absurd (cc t)
 
 pub sound_of : (tape : TapeData) → tape.fault ≡ None → is_broken tape ≡ false
-sound_of tape none = ap (λ (f : Option JournalFault). is_some f) none
+sound_of tape none = ap (λ (f : Option WriteFault). is_some f) none
 
 abbrev pub journal : Holds → TapeData → JournalData
 journal met tape = record { met = met; tape = tape }

@@ -1,16 +1,11 @@
 -- Records that are written piece by piece, behind those that were there at first.
-use Rattle.std.proofs.Common.{◌≡◌, ℕ, ◌+◌, ◌-◌, ◌≤◌, List, [], ◌∷◌, ◌++◌, Option, Some, None, length, take, drop, pred, max, min, refl, sym, ap, ◌∙◌, subst, append_assoc, arith}
+use Rattle.std.proofs.{Common.{◌≡◌, ℕ, ◌+◌, ◌-◌, ◌≤◌, List, [], ◌∷◌, ◌++◌, Option, Some, None, length, take, drop, pred, max, min, refl, sym, ap, ◌∙◌, subst, append_assoc, arith}, KnownBytes.{Appends-nil, Appends-trans}, Math.Seq.take-add, lemmas.List.{drop_all, take-append-drop, take_min, take-append-le, drop-append-le, length-take, length-drop}}
 use Rattle.std.specs.Io.KnownBytes.{Appends}
-use Rattle.std.proofs.KnownBytes.{Appends-nil, Appends-trans}
-use Rattle.std.proofs.Math.Seq.{take-add}
-use Rattle.std.proofs.lemmas.List.{drop_all, take-append-drop, take_min, take-append-le, drop-append-le, length-take, length-drop}
 use mathlib.Core.List.{IsPrefix}
 use Rattle.gx_devices.specs.Devices.{IsFront}
 use Rattle.gx_history.specs.declared.record.RecordData.{RecordData}
 use Rattle.gx_policy.specs.Lists.{slice}
-use Rattle.gx_audit_bytes.specs.declared.version.AuditVersion.{AuditVersion}
-use Rattle.gx_audit_bytes.specs.Audits.{all_bytes}
-use Rattle.gx_audit_bytes.specs.Records.{record_bytes}
+use Rattle.gx_audit_bytes.specs.{declared.version.AuditVersion.AuditVersion, Audits.all_bytes, Records.record_bytes}
 use Rattle.gx_journal.specs.Journals.{added, journal_bytes, IsGrown}
 
 no_bytes : (version : AuditVersion) → journal_bytes version [] ≡ []

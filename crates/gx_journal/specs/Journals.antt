@@ -1,21 +1,16 @@
 -- What a journal keeps of a day.
-use Rattle.std.specs.Prelude.{◌≡◌, ℕ, ◌<◌, ◌≤◌, max, List, length, take, drop, [], Bool, Option, Some, None, IsTrue, IsFalse, is_some}
-use Rattle.std.specs.Io.KnownBytes.{append_known}
-use Rattle.gx_devices.specs.Devices.{IsFront}
+use Rattle.gx_devices.specs.{declared.fault.WriteFault.WriteFault, Devices.IsFront}
+use Rattle.std.specs.{Prelude.{◌≡◌, ℕ, ◌<◌, ◌≤◌, max, List, length, take, drop, [], Bool, Option, Some, None, IsTrue, IsFalse, is_some}, Io.KnownBytes.append_known}
 use Rattle.gx_history.specs.declared.record.RecordData.{RecordData}
-use Rattle.gx_audit_bytes.specs.declared.version.AuditVersion.{AuditVersion}
-use Rattle.gx_audit_bytes.specs.Audits.{all_bytes}
-use Rattle.gx_pass.specs.declared.view.Holds.{Holds}
-use Rattle.gx_pass.specs.Views.{holds}
-use Rattle.gx_journal.specs.declared.fault.JournalFault.{JournalFault}
-use Rattle.gx_journal.specs.declared.fault.JournalFault.TheVariants as faults
+use Rattle.gx_audit_bytes.specs.{declared.version.AuditVersion.AuditVersion, Audits.all_bytes}
+use Rattle.gx_pass.specs.{declared.view.Holds.Holds, Views.holds}
 
 -- what a device holds, as far as that is known, in which version records are put there, how many of the day's records are on it, and why no more are put there
 pub record TapeData : Type 0 where
   pub contents : Option (List ℕ)
   pub version : AuditVersion
   pub done : ℕ
-  pub fault : Option JournalFault
+  pub fault : Option WriteFault
 
 -- what the journal's pass has met, and the device
 pub record JournalData : Type 0 where
@@ -60,8 +55,3 @@ pub record IsKept (begun : Option (List ℕ)) (count : ℕ) (earlier : List Reco
   pub met : j.tape.done ≤ length j.met.front
   pub whole : IsFalse (is_broken j.tape) → IsGrown begun j.tape.contents (journal_bytes version (added count j.tape.done j.met.front))
   pub cut : IsTrue (is_broken j.tape) → ∥ IsFront begun j.tape.contents (journal_bytes version (drop count j.met.front)) ∥₁
-
--- of the counts of failed calls of a writer, before and after: it is blamed exactly where a call of it failed
-abbrev pub IsBlamed : (writes writes' : ℕ) → JournalFault → Type 0
-IsBlamed writes writes' faults.WriteFailed = writes < writes'
-IsBlamed writes writes' faults.OutOfMemory = writes' ≡ writes

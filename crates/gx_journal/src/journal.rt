@@ -8,10 +8,10 @@ ghost use Rattle.gx_pass.specs.Views.{retold};
 ghost use Rattle.gx_door.specs.Acts.{IsLater};
 ghost use Rattle.gx_journal.specs.Journals.{added, is_broken, journal_bytes, known, IsGrown, IsKept};
 
-use crate::fault::JournalFault;
 use crate::name::JournalName;
 use crate::tape::Tape;
 use gx_audit_bytes::AuditVersion;
+use gx_devices::WriteFault;
 use gx_door::Door;
 use gx_history::record::Record;
 use gx_units::OutOfMemory;
@@ -137,7 +137,7 @@ impl<D: Door, W: Write, J: JournalName> Journal<D, W, J> {
         let most = PIECE.min(count - self.tape.done());
         match self.fetch(rt, door, most) {
             Ok(records) => self.put(records.as_slice()),
-            Err(_) => self.give_up(JournalFault::OutOfMemory),
+            Err(_) => self.give_up(WriteFault::OutOfMemory),
         }
     }
 
@@ -175,7 +175,7 @@ impl<D: Door, W: Write, J: JournalName> Journal<D, W, J> {
     }
 
     /// Writes nothing any more.
-    fn give_up(&mut self, fault: JournalFault) -> bool
+    fn give_up(&mut self, fault: WriteFault) -> bool
         requires sound { IsFalse (is_broken self.old.tape) }
         ensures answer { IsFalse result }
         ensures met { self.new.met ≡ self.old.met }

@@ -6,13 +6,11 @@
 //! something. Records that are there together are written together, by whoever comes first.
 #![tactic(auto)]
 
-mod fault;
 mod journal;
 mod journaled;
 mod name;
 mod tape;
 
-pub use fault::JournalFault;
 pub use journal::Journal;
 pub use journaled::Journaled;
 pub use name::JournalName;

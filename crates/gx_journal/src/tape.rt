@@ -1,14 +1,12 @@
 //! A device that records are put on.
 
-ghost use Rattle.std.specs.Prelude.{◌≡◌, ◌+◌, ◌-◌, ◌^◌, ◌<◌, length, None, Some, is_none, IsSome, IsTrue, IsFalse, IfErr, OnErr, OnOk};
-ghost use Rattle.std.specs.Io.KnownBytes.{Appends};
-ghost use Rattle.gx_devices.specs.Devices.{IsFront};
-ghost use Rattle.gx_journal.specs.declared.fault.JournalFault.TheVariants as faults;
-ghost use Rattle.gx_journal.specs.Journals.{is_broken, journal_bytes, IsBlamed};
+ghost use Rattle.gx_devices.specs.{Blaming.IsBlamed, Devices.IsFront};
+ghost use Rattle.std.specs.{Prelude.{◌≡◌, ◌+◌, ◌-◌, ◌^◌, ◌<◌, length, None, Some, is_none, IsSome, IsTrue, IsFalse, IfErr, OnErr, OnOk}, Io.KnownBytes.Appends};
+ghost use Rattle.gx_devices.specs.declared.fault.WriteFault.TheVariants as faults;
+ghost use Rattle.gx_journal.specs.Journals.{is_broken, journal_bytes};
 
-use crate::fault::JournalFault;
 use gx_audit_bytes::{AuditVersion, audit_bytes};
-use gx_devices::{Counted, write_whole};
+use gx_devices::{Counted, WriteFault, write_whole};
 use gx_history::record::Record;
 use std::alloc::Global;
 use std::io::Write;
@@ -22,7 +20,7 @@ pub struct Tape<W: Write> {
     writer: Counted<W>,
     version: AuditVersion,
     done: u64,
-    fault: Option<JournalFault>,
+    fault: Option<WriteFault>,
 }
 
 impl<W: Write> Model for Tape<W> {
@@ -47,7 +45,7 @@ fn put_on<W: Write>(
     version: AuditVersion,
     writer: &mut Counted<W>,
     records: &[Record],
-) -> Result<(), JournalFault>
+) -> Result<(), WriteFault>
     requires { writer.old.failed < 2 ^ 64 - 1 }
     ensures whole { OnOk result (Appends
         (W.contents writer.old.device) (W.contents writer.new.device)
@@ -125,7 +123,7 @@ impl<W: Write> Tape<W> {
     }
 
     /// Puts nothing on it any more.
-    pub fn give_up(&mut self, fault: JournalFault)
+    pub fn give_up(&mut self, fault: WriteFault)
         ensures fault { IsTrue (is_broken self.new) }
         ensures contents { self.new.contents ≡ self.old.contents }
         ensures version { self.new.version ≡ self.old.version }
@@ -137,7 +135,7 @@ impl<W: Write> Tape<W> {
     }
 
     /// The device, and why nothing was put on it any more, if so.
-    pub fn into_parts(self) -> (W, Option<JournalFault>)
+    pub fn into_parts(self) -> (W, Option<WriteFault>)
         ensures contents { W.contents result.0 ≡ self.contents }
         ensures fault { result.1 ≡ self.fault }
     {

@@ -1,11 +1,8 @@
 -- What the keepers hold at the beginning of a day.
 use Rattle.std.proofs.Common.{◌≡◌, List, [], ◌∙◌, sym}
-use Rattle.gx_policy.specs.declared.policy.FileRule.{FileRule}
-use Rattle.gx_policy.specs.declared.policy.PolicyData.{PolicyData}
-use Rattle.gx_policy.specs.declared.policy.User.{User}
+use Rattle.gx_policy.specs.declared.policy.{FileRule.FileRule, PolicyData.PolicyData, User.User}
 use Rattle.gx_history.specs.InForce.{rules_in_force}
-use Rattle.gx_day.specs.DayData.{DayData}
-use Rattle.gx_day.specs.InForce.{fresh_day}
+use Rattle.gx_day.specs.{DayData.DayData, InForce.fresh_day}
 use Rattle.gx_day.proofs.Going.{day_begins}
 use Rattle.gx_orders.specs.LiveOrders.{OrdersData}
 use Rattle.gx_orders.proofs.Staying.{none_at_first}
@@ -13,10 +10,8 @@ use Rattle.gx_book.specs.Books.{StockOrders, empty_book}
 use Rattle.gx_market.proofs.Booked.{book_at_first}
 use Rattle.gx_people.proofs.Keeping.{first_users}
 use Rattle.gx_positions.specs.Changing.{nothing}
-use Rattle.gx_ledger.specs.Keeping.{Kept}
-use Rattle.gx_ledger.specs.StandsFor.{StandsFor}
-use Rattle.gx_streams.specs.Streams.{AllStreams, empty_streams}
-use Rattle.gx_streams.specs.Telling.{shown}
+use Rattle.gx_ledger.specs.{Keeping.Kept, StandsFor.StandsFor}
+use Rattle.gx_streams.specs.{Streams.{AllStreams, empty_streams}, Telling.shown}
 use Rattle.gx_streams.proofs.Telling.{first_told}
 use Rattle.gx_keepers.specs.Keepers.{AreInForce, AreSentTo}
 use Rattle.gx_keepers.proofs.Figuring.{begins}

@@ -1,63 +1,24 @@
 -- What a record makes of the keepers, by what it does.
-use Rattle.std.proofs.Common.{◌≡◌, ℕ, ◌<◌, arith, true, false, Bool, List, [], ◌∷◌, ◌++◌, length, refl, ◌∙◌, ap, sym, cond, map}
-use Rattle.std.proofs.Math.Path.{subst}
-use Rattle.std.proofs.lemmas.List.{append-nil, append_cancel_left}
-use Rattle.std.specs.Prelude.{Option, Some, None, IfSome, option_and_then, option_to_list}
-use Rattle.std.specs.Option.{option_map_or}
-use Rattle.gx_units.specs.Names.{same_user}
-use Rattle.gx_units.specs.declared.names.AccountName.{AccountName}
-use Rattle.gx_units.specs.declared.names.UserName.{UserName}
-use Rattle.gx_desk.specs.declared.Action.{Action}
-use Rattle.gx_desk.specs.declared.Command.{Command}
-use Rattle.gx_policy.specs.declared.policy.FileRule.{FileRule}
-use Rattle.gx_policy.specs.declared.policy.PolicyData.{PolicyData}
-use Rattle.gx_policy.specs.declared.policy.User.{User}
-use Rattle.gx_policy.specs.declared.rule_name.RuleName.{RuleName}
-use Rattle.gx_policy.specs.People.{account_of}
-use Rattle.gx_history.specs.declared.live_order.LiveOrder.{LiveOrder}
-use Rattle.gx_history.specs.declared.moves.Move.{Move}
-use Rattle.gx_history.specs.declared.moves.Move.TheVariants as moves
-use Rattle.gx_history.specs.declared.record.Asked.{Asked}
-use Rattle.gx_history.specs.declared.record.Fill.{Fill}
-use Rattle.gx_history.specs.declared.record.RecordData.{RecordData}
-use Rattle.gx_history.specs.declared.record.Request.{Request}
-use Rattle.gx_history.specs.declared.record.Request.TheVariants as requests
-use Rattle.gx_history.specs.declared.record.Step.{Step}
-use Rattle.gx_history.specs.declared.record.Step.TheVariants as steps
-use Rattle.gx_history.specs.declared.record.Verdict.{Verdict}
-use Rattle.gx_history.specs.declared.record.Verdict.TheVariants as verdicts
-use Rattle.gx_history.specs.declared.report.Message.{Message}
-use Rattle.gx_history.specs.InForce.{rules_in_force}
-use Rattle.gx_history.specs.Live.{live, live_under}
-use Rattle.gx_history.specs.LiveOrders.{replacement_order}
-use Rattle.gx_history.specs.Requests.{action_of, asked, granted_action, is_granted}
-use Rattle.gx_history.specs.Streams.{canceled_of, replaced_of, reported, reports_of, reports_of_denial, stream, to_user}
-use Rattle.gx_history.specs.Turns.{new_order}
-use Rattle.gx_history.specs.Verdicts.{next}
-use Rattle.gx_history.specs.World.{Does, World, accepted_of, move_asked, move_by, moved, world}
-use Rattle.gx_ouch.specs.declared.letters.CancelReason.TheVariants as cancels
-use Rattle.gx_history_laws.proofs.Adding.{user_is_itself}
-use Rattle.gx_history_laws.proofs.NextInForce.{rules_in_force_next, rules_with}
-use Rattle.gx_history_laws.proofs.NextReports.{stream_next}
+use Rattle.std.proofs.{Common.{◌≡◌, ℕ, ◌<◌, arith, true, false, Bool, List, [], ◌∷◌, ◌++◌, length, refl, ◌∙◌, ap, sym, cond, map}, Math.Path.subst, lemmas.List.{append-nil, append_cancel_left}}
+use Rattle.std.specs.{Prelude.{Option, Some, None, IfSome, option_and_then, option_to_list}, Option.option_map_or}
+use Rattle.gx_units.specs.{Names.same_user, declared.names.{AccountName.AccountName, UserName.UserName}}
+use Rattle.gx_desk.specs.declared.{Action.Action, Command.Command}
+use Rattle.gx_policy.specs.{declared.{policy.{FileRule.FileRule, PolicyData.PolicyData, User.User}, rule_name.RuleName.RuleName}, People.account_of}
+use Rattle.gx_history.specs.{declared.{live_order.LiveOrder.LiveOrder, moves.Move.Move, «record».{Asked.Asked, Fill.Fill, RecordData.RecordData, Request.Request, Step.Step, Verdict.Verdict}, report.Message.Message}, InForce.rules_in_force, Live.{live, live_under}, LiveOrders.replacement_order, Requests.{action_of, asked, granted_action, is_granted}, Streams.{canceled_of, replaced_of, reported, reports_of, reports_of_denial, stream, to_user}, Turns.new_order, Verdicts.next, World.{Does, World, accepted_of, move_asked, move_by, moved, world}}
+use Rattle.gx_ouch.specs.declared.letters.CancelReason.{CancelReason}
+use Rattle.gx_history_laws.proofs.{Adding.user_is_itself, NextInForce.{rules_in_force_next, rules_with}, NextReports.stream_next}
 use Rattle.gx_effects.proofs.Doing.{IsAskedMove, IsMatchMove, asked_does, match_does, world_does}
-use Rattle.gx_day.specs.DayData.{DayData, at_moment}
-use Rattle.gx_day.specs.InForce.{day_in_force, day_moved}
+use Rattle.gx_day.specs.{DayData.{DayData, at_moment}, InForce.{day_in_force, day_moved}}
 use Rattle.gx_day.proofs.Going.{day_next}
-use Rattle.gx_orders.specs.Changes.{orders_moved}
-use Rattle.gx_orders.specs.LiveOrders.{OrdersData}
+use Rattle.gx_orders.specs.{Changes.orders_moved, LiveOrders.OrdersData}
 use Rattle.gx_orders.proofs.Turned.{orders_next}
 use Rattle.gx_market.specs.Changes.{book_moved, cut_from}
 use Rattle.gx_market.proofs.ByKind.{books_next}
 use Rattle.gx_people.specs.Entitled.{given, people_in_force}
 use Rattle.gx_people.proofs.Keeping.{next_users}
-use Rattle.gx_streams.specs.Kept.{places_in}
-use Rattle.gx_streams.specs.Laws.{TellsNobody, TellsOne}
-use Rattle.gx_streams.specs.Streams.{AllStreams, ReaderMask, mask_in}
-use Rattle.gx_streams.specs.Telling.{shown, told_after}
+use Rattle.gx_streams.specs.{Kept.places_in, Laws.{TellsNobody, TellsOne}, Streams.{AllStreams, ReaderMask, mask_in}, Telling.{shown, told_after}}
 use Rattle.gx_streams.proofs.Telling.{stays_by_none, stays_by_one}
-use Rattle.gx_keepers.specs.declared.keepers.Keepers.{Keepers}
-use Rattle.gx_keepers.specs.Keepers.{AreCarriedOn, AreSentTo, HavePlaces, Takes, TakesAsked, mask_for, with_told}
-use Rattle.gx_keepers.specs.Ledgers.{StandsForDay}
+use Rattle.gx_keepers.specs.{declared.keepers.Keepers.Keepers, Keepers.{AreCarriedOn, AreSentTo, HavePlaces, Takes, TakesAsked, mask_for, with_told}, Ledgers.StandsForDay}
 use Rattle.gx_keepers.proofs.Figuring.{quiet_figured}
 
 -- who sees the same accounts, by the same masks, gets their fills
@@ -78,49 +39,49 @@ pub day_so : (r : RecordData) (m n : Move) (before now : DayData) → m ≡ n �
 day_so r m n before now same is = is ∙ ap (λ (x : Move). at_moment r.moment (day_moved x before)) same
 
 -- by a request
-pub asked_takes : (policy : PolicyData) (history : List RecordData) (a : Asked) (m : Move) (r : RecordData) (k : Keepers) → r.step ≡ steps.Asked a → Takes policy history m r k → TakesAsked policy history a r k
+pub asked_takes : (policy : PolicyData) (history : List RecordData) (a : Asked) (m : Move) (r : RecordData) (k : Keepers) → r.step ≡ Step.Asked a → Takes policy history m r k → TakesAsked policy history a r k
 asked_takes policy history a m r k asks t = record { legal = t.does.legal; fits = t.fits; left = ap (next policy history) (sym asks) ∙ t.does.is_next; in_force = t.in_force }
 
 -- what a request does is one of these
-pub no_other_move : (policy : PolicyData) (history : List RecordData) (a : Asked) (m : Move) (r : RecordData) → Does policy history r m → r.step ≡ steps.Asked a
-    → ((b : Asked) (rule : RuleName) → m ≡ moves.Denies b rule → ⊥) → ((user : UserName) (line : Option ℕ) → m ≡ moves.PutsOn user line → ⊥) → ((new : LiveOrder) → m ≡ moves.Adds new → ⊥)
-    → ((cut : LiveOrder) (size : ℕ) → m ≡ moves.Sizes cut size → ⊥) → ((old new : LiveOrder) → m ≡ moves.Replaces old new → ⊥) → ((officer : UserName) (c : Command) → m ≡ moves.Commands officer c → ⊥) → ⊥
+pub no_other_move : (policy : PolicyData) (history : List RecordData) (a : Asked) (m : Move) (r : RecordData) → Does policy history r m → r.step ≡ Step.Asked a
+    → ((b : Asked) (rule : RuleName) → m ≡ Move.Denies b rule → ⊥) → ((user : UserName) (line : Option ℕ) → m ≡ Move.PutsOn user line → ⊥) → ((new : LiveOrder) → m ≡ Move.Adds new → ⊥)
+    → ((cut : LiveOrder) (size : ℕ) → m ≡ Move.Sizes cut size → ⊥) → ((old new : LiveOrder) → m ≡ Move.Replaces old new → ⊥) → ((officer : UserName) (c : Command) → m ≡ Move.Commands officer c → ⊥) → ⊥
 no_other_move policy history a m r d asks no_denial no_line no_enter no_cancel no_replace no_command = by m (asked_does policy history r a m d asks) no_denial no_line no_enter no_cancel no_replace no_command
   where
     by : (m : Move) → IsAskedMove m
-        → ((b : Asked) (rule : RuleName) → m ≡ moves.Denies b rule → ⊥) → ((user : UserName) (line : Option ℕ) → m ≡ moves.PutsOn user line → ⊥) → ((new : LiveOrder) → m ≡ moves.Adds new → ⊥)
-        → ((cut : LiveOrder) (size : ℕ) → m ≡ moves.Sizes cut size → ⊥) → ((old new : LiveOrder) → m ≡ moves.Replaces old new → ⊥) → ((officer : UserName) (c : Command) → m ≡ moves.Commands officer c → ⊥) → ⊥
-    by moves.Nothing is no_denial no_line no_enter no_cancel no_replace no_command = is
-    by (moves.Denies b rule) is no_denial no_line no_enter no_cancel no_replace no_command = no_denial b rule refl
-    by (moves.PutsOn user line) is no_denial no_line no_enter no_cancel no_replace no_command = no_line user line refl
-    by (moves.Adds new) is no_denial no_line no_enter no_cancel no_replace no_command = no_enter new refl
-    by (moves.Sizes cut size) is no_denial no_line no_enter no_cancel no_replace no_command = no_cancel cut size refl
-    by (moves.Replaces old new) is no_denial no_line no_enter no_cancel no_replace no_command = no_replace old new refl
-    by (moves.Commands officer c) is no_denial no_line no_enter no_cancel no_replace no_command = no_command officer c refl
-    by (moves.Fills f) is no_denial no_line no_enter no_cancel no_replace no_command = is
-    by (moves.Rests number) is no_denial no_line no_enter no_cancel no_replace no_command = is
-    by (moves.Expires number) is no_denial no_line no_enter no_cancel no_replace no_command = is
+        → ((b : Asked) (rule : RuleName) → m ≡ Move.Denies b rule → ⊥) → ((user : UserName) (line : Option ℕ) → m ≡ Move.PutsOn user line → ⊥) → ((new : LiveOrder) → m ≡ Move.Adds new → ⊥)
+        → ((cut : LiveOrder) (size : ℕ) → m ≡ Move.Sizes cut size → ⊥) → ((old new : LiveOrder) → m ≡ Move.Replaces old new → ⊥) → ((officer : UserName) (c : Command) → m ≡ Move.Commands officer c → ⊥) → ⊥
+    by Move.Nothing is no_denial no_line no_enter no_cancel no_replace no_command = is
+    by (Move.Denies b rule) is no_denial no_line no_enter no_cancel no_replace no_command = no_denial b rule refl
+    by (Move.PutsOn user line) is no_denial no_line no_enter no_cancel no_replace no_command = no_line user line refl
+    by (Move.Adds new) is no_denial no_line no_enter no_cancel no_replace no_command = no_enter new refl
+    by (Move.Sizes cut size) is no_denial no_line no_enter no_cancel no_replace no_command = no_cancel cut size refl
+    by (Move.Replaces old new) is no_denial no_line no_enter no_cancel no_replace no_command = no_replace old new refl
+    by (Move.Commands officer c) is no_denial no_line no_enter no_cancel no_replace no_command = no_command officer c refl
+    by (Move.Fills f) is no_denial no_line no_enter no_cancel no_replace no_command = is
+    by (Move.Rests number) is no_denial no_line no_enter no_cancel no_replace no_command = is
+    by (Move.Expires number) is no_denial no_line no_enter no_cancel no_replace no_command = is
 
 -- and what a matching step does one of these
 pub no_other_match : (policy : PolicyData) (history : List RecordData) (m : Move) (r : RecordData) → Does policy history r m → asked r.step ≡ None
-    → ((f : Fill) → m ≡ moves.Fills f → ⊥) → ((number : ℕ) → m ≡ moves.Rests number → ⊥) → ((number : ℕ) → m ≡ moves.Expires number → ⊥) → ⊥
+    → ((f : Fill) → m ≡ Move.Fills f → ⊥) → ((number : ℕ) → m ≡ Move.Rests number → ⊥) → ((number : ℕ) → m ≡ Move.Expires number → ⊥) → ⊥
 no_other_match policy history m r d none no_fill no_rest no_end = by m (match_does policy history r m d none) no_fill no_rest no_end
   where
-    by : (m : Move) → IsMatchMove m → ((f : Fill) → m ≡ moves.Fills f → ⊥) → ((number : ℕ) → m ≡ moves.Rests number → ⊥) → ((number : ℕ) → m ≡ moves.Expires number → ⊥) → ⊥
-    by moves.Nothing is no_fill no_rest no_end = is
-    by (moves.Denies a rule) is no_fill no_rest no_end = is
-    by (moves.PutsOn user line) is no_fill no_rest no_end = is
-    by (moves.Adds new) is no_fill no_rest no_end = is
-    by (moves.Sizes cut size) is no_fill no_rest no_end = is
-    by (moves.Replaces old new) is no_fill no_rest no_end = is
-    by (moves.Commands officer c) is no_fill no_rest no_end = is
-    by (moves.Fills f) is no_fill no_rest no_end = no_fill f refl
-    by (moves.Rests number) is no_fill no_rest no_end = no_rest number refl
-    by (moves.Expires number) is no_fill no_rest no_end = no_end number refl
+    by : (m : Move) → IsMatchMove m → ((f : Fill) → m ≡ Move.Fills f → ⊥) → ((number : ℕ) → m ≡ Move.Rests number → ⊥) → ((number : ℕ) → m ≡ Move.Expires number → ⊥) → ⊥
+    by Move.Nothing is no_fill no_rest no_end = is
+    by (Move.Denies a rule) is no_fill no_rest no_end = is
+    by (Move.PutsOn user line) is no_fill no_rest no_end = is
+    by (Move.Adds new) is no_fill no_rest no_end = is
+    by (Move.Sizes cut size) is no_fill no_rest no_end = is
+    by (Move.Replaces old new) is no_fill no_rest no_end = is
+    by (Move.Commands officer c) is no_fill no_rest no_end = is
+    by (Move.Fills f) is no_fill no_rest no_end = no_fill f refl
+    by (Move.Rests number) is no_fill no_rest no_end = no_rest number refl
+    by (Move.Expires number) is no_fill no_rest no_end = no_end number refl
 
 -- the command that is granted, if one is
 abbrev pub action_in : Move → Option Action
-action_in (moves.Commands officer c) = Some c.action
+action_in (Move.Commands officer c) = Some c.action
 action_in other = None
 
 -- what is done to people and to rules
@@ -131,34 +92,34 @@ abbrev pub rules_moved : Move → List FileRule → List FileRule
 rules_moved m rules = rules_with rules (action_in m)
 
 action_by : (policy : PolicyData) (w : World) (r : RecordData) (v : Verdict) (s : Step) → option_and_then (λ (x : Asked). action_of x.request) (cond (is_granted v) (asked s) None) ≡ action_in (move_by policy w r v s)
-action_by policy w r verdicts.Granted (steps.Asked a) = by a.request
+action_by policy w r Verdict.Granted (Step.Asked a) = by a.request
   where
     by : (q : Request) → action_of q ≡ action_in (move_asked policy w r a q)
-    by (requests.Login m) = refl
-    by requests.Logout = refl
-    by (requests.Unreadable m) = refl
-    by (requests.Enter m) = at (account_of policy a.user)
+    by (Request.Login m) = refl
+    by Request.Logout = refl
+    by (Request.Unreadable m) = refl
+    by (Request.Enter m) = at (account_of policy a.user)
       where
-        at : (found : Option AccountName) → None ≡ action_in (option_map_or (λ (account : AccountName). moves.Adds (new_order policy r a.user account m)) found moves.Nothing)
+        at : (found : Option AccountName) → None ≡ action_in (option_map_or (λ (account : AccountName). Move.Adds (new_order policy r a.user account m)) found Move.Nothing)
         at None = refl
         at (Some account) = refl
-    by (requests.Replace m) = at (live_under w.live a.user m.existing_token)
+    by (Request.Replace m) = at (live_under w.live a.user m.existing_token)
       where
-        at : (found : Option LiveOrder) → None ≡ action_in (option_map_or (λ (old : LiveOrder). moves.Replaces old (replacement_order r m old)) found moves.Nothing)
+        at : (found : Option LiveOrder) → None ≡ action_in (option_map_or (λ (old : LiveOrder). Move.Replaces old (replacement_order r m old)) found Move.Nothing)
         at None = refl
         at (Some old) = refl
-    by (requests.Cancel m) = at (live_under w.live a.user m.token)
+    by (Request.Cancel m) = at (live_under w.live a.user m.token)
       where
-        at : (found : Option LiveOrder) → None ≡ action_in (option_map_or (λ (cut : LiveOrder). moves.Sizes cut m.shares) found moves.Nothing)
+        at : (found : Option LiveOrder) → None ≡ action_in (option_map_or (λ (cut : LiveOrder). Move.Sizes cut m.shares) found Move.Nothing)
         at None = refl
         at (Some cut) = refl
-    by (requests.Command c) = refl
-action_by policy w r verdicts.Granted (steps.Matching handed) = refl
-action_by policy w r (verdicts.Denied rule) (steps.Asked a) = refl
-action_by policy w r (verdicts.Denied rule) (steps.Matching handed) = refl
-action_by policy w r (verdicts.Filled f) s = refl
-action_by policy w r (verdicts.Rested number) s = refl
-action_by policy w r (verdicts.Expired number) s = refl
+    by (Request.Command c) = refl
+action_by policy w r Verdict.Granted (Step.Matching handed) = refl
+action_by policy w r (Verdict.Denied rule) (Step.Asked a) = refl
+action_by policy w r (Verdict.Denied rule) (Step.Matching handed) = refl
+action_by policy w r (Verdict.Filled f) s = refl
+action_by policy w r (Verdict.Rested number) s = refl
+action_by policy w r (Verdict.Expired number) s = refl
 
 action_does : (policy : PolicyData) (history : List RecordData) (r : RecordData) (m : Move) → Does policy history r m → granted_action r ≡ action_in m
 action_does policy history r m d = action_by policy (world policy history) r r.verdict r.step ∙ ap action_in d.moves
@@ -231,42 +192,42 @@ one_goes_on policy history m r before k receiver found t tells people_are people
 
 -- a denial
 pub denial_tells : (policy : PolicyData) (history : List RecordData) (a : Asked) (r : RecordData) (rule : RuleName) (found : Option Message)
-    → Does policy history r (moves.Denies a rule) → option_to_list found ≡ reports_of_denial policy r rule a.request → TellsOne policy history (history ++ r ∷ []) r a.user (option_to_list found)
+    → Does policy history r (Move.Denies a rule) → option_to_list found ≡ reports_of_denial policy r rule a.request → TellsOne policy history (history ++ r ∷ []) r a.user (option_to_list found)
 denial_tells policy history a r rule found d is user =
-    told_by policy history (moves.Denies a rule) r user d ∙ ap (λ (told : List Message). stream policy history user ++ map (reported r) (to_user a.user user told)) (sym is)
+    told_by policy history (Move.Denies a rule) r user d ∙ ap (λ (told : List Message). stream policy history user ++ map (reported r) (to_user a.user user told)) (sym is)
 
 -- who is told of it has a place
 pub denied_place : (policy : PolicyData) (history : List RecordData) (a : Asked) (r : RecordData) (rule : RuleName) (k : Keepers) (found : Option Message)
-    → Takes policy history (moves.Denies a rule) r k → HavePlaces policy history r k.streams → option_to_list found ≡ reports_of_denial policy r rule a.request
+    → Takes policy history (Move.Denies a rule) r k → HavePlaces policy history r k.streams → option_to_list found ≡ reports_of_denial policy r rule a.request
     → IfSome found (λ (message : Message). 0 < places_in k.streams.told a.user)
 denied_place policy history a r rule k None t places is = tt
 denied_place policy history a r rule k (Some message) t places is =
     has_place policy history r k.streams a.user message places (denial_tells policy history a r rule (Some message) t.does is)
 
 -- an Enter
-pub enter_tells : (policy : PolicyData) (history : List RecordData) (r : RecordData) (new : LiveOrder) → Does policy history r (moves.Adds new) → TellsOne policy history (history ++ r ∷ []) r new.user (accepted_of new)
-enter_tells policy history r new d user = told_by policy history (moves.Adds new) r user d
+pub enter_tells : (policy : PolicyData) (history : List RecordData) (r : RecordData) (new : LiveOrder) → Does policy history r (Move.Adds new) → TellsOne policy history (history ++ r ∷ []) r new.user (accepted_of new)
+enter_tells policy history r new d user = told_by policy history (Move.Adds new) r user d
 
 -- a Cancel
 abbrev pub told_of_cut : LiveOrder → ℕ → List Message
-told_of_cut o size = canceled_of cancels.UserRequested (cut_from o size) o
+told_of_cut o size = canceled_of CancelReason.UserRequested (cut_from o size) o
 
-pub cancel_tells : (policy : PolicyData) (history : List RecordData) (r : RecordData) (cut : LiveOrder) (size : ℕ) → Does policy history r (moves.Sizes cut size)
+pub cancel_tells : (policy : PolicyData) (history : List RecordData) (r : RecordData) (cut : LiveOrder) (size : ℕ) → Does policy history r (Move.Sizes cut size)
     → TellsOne policy history (history ++ r ∷ []) r cut.user (told_of_cut cut size)
-cancel_tells policy history r cut size d user = told_by policy history (moves.Sizes cut size) r user d
+cancel_tells policy history r cut size d user = told_by policy history (Move.Sizes cut size) r user d
 
 -- a Replace
-pub replace_tells : (policy : PolicyData) (history : List RecordData) (r : RecordData) (old new : LiveOrder) → Does policy history r (moves.Replaces old new)
+pub replace_tells : (policy : PolicyData) (history : List RecordData) (r : RecordData) (old new : LiveOrder) → Does policy history r (Move.Replaces old new)
     → TellsOne policy history (history ++ r ∷ []) r old.user (replaced_of old new)
-replace_tells policy history r old new d user = told_by policy history (moves.Replaces old new) r user d
+replace_tells policy history r old new d user = told_by policy history (Move.Replaces old new) r user d
 
 -- a Login or a Logout tells nobody
-pub line_goes_on : (policy : PolicyData) (history : List RecordData) (user : UserName) (line : Option ℕ) (r : RecordData) (before k : Keepers) → Takes policy history (moves.PutsOn user line) r before
-    → k.people ≡ before.people → k.rules ≡ before.rules → k.day ≡ at_moment r.moment (day_moved (moves.PutsOn user line) before.day)
+pub line_goes_on : (policy : PolicyData) (history : List RecordData) (user : UserName) (line : Option ℕ) (r : RecordData) (before k : Keepers) → Takes policy history (Move.PutsOn user line) r before
+    → k.people ≡ before.people → k.rules ≡ before.rules → k.day ≡ at_moment r.moment (day_moved (Move.PutsOn user line) before.day)
     → k.orders ≡ before.orders → k.book ≡ before.book → k.ledger ≡ before.ledger → k.streams ≡ before.streams
     → AreCarriedOn policy history r k
 line_goes_on policy history user line r before k t people_are rules_are day_is orders_are book_is ledger_is streams_are =
-    goes_on policy history (moves.PutsOn user line) r before k t people_are rules_are day_is orders_are book_is
-    (quiet_figured policy history (moves.PutsOn user line) r before k.ledger t tt ledger_is)
-    (ap shown streams_are ∙ stays_by_none policy history (history ++ r ∷ []) before.streams t.in_force.streams (λ other. told_by policy history (moves.PutsOn user line) r other t.does))
+    goes_on policy history (Move.PutsOn user line) r before k t people_are rules_are day_is orders_are book_is
+    (quiet_figured policy history (Move.PutsOn user line) r before k.ledger t tt ledger_is)
+    (ap shown streams_are ∙ stays_by_none policy history (history ++ r ∷ []) before.streams t.in_force.streams (λ other. told_by policy history (Move.PutsOn user line) r other t.does))
     (still_sent policy before.people k.people before.streams.readers k.streams.readers people_are (ap (λ (s : AllStreams). s.readers) streams_are) t.in_force.sent)

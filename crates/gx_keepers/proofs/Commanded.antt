@@ -1,66 +1,24 @@
 -- What a granted command makes of the keepers: what is told of it, and what is in force after it.
-use Rattle.std.proofs.Common.{◌≡◌, ℕ, ◌+◌, ◌<◌, ◌≤◌, arith, true, false, not, Bool, List, [], ◌∷◌, ◌++◌, length, length-append, refl, ◌∙◌, ap, sym, cond, map}
-use Rattle.std.proofs.Math.Path.{subst}
-use Rattle.std.proofs.lemmas.List.{append_assoc, append_cancel_left, map-append}
-use Rattle.std.specs.Prelude.{Option, Some, None, is_some, option_and_then, option_map, ◌||◌}
-use Rattle.std.specs.Option.{option_map_or}
-use Rattle.std.specs.List.{AllByRecursion, filter, list_any}
-use Rattle.gx_units.specs.Names.{same_user}
-use Rattle.gx_units.specs.declared.names.AccountName.{AccountName}
-use Rattle.gx_units.specs.declared.names.UserName.{UserName}
-use Rattle.gx_desk.specs.declared.Action.{Action}
-use Rattle.gx_desk.specs.declared.Action.TheVariants as actions
-use Rattle.gx_desk.specs.declared.AnswerCode.{AnswerCode}
-use Rattle.gx_desk.specs.declared.Command.{Command}
-use Rattle.gx_policy.specs.declared.policy.FileRule.{FileRule}
-use Rattle.gx_policy.specs.declared.policy.PolicyData.{PolicyData}
-use Rattle.gx_policy.specs.declared.policy.User.{User}
-use Rattle.gx_history.specs.declared.moves.Move.{Move}
-use Rattle.gx_history.specs.declared.moves.Move.TheVariants as moves
-use Rattle.gx_history.specs.declared.record.RecordData.{RecordData}
-use Rattle.gx_history.specs.declared.record.Step.TheVariants as steps
-use Rattle.gx_history.specs.declared.report.Report.{Report}
-use Rattle.gx_history.specs.Asking.{knows_limit, knows_names, rule_in_force}
-use Rattle.gx_history.specs.InForce.{changed, limit_of, rules_in_force}
-use Rattle.gx_policy.specs.Lists.{are_distinct}
-use Rattle.gx_policy.specs.People.{account_named, is_trader, role_in, user_in}
-use Rattle.gx_history.specs.Readers.{reader_in}
-use Rattle.gx_policy.specs.Soundness.{is_sound}
-use Rattle.gx_history.specs.Streams.{answer, day_end, granted_code, lift_code, reported, reports_of, stream, to_user, ended_of}
-use Rattle.gx_history.specs.Verdicts.{next}
-use Rattle.gx_history_laws.proofs.Adding.{user_is, user_is_itself}
-use Rattle.gx_history_laws.proofs.Judging.{both}
-use Rattle.gx_history_laws.proofs.Names.{same_user_flip, users_differ}
-use Rattle.gx_history_laws.proofs.NextReports.{stream_next}
-use Rattle.gx_effects.proofs.Commanding.{grants_the_command, told_by_command}
-use Rattle.gx_effects.proofs.Doing.{IsCommanded, command_does, may_do}
-use Rattle.gx_day.specs.DayData.{DayData, at_moment}
-use Rattle.gx_day.specs.InForce.{day_commanded, day_in_force, day_moved}
-use Rattle.gx_day.proofs.Going.{day_next}
-use Rattle.gx_day.proofs.Answering.{known_kill_is_kept}
-use Rattle.gx_history.specs.declared.live_order.LiveOrder.{LiveOrder}
-use Rattle.gx_history.specs.Live.{live}
-use Rattle.gx_orders.specs.Changes.{is_lasting, live_left, with_live}
-use Rattle.gx_orders.specs.LiveOrders.{OrdersData}
+use Rattle.gx_policy.specs.{Kinds.limit_of, declared.policy.{FileRule.FileRule, PolicyData.PolicyData, User.User}, Lists.are_distinct, People.{account_named, is_trader, role_in, user_in}, Soundness.is_sound}
+use Rattle.std.proofs.{Common.{◌≡◌, ℕ, ◌+◌, ◌<◌, ◌≤◌, arith, true, false, not, Bool, List, [], ◌∷◌, ◌++◌, length, length-append, refl, ◌∙◌, ap, sym, cond, map}, Math.Path.subst, lemmas.List.{append_assoc, append_cancel_left, map-append}}
+use Rattle.std.specs.{Prelude.{Option, Some, None, is_some, option_and_then, option_map, ◌||◌}, Option.option_map_or, List.{AllByRecursion, filter, list_any}}
+use Rattle.gx_units.specs.{Names.same_user, declared.names.{AccountName.AccountName, UserName.UserName}}
+use Rattle.gx_desk.specs.declared.{Action.Action, AnswerCode.AnswerCode, Command.Command}
+use Rattle.gx_history.specs.{declared.{moves.Move.Move, «record».{RecordData.RecordData, Step.Step}, report.Report.Report, live_order.LiveOrder.LiveOrder}, Asking.{knows_limit, knows_names, rule_in_force}, InForce.{changed, rules_in_force}, Readers.reader_in, Streams.{answer, day_end, granted_code, lift_code, reported, reports_of, stream, to_user, ended_of}, Verdicts.next, Live.live}
+use Rattle.gx_history_laws.proofs.{Adding.{user_is, user_is_itself}, Judging.both, Names.{same_user_flip, users_differ}, NextReports.stream_next}
+use Rattle.gx_effects.proofs.{Commanding.{grants_the_command, told_by_command}, Doing.{IsCommanded, command_does, may_do}}
+use Rattle.gx_day.specs.{DayData.{DayData, at_moment}, InForce.{day_commanded, day_in_force, day_moved}}
+use Rattle.gx_day.proofs.{Going.day_next, Answering.known_kill_is_kept}
+use Rattle.gx_orders.specs.{Changes.{is_lasting, live_left, with_live}, LiveOrders.OrdersData}
 use Rattle.gx_book.specs.Books.{StockOrders}
 use Rattle.gx_market.specs.Changes.{ended_by}
 use Rattle.gx_people.specs.Entitled.{given, has_room, people_in_force}
 use Rattle.gx_people.proofs.Room.{readers_have_room}
-use Rattle.gx_streams.specs.Kept.{UserList, places_in}
-use Rattle.gx_streams.specs.Streams.{AllStreams, ReaderMask}
-use Rattle.gx_streams.specs.Telling.{each_told, owed_to, shown, with_all_owed, with_owed, owed_for, owed_for_ended, owed_message}
-use Rattle.gx_streams.proofs.Owing.{owed_both, ended_are_owed}
-use Rattle.gx_streams.proofs.Places.{owed_taken}
-use Rattle.gx_streams.proofs.Telling.{GoesOn, all_owed_shown, more_told}
+use Rattle.gx_streams.specs.{Kept.{UserList, places_in}, Streams.{AllStreams, ReaderMask}, Telling.{each_told, owed_to, shown, with_all_owed, with_owed, owed_for, owed_for_ended, owed_message}}
+use Rattle.gx_streams.proofs.{Owing.{owed_both, ended_are_owed}, Places.owed_taken, Telling.{GoesOn, all_owed_shown, more_told}}
 use Rattle.gx_ledger.specs.Following.{ClosesAll}
-use Rattle.gx_keepers.specs.declared.keepers.Keepers.{Keepers}
-use Rattle.gx_keepers.specs.Ends.{HaveOwedPlaces, code_by, is_ended, owed_by_answer, owed_by_close, owed_by_command, owed_by_day_end, owed_by_day_ends, owed_by_end, owed_by_ends, trades, day_end_message}
-use Rattle.gx_keepers.specs.Keepers.{AreCarriedOn, AreSentTo, HavePlaces, Takes}
-use Rattle.gx_keepers.specs.Ledgers.{ended_orders}
-use Rattle.gx_keepers.specs.Settings.{HasRoom, HasSetting, sent_on}
-use Rattle.gx_keepers.proofs.Carrying.{goes_on}
-use Rattle.gx_keepers.proofs.Figuring.{command_figured, none_end}
-use Rattle.gx_keepers.proofs.Sending.{owed_masks, sent_after, sent_told, shown_by_told}
+use Rattle.gx_keepers.specs.{declared.keepers.Keepers.Keepers, Ends.{HaveOwedPlaces, code_by, is_ended, owed_by_answer, owed_by_close, owed_by_command, owed_by_day_end, owed_by_day_ends, owed_by_end, owed_by_ends, trades, day_end_message}, Keepers.{AreCarriedOn, AreSentTo, HavePlaces, Takes}, Ledgers.ended_orders, Settings.{HasRoom, HasSetting, sent_on}}
+use Rattle.gx_keepers.proofs.{Carrying.goes_on, Figuring.{command_figured, none_end}, Sending.{owed_masks, sent_after, sent_told, shown_by_told}}
 
 -- ---- what is owed to one user
 
@@ -137,18 +95,18 @@ end_is moment user (u ∷ us) differ = by (same_user u.name user) refl (end_is m
 
 close_is : (policy : PolicyData) (r : RecordData) (action : Action) (user : UserName) → is_sound policy ≡ true
     → owed_to (owed_by_close action r.moment policy.users) user ≡ map (reported r) (day_end policy action user)
-close_is policy r actions.CloseDay user sound = end_is r.moment user policy.users (users_differ policy sound) ∙ shown_as (is_trader (role_in policy.users user))
+close_is policy r Action.CloseDay user sound = end_is r.moment user policy.users (users_differ policy sound) ∙ shown_as (is_trader (role_in policy.users user))
   where
     shown_as : (b : Bool) → cond {A = List Report} b (record { timestamp = r.moment; message = day_end_message } ∷ []) [] ≡ map (reported r) (cond b (day_end_message ∷ []) [])
     shown_as true = refl
     shown_as false = refl
-close_is policy r (actions.Kill account) user sound = refl
-close_is policy r (actions.Lift account) user sound = refl
-close_is policy r (actions.SetLimit rule limit) user sound = refl
-close_is policy r (actions.Restrict rule stock) user sound = refl
-close_is policy r (actions.Unrestrict rule stock) user sound = refl
-close_is policy r (actions.Grant reader account) user sound = refl
-close_is policy r (actions.Revoke reader account) user sound = refl
+close_is policy r (Action.Kill account) user sound = refl
+close_is policy r (Action.Lift account) user sound = refl
+close_is policy r (Action.SetLimit rule limit) user sound = refl
+close_is policy r (Action.Restrict rule stock) user sound = refl
+close_is policy r (Action.Unrestrict rule stock) user sound = refl
+close_is policy r (Action.Grant reader account) user sound = refl
+close_is policy r (Action.Revoke reader account) user sound = refl
 
 answer_is : (r : RecordData) (officer user : UserName) (c : Command) (code : AnswerCode) → owed_to (owed_by_answer r officer c code ∷ []) user ≡ map (reported r) (to_user officer user (answer r c code))
 answer_is r officer user c code =
@@ -162,18 +120,18 @@ abbrev pub code_left : PolicyData → List RecordData → RecordData → Command
 code_left policy history r c = granted_code policy (history ++ r ∷ []) c.action
 
 -- what its record owes
-pub command_owes : (policy : PolicyData) (history : List RecordData) (r : RecordData) (officer : UserName) (c : Command) (k : Keepers) (user : UserName) → Takes policy history (moves.Commands officer c) r k
+pub command_owes : (policy : PolicyData) (history : List RecordData) (r : RecordData) (officer : UserName) (c : Command) (k : Keepers) (user : UserName) → Takes policy history (Move.Commands officer c) r k
     → reports_of policy user (history, r) ≡ map (reported r) (ended_of (live policy history) c.action user ++ day_end policy c.action user ++ to_user officer user (answer r c (code_left policy history r c)))
 command_owes policy history r officer c k user t =
     let is : IsCommanded r.verdict r.step officer c = command_does policy history r officer c t.does in
-    let left : next policy history (steps.Asked is.asked) ≡ Some r = ap (next policy history) (sym is.asks) ∙ t.does.is_next in
+    let left : next policy history (Step.Asked is.asked) ≡ Some r = ap (next policy history) (sym is.asks) ∙ t.does.is_next in
     append_cancel_left (stream policy history user) _ _
     (sym (stream_next policy history r user) ∙ told_by_command policy history r is.asked c c.action user (grants_the_command policy history is.asked r c c.action left is.commands refl is.granted) is.commands refl)
     ∙ ap (λ (who : UserName). map (reported r) (ended_of (live policy history) c.action user ++ day_end policy c.action user ++ to_user who user (answer r c (code_left policy history r c)))) is.is_his
 
 -- as the keepers tell it
 owed_now : (policy : PolicyData) (history : List RecordData) (r : RecordData) (officer : UserName) (c : Command) (k : Keepers) (user : UserName)
-    → Takes policy history (moves.Commands officer c) r k → is_sound policy ≡ true
+    → Takes policy history (Move.Commands officer c) r k → is_sound policy ≡ true
     → reports_of policy user (history, r) ≡ owed_to (owed_by_command policy r officer c (code_left policy history r c) k.orders.live) user
 owed_now policy history r officer c k user t sound =
     let ends : List (UserName × Report) = owed_by_ends c.action r.moment (live policy history) in
@@ -194,35 +152,35 @@ owed_now policy history r officer c k user t sound =
 
 -- each user is told what is owed to him
 command_tells : (policy : PolicyData) (history : List RecordData) (r : RecordData) (officer : UserName) (c : Command) (k : Keepers)
-    → Takes policy history (moves.Commands officer c) r k → is_sound policy ≡ true
+    → Takes policy history (Move.Commands officer c) r k → is_sound policy ≡ true
     → GoesOn policy history (history ++ r ∷ []) (owed_to (owed_by_command policy r officer c (code_left policy history r c) k.orders.live))
 command_tells policy history r officer c k t sound user =
     stream_next policy history r user ∙ ap (λ (rs : List Report). stream policy history user ++ rs) (owed_now policy history r officer c k user t sound)
 
 code_kept : (policy : PolicyData) (history now : List RecordData) (action : Action) → knows_names policy history action ≡ true → code_by (day_in_force policy now) action ≡ granted_code policy now action
-code_kept policy history now (actions.Kill account) known = refl
-code_kept policy history now (actions.Lift account) known = ap (λ (kill : Option (List UserName)). lift_code (is_some kill)) (known_kill_is_kept policy now account known)
-code_kept policy history now actions.CloseDay known = refl
-code_kept policy history now (actions.SetLimit rule limit) known = refl
-code_kept policy history now (actions.Restrict rule stock) known = refl
-code_kept policy history now (actions.Unrestrict rule stock) known = refl
-code_kept policy history now (actions.Grant reader account) known = refl
-code_kept policy history now (actions.Revoke reader account) known = refl
+code_kept policy history now (Action.Kill account) known = refl
+code_kept policy history now (Action.Lift account) known = ap (λ (kill : Option (List UserName)). lift_code (is_some kill)) (known_kill_is_kept policy now account known)
+code_kept policy history now Action.CloseDay known = refl
+code_kept policy history now (Action.SetLimit rule limit) known = refl
+code_kept policy history now (Action.Restrict rule stock) known = refl
+code_kept policy history now (Action.Unrestrict rule stock) known = refl
+code_kept policy history now (Action.Grant reader account) known = refl
+code_kept policy history now (Action.Revoke reader account) known = refl
 
 -- the day that the command leaves tells the code of its answer
-pub code_is_left : (policy : PolicyData) (history : List RecordData) (r : RecordData) (officer : UserName) (c : Command) (k : Keepers) (day : DayData) (code : AnswerCode) → Takes policy history (moves.Commands officer c) r k
+pub code_is_left : (policy : PolicyData) (history : List RecordData) (r : RecordData) (officer : UserName) (c : Command) (k : Keepers) (day : DayData) (code : AnswerCode) → Takes policy history (Move.Commands officer c) r k
     → day ≡ at_moment r.moment (day_commanded officer c.action k.day) → code ≡ code_by day c.action → code ≡ code_left policy history r c
 code_is_left policy history r officer c k day code t day_is code_is =
     code_is
     ∙ ap (λ (d : DayData). code_by d c.action)
     (day_is ∙ ap (λ (d : DayData). at_moment r.moment (day_commanded officer c.action d)) t.in_force.day
     ∙ sym (day_next policy history r ∙ ap (λ (x : Move). at_moment r.moment (day_moved x (day_in_force policy history))) t.does.moves))
-    ∙ code_kept policy history (history ++ r ∷ []) c.action (may_do policy history r (moves.Commands officer c) t.does)
+    ∙ code_kept policy history (history ++ r ∷ []) c.action (may_do policy history r (Move.Commands officer c) t.does)
 
 -- and has a place for it
 pub command_places : (policy : PolicyData) (history : List RecordData) (r : RecordData) (officer : UserName) (c : Command) (k : Keepers) (streams : AllStreams) (now : List User) (day : DayData) (code : AnswerCode)
     → day ≡ at_moment r.moment (day_commanded officer c.action k.day) → code ≡ code_by day c.action → streams ≡ sent_on policy k.people now k.streams c.action
-    → Takes policy history (moves.Commands officer c) r k → HavePlaces policy history r k.streams → is_sound policy ≡ true
+    → Takes policy history (Move.Commands officer c) r k → HavePlaces policy history r k.streams → is_sound policy ≡ true
     → HaveOwedPlaces (owed_by_command policy r officer c code k.orders.live) streams
 command_places policy history r officer c k streams now day code day_is code_is sent_is t places sound user =
     subst (λ (x : AnswerCode). length (owed_to (owed_by_command policy r officer c x k.orders.live) user) ≤ places_in streams.told user)
@@ -293,23 +251,23 @@ none_owed_of_ends action moment live streams lasts =
     sym (ap (λ (os : List LiveOrder). with_all_owed (map (owed_by_end moment) os) streams) (none_end action lasts live))
 
 -- a command that is neither Kill nor Close Day leaves what lives and what rests
-pub none_ends_by_default : (action : Action) (orders : OrdersData) (book : List StockOrders) → ((account : AccountName) → action ≡ actions.Kill account → ⊥) → (action ≡ actions.CloseDay → ⊥)
+pub none_ends_by_default : (action : Action) (orders : OrdersData) (book : List StockOrders) → ((account : AccountName) → action ≡ Action.Kill account → ⊥) → (action ≡ Action.CloseDay → ⊥)
     → (is_lasting action ≡ true) × (orders ≡ with_live (live_left action orders.live) orders) × (book ≡ ended_by action book)
-none_ends_by_default (actions.Kill account) orders book no_kill no_close = absurd (no_kill account refl)
-none_ends_by_default actions.CloseDay orders book no_kill no_close = absurd (no_close refl)
-none_ends_by_default (actions.Lift account) orders book no_kill no_close = (refl, refl, refl)
-none_ends_by_default (actions.SetLimit rule limit) orders book no_kill no_close = (refl, refl, refl)
-none_ends_by_default (actions.Restrict rule stock) orders book no_kill no_close = (refl, refl, refl)
-none_ends_by_default (actions.Unrestrict rule stock) orders book no_kill no_close = (refl, refl, refl)
-none_ends_by_default (actions.Grant reader account) orders book no_kill no_close = (refl, refl, refl)
-none_ends_by_default (actions.Revoke reader account) orders book no_kill no_close = (refl, refl, refl)
+none_ends_by_default (Action.Kill account) orders book no_kill no_close = absurd (no_kill account refl)
+none_ends_by_default Action.CloseDay orders book no_kill no_close = absurd (no_close refl)
+none_ends_by_default (Action.Lift account) orders book no_kill no_close = (refl, refl, refl)
+none_ends_by_default (Action.SetLimit rule limit) orders book no_kill no_close = (refl, refl, refl)
+none_ends_by_default (Action.Restrict rule stock) orders book no_kill no_close = (refl, refl, refl)
+none_ends_by_default (Action.Unrestrict rule stock) orders book no_kill no_close = (refl, refl, refl)
+none_ends_by_default (Action.Grant reader account) orders book no_kill no_close = (refl, refl, refl)
+none_ends_by_default (Action.Revoke reader account) orders book no_kill no_close = (refl, refl, refl)
 
 -- ---- a granted command
 
 pub command_goes_on : (policy : PolicyData) (history : List RecordData) (r : RecordData) (officer : UserName) (c : Command) (code : AnswerCode) (before k : Keepers) (sent : AllStreams)
-    → Takes policy history (moves.Commands officer c) r before → is_sound policy ≡ true
+    → Takes policy history (Move.Commands officer c) r before → is_sound policy ≡ true
     → k.people ≡ given before.people c.action → sent ≡ sent_on policy before.people k.people before.streams c.action
-    → k.rules ≡ changed before.rules c.action → k.day ≡ at_moment r.moment (day_moved (moves.Commands officer c) before.day)
+    → k.rules ≡ changed before.rules c.action → k.day ≡ at_moment r.moment (day_moved (Move.Commands officer c) before.day)
     → k.orders ≡ with_live (live_left c.action before.orders.live) before.orders → k.book ≡ ended_by c.action before.book
     → ClosesAll (ended_orders c.action before.orders.live) before.ledger k.ledger → code ≡ code_by k.day c.action → k.streams ≡ with_all_owed (owed_by_command policy r officer c code before.orders.live) sent
     → AreCarriedOn policy history r k
@@ -317,7 +275,7 @@ command_goes_on policy history r officer c code before k sent t sound people_are
     let owed : List (UserName × Report) = owed_by_command policy r officer c (code_left policy history r c) before.orders.live in
     let streams_are : k.streams ≡ with_all_owed owed sent =
     told ∙ ap (λ (x : AnswerCode). with_all_owed (owed_by_command policy r officer c x before.orders.live) sent) (code_is_left policy history r officer c before k.day code t day_is code_is) in
-    goes_on policy history (moves.Commands officer c) r before k t people_are rules_are day_is orders_are book_is
+    goes_on policy history (Move.Commands officer c) r before k t people_are rules_are day_is orders_are book_is
     (command_figured policy history r officer c before k.ledger t closes)
     (ap shown streams_are ∙ all_owed_shown sent owed
     ∙ ap (each_told (owed_to owed)) (shown_by_told sent before.streams (ap (λ (s : AllStreams). s.told) sent_is ∙ sent_told policy before.people k.people before.streams c.action) ∙ t.in_force.streams)
@@ -328,42 +286,42 @@ command_goes_on policy history r officer c code before k sent t sound people_are
 
 -- the rule that a granted setting names has it
 knows_setting : (policy : PolicyData) (history : List RecordData) (action : Action) → knows_names policy history action ≡ true → HasSetting (rules_in_force policy history) action
-knows_setting policy history (actions.SetLimit rule limit) h = limit_there (rule_in_force policy history rule) h
+knows_setting policy history (Action.SetLimit rule limit) h = limit_there (rule_in_force policy history rule) h
   where
     limit_there : (found : Option FileRule) → knows_limit found ≡ true → is_some (option_and_then (λ (r : FileRule). limit_of r.kind) found) ≡ true
     limit_there None e = e
     limit_there (Some rule) e = e
-knows_setting policy history (actions.Restrict rule stock) h = (both _ _ h).0
-knows_setting policy history (actions.Unrestrict rule stock) h = (both _ _ h).0
-knows_setting policy history (actions.Grant reader account) h = tt
-knows_setting policy history (actions.Revoke reader account) h = tt
-knows_setting policy history (actions.Kill account) h = tt
-knows_setting policy history (actions.Lift account) h = tt
-knows_setting policy history actions.CloseDay h = tt
+knows_setting policy history (Action.Restrict rule stock) h = (both _ _ h).0
+knows_setting policy history (Action.Unrestrict rule stock) h = (both _ _ h).0
+knows_setting policy history (Action.Grant reader account) h = tt
+knows_setting policy history (Action.Revoke reader account) h = tt
+knows_setting policy history (Action.Kill account) h = tt
+knows_setting policy history (Action.Lift account) h = tt
+knows_setting policy history Action.CloseDay h = tt
 
 pub has_setting : (policy : PolicyData) (history : List RecordData) (r : RecordData) (officer : UserName) (c : Command) (k : Keepers)
-    → Takes policy history (moves.Commands officer c) r k → HasSetting k.rules c.action
+    → Takes policy history (Move.Commands officer c) r k → HasSetting k.rules c.action
 has_setting policy history r officer c k t =
     subst (λ (rules : List FileRule). HasSetting rules c.action) (sym t.in_force.rules)
-    (knows_setting policy history c.action (may_do policy history r (moves.Commands officer c) t.does))
+    (knows_setting policy history c.action (may_do policy history r (Move.Commands officer c) t.does))
 
 -- the reader whom a granted Grant names has room for the account
 pub has_room_for : (policy : PolicyData) (history : List RecordData) (r : RecordData) (officer : UserName) (c : Command) (k : Keepers)
-    → Takes policy history (moves.Commands officer c) r k → is_sound policy ≡ true → HasRoom k.people c.action
+    → Takes policy history (Move.Commands officer c) r k → is_sound policy ≡ true → HasRoom k.people c.action
 has_room_for policy history r officer c k t sound =
     subst (λ (people : List User). HasRoom people c.action) (sym t.in_force.people)
-    (by c.action (may_do policy history r (moves.Commands officer c) t.does))
+    (by c.action (may_do policy history r (Move.Commands officer c) t.does))
   where
     by : (action : Action) → knows_names policy history action ≡ true → HasRoom (people_in_force policy history) action
-    by (actions.Grant written account) known = named (reader_in (people_in_force policy history) written)
+    by (Action.Grant written account) known = named (reader_in (people_in_force policy history) written)
       where
         named : (found : Option User) → option_map_or (λ (u : User). has_room (people_in_force policy history) u.name account) found true ≡ true
         named None = refl
         named (Some u) = readers_have_room policy history u.name account sound t.does.legal (both (is_some (reader_in policy.users written)) (is_some (account_named policy account)) known).1
-    by (actions.Revoke written account) known = tt
-    by (actions.SetLimit rule limit) known = tt
-    by (actions.Restrict rule stock) known = tt
-    by (actions.Unrestrict rule stock) known = tt
-    by (actions.Kill account) known = tt
-    by (actions.Lift account) known = tt
-    by actions.CloseDay known = tt
+    by (Action.Revoke written account) known = tt
+    by (Action.SetLimit rule limit) known = tt
+    by (Action.Restrict rule stock) known = tt
+    by (Action.Unrestrict rule stock) known = tt
+    by (Action.Kill account) known = tt
+    by (Action.Lift account) known = tt
+    by Action.CloseDay known = tt

@@ -1,37 +1,22 @@
 -- The orders that a command ends, one by one.
-use Rattle.std.proofs.Common.{◌≡◌, ◌∙◌, List, [], ◌∷◌, ◌++◌, map, refl, sym, ap, subst}
+use Rattle.std.proofs.{Common.{◌≡◌, ◌∙◌, List, [], ◌∷◌, ◌++◌, map, refl, sym, ap, subst}, lemmas.List.append-nil}
 use Rattle.std.specs.List.{filter}
-use Rattle.std.proofs.lemmas.List.{append-nil}
-use Rattle.gx_units.specs.declared.names.UserName.{UserName}
-use Rattle.gx_units.specs.declared.names.AccountName.{AccountName}
+use Rattle.gx_units.specs.declared.names.{UserName.UserName, AccountName.AccountName}
 use Rattle.gx_desk.specs.declared.Action.{Action}
-use Rattle.gx_desk.specs.declared.Action.TheVariants as actions
 use Rattle.gx_policy.specs.declared.policy.PolicyData.{PolicyData}
-use Rattle.gx_history.specs.declared.live_order.LiveOrder.{LiveOrder}
-use Rattle.gx_history.specs.declared.moves.Move.{Move}
-use Rattle.gx_history.specs.declared.record.RecordData.{RecordData}
-use Rattle.gx_history.specs.declared.report.Report.{Report}
-use Rattle.gx_ledger.specs.Following.{ClosesAll}
-use Rattle.gx_ledger.specs.StandsFor.{Closes}
-use Rattle.gx_ledger.specs.Keeping.{Kept}
+use Rattle.gx_history.specs.declared.{live_order.LiveOrder.LiveOrder, moves.Move.Move, «record».RecordData.RecordData, report.Report.Report}
+use Rattle.gx_ledger.specs.{Following.ClosesAll, StandsFor.Closes, Keeping.Kept}
 use Rattle.gx_ledger.proofs.Following.{none_closes, one_more_closes}
-use Rattle.gx_streams.specs.Streams.{AllStreams}
-use Rattle.gx_streams.specs.Telling.{with_all_owed, with_owed}
+use Rattle.gx_streams.specs.{Streams.AllStreams, Telling.{with_all_owed, with_owed}}
 use Rattle.gx_orders.specs.LiveOrders.{OrdersData, of_account}
 use Rattle.gx_book.specs.Books.{StockOrders}
-use Rattle.gx_market.specs.BookInForce.{book_in_force}
-use Rattle.gx_market.specs.Changes.{each_taken_out, ended_by}
-use Rattle.gx_market.specs.Standing.{IsLiveBook}
-use Rattle.gx_market.proofs.Living.{books_are_live}
-use Rattle.gx_market.proofs.TakenOut.{kill_takes_live_orders}
-use Rattle.gx_keepers.specs.declared.keepers.Keepers.{Keepers}
-use Rattle.gx_keepers.specs.Ends.{HaveOwedPlaces, is_ended}
-use Rattle.gx_keepers.specs.Keepers.{Takes}
-use Rattle.gx_keepers.specs.Ledgers.{ended_orders}
+use Rattle.gx_market.specs.{BookInForce.book_in_force, Changes.{each_taken_out, ended_by}, Standing.IsLiveBook}
+use Rattle.gx_market.proofs.{Living.books_are_live, TakenOut.kill_takes_live_orders}
+use Rattle.gx_keepers.specs.{declared.keepers.Keepers.Keepers, Ends.{HaveOwedPlaces, is_ended}, Keepers.Takes, Ledgers.ended_orders}
 use Rattle.gx_keepers.proofs.Commanded.{rest_have_places}
 
 -- Close Day ends them all
-pub all_end : (live : List LiveOrder) → filter (is_ended actions.CloseDay) live ≡ live
+pub all_end : (live : List LiveOrder) → filter (is_ended Action.CloseDay) live ≡ live
 all_end [] = refl
 all_end (o ∷ live) = ap (λ (others : List LiveOrder). o ∷ others) (all_end live)
 
@@ -72,7 +57,7 @@ next_told owe o rest left streams now all left_is now_is enough telling =
     )
 
 -- a Kill takes the account's orders out, where all that rests is live
-pub kill_takes_out : (action : Action) (account : AccountName) (live ending : List LiveOrder) (book now : List StockOrders) → action ≡ actions.Kill account → IsLiveBook live book
+pub kill_takes_out : (action : Action) (account : AccountName) (live ending : List LiveOrder) (book now : List StockOrders) → action ≡ Action.Kill account → IsLiveBook live book
     → ending ≡ of_account account live → now ≡ each_taken_out ending book → now ≡ ended_by action book
 kill_takes_out action account live ending book now is whole his taken =
     taken ∙ ap (λ (os : List LiveOrder). each_taken_out os book) his ∙ kill_takes_live_orders live book account whole ∙ ap (λ (a : Action). ended_by a book) (sym is)
@@ -84,9 +69,9 @@ book_is_live policy history m r k t =
     (subst (λ (d : OrdersData). IsLiveBook d.live (book_in_force policy history)) (sym t.in_force.orders) (books_are_live policy history t.does.legal))
 
 -- a Kill ends the account's orders, and Close Day all
-pub kill_closes : (action : Action) (account : AccountName) (live : List LiveOrder) (old new : Kept) → action ≡ actions.Kill account → ClosesAll (of_account account live) old new → ClosesAll (ended_orders action live) old new
+pub kill_closes : (action : Action) (account : AccountName) (live : List LiveOrder) (old new : Kept) → action ≡ Action.Kill account → ClosesAll (of_account account live) old new → ClosesAll (ended_orders action live) old new
 kill_closes action account live old new is closes = subst (λ (a : Action). ClosesAll (ended_orders a live) old new) (sym is) closes
 
-pub close_day_closes : (action : Action) (live : List LiveOrder) (old new : Kept) → action ≡ actions.CloseDay → ClosesAll live old new → ClosesAll (ended_orders action live) old new
+pub close_day_closes : (action : Action) (live : List LiveOrder) (old new : Kept) → action ≡ Action.CloseDay → ClosesAll live old new → ClosesAll (ended_orders action live) old new
 close_day_closes action live old new is closes =
     subst (λ (a : Action). ClosesAll (ended_orders a live) old new) (sym is) (subst (λ (os : List LiveOrder). ClosesAll os old new) (sym (all_end live)) closes)

@@ -1,65 +1,21 @@
 -- What a record makes of the running figures, by what it does.
-use Rattle.std.proofs.Common.{◌≡◌, ℕ, ◌-◌, ◌<◌, arith, true, false, Bool, List, [], ◌∷◌, ◌++◌, refl, ◌∙◌, ap, sym, cond}
-use Rattle.std.proofs.Math.Path.{subst}
-use Rattle.std.proofs.lemmas.Bool.{eqb-true}
-use Rattle.std.specs.Prelude.{Option, Some, None, ◌==◌, is_some}
-use Rattle.std.specs.Option.{option_map_or}
-use Rattle.std.specs.List.{filter, AllByRecursion}
-use Rattle.gx_units.specs.declared.names.AccountName.{AccountName}
-use Rattle.gx_units.specs.declared.names.UserName.{UserName}
-use Rattle.gx_desk.specs.declared.Action.{Action}
-use Rattle.gx_desk.specs.declared.Action.TheVariants as actions
-use Rattle.gx_desk.specs.declared.Command.{Command}
-use Rattle.gx_policy.specs.declared.policy.PolicyData.{PolicyData}
-use Rattle.gx_policy.specs.People.{account_of}
-use Rattle.gx_history.specs.declared.live_order.LiveOrder.{LiveOrder}
-use Rattle.gx_history.specs.declared.moves.Move.{Move}
-use Rattle.gx_history.specs.declared.moves.Move.TheVariants as moves
-use Rattle.gx_history.specs.declared.record.Asked.{Asked}
-use Rattle.gx_history.specs.declared.record.Fill.{Fill}
-use Rattle.gx_history.specs.declared.record.RecordData.{RecordData}
-use Rattle.gx_history.specs.declared.record.Request.{Request}
-use Rattle.gx_history.specs.declared.record.Request.TheVariants as requests
-use Rattle.gx_history.specs.declared.record.Step.{Step}
-use Rattle.gx_history.specs.declared.record.Step.TheVariants as steps
-use Rattle.gx_history.specs.declared.record.Verdict.{Verdict}
-use Rattle.gx_history.specs.declared.record.Verdict.TheVariants as verdicts
-use Rattle.gx_history.specs.Figures.{Positions, positions}
-use Rattle.gx_history.specs.Live.{live, live_numbered, live_under}
-use Rattle.gx_history.specs.LiveOrders.{replacement_order, shares_open}
-use Rattle.gx_history.specs.MayMove.{MayMove}
-use Rattle.gx_history.specs.Orders.{Order, ends_account, entered, order_under, orders, orders_added, orders_made, replacing}
-use Rattle.gx_history.specs.Requests.{asked, is_granted}
+use Rattle.std.proofs.{Common.{◌≡◌, ℕ, ◌-◌, ◌<◌, arith, true, false, Bool, List, [], ◌∷◌, ◌++◌, refl, ◌∙◌, ap, sym, cond}, Math.Path.subst, lemmas.Bool.eqb-true}
+use Rattle.std.specs.{Prelude.{Option, Some, None, ◌==◌, is_some}, Option.option_map_or, List.{filter, AllByRecursion}}
+use Rattle.gx_units.specs.declared.names.{AccountName.AccountName, UserName.UserName}
+use Rattle.gx_desk.specs.declared.{Action.Action, Command.Command}
+use Rattle.gx_policy.specs.{declared.policy.PolicyData.PolicyData, People.account_of}
+use Rattle.gx_history.specs.{declared.{live_order.LiveOrder.LiveOrder, moves.Move.Move, «record».{Asked.Asked, Fill.Fill, RecordData.RecordData, Request.Request, Step.Step, Verdict.Verdict}}, Figures.{Positions, positions}, Live.{live, live_numbered, live_under}, LiveOrders.{replacement_order, shares_open}, MayMove.MayMove, Orders.{Order, ends_account, entered, order_under, orders, orders_added, orders_made, replacing}, Requests.{asked, is_granted}, Turns.{Turn, new_in, new_order}, Verdicts.{FitsDay, IsLegal, next}, World.{Does, World, move_asked, move_by, turn_in, turn_of, world}}
 use Rattle.gx_history.specs.Turns as turns
-use Rattle.gx_history.specs.Turns.{Turn, new_in, new_order}
-use Rattle.gx_history.specs.Verdicts.{FitsDay, IsLegal, next}
-use Rattle.gx_history.specs.World.{Does, World, move_asked, move_by, turn_in, turn_of, world}
-use Rattle.gx_history_laws.proofs.NextReports.{legal_next}
-use Rattle.gx_history_laws.proofs.Order.{some_same}
-use Rattle.gx_history_laws.proofs.Owners.{filtered}
-use Rattle.gx_history_laws.proofs.Runs.{step_left}
-use Rattle.gx_effects.proofs.Doing.{turn_does}
-use Rattle.gx_effects.proofs.Known.{live_are_found, number_found}
-use Rattle.gx_effects.proofs.Moving.{may_move}
-use Rattle.gx_orders.specs.Changes.{is_lasting}
-use Rattle.gx_orders.specs.LiveOrders.{OrdersData}
+use Rattle.gx_history_laws.proofs.{NextReports.legal_next, Order.some_same, Owners.filtered, Runs.step_left}
+use Rattle.gx_effects.proofs.{Doing.turn_does, Known.{live_are_found, number_found}, Moving.may_move}
+use Rattle.gx_orders.specs.{Changes.is_lasting, LiveOrders.OrdersData}
 use Rattle.gx_orders.proofs.Finding.{finds_orders}
 use Rattle.gx_market.specs.Changes.{cut_from}
-use Rattle.gx_positions.specs.Changing.{executed_by, nothing, positions_with}
-use Rattle.gx_positions.specs.Sound.{AreSound, MayChange, MayCome, MayReplace, MaySize}
-use Rattle.gx_positions.proofs.Coming.{records_may_come}
-use Rattle.gx_positions.proofs.GoingOn.{days_begin_empty, positions_go_on}
-use Rattle.gx_positions.proofs.Sound.{positions_are_sound}
-use Rattle.gx_positions.proofs.Sums.{left_by}
-use Rattle.gx_ledger.specs.Following.{AreHeld, ClosesAll, Replaces}
-use Rattle.gx_ledger.specs.Keeping.{Kept}
-use Rattle.gx_ledger.specs.StandsFor.{Accepts, Carries, Closes, Cuts, Fills, IsHeld, StandsFor}
-use Rattle.gx_ledger.proofs.Carrying.{stays_for}
-use Rattle.gx_ledger.proofs.Following.{all_are_ended, distinct_filtered, none_closes}
-use Rattle.gx_keepers.specs.declared.keepers.Keepers.{Keepers}
-use Rattle.gx_keepers.specs.Keepers.{Takes}
-use Rattle.gx_keepers.specs.Ends.{is_ended}
-use Rattle.gx_keepers.specs.Ledgers.{StandsForDay, ended_orders}
+use Rattle.gx_positions.specs.{Changing.{executed_by, nothing, positions_with}, Sound.{AreSound, MayChange, MayCome, MayReplace, MaySize}}
+use Rattle.gx_positions.proofs.{Coming.records_may_come, GoingOn.{days_begin_empty, positions_go_on}, Sound.positions_are_sound, Sums.left_by}
+use Rattle.gx_ledger.specs.{Following.{AreHeld, ClosesAll, Replaces}, Keeping.Kept, StandsFor.{Accepts, Carries, Closes, Cuts, Fills, IsHeld, StandsFor}}
+use Rattle.gx_ledger.proofs.{Carrying.stays_for, Following.{all_are_ended, distinct_filtered, none_closes}}
+use Rattle.gx_keepers.specs.{declared.keepers.Keepers.Keepers, Keepers.Takes, Ends.is_ended, Ledgers.{StandsForDay, ended_orders}}
 
 -- the day is legal with the record too
 pub legal_after : (policy : PolicyData) (history : List RecordData) (step : Step) (r : RecordData)
@@ -74,27 +30,27 @@ abbrev IsGrantOf : RecordData → Bool → Order → Type 0
 IsGrantOf r replaces o = (o.moment ≡ r.moment) × (is_some o.previous_token ≡ replaces)
 
 abbrev GrantsSo : RecordData → Move → List Order → Type 0
-GrantsSo r (moves.Adds new) grants = AllByRecursion (IsGrantOf r false) grants
-GrantsSo r (moves.Replaces old new) grants = AllByRecursion (IsGrantOf r true) grants
+GrantsSo r (Move.Adds new) grants = AllByRecursion (IsGrantOf r false) grants
+GrantsSo r (Move.Replaces old new) grants = AllByRecursion (IsGrantOf r true) grants
 GrantsSo r other grants = grants ≡ []
 
 grants_asked : (policy : PolicyData) (w : World) (known : List Order) (r : RecordData) (a : Asked) (q : Request) → MayMove policy w r (move_asked policy w r a q)
     → GrantsSo r (move_asked policy w r a q) (orders_made policy known r a.user q)
-grants_asked policy w known r a (requests.Login m) may = refl
-grants_asked policy w known r a requests.Logout may = refl
-grants_asked policy w known r a (requests.Unreadable m) may = refl
-grants_asked policy w known r a (requests.Enter m) may = at (account_of policy a.user) may
+grants_asked policy w known r a (Request.Login m) may = refl
+grants_asked policy w known r a Request.Logout may = refl
+grants_asked policy w known r a (Request.Unreadable m) may = refl
+grants_asked policy w known r a (Request.Enter m) may = at (account_of policy a.user) may
   where
     adds : Option AccountName → Move
-    adds found = option_map_or (λ (account : AccountName). moves.Adds (new_order policy r a.user account m)) found moves.Nothing
+    adds found = option_map_or (λ (account : AccountName). Move.Adds (new_order policy r a.user account m)) found Move.Nothing
 
     at : (found : Option AccountName) → MayMove policy w r (adds found) → GrantsSo r (adds found) (option_map_or (λ (account : AccountName). entered policy r a.user account m ∷ []) found [])
     at None never = absurd never
     at (Some account) may = ((refl, refl), tt)
-grants_asked policy w known r a (requests.Replace m) may = at (live_under w.live a.user m.existing_token) may
+grants_asked policy w known r a (Request.Replace m) may = at (live_under w.live a.user m.existing_token) may
   where
     replaces : Option LiveOrder → Move
-    replaces found = option_map_or (λ (old : LiveOrder). moves.Replaces old (replacement_order r m old)) found moves.Nothing
+    replaces found = option_map_or (λ (old : LiveOrder). Move.Replaces old (replacement_order r m old)) found Move.Nothing
 
     made : (found : Option Order) → AllByRecursion (IsGrantOf r true) (option_map_or (λ (o : Order). replacing r m o ∷ []) found [])
     made None = tt
@@ -103,22 +59,22 @@ grants_asked policy w known r a (requests.Replace m) may = at (live_under w.live
     at : (found : Option LiveOrder) → MayMove policy w r (replaces found) → GrantsSo r (replaces found) (option_map_or (λ (o : Order). replacing r m o ∷ []) (order_under known a.user m.existing_token) [])
     at None never = absurd never
     at (Some old) may = made (order_under known a.user m.existing_token)
-grants_asked policy w known r a (requests.Cancel m) may = at (live_under w.live a.user m.token)
+grants_asked policy w known r a (Request.Cancel m) may = at (live_under w.live a.user m.token)
   where
-    at : (found : Option LiveOrder) → GrantsSo r (option_map_or (λ (cut : LiveOrder). moves.Sizes cut m.shares) found moves.Nothing) []
+    at : (found : Option LiveOrder) → GrantsSo r (option_map_or (λ (cut : LiveOrder). Move.Sizes cut m.shares) found Move.Nothing) []
     at None = refl
     at (Some cut) = refl
-grants_asked policy w known r a (requests.Command c) may = refl
+grants_asked policy w known r a (Request.Command c) may = refl
 
 grants_by : (policy : PolicyData) (w : World) (known : List Order) (r : RecordData) (v : Verdict) (s : Step) → MayMove policy w r (move_by policy w r v s)
     → GrantsSo r (move_by policy w r v s) (option_map_or (λ (a : Asked). orders_made policy known r a.user a.request) (cond (is_granted v) (asked s) None) [])
-grants_by policy w known r verdicts.Granted (steps.Asked a) may = grants_asked policy w known r a a.request may
-grants_by policy w known r verdicts.Granted (steps.Matching handed) may = refl
-grants_by policy w known r (verdicts.Denied rule) (steps.Asked a) may = refl
-grants_by policy w known r (verdicts.Denied rule) (steps.Matching handed) may = refl
-grants_by policy w known r (verdicts.Filled f) s may = refl
-grants_by policy w known r (verdicts.Rested number) s may = refl
-grants_by policy w known r (verdicts.Expired number) s may = refl
+grants_by policy w known r Verdict.Granted (Step.Asked a) may = grants_asked policy w known r a a.request may
+grants_by policy w known r Verdict.Granted (Step.Matching handed) may = refl
+grants_by policy w known r (Verdict.Denied rule) (Step.Asked a) may = refl
+grants_by policy w known r (Verdict.Denied rule) (Step.Matching handed) may = refl
+grants_by policy w known r (Verdict.Filled f) s may = refl
+grants_by policy w known r (Verdict.Rested number) s may = refl
+grants_by policy w known r (Verdict.Expired number) s may = refl
 
 grants_does : (policy : PolicyData) (history : List RecordData) (r : RecordData) (m : Move) → Does policy history r m → GrantsSo r m (orders_added policy (orders policy history) r)
 grants_does policy history r m d =
@@ -178,14 +134,14 @@ keeps_idle : (grants : List Order) → IsIdle turns.Keeps grants
 keeps_idle grants = record { none_comes = refl; none_fills = refl; same = λ o. refl }
 
 pub none_ends : (action : Action) → is_lasting action ≡ true → (account : AccountName) → ends_account account action ≡ false
-none_ends (actions.SetLimit rule limit) h account = refl
-none_ends (actions.Restrict rule stock) h account = refl
-none_ends (actions.Unrestrict rule stock) h account = refl
-none_ends (actions.Grant reader named) h account = refl
-none_ends (actions.Revoke reader named) h account = refl
-none_ends (actions.Kill named) h account = cc
-none_ends (actions.Lift named) h account = refl
-none_ends actions.CloseDay h account = cc
+none_ends (Action.SetLimit rule limit) h account = refl
+none_ends (Action.Restrict rule stock) h account = refl
+none_ends (Action.Unrestrict rule stock) h account = refl
+none_ends (Action.Grant reader named) h account = refl
+none_ends (Action.Revoke reader named) h account = refl
+none_ends (Action.Kill named) h account = cc
+none_ends (Action.Lift named) h account = refl
+none_ends Action.CloseDay h account = cc
 
 lasting_idle : (action : Action) (grants : List Order) → is_lasting action ≡ true → IsIdle (turns.EndsAll action) grants
 lasting_idle action grants lasts = record {
@@ -204,33 +160,33 @@ rests_idle number grants = record { none_comes = refl; none_fills = refl; same =
 
 -- what is done adds no order, ends none, and fills none
 abbrev pub IsQuiet : Move → Type 0
-IsQuiet (moves.Denies a rule) = Unit {0}
-IsQuiet (moves.PutsOn user line) = Unit {0}
-IsQuiet (moves.Rests number) = Unit {0}
+IsQuiet (Move.Denies a rule) = Unit {0}
+IsQuiet (Move.PutsOn user line) = Unit {0}
+IsQuiet (Move.Rests number) = Unit {0}
 IsQuiet other = ⊥
 
 pub quiet_figured : (policy : PolicyData) (history : List RecordData) (m : Move) (r : RecordData) (k : Keepers) (new : Kept) → Takes policy history m r k → IsQuiet m → new ≡ k.ledger
     → StandsForDay policy new (history ++ r ∷ [])
-quiet_figured policy history (moves.Denies a rule) r k new t quiet same =
-    unchanged policy history (moves.Denies a rule) r k new t (grants_does policy history r (moves.Denies a rule) t.does) (keeps_idle (orders policy history)) same
-quiet_figured policy history (moves.PutsOn user line) r k new t quiet same =
-    unchanged policy history (moves.PutsOn user line) r k new t (grants_does policy history r (moves.PutsOn user line) t.does) (keeps_idle (orders policy history)) same
-quiet_figured policy history (moves.Rests number) r k new t quiet same =
-    unchanged policy history (moves.Rests number) r k new t (grants_does policy history r (moves.Rests number) t.does) (rests_idle number (orders policy history)) same
-quiet_figured policy history moves.Nothing r k new t never same = absurd never
-quiet_figured policy history (moves.Adds o) r k new t never same = absurd never
-quiet_figured policy history (moves.Sizes cut size) r k new t never same = absurd never
-quiet_figured policy history (moves.Replaces o p) r k new t never same = absurd never
-quiet_figured policy history (moves.Commands officer c) r k new t never same = absurd never
-quiet_figured policy history (moves.Fills f) r k new t never same = absurd never
-quiet_figured policy history (moves.Expires number) r k new t never same = absurd never
+quiet_figured policy history (Move.Denies a rule) r k new t quiet same =
+    unchanged policy history (Move.Denies a rule) r k new t (grants_does policy history r (Move.Denies a rule) t.does) (keeps_idle (orders policy history)) same
+quiet_figured policy history (Move.PutsOn user line) r k new t quiet same =
+    unchanged policy history (Move.PutsOn user line) r k new t (grants_does policy history r (Move.PutsOn user line) t.does) (keeps_idle (orders policy history)) same
+quiet_figured policy history (Move.Rests number) r k new t quiet same =
+    unchanged policy history (Move.Rests number) r k new t (grants_does policy history r (Move.Rests number) t.does) (rests_idle number (orders policy history)) same
+quiet_figured policy history Move.Nothing r k new t never same = absurd never
+quiet_figured policy history (Move.Adds o) r k new t never same = absurd never
+quiet_figured policy history (Move.Sizes cut size) r k new t never same = absurd never
+quiet_figured policy history (Move.Replaces o p) r k new t never same = absurd never
+quiet_figured policy history (Move.Commands officer c) r k new t never same = absurd never
+quiet_figured policy history (Move.Fills f) r k new t never same = absurd never
+quiet_figured policy history (Move.Expires number) r k new t never same = absurd never
 
 -- ---- an Enter
 
-pub enter_figured : (policy : PolicyData) (history : List RecordData) (r : RecordData) (o : LiveOrder) (before : Keepers) (new : Kept) → Takes policy history (moves.Adds o) r before
+pub enter_figured : (policy : PolicyData) (history : List RecordData) (r : RecordData) (o : LiveOrder) (before : Keepers) (new : Kept) → Takes policy history (Move.Adds o) r before
     → Accepts o r.moment false before.ledger new → StandsForDay policy new (history ++ r ∷ [])
 enter_figured policy history r o before new t accepts =
-    let m : Move = moves.Adds o in
+    let m : Move = Move.Adds o in
     let turns_so : turn_of policy (world policy history) r ≡ turns.Adds o = turn_does policy history r m t.does in
     let may : MayCome policy (positions policy history) o (orders_added policy (orders policy history) r) =
     may_come policy history m r before (turns.Adds o) (orders_added policy (orders policy history) r) t (record { of_turn = turns_so; of_grants = refl }) in
@@ -242,10 +198,10 @@ enter_figured policy history r o before new t accepts =
 
 -- ---- a Cancel
 
-pub cancel_figured : (policy : PolicyData) (history : List RecordData) (r : RecordData) (cut : LiveOrder) (size : ℕ) (before : Keepers) (fewer : ℕ) (new : Kept) → Takes policy history (moves.Sizes cut size) r before
+pub cancel_figured : (policy : PolicyData) (history : List RecordData) (r : RecordData) (cut : LiveOrder) (size : ℕ) (before : Keepers) (fewer : ℕ) (new : Kept) → Takes policy history (Move.Sizes cut size) r before
     → fewer ≡ cut_from cut size → Cuts cut fewer before.ledger new → StandsForDay policy new (history ++ r ∷ [])
 cancel_figured policy history r cut size before fewer new t fewer_is cuts =
-    let m : Move = moves.Sizes cut size in
+    let m : Move = Move.Sizes cut size in
     let does : Turns policy history r (turns.Sizes cut.number size) [] = record { of_turn = turn_does policy history r m t.does; of_grants = grants_does policy history r m t.does } in
     let held : IsHeld (positions policy history) cut = finds_orders policy history r m t.does in
     let may : MaySize (positions policy history) cut.number size = may_come policy history m r before (turns.Sizes cut.number size) [] t does in
@@ -254,10 +210,10 @@ cancel_figured policy history r cut size before fewer new t fewer_is cuts =
 
 -- ---- a Replace
 
-pub replace_figured : (policy : PolicyData) (history : List RecordData) (r : RecordData) (o coming : LiveOrder) (before : Keepers) (new : Kept) → Takes policy history (moves.Replaces o coming) r before
+pub replace_figured : (policy : PolicyData) (history : List RecordData) (r : RecordData) (o coming : LiveOrder) (before : Keepers) (new : Kept) → Takes policy history (Move.Replaces o coming) r before
     → Replaces o coming r.moment before.ledger new → StandsForDay policy new (history ++ r ∷ [])
 replace_figured policy history r o coming before new t replaces =
-    let m : Move = moves.Replaces o coming in
+    let m : Move = Move.Replaces o coming in
     let turns_so : turn_of policy (world policy history) r ≡ turns.Replaces o.number coming = turn_does policy history r m t.does in
     let may : MayReplace policy (positions policy history) o.number coming (orders_added policy (orders policy history) r) =
     may_come policy history m r before (turns.Replaces o.number coming) (orders_added policy (orders policy history) r) t (record { of_turn = turns_so; of_grants = refl }) in
@@ -281,10 +237,10 @@ none_end action lasts (o ∷ live) = ap (λ (b : Bool). cond b (o ∷ filter (is
 pub none_to_close : (action : Action) (live : List LiveOrder) (k : Kept) → is_lasting action ≡ true → ClosesAll (ended_orders action live) k k
 none_to_close action live k lasts = subst (λ (os : List LiveOrder). ClosesAll os k k) (sym (none_end action lasts live)) (none_closes k)
 
-pub command_figured : (policy : PolicyData) (history : List RecordData) (r : RecordData) (officer : UserName) (c : Command) (before : Keepers) (new : Kept) → Takes policy history (moves.Commands officer c) r before
+pub command_figured : (policy : PolicyData) (history : List RecordData) (r : RecordData) (officer : UserName) (c : Command) (before : Keepers) (new : Kept) → Takes policy history (Move.Commands officer c) r before
     → ClosesAll (ended_orders c.action before.orders.live) before.ledger new → StandsForDay policy new (history ++ r ∷ [])
 command_figured policy history r officer c before new t closes =
-    let m : Move = moves.Commands officer c in
+    let m : Move = Move.Commands officer c in
     let held : Positions = positions policy history in
     let sound : AreSound policy held = positions_are_sound policy history t.does.legal in
     let are_held : AreHeld held (ended_orders c.action held.live) = record {
@@ -302,11 +258,11 @@ pub held_numbered : (policy : PolicyData) (history : List RecordData) (m : Move)
     → live_numbered (live policy history) number ≡ Some o
 held_numbered policy history m r k number o t found = sym (ap (λ (d : OrdersData). live_numbered d.live number) t.in_force.orders) ∙ found
 
-pub fill_figured : (policy : PolicyData) (history : List RecordData) (r : RecordData) (f : Fill) (taker maker : LiveOrder) (before : Keepers) (new : Kept) → Takes policy history (moves.Fills f) r before
+pub fill_figured : (policy : PolicyData) (history : List RecordData) (r : RecordData) (f : Fill) (taker maker : LiveOrder) (before : Keepers) (new : Kept) → Takes policy history (Move.Fills f) r before
     → live_numbered before.orders.live f.taker ≡ Some taker → live_numbered before.orders.live f.maker ≡ Some maker
     → Fills taker maker f.shares f.price before.ledger new → StandsForDay policy new (history ++ r ∷ [])
 fill_figured policy history r f taker maker before new t takes makes carries =
-    let m : Move = moves.Fills f in
+    let m : Move = Move.Fills f in
     let taker_held : live_numbered (live policy history) f.taker ≡ Some taker = held_numbered policy history m r before f.taker taker t takes in
     let maker_held : live_numbered (live policy history) f.maker ≡ Some maker = held_numbered policy history m r before f.maker maker t makes in
     let taker_is : taker.number ≡ f.taker = eqb-true taker.number f.taker (number_found (live policy history) f.taker taker taker_held) in
@@ -323,9 +279,9 @@ fill_figured policy history r f taker maker before new t takes makes carries =
 
 -- ---- an order that ends
 
-pub end_figured : (policy : PolicyData) (history : List RecordData) (r : RecordData) (o : LiveOrder) (before : Keepers) (new : Kept) → Takes policy history (moves.Expires o.number) r before
+pub end_figured : (policy : PolicyData) (history : List RecordData) (r : RecordData) (o : LiveOrder) (before : Keepers) (new : Kept) → Takes policy history (Move.Expires o.number) r before
     → live_numbered before.orders.live o.number ≡ Some o → Closes o before.ledger new → StandsForDay policy new (history ++ r ∷ [])
 end_figured policy history r o before new t found closes =
-    let m : Move = moves.Expires o.number in
+    let m : Move = Move.Expires o.number in
     carried policy history m r before (turns.Ends o.number) [] t (record { of_turn = turn_does policy history r m t.does; of_grants = grants_does policy history r m t.does }) new _ closes
     (held_numbered policy history m r before o.number o t found)

@@ -1,45 +1,19 @@
 -- Places that are kept for what a record tells, and behind it.
-use Rattle.std.proofs.Common.{◌≡◌, ℕ, ◌+◌, ◌<◌, ◌≤◌, get_or, take, arith, true, false, not, Bool, List, [], ◌∷◌, ◌++◌, length, length-append, refl, ◌∙◌, ap, sym, cond, map, if◌then◌else◌}
-use Rattle.std.proofs.Math.Path.{subst}
-use Rattle.std.proofs.lemmas.List.{append_cancel_left, take_more}
+use Rattle.std.proofs.{Common.{◌≡◌, ℕ, ◌+◌, ◌<◌, ◌≤◌, get_or, take, arith, true, false, not, Bool, List, [], ◌∷◌, ◌++◌, length, length-append, refl, ◌∙◌, ap, sym, cond, map, if◌then◌else◌}, Math.Path.subst, lemmas.List.{append_cancel_left, take_more}}
 use Rattle.std.specs.Prelude.{Option, Some, None, is_some, ◌&&◌}
-use Rattle.gx_units.specs.Names.{same_user}
-use Rattle.gx_units.specs.declared.names.UserName.{UserName}
-use Rattle.gx_policy.specs.declared.policy.PolicyData.{PolicyData}
-use Rattle.gx_policy.specs.declared.policy.User.{User}
-use Rattle.gx_history.specs.declared.record.Asked.{Asked}
-use Rattle.gx_history.specs.declared.record.RecordData.{RecordData}
-use Rattle.gx_history.specs.declared.record.Step.TheVariants as steps
-use Rattle.gx_history.specs.declared.record.Verdict.{Verdict}
-use Rattle.gx_history.specs.declared.record.Verdict.TheVariants as verdicts
-use Rattle.gx_history.specs.declared.report.Message.{Message}
-use Rattle.gx_policy.specs.People.{is_officer, is_reader, role_in, user_in}
-use Rattle.gx_history.specs.Requests.{is_judged}
-use Rattle.gx_history.specs.Streams.{reported, reports_of, stream}
-use Rattle.gx_history.specs.Verdicts.{IsLegal, day_limit, next}
-use Rattle.gx_history_laws.proofs.Adding.{user_is}
-use Rattle.gx_history_laws.proofs.Granting.{asked_is_judged}
-use Rattle.gx_history_laws.proofs.Judging.{both}
-use Rattle.gx_history_laws.proofs.NextReports.{legal_before, stream_next}
-use Rattle.gx_history_laws.proofs.Numbers.{all_weaker}
-use Rattle.gx_history_laws.proofs.Pushing.{all_next}
-use Rattle.gx_history.specs.declared.live_order.LiveOrder.{LiveOrder}
-use Rattle.gx_history.specs.Live.{live}
+use Rattle.gx_units.specs.{Names.same_user, declared.names.UserName.UserName}
+use Rattle.gx_policy.specs.{declared.policy.{PolicyData.PolicyData, User.User}, People.{is_officer, is_reader, role_in, user_in}}
+use Rattle.gx_history.specs.{declared.{«record».{Asked.Asked, RecordData.RecordData, Step.Step, Verdict.Verdict}, report.Message.Message, live_order.LiveOrder.LiveOrder}, Requests.is_judged, Streams.{reported, reports_of, stream}, Verdicts.{IsLegal, day_limit, next}, Live.live}
+use Rattle.gx_history_laws.proofs.{Adding.user_is, Granting.asked_is_judged, Judging.both, NextReports.{legal_before, stream_next}, Numbers.all_weaker, Pushing.all_next}
 use Rattle.gx_orders.specs.LiveOrders.{OrdersData}
 use Rattle.gx_people.proofs.Keeping.{officers_stay}
 use Rattle.gx_places.specs.Places.{concerns_many, enough_places, has_kept_places, most_kills, orders_held, report_places}
 use Rattle.gx_places.proofs.Asked.{enough_is_more, kept_places_are_enough, matches_want_no_more, others_want_no_more, so_many_are_enough}
 use Rattle.gx_positions.proofs.Sound.{live_are_few}
-use Rattle.gx_streams.specs.Kept.{places_in, with_places}
-use Rattle.gx_streams.specs.Laws.{TellsOne}
-use Rattle.gx_streams.specs.Sending.{KnowsReaders, is_fill}
-use Rattle.gx_streams.specs.Streams.{AllStreams, is_told, on_told}
-use Rattle.gx_streams.proofs.Finding.{told_are}
-use Rattle.gx_streams.proofs.OnlyKnown.{copies_alone, none_sent, only_known, readers_are}
-use Rattle.gx_streams.proofs.Places.{others_keep, places_kept}
-use Rattle.gx_keepers.specs.declared.keepers.Keepers.{Keepers}
+use Rattle.gx_streams.specs.{Kept.{places_in, with_places}, Laws.TellsOne, Sending.{KnowsReaders, is_fill}, Streams.{AllStreams, is_told, on_told}}
+use Rattle.gx_streams.proofs.{Finding.told_are, OnlyKnown.{copies_alone, none_sent, only_known, readers_are}, Places.{others_keep, places_kept}}
+use Rattle.gx_keepers.specs.{declared.keepers.Keepers.Keepers, Keepers.{AreInForce, HasEnough, HasPlaces, HaveAllPlaces, HaveEnough, HaveNoFewer, HavePlaces, KeepPlaces, KnowTheSame, KnowsUsers, TakesAsked, count_of, enough_of}}
 use Rattle.gx_keepers.proofs.Figuring.{legal_after}
-use Rattle.gx_keepers.specs.Keepers.{AreInForce, HasEnough, HasPlaces, HaveAllPlaces, HaveEnough, HaveNoFewer, HavePlaces, KeepPlaces, KnowTheSame, KnowsUsers, TakesAsked, count_of, enough_of}
 
 -- places that are kept take none from anybody
 pub more_places : (streams : AllStreams) (user : UserName) (places : ℕ) (other : UserName) → is_told streams user ≡ true
@@ -153,11 +127,11 @@ reader_fits policy history r user places legal no_fill reads =
 
 -- what is judged is no fill
 pub judged_no_fill : (v : Verdict) → is_judged v ≡ true → is_fill v ≡ false
-judged_no_fill verdicts.Granted h = refl
-judged_no_fill (verdicts.Denied rule) h = refl
-judged_no_fill (verdicts.Filled f) h = cc
-judged_no_fill (verdicts.Rested number) h = refl
-judged_no_fill (verdicts.Expired number) h = refl
+judged_no_fill Verdict.Granted h = refl
+judged_no_fill (Verdict.Denied rule) h = refl
+judged_no_fill (Verdict.Filled f) h = cc
+judged_no_fill (Verdict.Rested number) h = refl
+judged_no_fill (Verdict.Expired number) h = refl
 
 pub asked_no_fill : (policy : PolicyData) (history : List RecordData) (a : Asked) (r : RecordData) (k : Keepers) → TakesAsked policy history a r k → is_fill r.verdict ≡ false
 asked_no_fill policy history a r k t = judged_no_fill r.verdict (asked_is_judged policy history a r t.left)
@@ -215,7 +189,7 @@ pub asked_are_placed : (policy : PolicyData) (history : List RecordData) (a : As
     → HaveAllPlaces policy history r streams → HavePlaces policy history r streams
 asked_are_placed policy history a r k streams t same have =
     all_are_placed policy history r streams (λ user. same user ∙ known_told policy history k t.in_force user)
-    (legal_after policy history (steps.Asked a) r t.legal t.fits t.left) (asked_no_fill policy history a r k t) have
+    (legal_after policy history (Step.Asked a) r t.legal t.fits t.left) (asked_no_fill policy history a r k t) have
 
 -- ---- a matching step
 
@@ -226,7 +200,7 @@ pub record FindsPlace (policy : PolicyData) (history : List RecordData) (r : Rec
   pub few : length (reports_of policy user (history, r)) ≤ cond told 2 0
   pub has : told ≡ true → HasEnough k.orders.live k.people policy streams user
 
-pub match_fits : (policy : PolicyData) (history : List RecordData) (handed : ℕ) (r : RecordData) (k : Keepers) (streams : AllStreams) → IsLegal policy history → next policy history (steps.Matching handed) ≡ Some r
+pub match_fits : (policy : PolicyData) (history : List RecordData) (handed : ℕ) (r : RecordData) (k : Keepers) (streams : AllStreams) → IsLegal policy history → next policy history (Step.Matching handed) ≡ Some r
     → Makes policy history k streams → ((user : UserName) → FindsPlace policy history r k streams user) → HaveAllPlaces policy history r streams
 match_fits policy history handed r k streams legal left m finds = record { all = λ user known. by user known (finds user).told (finds user).few (finds user).has }
   where
@@ -264,7 +238,7 @@ few_live policy history k legal in_force =
     omega (arith, same, live_are_few policy history legal)
 
 -- where nobody has fewer places, those that are kept are there still: a matching step leaves no more to be kept
-pub match_keeps : (policy : PolicyData) (history : List RecordData) (handed : ℕ) (r : RecordData) (before after : AllStreams) → IsLegal policy history → next policy history (steps.Matching handed) ≡ Some r
+pub match_keeps : (policy : PolicyData) (history : List RecordData) (handed : ℕ) (r : RecordData) (before after : AllStreams) → IsLegal policy history → next policy history (Step.Matching handed) ≡ Some r
     → KnowsUsers policy before → KnowsUsers policy after → HaveNoFewer before after → KeepPlaces policy history before → KeepPlaces policy (history ++ r ∷ []) after
 match_keeps policy history handed r before after legal left knows knows_then more keep = record {
   kept = λ user told. omega (arith, keep.kept user (knows user ∙ sym (knows_then user) ∙ told), more user, matches_want_no_more policy history handed r user legal left);

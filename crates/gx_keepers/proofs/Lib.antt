@@ -8,3 +8,4 @@ pub mod Matches
 pub mod Sending
 pub mod Rooms
 pub mod Sure
+mod Trading

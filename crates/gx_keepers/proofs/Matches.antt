@@ -1,87 +1,30 @@
 -- What a matching step makes of the keepers.
-use Rattle.std.proofs.Common.{◌≡◌, ℕ, ◌-◌, ◌<◌, arith, Bool, true, false, not, zero, suc, ◌+◌, cond, get_or, if◌then◌else◌, List, [], ◌∷◌, ◌++◌, refl, ◌∙◌, ap, sym, map}
-use Rattle.std.proofs.Math.Path.{subst}
-use Rattle.std.proofs.lemmas.List.{append-nil}
-use Rattle.std.specs.Prelude.{Option, Some, None, is_some, length, find, position, unwrap_or, option_and_then, option_map, option_to_list, ◌&&◌}
-use Rattle.std.specs.List.{AllByRecursion, flat_map, position_from, slice_get}
-use Rattle.std.specs.Option.{option_map_or}
-use Rattle.std.proofs.lemmas.List.Quantifiers.{position-Some}
-use Rattle.std.proofs.lemmas.Iterator.Adapters.{position_from-zero}
-use Rattle.gx_units.specs.Names.{same_account}
-use Rattle.gx_units.specs.declared.names.AccountName.{AccountName}
-use Rattle.gx_ouch.specs.declared.letters.CancelReason.TheVariants as cancels
-use Rattle.gx_ouch.specs.declared.letters.Liquidity.{Liquidity}
-use Rattle.gx_ouch.specs.declared.letters.Liquidity.TheVariants as liquidities
-use Rattle.gx_policy.specs.declared.policy.Account.{Account}
-use Rattle.gx_policy.specs.declared.policy.PolicyData.{PolicyData}
-use Rattle.gx_policy.specs.declared.policy.Role.{Role}
-use Rattle.gx_policy.specs.declared.policy.Role.TheVariants as roles
-use Rattle.gx_policy.specs.declared.policy.User.{User}
-use Rattle.gx_history.specs.declared.record.Fill.{Fill}
-use Rattle.gx_history.specs.declared.record.RecordData.{RecordData}
-use Rattle.gx_history.specs.declared.record.Step.TheVariants as steps
-use Rattle.gx_history.specs.declared.record.Verdict.TheVariants as verdicts
-use Rattle.gx_history.specs.declared.report.Message.{Message}
-use Rattle.gx_history.specs.Book.{is_buy}
-use Rattle.gx_history.specs.Executions.{Execution, sides}
-use Rattle.gx_history.specs.InForce.{is_entitled}
-use Rattle.gx_policy.specs.People.{account_of, account_of_role, is_reader, role_in, user_in}
-use Rattle.gx_policy.specs.Soundness.{is_sound}
-use Rattle.gx_history.specs.Streams.{reported, stream, to_user, canceled_of}
-use Rattle.gx_history_laws.proofs.Masks.{same_mask}
-use Rattle.gx_history_laws.proofs.Names.{account_is, accounts_few}
-use Rattle.gx_history_laws.proofs.Order.{some_same}
-use Rattle.gx_history_laws.proofs.Owners.{IsHisAccounts}
-use Rattle.gx_effects.proofs.Accounts.{accounts_are_known}
-use Rattle.gx_effects.proofs.Orderly.{legal_is_orderly}
-use Rattle.gx_effects.proofs.Fills.{IsFill, both_sides, is_fill, maker_side, sides_are, taker_side}
-use Rattle.gx_effects.proofs.Naming.{IsOfKnown}
-use Rattle.gx_book.specs.Books.{StockOrders, resting_in}
-use Rattle.gx_book.specs.Queue.{IsLatest}
-use Rattle.gx_history.specs.declared.live_order.LiveOrder.{LiveOrder}
-use Rattle.gx_history.specs.LiveOrders.{shares_open}
-use Rattle.gx_orders.specs.Laws.{CanFill}
+use Rattle.std.proofs.{Common.{◌≡◌, ℕ, ◌-◌, ◌<◌, arith, Bool, true, false, not, zero, suc, ◌+◌, cond, get_or, if◌then◌else◌, List, [], ◌∷◌, ◌++◌, refl, ◌∙◌, ap, sym, map}, Math.Path.subst, lemmas.{List.{append-nil, Quantifiers.position-Some}, Iterator.Adapters.position_from-zero}}
+use Rattle.std.specs.{Prelude.{Option, Some, None, is_some, length, find, position, unwrap_or, option_and_then, option_map, option_to_list, ◌&&◌}, List.{AllByRecursion, flat_map, position_from, slice_get}, Option.option_map_or}
+use Rattle.gx_units.specs.{Names.same_account, declared.names.AccountName.AccountName}
+use Rattle.gx_ouch.specs.declared.letters.{CancelReason.CancelReason, Liquidity.Liquidity}
+use Rattle.gx_policy.specs.{declared.policy.{Account.Account, PolicyData.PolicyData, Role.Role, User.User}, People.{account_of, account_of_role, is_reader, role_in, user_in}, Soundness.is_sound}
+use Rattle.gx_history.specs.{declared.{«record».{Fill.Fill, RecordData.RecordData, Step.Step, Verdict.Verdict}, report.Message.Message, live_order.LiveOrder.LiveOrder, moves.Move.Move}, Book.is_buy, Executions.{Execution, sides}, InForce.is_entitled, Streams.{reported, stream, to_user, canceled_of}, LiveOrders.shares_open, Live.{live, live_numbered}, Requests.asked, Verdicts.next, World.Does}
+use Rattle.gx_history_laws.proofs.{Masks.same_mask, Names.{account_is, accounts_few}, Order.some_same, Owners.IsHisAccounts}
+use Rattle.gx_effects.proofs.{Accounts.accounts_are_known, Orderly.legal_is_orderly, Fills.{IsFill, both_sides, is_fill, maker_side, sides_are, taker_side}, Naming.IsOfKnown, Doing.{expiry_does, fill_does, matches_at, may_do}}
+use Rattle.gx_book.specs.{Books.{StockOrders, resting_in}, Queue.IsLatest}
+use Rattle.gx_orders.specs.{Laws.{CanFill, ComesFirst}, Changes.orders_moved, LiveOrders.{OrdersData, first_waiting}}
 use Rattle.gx_market.proofs.Latest.{first_is_latest}
-use Rattle.gx_streams.specs.declared.fill.FillSide.{FillSide}
-use Rattle.gx_streams.specs.declared.fill.Party.{Party}
-use Rattle.gx_streams.specs.declared.fill.Party.TheVariants as parties
-use Rattle.gx_streams.specs.declared.fill.ToldFill.{ToldFill}
-use Rattle.gx_streams.specs.Fills.{liquidity_of, side_of}
-use Rattle.gx_streams.specs.Kept.{places_in}
-use Rattle.gx_streams.specs.Laws.{TellsOne}
-use Rattle.gx_streams.specs.Sending.{AreSent, IsMadeBy, IsSide, is_fill as makes_fill}
-use Rattle.gx_streams.specs.Streams.{AllStreams, is_told, with_fill}
-use Rattle.gx_streams.specs.Telling.{shown}
-use Rattle.gx_streams.proofs.Sending.{sides_are_his, stays_by_fill}
-use Rattle.gx_streams.proofs.Telling.{stays_by_none}
+use Rattle.gx_streams.specs.{declared.fill.{FillSide.FillSide, Party.Party, ToldFill.ToldFill}, Fills.{liquidity_of, side_of}, Kept.places_in, Laws.TellsOne, Sending.{AreSent, IsMadeBy, IsSide, is_fill as makes_fill}, Streams.{AllStreams, is_told, with_fill}, Telling.shown}
+use Rattle.gx_streams.proofs.{Sending.{sides_are_his, stays_by_fill}, Telling.stays_by_none}
 use Rattle.gx_people.specs.Entitled.{sees}
 use Rattle.gx_people.proofs.Entitling as entitling
 use Rattle.gx_ledger.specs.StandsFor.{Fills}
-use Rattle.gx_day.specs.DayData.{at_moment}
-use Rattle.gx_day.specs.InForce.{day_moved}
-use Rattle.gx_history.specs.Live.{live, live_numbered}
-use Rattle.gx_history.specs.Requests.{asked}
-use Rattle.gx_history.specs.Verdicts.{next}
-use Rattle.gx_history.specs.World.{Does}
-use Rattle.gx_history.specs.declared.moves.Move.{Move}
-use Rattle.gx_history.specs.declared.moves.Move.TheVariants as moves
-use Rattle.gx_effects.proofs.Doing.{expiry_does, fill_does, matches_at, may_do}
-use Rattle.gx_orders.specs.Changes.{orders_moved}
-use Rattle.gx_orders.specs.Laws.{ComesFirst}
-use Rattle.gx_orders.specs.LiveOrders.{OrdersData, first_waiting}
+use Rattle.gx_day.specs.{DayData.at_moment, InForce.day_moved}
 use Rattle.gx_orders.proofs.Finding.{finds_orders}
 use Rattle.gx_market.specs.Changes.{left_with, put_to_rest, resting_of}
-use Rattle.gx_keepers.specs.declared.keepers.Keepers.{Keepers}
-use Rattle.gx_keepers.specs.Keepers.{AreCarriedOn, AreInForce, HasEnough, HaveAllPlaces, HavePlaces, KnowTheSame, Takes}
-use Rattle.gx_keepers.specs.Matching.{place_of, told_side}
-use Rattle.gx_keepers.proofs.Carrying.{goes_on, has_place, still_sent, told_by}
-use Rattle.gx_keepers.proofs.Figuring.{fill_figured, held_numbered, legal_after, quiet_figured}
-use Rattle.gx_keepers.proofs.Keepings.{Makes, all_are_placed, known_told, match_fits, one_finds}
+use Rattle.gx_keepers.specs.{declared.keepers.Keepers.Keepers, Keepers.{AreCarriedOn, AreInForce, HasEnough, HaveAllPlaces, HavePlaces, KnowTheSame, Takes}, Matching.{place_of, told_side}}
+use Rattle.gx_keepers.proofs.{Carrying.{goes_on, has_place, still_sent, told_by}, Figuring.{fill_figured, held_numbered, legal_after, quiet_figured}, Keepings.{Makes, all_are_placed, known_told, match_fits, one_finds}}
 
-his_role : (account : AccountName) (role : Role) → account_of_role role ≡ Some account → role ≡ roles.Trader account
-his_role account (roles.Trader named) e = ap (λ (found : Option AccountName). option_map_or roles.Trader found (roles.Trader named)) e
-his_role account (roles.Officer powers scope) e = cc
-his_role account (roles.Reader names) e = cc
+his_role : (account : AccountName) (role : Role) → account_of_role role ≡ Some account → role ≡ Role.Trader account
+his_role account (Role.Trader named) e = ap (λ (found : Option AccountName). option_map_or Role.Trader found (Role.Trader named)) e
+his_role account (Role.Officer powers scope) e = cc
+his_role account (Role.Reader names) e = cc
 
 -- a trader is told report by report
 trader_told : (account : AccountName) (found : Option User) → option_and_then account_of_role (option_map (λ (u : User). u.role) found) ≡ Some account
@@ -92,18 +35,18 @@ trader_told account (Some u) e = ap (λ (role : Role). not (is_reader (Some role
 -- the matching step that is next
 pub record IsMatched (policy : PolicyData) (history : List RecordData) (r : RecordData) : Type 0 where
   pub handed : ℕ
-  pub left : next policy history (steps.Matching handed) ≡ Some r
+  pub left : next policy history (Step.Matching handed) ≡ Some r
 
 pub is_matched : (policy : PolicyData) (history : List RecordData) (r : RecordData) (m : Move) → Does policy history r m → asked r.step ≡ None → IsMatched policy history r
 is_matched policy history r m d none =
-    let s : (handed : ℕ) × (r.step ≡ steps.Matching handed) = matches_at r.step none in
+    let s : (handed : ℕ) × (r.step ≡ Step.Matching handed) = matches_at r.step none in
     record { handed = s.0; left = ap (next policy history) (sym s.1) ∙ d.is_next }
 
 -- ---- a fill
 
 -- the fill can be made of the orders that are kept
-pub can_fill : (policy : PolicyData) (history : List RecordData) (r : RecordData) (k : Keepers) (f : Fill) → Takes policy history (moves.Fills f) r k → CanFill k.orders.live f
-can_fill policy history r k f t = subst (λ (d : OrdersData). CanFill d.live f) (sym t.in_force.orders) (finds_orders policy history r (moves.Fills f) t.does)
+pub can_fill : (policy : PolicyData) (history : List RecordData) (r : RecordData) (k : Keepers) (f : Fill) → Takes policy history (Move.Fills f) r k → CanFill k.orders.live f
+can_fill policy history r k f t = subst (λ (d : OrdersData). CanFill d.live f) (sym t.in_force.orders) (finds_orders policy history r (Move.Fills f) t.does)
 
 -- the account of an order of its user stands in the file
 slice_there : (accounts : List Account) (i : ℕ) (d : Account) → i < length accounts → slice_get accounts i ≡ Some (get_or accounts i d)
@@ -155,9 +98,9 @@ side_told policy history r f o lives of liquidity party made sound is his side_i
   where
     reads_not : (role : Option Role) → option_and_then account_of_role role ≡ Some of.order.account → is_reader role ≡ false
     reads_not None e = cc
-    reads_not (Some (roles.Trader account)) e = refl
-    reads_not (Some (roles.Officer powers scope)) e = cc
-    reads_not (Some (roles.Reader names)) e = cc
+    reads_not (Some (Role.Trader account)) e = refl
+    reads_not (Some (Role.Officer powers scope)) e = cc
+    reads_not (Some (Role.Reader names)) e = cc
 
 -- both orders of a fill, as they are kept, and whose they are
 pub record FillOrders (policy : PolicyData) (history : List RecordData) (r : RecordData) (f : Fill) (taker maker : LiveOrder) : Type 0 where
@@ -167,11 +110,11 @@ pub record FillOrders (policy : PolicyData) (history : List RecordData) (r : Rec
   pub taker_his : account_of policy is.taker_waits.known.of.order.user ≡ Some is.taker_waits.known.of.order.account
   pub maker_his : account_of policy is.maker_rests.known.of.order.user ≡ Some is.maker_rests.known.of.order.account
 
-pub fill_orders : (policy : PolicyData) (history : List RecordData) (r : RecordData) (k : Keepers) (f : Fill) (taker maker : LiveOrder) → Takes policy history (moves.Fills f) r k
+pub fill_orders : (policy : PolicyData) (history : List RecordData) (r : RecordData) (k : Keepers) (f : Fill) (taker maker : LiveOrder) → Takes policy history (Move.Fills f) r k
     → live_numbered k.orders.live f.taker ≡ Some taker → live_numbered k.orders.live f.maker ≡ Some maker → FillOrders policy history r f taker maker
 fill_orders policy history r k f taker maker t takes makes =
-    let m : Move = moves.Fills f in
-    let fills : r.verdict ≡ verdicts.Filled f = fill_does policy history r f t.does in
+    let m : Move = Move.Fills f in
+    let fills : r.verdict ≡ Verdict.Filled f = fill_does policy history r f t.does in
     let matches : IsMatched policy history r = is_matched policy history r m t.does (may_do policy history r m t.does).is_match in
     let fill : IsFill policy history r f = is_fill policy history matches.handed r f (legal_is_orderly policy history t.does.legal) matches.left fills in
     let his : AllByRecursion (λ (e : Execution). IsHisAccounts policy e.order) (both_sides f fill.taker_waits.known.of.order fill.maker_rests.known.of.order) =
@@ -191,13 +134,13 @@ owner_told policy history k o lives of side kept_is is his side_is =
     ap (λ (x : FillSide). is_told k.streams x.user) (side_is ∙ ap (told_side policy) (is ∙ sym of.is_it))
     ∙ known_told policy history k kept_is of.order.user ∙ trader_told of.order.account (user_in policy.users of.order.user) his
 
-pub taker_told : (policy : PolicyData) (history : List RecordData) (r : RecordData) (k : Keepers) (f : Fill) (taker maker : LiveOrder) (side : FillSide) → Takes policy history (moves.Fills f) r k
+pub taker_told : (policy : PolicyData) (history : List RecordData) (r : RecordData) (k : Keepers) (f : Fill) (taker maker : LiveOrder) (side : FillSide) → Takes policy history (Move.Fills f) r k
     → live_numbered k.orders.live f.taker ≡ Some taker → live_numbered k.orders.live f.maker ≡ Some maker → side ≡ told_side policy taker → is_told k.streams side.user ≡ true
 taker_told policy history r k f taker maker side t takes makes is =
     let both = fill_orders policy history r k f taker maker t takes makes in
     owner_told policy history k taker both.is.may.taker both.is.taker_waits.known.of side t.in_force both.taker_is both.taker_his is
 
-pub maker_told : (policy : PolicyData) (history : List RecordData) (r : RecordData) (k : Keepers) (f : Fill) (taker maker : LiveOrder) (side : FillSide) → Takes policy history (moves.Fills f) r k
+pub maker_told : (policy : PolicyData) (history : List RecordData) (r : RecordData) (k : Keepers) (f : Fill) (taker maker : LiveOrder) (side : FillSide) → Takes policy history (Move.Fills f) r k
     → live_numbered k.orders.live f.taker ≡ Some taker → live_numbered k.orders.live f.maker ≡ Some maker → side ≡ told_side policy maker → is_told k.streams side.user ≡ true
 maker_told policy history r k f taker maker side t takes makes is =
     let both = fill_orders policy history r k f taker maker t takes makes in
@@ -212,17 +155,17 @@ sent_by_records policy history k sound kept_is user =
     (λ account. ap (λ (us : List User). sees us user account) kept_is.people ∙ entitling.kept policy history user account sound) policy.accounts)
 
 pub fill_goes_on : (policy : PolicyData) (history : List RecordData) (r : RecordData) (before k : Keepers) (f : Fill) (taker maker : LiveOrder) (left : ℕ) (taken kept_side : FillSide) (made : ToldFill)
-    → Takes policy history (moves.Fills f) r before → live_numbered before.orders.live f.taker ≡ Some taker → live_numbered before.orders.live f.maker ≡ Some maker
+    → Takes policy history (Move.Fills f) r before → live_numbered before.orders.live f.taker ≡ Some taker → live_numbered before.orders.live f.maker ≡ Some maker
     → left ≡ (maker.total - maker.done) - f.shares → is_sound policy ≡ true
     → taken ≡ told_side policy taker → kept_side ≡ told_side policy maker
     → made ≡ record { match_number = r.number; moment = r.moment; shares = f.shares; price = f.price; taker = taken; maker = kept_side }
-    → k.people ≡ before.people → k.rules ≡ before.rules → k.day ≡ at_moment r.moment (day_moved (moves.Fills f) before.day)
-    → k.orders ≡ orders_moved (moves.Fills f) before.orders
+    → k.people ≡ before.people → k.rules ≡ before.rules → k.day ≡ at_moment r.moment (day_moved (Move.Fills f) before.day)
+    → k.orders ≡ orders_moved (Move.Fills f) before.orders
     → k.book ≡ left_with maker left before.book → Fills taker maker f.shares f.price before.ledger k.ledger
     → k.streams ≡ with_fill made before.streams
     → AreCarriedOn policy history r k
 fill_goes_on policy history r before k f taker maker left taken kept_side made t takes makes left_is sound taken_is kept_is made_is people_are rules_are day_is orders_are book_is carries streams_are =
-    goes_on policy history (moves.Fills f) r before k t people_are rules_are day_is orders_are
+    goes_on policy history (Move.Fills f) r before k t people_are rules_are day_is orders_are
     (book_is ∙ ap (λ (n : ℕ). left_with maker n before.book) left_is
     ∙ ap (λ (found : Option LiveOrder). option_map_or (λ (o : LiveOrder). left_with o ((o.total - o.done) - f.shares) before.book) found before.book) (sym makes))
     (fill_figured policy history r f taker maker before k.ledger t takes makes carries)
@@ -240,9 +183,9 @@ fill_goes_on policy history r before k f taker maker left taken kept_side made t
       maker = maker_side f both.is.maker_rests.known.of.order;
       fills = fill_does policy history r f t.does;
       sides_are = sides_are policy history r f both.is;
-      takers = side_told policy history r f taker both.is.may.taker both.is.taker_waits.known.of liquidities.Removed parties.Taker made sound both.taker_is both.taker_his
+      takers = side_told policy history r f taker both.is.may.taker both.is.taker_waits.known.of Liquidity.Removed Party.Taker made sound both.taker_is both.taker_his
           (ap (λ (x : ToldFill). x.taker) made_is ∙ taken_is) (ap (λ (x : ToldFill). x.match_number) made_is) (ap (λ (x : ToldFill). x.shares) made_is) (ap (λ (x : ToldFill). x.price) made_is) refl;
-      makers = side_told policy history r f maker both.is.may.maker both.is.maker_rests.known.of liquidities.Added parties.Maker made sound both.maker_is both.maker_his
+      makers = side_told policy history r f maker both.is.may.maker both.is.maker_rests.known.of Liquidity.Added Party.Maker made sound both.maker_is both.maker_his
           (ap (λ (x : ToldFill). x.maker) made_is ∙ kept_is) (ap (λ (x : ToldFill). x.match_number) made_is) (ap (λ (x : ToldFill). x.shares) made_is) (ap (λ (x : ToldFill). x.price) made_is) refl;
       moment = ap (λ (x : ToldFill). x.moment) made_is;
     }
@@ -250,59 +193,59 @@ fill_goes_on policy history r before k f taker maker left taken kept_side made t
 -- ---- an order that comes to rest
 
 -- the first that waits is the one of the number
-first_found : (policy : PolicyData) (history : List RecordData) (r : RecordData) (k : Keepers) (number : ℕ) (o : LiveOrder) → Takes policy history (moves.Rests number) r k → live_numbered k.orders.live number ≡ Some o
+first_found : (policy : PolicyData) (history : List RecordData) (r : RecordData) (k : Keepers) (number : ℕ) (o : LiveOrder) → Takes policy history (Move.Rests number) r k → live_numbered k.orders.live number ≡ Some o
     → first_waiting (live policy history) ≡ Some o
 first_found policy history r k number o t found =
-    let first : ComesFirst (live policy history) number = finds_orders policy history r (moves.Rests number) t.does in
-    first.waits_first ∙ sym first.is_found ∙ held_numbered policy history (moves.Rests number) r k number o t found
+    let first : ComesFirst (live policy history) number = finds_orders policy history r (Move.Rests number) t.does in
+    first.waits_first ∙ sym first.is_found ∙ held_numbered policy history (Move.Rests number) r k number o t found
 
 -- its number is above those that rest at its price
-pub comes_last : (policy : PolicyData) (history : List RecordData) (r : RecordData) (k : Keepers) (number : ℕ) (o : LiveOrder) → Takes policy history (moves.Rests number) r k → live_numbered k.orders.live number ≡ Some o
+pub comes_last : (policy : PolicyData) (history : List RecordData) (r : RecordData) (k : Keepers) (number : ℕ) (o : LiveOrder) → Takes policy history (Move.Rests number) r k → live_numbered k.orders.live number ≡ Some o
     → IsLatest (resting_of o) (resting_in k.book o.terms.stock (is_buy o.terms.side))
 comes_last policy history r k number o t found =
     subst (λ (b : List StockOrders). IsLatest (resting_of o) (resting_in b o.terms.stock (is_buy o.terms.side))) (sym t.in_force.book)
     (first_is_latest policy history o t.does.legal (first_found policy history r k number o t found))
 
-pub rest_goes_on : (policy : PolicyData) (history : List RecordData) (r : RecordData) (before k : Keepers) (number : ℕ) (o : LiveOrder) → Takes policy history (moves.Rests number) r before
+pub rest_goes_on : (policy : PolicyData) (history : List RecordData) (r : RecordData) (before k : Keepers) (number : ℕ) (o : LiveOrder) → Takes policy history (Move.Rests number) r before
     → live_numbered before.orders.live number ≡ Some o
-    → k.people ≡ before.people → k.rules ≡ before.rules → k.day ≡ at_moment r.moment (day_moved (moves.Rests number) before.day)
-    → k.orders ≡ orders_moved (moves.Rests number) before.orders → k.book ≡ put_to_rest o before.book → k.ledger ≡ before.ledger → k.streams ≡ before.streams
+    → k.people ≡ before.people → k.rules ≡ before.rules → k.day ≡ at_moment r.moment (day_moved (Move.Rests number) before.day)
+    → k.orders ≡ orders_moved (Move.Rests number) before.orders → k.book ≡ put_to_rest o before.book → k.ledger ≡ before.ledger → k.streams ≡ before.streams
     → AreCarriedOn policy history r k
 rest_goes_on policy history r before k number o t found people_are rules_are day_is orders_are book_is ledger_is streams_are =
-    goes_on policy history (moves.Rests number) r before k t people_are rules_are day_is orders_are
+    goes_on policy history (Move.Rests number) r before k t people_are rules_are day_is orders_are
     (book_is ∙ ap (λ (x : Option LiveOrder). option_map_or (λ (y : LiveOrder). put_to_rest y before.book) x before.book) (sym found))
-    (quiet_figured policy history (moves.Rests number) r before k.ledger t tt ledger_is)
-    (ap shown streams_are ∙ stays_by_none policy history (history ++ r ∷ []) before.streams t.in_force.streams (λ user. told_by policy history (moves.Rests number) r user t.does))
+    (quiet_figured policy history (Move.Rests number) r before k.ledger t tt ledger_is)
+    (ap shown streams_are ∙ stays_by_none policy history (history ++ r ∷ []) before.streams t.in_force.streams (λ user. told_by policy history (Move.Rests number) r user t.does))
     (still_sent policy before.people k.people before.streams.readers k.streams.readers people_are (ap (λ (s : AllStreams). s.readers) streams_are) t.in_force.sent)
 
 -- ---- an order that ends
 
 -- what its user is told
 abbrev pub told_of_end : LiveOrder → List Message
-told_of_end o = canceled_of cancels.ImmediateOrCancel (shares_open o) o
+told_of_end o = canceled_of CancelReason.ImmediateOrCancel (shares_open o) o
 
-pub end_tells : (policy : PolicyData) (history : List RecordData) (r : RecordData) (k : Keepers) (o : LiveOrder) → Takes policy history (moves.Expires o.number) r k → live_numbered k.orders.live o.number ≡ Some o
+pub end_tells : (policy : PolicyData) (history : List RecordData) (r : RecordData) (k : Keepers) (o : LiveOrder) → Takes policy history (Move.Expires o.number) r k → live_numbered k.orders.live o.number ≡ Some o
     → TellsOne policy history (history ++ r ∷ []) r o.user (told_of_end o)
 end_tells policy history r k o t found user =
-    told_by policy history (moves.Expires o.number) r user t.does
+    told_by policy history (Move.Expires o.number) r user t.does
     ∙ ap (λ (x : Option LiveOrder). stream policy history user ++ map (reported r) (flat_map (λ (y : LiveOrder). to_user y.user user (told_of_end y)) (option_to_list x)))
-    (held_numbered policy history (moves.Expires o.number) r k o.number o t found)
+    (held_numbered policy history (Move.Expires o.number) r k o.number o t found)
     ∙ ap (λ (ms : List Message). stream policy history user ++ map (reported r) ms) (append-nil (to_user o.user user (told_of_end o)))
 
-pub end_has_place : (policy : PolicyData) (history : List RecordData) (r : RecordData) (k : Keepers) (o : LiveOrder) → Takes policy history (moves.Expires o.number) r k → live_numbered k.orders.live o.number ≡ Some o
+pub end_has_place : (policy : PolicyData) (history : List RecordData) (r : RecordData) (k : Keepers) (o : LiveOrder) → Takes policy history (Move.Expires o.number) r k → live_numbered k.orders.live o.number ≡ Some o
     → HavePlaces policy history r k.streams → 0 < places_in k.streams.told o.user
 end_has_place policy history r k o t found places = has_place policy history r k.streams o.user _ places (end_tells policy history r k o t found)
 
 -- its user has his place
-pub end_fits : (policy : PolicyData) (history : List RecordData) (r : RecordData) (k : Keepers) (o : LiveOrder) (streams : AllStreams) → Takes policy history (moves.Expires o.number) r k → live_numbered k.orders.live o.number ≡ Some o
+pub end_fits : (policy : PolicyData) (history : List RecordData) (r : RecordData) (k : Keepers) (o : LiveOrder) (streams : AllStreams) → Takes policy history (Move.Expires o.number) r k → live_numbered k.orders.live o.number ≡ Some o
     → Makes policy history k streams → HasEnough k.orders.live k.people policy streams o.user → HaveAllPlaces policy history r streams
 end_fits policy history r k o streams t found makes has =
-    let matches : IsMatched policy history r = is_matched policy history r (moves.Expires o.number) t.does (may_do policy history r (moves.Expires o.number) t.does).is_match in
+    let matches : IsMatched policy history r = is_matched policy history r (Move.Expires o.number) t.does (may_do policy history r (Move.Expires o.number) t.does).is_match in
     match_fits policy history matches.handed r k streams t.does.legal matches.left makes
     (one_finds policy history r k streams o.user _ (end_tells policy history r k o t found) has)
 
 -- whoever has all places has one for each report
-pub end_is_placed : (policy : PolicyData) (history : List RecordData) (r : RecordData) (k : Keepers) (o : LiveOrder) (streams : AllStreams) → Takes policy history (moves.Expires o.number) r k
+pub end_is_placed : (policy : PolicyData) (history : List RecordData) (r : RecordData) (k : Keepers) (o : LiveOrder) (streams : AllStreams) → Takes policy history (Move.Expires o.number) r k
     → KnowTheSame k.streams streams → HaveAllPlaces policy history r streams → HavePlaces policy history r streams
 end_is_placed policy history r k o streams t same have =
     all_are_placed policy history r streams (λ user. same user ∙ known_told policy history k t.in_force user)

@@ -1,28 +1,14 @@
 -- The room of users: reports that are told take it from places, and nobody loses any.
-use Rattle.std.proofs.Common.{◌≡◌, ℕ, ◌+◌, ◌≤◌, arith, true, false, Bool, List, [], ◌∷◌, ◌++◌, length, length-append, ◌∙◌, ap, sym, cond, map}
-use Rattle.std.proofs.Math.Path.{subst}
-use Rattle.std.specs.Prelude.{Option, Some, None}
-use Rattle.std.specs.Option.{option_map_or}
-use Rattle.gx_units.specs.Names.{same_user}
-use Rattle.gx_units.specs.declared.names.UserName.{UserName}
+use Rattle.std.proofs.{Common.{◌≡◌, ℕ, ◌+◌, ◌≤◌, arith, true, false, Bool, List, [], ◌∷◌, ◌++◌, length, length-append, ◌∙◌, ap, sym, cond, map}, Math.Path.subst}
+use Rattle.std.specs.{Prelude.{Option, Some, None}, Option.option_map_or}
+use Rattle.gx_units.specs.{Names.same_user, declared.names.UserName.UserName}
 use Rattle.gx_desk.specs.declared.Action.{Action}
-use Rattle.gx_desk.specs.declared.Action.TheVariants as actions
-use Rattle.gx_policy.specs.declared.policy.PolicyData.{PolicyData}
-use Rattle.gx_policy.specs.declared.policy.User.{User}
-use Rattle.gx_history.specs.declared.record.RecordData.{RecordData}
-use Rattle.gx_history.specs.declared.report.Message.{Message}
-use Rattle.gx_history.specs.declared.report.Report.{Report}
-use Rattle.gx_history.specs.Readers.{reader_in}
-use Rattle.gx_history.specs.Streams.{reports_of, stream}
-use Rattle.gx_history.specs.Verdicts.{IsLegal}
+use Rattle.gx_policy.specs.declared.policy.{PolicyData.PolicyData, User.User}
+use Rattle.gx_history.specs.{declared.{«record».RecordData.RecordData, report.{Message.Message, Report.Report}}, Readers.reader_in, Streams.{reports_of, stream}, Verdicts.IsLegal}
 use Rattle.gx_history_laws.proofs.NextReports.{stream_next}
-use Rattle.gx_streams.specs.declared.fill.ToldFill.{ToldFill}
-use Rattle.gx_streams.specs.Kept.{UserList, list_of, on_user, with_kept_last}
-use Rattle.gx_streams.specs.Streams.{AllStreams, is_told, on_told, reports_in, with_fill, with_fill_told}
-use Rattle.gx_streams.specs.Telling.{shown, told_after, with_all_owed, with_owed}
+use Rattle.gx_streams.specs.{declared.fill.ToldFill.ToldFill, Kept.{UserList, list_of, on_user, with_kept_last}, Streams.{AllStreams, is_told, on_told, reports_in, with_fill, with_fill_told}, Telling.{shown, told_after, with_all_owed, with_owed}}
 use Rattle.gx_streams.proofs.Finding.{reports_are}
-use Rattle.gx_keepers.specs.Keepers.{HaveAllPlaces, HaveNoFewer, KeepPlaces, KeepRoom, KnowsUsers, with_told}
-use Rattle.gx_keepers.specs.Settings.{sent_on, sent_to}
+use Rattle.gx_keepers.specs.{Keepers.{HaveAllPlaces, HaveNoFewer, KeepPlaces, KeepRoom, KnowsUsers, with_told}, Settings.{sent_on, sent_to}}
 
 -- the room of a list
 abbrev room_of : Option (UserList Report) → ℕ
@@ -88,14 +74,14 @@ sent_keeps_room policy people now before after action is = subst (KeepRoom befor
     to (Some u) = record { room = λ user. omega arith }
 
     by : (action : Action) → KeepRoom before (sent_on policy people now before action)
-    by (actions.Grant written account) = to (reader_in people written)
-    by (actions.Revoke written account) = to (reader_in people written)
-    by (actions.SetLimit rule limit) = no_room_lost before
-    by (actions.Restrict rule stock) = no_room_lost before
-    by (actions.Unrestrict rule stock) = no_room_lost before
-    by (actions.Kill account) = no_room_lost before
-    by (actions.Lift account) = no_room_lost before
-    by actions.CloseDay = no_room_lost before
+    by (Action.Grant written account) = to (reader_in people written)
+    by (Action.Revoke written account) = to (reader_in people written)
+    by (Action.SetLimit rule limit) = no_room_lost before
+    by (Action.Restrict rule stock) = no_room_lost before
+    by (Action.Unrestrict rule stock) = no_room_lost before
+    by (Action.Kill account) = no_room_lost before
+    by (Action.Lift account) = no_room_lost before
+    by Action.CloseDay = no_room_lost before
 
 -- a fill takes nobody's places
 fill_takes_none : (f : ToldFill) (streams : AllStreams) → HaveNoFewer streams (with_fill f streams)

@@ -1,37 +1,14 @@
 -- Whose fills readers get, as a Grant or a Revoke changes it, and at the beginning of a day.
-use Rattle.std.proofs.Common.{◌≡◌, ℕ, ◌+◌, ◌<◌, Bool, true, false, true≢false, cond, not, ◌&&◌, List, [], ◌∷◌, ◌++◌, length, map, take, get_or, refl, ◌∙◌, ap, sym, subst, if◌then◌else◌}
-use Rattle.std.specs.Prelude.{◌||◌, Option, Some, None, is_some, option_map, fold, find}
-use Rattle.std.specs.Option.{option_map_or}
-use Rattle.std.specs.List.{flat_map, list_any}
-use Rattle.std.proofs.lemmas.List.{take_more}
-use Rattle.std.proofs.lemmas.List.Sums.{fold_push}
-use Rattle.gx_units.specs.Names.{same_account, same_user}
-use Rattle.gx_units.specs.declared.names.AccountName.{AccountName}
-use Rattle.gx_units.specs.declared.names.UserName.{UserName}
-use Rattle.gx_desk.specs.declared.WrittenName.{WrittenName}
-use Rattle.gx_desk.specs.declared.Action.{Action}
-use Rattle.gx_desk.specs.declared.Action.TheVariants as actions
-use Rattle.gx_policy.specs.declared.policy.PolicyData.{PolicyData}
-use Rattle.gx_policy.specs.declared.policy.Role.{Role}
-use Rattle.gx_policy.specs.declared.policy.User.{User}
-use Rattle.gx_history.specs.declared.report.Report.{Report}
-use Rattle.gx_history.specs.InForce.{in_role}
-use Rattle.gx_history.specs.Masks.{mask_by}
-use Rattle.gx_policy.specs.Lists.{are_distinct}
-use Rattle.gx_policy.specs.Soundness.{is_sound}
-use Rattle.gx_policy.specs.People.{is_reader, role_in, user_in}
-use Rattle.gx_history.specs.Readers.{reader_in}
-use Rattle.gx_history_laws.proofs.Adding.{user_is, user_is_itself}
-use Rattle.gx_history_laws.proofs.Judging.{both}
-use Rattle.gx_history_laws.proofs.Masks.{same_mask}
-use Rattle.gx_history_laws.proofs.Order.{some_same}
-use Rattle.gx_history_laws.proofs.Names.{same_user_flip, users_differ}
+use Rattle.std.proofs.{Common.{◌≡◌, ℕ, ◌+◌, ◌<◌, Bool, true, false, true≢false, cond, not, ◌&&◌, List, [], ◌∷◌, ◌++◌, length, map, take, get_or, refl, ◌∙◌, ap, sym, subst, if◌then◌else◌}, lemmas.List.{take_more, Sums.fold_push}}
+use Rattle.std.specs.{Prelude.{◌||◌, Option, Some, None, is_some, option_map, fold, find}, Option.option_map_or, List.{flat_map, list_any}}
+use Rattle.gx_units.specs.{Names.{same_account, same_user}, declared.names.{AccountName.AccountName, UserName.UserName}}
+use Rattle.gx_desk.specs.declared.{WrittenName.WrittenName, Action.Action}
+use Rattle.gx_policy.specs.{declared.policy.{PolicyData.PolicyData, Role.Role, User.User}, Lists.are_distinct, Soundness.is_sound, People.{is_reader, role_in, user_in}}
+use Rattle.gx_history.specs.{declared.report.Report.Report, InForce.in_role, Masks.mask_by, Readers.reader_in}
+use Rattle.gx_history_laws.proofs.{Adding.{user_is, user_is_itself}, Judging.both, Masks.same_mask, Order.some_same, Names.{same_user_flip, users_differ}}
 use Rattle.gx_people.specs.Entitled.{change_role, given, granted_to, has_room, revoked_from, sees, sees_with, sees_without, with_account, without_account}
-use Rattle.gx_streams.specs.Kept.{at_first}
-use Rattle.gx_streams.specs.Streams.{AllStreams, ReaderMask, empty_streams, entitled, mask_in, no_mask, with_mask}
-use Rattle.gx_streams.specs.Telling.{shown, shown_list, with_all_owed, with_owed}
-use Rattle.gx_keepers.specs.Keepers.{AreSentTo, mask_for}
-use Rattle.gx_keepers.specs.Settings.{sent_on, sent_to}
+use Rattle.gx_streams.specs.{Kept.at_first, Streams.{AllStreams, ReaderMask, empty_streams, entitled, mask_in, no_mask, with_mask}, Telling.{shown, shown_list, with_all_owed, with_owed}}
+use Rattle.gx_keepers.specs.{Keepers.{AreSentTo, mask_for}, Settings.{sent_on, sent_to}}
 use Rattle.gx_keepers.proofs.Carrying.{still_sent}
 
 -- ---- masks
@@ -131,20 +108,20 @@ sent_one policy before now streams name others sent user = mask_changed streams.
 -- each reader gets the fills of what he sees after the command
 pub sent_after : (policy : PolicyData) (before now : List User) (streams : AllStreams) (action : Action) → now ≡ given before action
     → AreSentTo policy before streams.readers → AreSentTo policy now (sent_on policy before now streams action).readers
-sent_after policy before now streams (actions.Kill account) is sent = still_sent policy before now streams.readers streams.readers is refl sent
-sent_after policy before now streams (actions.Lift account) is sent = still_sent policy before now streams.readers streams.readers is refl sent
-sent_after policy before now streams (actions.SetLimit rule limit) is sent = still_sent policy before now streams.readers streams.readers is refl sent
-sent_after policy before now streams (actions.Restrict rule stock) is sent = still_sent policy before now streams.readers streams.readers is refl sent
-sent_after policy before now streams (actions.Unrestrict rule stock) is sent = still_sent policy before now streams.readers streams.readers is refl sent
-sent_after policy before now streams actions.CloseDay is sent = still_sent policy before now streams.readers streams.readers is refl sent
-sent_after policy before now streams (actions.Grant written account) is sent = by (reader_in before written) is
+sent_after policy before now streams (Action.Kill account) is sent = still_sent policy before now streams.readers streams.readers is refl sent
+sent_after policy before now streams (Action.Lift account) is sent = still_sent policy before now streams.readers streams.readers is refl sent
+sent_after policy before now streams (Action.SetLimit rule limit) is sent = still_sent policy before now streams.readers streams.readers is refl sent
+sent_after policy before now streams (Action.Restrict rule stock) is sent = still_sent policy before now streams.readers streams.readers is refl sent
+sent_after policy before now streams (Action.Unrestrict rule stock) is sent = still_sent policy before now streams.readers streams.readers is refl sent
+sent_after policy before now streams Action.CloseDay is sent = still_sent policy before now streams.readers streams.readers is refl sent
+sent_after policy before now streams (Action.Grant written account) is sent = by (reader_in before written) is
   where
     by : (found : Option User) → now ≡ option_map_or (λ (u : User). granted_to u.name account before) found before → AreSentTo policy now (sent_to policy now streams found).readers
     by None same = still_sent policy before now streams.readers streams.readers same refl sent
     by (Some u) same =
         sent_one policy before now streams u.name
         (λ user apart other. ap (λ us. sees us user other) same ∙ others_see u.name user (with_account account) apart before other) sent
-sent_after policy before now streams (actions.Revoke written account) is sent = by (reader_in before written) is
+sent_after policy before now streams (Action.Revoke written account) is sent = by (reader_in before written) is
   where
     by : (found : Option User) → now ≡ option_map_or (λ (u : User). revoked_from u.name account before) found before → AreSentTo policy now (sent_to policy now streams found).readers
     by None same = still_sent policy before now streams.readers streams.readers same refl sent
@@ -158,14 +135,14 @@ sent_to_told policy now streams None = refl
 sent_to_told policy now streams (Some u) = refl
 
 pub sent_told : (policy : PolicyData) (before now : List User) (streams : AllStreams) (action : Action) → (sent_on policy before now streams action).told ≡ streams.told
-sent_told policy before now streams (actions.Kill account) = refl
-sent_told policy before now streams (actions.Lift account) = refl
-sent_told policy before now streams (actions.SetLimit rule limit) = refl
-sent_told policy before now streams (actions.Restrict rule stock) = refl
-sent_told policy before now streams (actions.Unrestrict rule stock) = refl
-sent_told policy before now streams actions.CloseDay = refl
-sent_told policy before now streams (actions.Grant written account) = sent_to_told policy now streams (reader_in before written)
-sent_told policy before now streams (actions.Revoke written account) = sent_to_told policy now streams (reader_in before written)
+sent_told policy before now streams (Action.Kill account) = refl
+sent_told policy before now streams (Action.Lift account) = refl
+sent_told policy before now streams (Action.SetLimit rule limit) = refl
+sent_told policy before now streams (Action.Restrict rule stock) = refl
+sent_told policy before now streams (Action.Unrestrict rule stock) = refl
+sent_told policy before now streams Action.CloseDay = refl
+sent_told policy before now streams (Action.Grant written account) = sent_to_told policy now streams (reader_in before written)
+sent_told policy before now streams (Action.Revoke written account) = sent_to_told policy now streams (reader_in before written)
 
 pub shown_by_told : (streams other : AllStreams) → streams.told ≡ other.told → shown streams ≡ shown other
 unfolding shown
@@ -353,7 +330,7 @@ room_named users (Some u) reader account e room = ap (λ (name : UserName). has_
 
 -- nobody is given anything
 pub given_nobody : (users : List User) (written : WrittenName) (account : AccountName) → option_map (λ (u : User). u.name) (reader_in users written) ≡ None
-    → (users ≡ given users (actions.Grant written account)) × (users ≡ given users (actions.Revoke written account))
+    → (users ≡ given users (Action.Grant written account)) × (users ≡ given users (Action.Revoke written account))
 given_nobody users written account e = by (reader_in users written) e
   where
     by : (found : Option User) → option_map (λ (u : User). u.name) found ≡ None

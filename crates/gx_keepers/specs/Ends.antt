@@ -1,29 +1,12 @@
 -- What a granted command owes: of live orders that it ends, of the end of the day, and its answer; and which orders it leaves.
-use Rattle.std.specs.Prelude.{ℕ, ◌≤◌, Bool, List, [], ◌∷◌, ◌++◌, Some, length, map}
-use Rattle.std.specs.List.{filter}
+use Rattle.std.specs.{Prelude.{ℕ, ◌≤◌, Bool, List, [], ◌∷◌, ◌++◌, Some, length, map}, List.filter}
 use Rattle.gx_units.specs.declared.names.UserName.{UserName}
-use Rattle.gx_ouch.specs.declared.letters.EventCode.TheVariants as events
-use Rattle.gx_ouch.specs.declared.outbound.Outbound.TheVariants as outbounds
-use Rattle.gx_desk.specs.Names.{command_type}
-use Rattle.gx_desk.specs.declared.Action.{Action}
-use Rattle.gx_desk.specs.declared.Action.TheVariants as actions
-use Rattle.gx_desk.specs.declared.AnswerCode.{AnswerCode}
-use Rattle.gx_desk.specs.declared.AnswerCode.TheVariants as codes
-use Rattle.gx_desk.specs.declared.Command.{Command}
-use Rattle.gx_policy.specs.declared.policy.PolicyData.{PolicyData}
-use Rattle.gx_policy.specs.declared.policy.User.{User}
-use Rattle.gx_history.specs.declared.record.RecordData.{RecordData}
-use Rattle.gx_history.specs.declared.report.Message.{Message}
-use Rattle.gx_history.specs.declared.report.Message.TheVariants as messages
-use Rattle.gx_history.specs.declared.report.Report.{Report}
-use Rattle.gx_history.specs.Orders.{ends_account}
-use Rattle.gx_policy.specs.People.{is_trader}
-use Rattle.gx_history.specs.Streams.{lift_code}
+use Rattle.gx_ouch.specs.declared.{letters.EventCode.EventCode, outbound.Outbound.Outbound}
+use Rattle.gx_desk.specs.{Names.command_type, declared.{Action.Action, AnswerCode.AnswerCode, Command.Command}}
+use Rattle.gx_policy.specs.{declared.policy.{PolicyData.PolicyData, User.User}, People.is_trader}
+use Rattle.gx_history.specs.{declared.{«record».RecordData.RecordData, report.{Message.Message, Report.Report}, live_order.LiveOrder.LiveOrder}, Orders.ends_account, Streams.lift_code}
 use Rattle.gx_day.specs.DayData.{DayData, killed_in}
-use Rattle.gx_history.specs.declared.live_order.LiveOrder.{LiveOrder}
-use Rattle.gx_streams.specs.Kept.{places_in}
-use Rattle.gx_streams.specs.Streams.{AllStreams}
-use Rattle.gx_streams.specs.Telling.{owed_for, owed_to, with_all_owed}
+use Rattle.gx_streams.specs.{Kept.places_in, Streams.AllStreams, Telling.{owed_for, owed_to, with_all_owed}}
 use Rattle.gx_keepers.specs.declared.next_record.NextRecord.{NextRecord}
 
 -- the command ends the order
@@ -44,7 +27,7 @@ trades u = is_trader (Some u.role)
 
 -- System Event: the day has ended
 abbrev pub day_end_message : Message
-day_end_message = messages.Order (outbounds.SystemEvent events.EndOfDay)
+day_end_message = Message.Order (Outbound.SystemEvent EventCode.EndOfDay)
 
 -- the end of the day, for the user
 abbrev pub owed_by_day_end : ℕ → User → UserName × Report
@@ -56,17 +39,17 @@ owed_by_day_ends moment users = map (owed_by_day_end moment) (filter trades user
 
 -- where the command closes the day
 abbrev pub owed_by_close : Action → ℕ → List User → List (UserName × Report)
-owed_by_close actions.CloseDay moment users = owed_by_day_ends moment users
+owed_by_close Action.CloseDay moment users = owed_by_day_ends moment users
 owed_by_close other moment users = []
 
 -- the code of the answer to a granted action, by the day that it leaves
 abbrev pub code_by : DayData → Action → AnswerCode
-code_by day (actions.Lift account) = lift_code (killed_in day account)
-code_by day other = codes.Done
+code_by day (Action.Lift account) = lift_code (killed_in day account)
+code_by day other = AnswerCode.Done
 
 -- Answer: what becomes of an officer's command, with the number of its record
 abbrev pub answer_message : RecordData → Command → AnswerCode → Message
-answer_message r c code = messages.Answer (record { tag = c.tag; command_type = command_type c.action; code = code; record_number = r.number })
+answer_message r c code = Message.Answer (record { tag = c.tag; command_type = command_type c.action; code = code; record_number = r.number })
 
 -- the answer, for the officer
 abbrev pub owed_by_answer : RecordData → UserName → Command → AnswerCode → UserName × Report

@@ -1,34 +1,15 @@
 -- What the keepers hold after these records.
-use Rattle.std.specs.Prelude.{◌≡◌, ℕ, ◌+◌, ◌≤◌, IsTrue, List, [], ◌∷◌, ◌++◌, length, Option, Some, None, is_some, ◌&&◌, not, if◌then◌else◌}
-use Rattle.std.specs.List.{filter, AllByRecursion}
+use Rattle.std.specs.{Prelude.{◌≡◌, ℕ, ◌+◌, ◌≤◌, IsTrue, List, [], ◌∷◌, ◌++◌, length, Option, Some, None, is_some, ◌&&◌, not, if◌then◌else◌}, List.{filter, AllByRecursion}}
 use Rattle.gx_units.specs.declared.names.UserName.{UserName}
-use Rattle.gx_policy.specs.declared.policy.User.{User}
-use Rattle.gx_history.specs.declared.moves.Move.{Move}
-use Rattle.gx_history.specs.declared.record.Asked.{Asked}
-use Rattle.gx_history.specs.declared.record.Step.TheVariants as steps
-use Rattle.gx_history.specs.declared.report.Message.{Message}
-use Rattle.gx_history.specs.Masks.{mask_by}
-use Rattle.gx_policy.specs.People.{is_officer, is_reader, role_in, user_in}
-use Rattle.gx_policy.specs.declared.policy.PolicyData.{PolicyData}
-use Rattle.gx_history.specs.declared.record.RecordData.{RecordData}
-use Rattle.gx_history.specs.InForce.{rules_in_force}
-use Rattle.gx_history.specs.Streams.{reports_of}
-use Rattle.gx_history.specs.Requests.{asked}
-use Rattle.gx_history.specs.Verdicts.{FitsDay, IsLegal, next}
-use Rattle.gx_history.specs.World.{Does}
+use Rattle.gx_policy.specs.{declared.policy.{User.User, PolicyData.PolicyData}, People.{is_officer, is_reader, role_in, user_in}}
+use Rattle.gx_history.specs.{declared.{moves.Move.Move, «record».{Asked.Asked, Step.Step, RecordData.RecordData}, report.Message.Message, live_order.LiveOrder.LiveOrder}, Masks.mask_by, InForce.rules_in_force, Streams.reports_of, Requests.asked, Verdicts.{FitsDay, IsLegal, next}, World.Does}
 use Rattle.gx_day.specs.InForce.{day_in_force}
-use Rattle.gx_orders.specs.InForce.{orders_in_force}
+use Rattle.gx_orders.specs.{InForce.orders_in_force, LiveOrders.is_of_user}
 use Rattle.gx_people.specs.Entitled.{people_in_force, sees}
 use Rattle.gx_market.specs.BookInForce.{book_in_force}
-use Rattle.gx_streams.specs.Telling.{shown, told_after}
-use Rattle.gx_history.specs.declared.live_order.LiveOrder.{LiveOrder}
-use Rattle.gx_orders.specs.LiveOrders.{is_of_user}
-use Rattle.gx_streams.specs.Kept.{places_in, with_kept_last}
-use Rattle.gx_streams.specs.Streams.{AllStreams, ReaderMask, is_told, mask_in, on_told, reports_in}
+use Rattle.gx_streams.specs.{Telling.{shown, told_after}, Kept.{places_in, with_kept_last}, Streams.{AllStreams, ReaderMask, is_told, mask_in, on_told, reports_in}}
 use Rattle.gx_places.specs.Places.{has_kept_places, report_places}
-use Rattle.gx_keepers.specs.declared.keepers.Keepers.{Keepers}
-use Rattle.gx_keepers.specs.declared.next_record.NextRecord.{NextRecord}
-use Rattle.gx_keepers.specs.Ledgers.{StandsForDay}
+use Rattle.gx_keepers.specs.{declared.{keepers.Keepers.Keepers, next_record.NextRecord.NextRecord}, Ledgers.StandsForDay}
 
 -- the accounts that the user sees among these people, if he is a reader
 abbrev pub mask_for : PolicyData → List User → UserName → Option ℕ
@@ -124,7 +105,7 @@ pub record Takes (policy : PolicyData) (history : List RecordData) (m : Move) (r
 pub record TakesAsked (policy : PolicyData) (history : List RecordData) (a : Asked) (r : RecordData) (k : Keepers) : Type 0 where
   pub legal : IsLegal policy history
   pub fits : FitsDay r
-  pub left : next policy history (steps.Asked a) ≡ Some r
+  pub left : next policy history (Step.Asked a) ≡ Some r
   pub in_force : AreInForce policy history k
 
 -- the record is next, after a legal day with what is in force
@@ -133,7 +114,7 @@ IsNext n k = Takes n.policy.now n.history.now.records n.moves.now n.left.now k
 
 -- it is the request's
 abbrev pub IsOf : Asked → NextRecord → Type 0
-IsOf a n = n.left.now.step ≡ steps.Asked a
+IsOf a n = n.left.now.step ≡ Step.Asked a
 
 -- it is a matching step's
 abbrev pub IsMatch : NextRecord → Type 0

@@ -1,13 +1,9 @@
 -- What the ledger keeps by the records of a day, and the live orders that a command ends.
-use Rattle.std.specs.Prelude.{List}
-use Rattle.std.specs.List.{filter}
+use Rattle.std.specs.{Prelude.List, List.filter}
 use Rattle.gx_desk.specs.declared.Action.{Action}
 use Rattle.gx_policy.specs.declared.policy.PolicyData.{PolicyData}
-use Rattle.gx_history.specs.declared.record.RecordData.{RecordData}
-use Rattle.gx_history.specs.declared.live_order.LiveOrder.{LiveOrder}
-use Rattle.gx_history.specs.Figures.{positions}
-use Rattle.gx_ledger.specs.Keeping.{Kept}
-use Rattle.gx_ledger.specs.StandsFor.{StandsFor}
+use Rattle.gx_history.specs.{declared.{«record».RecordData.RecordData, live_order.LiveOrder.LiveOrder}, Figures.positions}
+use Rattle.gx_ledger.specs.{Keeping.Kept, StandsFor.StandsFor}
 use Rattle.gx_keepers.specs.Ends.{is_ended}
 
 -- it has the figures of the live orders, the fills and the grants of the day

@@ -1,9 +1,7 @@
 -- What a fill is told as.
 use Rattle.std.specs.Prelude.{ℕ, List, length, position, unwrap_or}
-use Rattle.gx_units.specs.declared.names.AccountName.{AccountName}
-use Rattle.gx_units.specs.Names.{same_account}
-use Rattle.gx_policy.specs.declared.policy.Account.{Account}
-use Rattle.gx_policy.specs.declared.policy.PolicyData.{PolicyData}
+use Rattle.gx_units.specs.{declared.names.AccountName.AccountName, Names.same_account}
+use Rattle.gx_policy.specs.declared.policy.{Account.Account, PolicyData.PolicyData}
 use Rattle.gx_history.specs.declared.live_order.LiveOrder.{LiveOrder}
 use Rattle.gx_streams.specs.declared.fill.FillSide.{FillSide}
 

@@ -6,8 +6,7 @@
 ghost use Rattle.std.specs.Prelude.{◌≡◌, IsOk, OnOk, OnErr};
 ghost use Rattle.gx_history.specs.declared.moves.Move.TheVariants as moves;
 ghost use Rattle.gx_market.specs.Changes.{cut_from};
-ghost use Rattle.gx_keepers.specs.Keepers.{AreAfter, AreBefore, IsNext, IsOf, IsPlaced, IsSure};
-ghost use Rattle.gx_keepers.specs.Keepers.{KeepPlacesAfter, KeepPlacesBefore, KeepRoom};
+ghost use Rattle.gx_keepers.specs.Keepers.{AreAfter, AreBefore, IsNext, IsOf, IsPlaced, IsSure, KeepPlacesAfter, KeepPlacesBefore, KeepRoom};
 
 use crate::commands::apply_command;
 use crate::keepers::Keepers;

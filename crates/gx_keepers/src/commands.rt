@@ -3,11 +3,7 @@
 ghost use Rattle.std.specs.Prelude.{◌≡◌, IsFalse, IsOk, OnOk, OnErr};
 ghost use Rattle.gx_history.specs.declared.moves.Move.TheVariants as moves;
 ghost use Rattle.gx_history.specs.Streams.{lift_code};
-ghost use Rattle.gx_keepers.specs.Ends.{code_by, owed_by_close, owed_by_day_ends, owed_by_next};
-ghost use Rattle.gx_keepers.specs.Ends.{told_by_next, told_of_close, told_of_day_end, trades};
-ghost use Rattle.gx_keepers.specs.Ends.{HaveOwedPlaces};
-ghost use Rattle.gx_keepers.specs.Keepers.{AreAfter, AreBefore, IsNext, IsPlaced, KeepRoom};
-ghost use Rattle.gx_keepers.specs.Settings.{grows};
+ghost use Rattle.gx_keepers.specs.{Ends.{code_by, owed_by_close, owed_by_day_ends, owed_by_next, told_by_next, told_of_close, told_of_day_end, trades, HaveOwedPlaces}, Keepers.{AreAfter, AreBefore, IsNext, IsPlaced, KeepRoom}, Settings.grows};
 
 use crate::ends::{end_orders, tell_of_ends};
 use crate::keepers::Keepers;

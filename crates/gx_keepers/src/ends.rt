@@ -2,11 +2,9 @@
 
 ghost use Rattle.std.specs.Prelude.{◌≡◌, true, map, MatchOption};
 ghost use Rattle.gx_ledger.specs.Following.{ClosesAll};
-ghost use Rattle.gx_market.specs.Changes.{each_taken_out, ended_by};
-ghost use Rattle.gx_market.specs.Standing.{IsLiveBook};
+ghost use Rattle.gx_market.specs.{Changes.{each_taken_out, ended_by}, Standing.IsLiveBook};
 ghost use Rattle.gx_orders.specs.Changes.{is_lasting, live_left, with_live};
-ghost use Rattle.gx_keepers.specs.Ends.{owed_by_end, owed_by_ends, told_of_ends, HaveOwedPlaces};
-ghost use Rattle.gx_keepers.specs.Ledgers.{ended_orders};
+ghost use Rattle.gx_keepers.specs.{Ends.{owed_by_end, owed_by_ends, told_of_ends, HaveOwedPlaces}, Ledgers.ended_orders};
 ghost use Rattle.gx_streams.specs.Telling.{with_all_owed};
 
 use crate::reports::ended;

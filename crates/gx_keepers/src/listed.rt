@@ -2,8 +2,7 @@
 
 ghost use Rattle.std.specs.Prelude.{◌≡◌, find, position};
 ghost use Rattle.gx_units.specs.Names.{same_account, same_stock};
-ghost use Rattle.gx_history.specs.Asking.{fits_firm};
-ghost use Rattle.gx_history.specs.Orders.{firm_of};
+ghost use Rattle.gx_history.specs.{Asking.fits_firm, Orders.firm_of};
 ghost use Rattle.gx_policy.specs.People.{account_named, stock_named};
 ghost use Rattle.gx_keepers.specs.Matching.{place_of};
 

@@ -6,9 +6,7 @@
 ghost use Rattle.std.specs.Prelude.{◌≡◌, is_some, IsTrue, OnOk, OnErr, Some};
 ghost use Rattle.gx_history.specs.declared.moves.Move.TheVariants as moves;
 ghost use Rattle.gx_orders.specs.LiveOrders.{live_numbered};
-ghost use Rattle.gx_keepers.specs.Keepers.{AreAfter, AreBefore, IsMatch, IsNext, IsPlaced};
-ghost use Rattle.gx_keepers.specs.Keepers.{IsPlacedWhole, KeepPlacesAfter, KeepPlacesBefore};
-ghost use Rattle.gx_keepers.specs.Matching.{told_side};
+ghost use Rattle.gx_keepers.specs.{Keepers.{AreAfter, AreBefore, IsMatch, IsNext, IsPlaced, IsPlacedWhole, KeepPlacesAfter, KeepPlacesBefore}, Matching.told_side};
 
 use crate::keepers::Keepers;
 use crate::listed::place_of;

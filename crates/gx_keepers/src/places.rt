@@ -3,18 +3,17 @@
 //! For each user places are kept beforehand: one for the end of each of his live orders, and one for
 //! the answer to each Kill that he may ask for. So a granted Kill, and a granted Logout, make none.
 
-ghost use Rattle.std.specs.Prelude.{◌≡◌, ◌<◌, ◌≤◌, ◌^◌, length, IsOk, OnOk, Some};
+ghost use Rattle.std.specs.Prelude.{◌≡◌, ◌+◌, ◌<◌, ◌≤◌, ◌^◌, length, IsOk, OnOk, Some};
 ghost use Rattle.gx_history.specs.declared.moves.Move.TheVariants as moves;
 ghost use Rattle.gx_history.specs.Verdicts.{day_limit};
 ghost use Rattle.gx_orders.specs.LiveOrders.{live_numbered};
 ghost use Rattle.gx_streams.specs.Telling.{shown};
-ghost use Rattle.gx_keepers.specs.Keepers.{enough_of, kills_of, AreBefore, HasEnough};
-ghost use Rattle.gx_keepers.specs.Keepers.{HasPlaces, HaveEnough, HaveNoFewer, IsNext, IsOf, IsPlaced, IsPlacedWhole};
-ghost use Rattle.gx_keepers.specs.Keepers.{IsSure, KeepPlacesBefore, KnowTheSame};
+ghost use Rattle.gx_keepers.specs.Keepers.{count_of, enough_of, kills_of, AreBefore, HasEnough, HasPlaces, HaveEnough, HaveNoFewer, IsNext, IsOf, IsPlaced, IsPlacedWhole, IsSure, KeepPlacesBefore, KnowTheSame};
 
 use crate::keepers::Keepers;
 use crate::next_record::NextRecord;
 use gx_history::live_order::LiveOrder;
+use gx_history::moves::Move;
 use gx_history::record::Asked;
 use gx_orders::orders::Orders;
 use gx_people::people::People;
@@ -78,6 +77,22 @@ fn keep_enough(
     keep(streams, user, enough_places(orders, people, policy, user))
 }
 
+/// Keeps as many places for a user who trades: there is no account for him to kill.
+fn keep_enough_for_trader(
+    streams: &mut Streams,
+    orders: &Orders,
+    user: UserName,
+) -> Result<(), OutOfMemory>
+    requires few { length orders.now.live ≤ day_limit }
+    ensures shown { shown streams.new ≡ shown streams.old }
+    ensures readers { streams.new.readers ≡ streams.old.readers }
+    ensures known { KnowTheSame streams.old streams.new }
+    ensures more { HaveNoFewer streams.old streams.new }
+    ensures places { OnOk result (HasPlaces user (count_of orders.now.live user + 2) streams.new) }
+{
+    keep(streams, user, orders.count_of(user) + 2)
+}
+
 /// Keeps as many places for each user of the policy.
 pub fn keep_enough_for_all(
     streams: &mut Streams,
@@ -131,6 +146,9 @@ pub fn keep_places(
             &keepers.people,
             policy,
         );
+    }
+    if let Move::Adds(_) = next.moves {
+        return keep_enough_for_trader(&mut keepers.streams, &keepers.orders, a.user);
     }
     keep_enough(
         &mut keepers.streams,

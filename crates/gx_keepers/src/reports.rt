@@ -3,13 +3,9 @@
 
 ghost use Rattle.std.specs.Prelude.{◌≡◌, ◌<◌, [], ◌∷◌, option_copied, find, option_to_list, IfSome};
 ghost use Rattle.gx_units.specs.Names.{same_rule};
-ghost use Rattle.gx_history.specs.Reasons.{denial_code, kind_reason, reject_reason};
-ghost use Rattle.gx_history.specs.Streams.{canceled_of, rejected, replaced_of, reports_of_denial};
-ghost use Rattle.gx_history.specs.World.{accepted_of};
-ghost use Rattle.gx_streams.specs.Kept.{places_in};
-ghost use Rattle.gx_keepers.specs.Keepers.{with_told};
-ghost use Rattle.gx_streams.specs.Telling.{owed_for};
-ghost use Rattle.gx_keepers.specs.Ends.{answer_message, day_end_message};
+ghost use Rattle.gx_history.specs.{Reasons.{denial_code, reject_reason}, Streams.{canceled_of, rejected, replaced_of, reports_of_denial}, World.accepted_of};
+ghost use Rattle.gx_streams.specs.{Kept.places_in, Telling.owed_for};
+ghost use Rattle.gx_keepers.specs.{Keepers.with_told, Ends.{answer_message, day_end_message}};
 
 use gx_desk::{Answer, AnswerCode, Command};
 use gx_history::live_order::LiveOrder;
@@ -20,7 +16,7 @@ use gx_ouch::{
     Accepted, CancelReason, Canceled, EventCode, OrderTerms, Outbound, RejectReason, Rejected,
     Replaced,
 };
-use gx_policy::{FileRule, Policy, RuleKind, RuleName};
+use gx_policy::{FileRule, Policy, RuleName};
 use gx_streams::streams::Streams;
 use gx_units::{Moment, RuleId, UserName};
 
@@ -30,31 +26,11 @@ fn find_rule<'a>(rules: &'a [FileRule], name: RuleId) -> Option<&'a FileRule>
     rules.iter().find(|r| r.name == name)
 }
 
-fn reason_of_kind(kind: &RuleKind) -> RejectReason
-    ensures { result ≡ kind_reason kind.now }
-{
-    match kind {
-        RuleKind::Halt(_) => RejectReason::Halted,
-        RuleKind::Restricted(_) => RejectReason::RestrictedStock,
-        RuleKind::NoShort => RejectReason::ShortSale,
-        RuleKind::NoIso => RejectReason::IntermarketSweep,
-        RuleKind::OddLot => RejectReason::OddLot,
-        RuleKind::OrderShares(_) => RejectReason::SharesExceedSafety,
-        RuleKind::OrderValue(_) => RejectReason::DollarLimit,
-        RuleKind::Collar(_) => RejectReason::InvalidPrice,
-        RuleKind::GrossShares(_, _) => RejectReason::SharesLimit,
-        RuleKind::GrossValue(_, _) => RejectReason::DollarLimit,
-        RuleKind::NetShares(_, _) => RejectReason::SharesLimit,
-        RuleKind::Rate(_, _) => RejectReason::Other,
-        RuleKind::Repeat(_, _) => RejectReason::Other,
-    }
-}
-
 fn reason_of_rule(policy: &Policy, name: RuleId) -> Option<RejectReason>
     ensures { result ≡ reject_reason policy.now (RuleName.File name) }
 {
     match find_rule(policy.rules(), name) {
-        Some(rule) => Some(reason_of_kind(&rule.kind)),
+        Some(rule) => Some(rule.kind.name().reject_reason()),
         None => None,
     }
 }

@@ -1,44 +1,19 @@
 -- A user who is logged in on a line is logged out there.
-use Rattle.std.proofs.Common.{◌≡◌, ℕ, ◌+◌, ◌<◌, ◌≤◌, Bool, cond, true, false, List, [], ◌∷◌, ◌++◌, length, take, get_or, Some, None, Result, Ok, Err, IfOk, is_ok, refl, sym, ap, ◌∙◌, subst, append_assoc, arith, length-append}
-use Rattle.std.specs.Prelude.{◌&&◌}
-use Rattle.std.specs.Option.{option_map_or}
-use Rattle.std.specs.List.{AllByRecursion}
-use Rattle.std.proofs.lemmas.List.{take_more}
-use Rattle.gx_units.specs.Spelling.{folded_user}
-use Rattle.gx_units.specs.Names.{same_token, same_user}
-use Rattle.gx_units.specs.declared.names.Token.{Token}
-use Rattle.gx_units.specs.declared.names.UserName.{UserName}
-use Rattle.gx_policy.specs.declared.policy.PolicyData.{PolicyData}
-use Rattle.gx_policy.specs.declared.policy.User.{User}
-use Rattle.gx_history.specs.declared.record.Asked.{Asked}
-use Rattle.gx_history.specs.declared.record.RecordData.{RecordData}
-use Rattle.gx_history.specs.declared.record.Request.{Request}
-use Rattle.gx_history.specs.declared.record.Request.TheVariants as requests
-use Rattle.gx_history.specs.declared.record.Step.{Step}
-use Rattle.gx_history.specs.declared.record.Step.TheVariants as steps
-use Rattle.gx_history.specs.declared.record.Verdict.TheVariants as verdicts
-use Rattle.gx_history.specs.InForce.{line_of}
-use Rattle.gx_history.specs.Orders.{asks_under, record_uses, uses_token}
-use Rattle.gx_history.specs.Requests.{asked, new_token}
-use Rattle.gx_history.specs.Verdicts.{IsLegal, last_moment, next, verdict}
-use Rattle.gx_history.specs.World.{World, world}
-use Rattle.gx_history_laws.proofs.Adding.{user_is_itself}
-use Rattle.gx_history_laws.proofs.Logouts.{logouts_are_granted}
-use Rattle.gx_history_laws.proofs.NextOrders.{or_not}
-use Rattle.gx_history_laws.proofs.Pushing.{all_next}
-use Rattle.gx_history_laws.proofs.Runs.{step_left}
+use Rattle.std.proofs.{Common.{◌≡◌, ℕ, ◌+◌, ◌<◌, ◌≤◌, Bool, cond, true, false, List, [], ◌∷◌, ◌++◌, length, take, get_or, Some, None, Result, Ok, Err, IfOk, is_ok, refl, sym, ap, ◌∙◌, subst, append_assoc, arith, length-append}, lemmas.List.take_more}
+use Rattle.std.specs.{Prelude.◌&&◌, Option.option_map_or, List.AllByRecursion}
+use Rattle.gx_units.specs.{Spelling.folded_user, Names.{same_token, same_user}, declared.names.{Token.Token, UserName.UserName}}
+use Rattle.gx_policy.specs.declared.policy.{PolicyData.PolicyData, User.User}
+use Rattle.gx_history.specs.{declared.record.{Asked.Asked, RecordData.RecordData, Request.Request, Step.Step, Verdict.Verdict}, InForce.line_of, Orders.{asks_under, record_uses, uses_token}, Requests.{asked, new_token}, Verdicts.{IsLegal, last_moment, next, verdict}, World.{World, world}}
+use Rattle.gx_history_laws.proofs.{Adding.user_is_itself, Logouts.logouts_are_granted, NextOrders.or_not, Pushing.all_next, Runs.step_left}
 use Rattle.gx_effects.proofs.ByKind.{logouts_put_off}
 use Rattle.gx_places.specs.Places.{has_kept_places}
-use Rattle.gx_answers.specs.declared.outcome.Outcome.{Outcome}
-use Rattle.gx_answers.specs.declared.outcome.StepFault.{StepFault}
-use Rattle.gx_answers.specs.Gates.{GateData, left_by}
-use Rattle.gx_answers.specs.Steps.{has_its_places, next_of, verdict_of, with_record}
+use Rattle.gx_answers.specs.{declared.outcome.{Outcome.Outcome, StepFault.StepFault}, Gates.{GateData, left_by}, Steps.{has_its_places, next_of, verdict_of, with_record}}
 use Rattle.gx_door.specs.Acts.{asked_on}
 use Rattle.gx_leaving.specs.Logouts.{AddsLogouts, IsGrantedLogout, IsOff, LeavesLine}
 
 -- No rule forbids the Logout of a user who is on his line.
 logout_is_granted : (policy : PolicyData) (history : List RecordData) (line : ℕ) (user : UserName) (moment : ℕ) → line_of history (folded_user user) ≡ Some line
-    → verdict policy history (asked_on line user requests.Logout moment) ≡ verdicts.Granted
+    → verdict policy history (asked_on line user Request.Logout moment) ≡ Verdict.Granted
 logout_is_granted policy history line user moment on = logouts_are_granted policy history line (folded_user user) moment on
 
 -- It uses no token.
@@ -47,13 +22,13 @@ no_token true true = refl
 no_token true false = refl
 no_token false c = refl
 
-uses_none : (a : Asked) (r : RecordData) (user : UserName) (token : Token) → r.step ≡ steps.Asked a → a.request ≡ requests.Logout → record_uses user token r ≡ false
+uses_none : (a : Asked) (r : RecordData) (user : UserName) (token : Token) → r.step ≡ Step.Asked a → a.request ≡ Request.Logout → record_uses user token r ≡ false
 uses_none a r user token step_is asks =
     ap (λ (s : Step). uses_token r.verdict && option_map_or (asks_under user token) (asked s) false) step_is
     ∙ ap (λ (q : Request). uses_token r.verdict && (same_user a.user user && option_map_or (λ (t : Token). same_token t token) (new_token q) false)) asks
     ∙ no_token (uses_token r.verdict) (same_user a.user user)
 
-put_off : (policy : PolicyData) (history : List RecordData) (a : Asked) (r : RecordData) → IsLegal policy history → next policy history (steps.Asked a) ≡ Some r → a.request ≡ requests.Logout → r.verdict ≡ verdicts.Granted
+put_off : (policy : PolicyData) (history : List RecordData) (a : Asked) (r : RecordData) → IsLegal policy history → next policy history (Step.Asked a) ≡ Some r → a.request ≡ Request.Logout → r.verdict ≡ Verdict.Granted
     → LeavesLine policy history (history ++ r ∷ []) a.user
 put_off policy history a r legal left asks granted =
     let w : World = world policy history in
@@ -65,7 +40,7 @@ put_off policy history a r legal left asks granted =
         count = length (history ++ r ∷ []);
         moment = last_moment (history ++ r ∷ []);
         lines = line_of (history ++ r ∷ []);
-        tokens = λ user token. (ap (λ (x : World). x.tokens user token) put ∙ or_not (w.tokens user token) (record_uses user token r) (uses_none a r user token (step_left policy history (steps.Asked a) r left) asks)) i;
+        tokens = λ user token. (ap (λ (x : World). x.tokens user token) put ∙ or_not (w.tokens user token) (record_uses user token r) (uses_none a r user token (step_left policy history (Step.Asked a) r left) asks)) i;
       };
     }
 
@@ -74,7 +49,7 @@ record LogsOut (handed : ℕ) (old new : GateData) (user : UserName) : Type 0 wh
   added : AddsLogouts handed old.records new.records
   left : LeavesLine old.policy old.records new.records user
 
-by_step : (old new : GateData) (a : Asked) (r : Result Outcome StepFault) → IsLegal old.policy old.records → a.request ≡ requests.Logout → verdict_of old a ≡ verdicts.Granted
+by_step : (old new : GateData) (a : Asked) (r : Result Outcome StepFault) → IsLegal old.policy old.records → a.request ≡ Request.Logout → verdict_of old a ≡ Verdict.Granted
     → (has_its_places old a ≡ true → is_ok r ≡ true) → IfOk r (λ o. next_of old a ≡ Some (left_by a o)) → IfOk r (λ o. o.verdict ≡ verdict_of old a)
     → IfOk r (λ o. new.records ≡ with_record old a o) → LogsOut a.handed old new a.user
 by_step old new a (Ok o) legal asks grants sure next given grown = record {
@@ -91,20 +66,20 @@ by_step old new a (Err e) legal asks grants sure next given grown =
     let clash : false ≡ true = sure places in cc
 
 logs_out : (old new : GateData) (line : ℕ) (user : UserName) (moment : ℕ) (asked : Asked) (r : Result Outcome StepFault) → IsLegal old.policy old.records → line_of old.records (folded_user user) ≡ Some line
-    → asked ≡ asked_on line user requests.Logout moment → (has_its_places old asked ≡ true → is_ok r ≡ true) → IfOk r (λ o. next_of old asked ≡ Some (left_by asked o))
+    → asked ≡ asked_on line user Request.Logout moment → (has_its_places old asked ≡ true → is_ok r ≡ true) → IfOk r (λ o. next_of old asked ≡ Some (left_by asked o))
     → IfOk r (λ o. o.verdict ≡ verdict_of old asked) → IfOk r (λ o. new.records ≡ with_record old asked o) → LogsOut moment old new (folded_user user)
 logs_out old new line user moment asked r legal on is sure next given grown =
-    let request_is : asked.request ≡ requests.Logout = ap (λ (a : Asked). a.request) is in
-    let grants : verdict_of old asked ≡ verdicts.Granted = ap (verdict_of old) is ∙ logout_is_granted old.policy old.records line user moment on in
+    let request_is : asked.request ≡ Request.Logout = ap (λ (a : Asked). a.request) is in
+    let grants : verdict_of old asked ≡ Verdict.Granted = ap (verdict_of old) is ∙ logout_is_granted old.policy old.records line user moment on in
     subst (λ (a : Asked). LogsOut a.handed old new a.user) is (by_step old new asked r legal request_is grants sure next given grown)
 
 pub adds_logout : (old new : GateData) (line : ℕ) (user : UserName) (moment : ℕ) (asked : Asked) (r : Result Outcome StepFault) → IsLegal old.policy old.records → line_of old.records (folded_user user) ≡ Some line
-    → asked ≡ asked_on line user requests.Logout moment → (has_its_places old asked ≡ true → is_ok r ≡ true) → IfOk r (λ o. next_of old asked ≡ Some (left_by asked o))
+    → asked ≡ asked_on line user Request.Logout moment → (has_its_places old asked ≡ true → is_ok r ≡ true) → IfOk r (λ o. next_of old asked ≡ Some (left_by asked o))
     → IfOk r (λ o. o.verdict ≡ verdict_of old asked) → IfOk r (λ o. new.records ≡ with_record old asked o) → AddsLogouts moment old.records new.records
 adds_logout old new line user moment asked r legal on is sure next given grown = (logs_out old new line user moment asked r legal on is sure next given grown).added
 
 pub leaves_line : (old new : GateData) (line : ℕ) (user : UserName) (moment : ℕ) (asked : Asked) (r : Result Outcome StepFault) → IsLegal old.policy old.records → line_of old.records (folded_user user) ≡ Some line
-    → asked ≡ asked_on line user requests.Logout moment → (has_its_places old asked ≡ true → is_ok r ≡ true) → IfOk r (λ o. next_of old asked ≡ Some (left_by asked o))
+    → asked ≡ asked_on line user Request.Logout moment → (has_its_places old asked ≡ true → is_ok r ≡ true) → IfOk r (λ o. next_of old asked ≡ Some (left_by asked o))
     → IfOk r (λ o. o.verdict ≡ verdict_of old asked) → IfOk r (λ o. new.records ≡ with_record old asked o) → LeavesLine old.policy old.records new.records (folded_user user)
 leaves_line old new line user moment asked r legal on is sure next given grown = (logs_out old new line user moment asked r legal on is sure next given grown).left
 

@@ -1,28 +1,17 @@
 -- What is left once all connections are gone: nobody is logged in.
-use Rattle.std.specs.Prelude.{◌≡◌, ◌≢◌, ℕ, ◌<◌, IsFalse, length, List, ◌++◌, Some, None}
-use Rattle.std.specs.List.{AllByRecursion}
-use Rattle.gx_units.specs.Names.{same_user}
-use Rattle.gx_units.specs.declared.names.UserName.{UserName}
-use Rattle.gx_units.specs.Spelling.{folded_user}
-use Rattle.gx_policy.specs.declared.policy.PolicyData.{PolicyData}
-use Rattle.gx_policy.specs.declared.policy.User.{User}
-use Rattle.gx_history.specs.declared.record.Asked.{Asked}
-use Rattle.gx_history.specs.declared.record.RecordData.{RecordData}
-use Rattle.gx_history.specs.declared.record.Request.TheVariants as requests
-use Rattle.gx_history.specs.declared.record.Step.TheVariants as steps
-use Rattle.gx_history.specs.declared.record.Verdict.TheVariants as verdicts
-use Rattle.gx_history.specs.InForce.{line_of}
-use Rattle.gx_history.specs.Verdicts.{last_moment}
-use Rattle.gx_history.specs.World.{world}
+use Rattle.std.specs.{Prelude.{◌≡◌, ◌≢◌, ℕ, ◌<◌, IsFalse, length, List, ◌++◌, Some, None}, List.AllByRecursion}
+use Rattle.gx_units.specs.{Names.same_user, declared.names.UserName.UserName, Spelling.folded_user}
+use Rattle.gx_policy.specs.declared.policy.{PolicyData.PolicyData, User.User}
+use Rattle.gx_history.specs.{declared.record.{Asked.Asked, RecordData.RecordData, Request.Request, Step.Step, Verdict.Verdict}, InForce.line_of, Verdicts.last_moment, World.world}
 use Rattle.gx_answers.specs.Gates.{GateData}
 
 -- a granted Logout that was handed in at this moment
 pub record IsGrantedLogout (handed : ℕ) (r : RecordData) : Type 0 where
   pub asked : Asked
-  pub step_is : r.step ≡ steps.Asked asked
-  pub request_is : asked.request ≡ requests.Logout
+  pub step_is : r.step ≡ Step.Asked asked
+  pub request_is : asked.request ≡ Request.Logout
   pub handed_is : asked.handed ≡ handed
-  pub granted : r.verdict ≡ verdicts.Granted
+  pub granted : r.verdict ≡ Verdict.Granted
 
 -- granted Logouts that were handed in at this moment were added, and nothing else
 pub record AddsLogouts (handed : ℕ) (before after : List RecordData) : Type 0 where

@@ -1,10 +1,8 @@
 //! Logouts of all who are logged in, where no connection is left.
 
 ghost use Rattle.std.specs.Prelude.{◌≡◌, ◌<◌, ◌≤◌, length, Some};
-ghost use Rattle.gx_units.specs.declared.names.UserName.{UserName};
-ghost use Rattle.gx_units.specs.Spelling.{folded_user};
-ghost use Rattle.gx_history.specs.InForce.{line_of};
-ghost use Rattle.gx_history.specs.Verdicts.{IsLegal};
+ghost use Rattle.gx_units.specs.{declared.names.UserName.UserName, Spelling.folded_user};
+ghost use Rattle.gx_history.specs.{InForce.line_of, Verdicts.IsLegal};
 ghost use Rattle.gx_leaving.specs.Logouts.{AddsLogouts, IsOff, LeavesLine, NobodyIsOn};
 
 use gx_answers::AccessGate;

@@ -1,54 +1,15 @@
 -- The figures that a ledger gives are those of what it stands for.
+use Rattle.gx_policy.specs.{declared.{kinds.{ExposureLimit.ExposureLimit}, policy.{Account.Account, Count.Count, FileRule.FileRule, PolicyData.PolicyData, RuleKind.RuleKind, Scope.Scope, Stock.Stock}}, People.{account_named, covers, stock_named}}
 use Rattle.std.proofs.Common.{◌≡◌, ℕ, suc, ◌<◌, ◌^◌, pos, ◌-ℤ◌, arith, not, Bool, true, false, cond, ◌&&◌, List, [], ◌∷◌, map, refl, sym, ap, ◌∙◌, true≢false}
-use Rattle.std.specs.Prelude.{Option, Some, None, is_some, find, option_and_then, option_map, slice_get, unwrap_or}
-use Rattle.std.specs.Option.{option_map_or}
-use Rattle.std.specs.List.{AllByRecursion}
-use Rattle.std.specs.Map.{lookup}
-use Rattle.std.specs.Cmp.Lexicographic.{nat_list_eq_equiv}
-use Rattle.gx_units.specs.Money.{value}
-use Rattle.gx_units.specs.Names.{same_account, same_stock}
-use Rattle.gx_units.specs.declared.names.AccountName.{AccountName}
-use Rattle.gx_units.specs.declared.names.Symbol.{Symbol}
+use Rattle.std.specs.{Prelude.{Option, Some, None, is_some, find, option_and_then, option_map, slice_get, unwrap_or}, Option.option_map_or, List.AllByRecursion, Map.lookup, Cmp.Lexicographic.nat_list_eq_equiv}
+use Rattle.gx_units.specs.{Money.value, Names.{same_account, same_stock}, declared.names.{AccountName.AccountName, Symbol.Symbol}}
 use Rattle.gx_ouch.specs.declared.outbound.OrderTerms.{OrderTerms}
-use Rattle.gx_history.specs.LiveOrders.{shares_open}
-use Rattle.gx_history.specs.declared.live_order.LiveOrder.{LiveOrder}
-use Rattle.gx_history.specs.declared.facts.RuleFigures.{RuleFigures}
-use Rattle.gx_history.specs.declared.facts.StockSide.{StockSide}
-use Rattle.gx_policy.specs.declared.policy.Account.{Account}
-use Rattle.gx_policy.specs.declared.policy.Count.{Count}
-use Rattle.gx_policy.specs.declared.policy.Count.TheVariants as counts
-use Rattle.gx_policy.specs.declared.policy.FileRule.{FileRule}
-use Rattle.gx_policy.specs.declared.policy.PolicyData.{PolicyData}
-use Rattle.gx_policy.specs.declared.policy.RuleKind.{RuleKind}
-use Rattle.gx_policy.specs.declared.policy.RuleKind.TheVariants as kinds
-use Rattle.gx_policy.specs.declared.policy.Scope.{Scope}
-use Rattle.gx_policy.specs.declared.policy.Stock.{Stock}
-use Rattle.gx_history.specs.declared.record.Request.{Request}
-use Rattle.gx_history.specs.Executions.{Execution}
-use Rattle.gx_history.specs.Book.{is_on}
-use Rattle.gx_history.specs.Figures.{Positions, counts_account, figures, kind_figures, net_done, no_figures, on_side, other_side, reference, side_asked, side_done, side_live, stock_asked}
-use Rattle.gx_policy.specs.People.{account_named, covers, stock_named}
-use Rattle.gx_history.specs.Rules.{figured, figured_from}
-use Rattle.gx_history.specs.Verdicts.{with_figures}
-use Rattle.gx_history_laws.proofs.Names.{account_is, same_account_flip, stock_is}
-use Rattle.gx_history_laws.proofs.Numbers.{all_weaker}
+use Rattle.gx_history.specs.{LiveOrders.shares_open, declared.{live_order.LiveOrder.LiveOrder, facts.{RuleFigures.RuleFigures, StockSide.StockSide}, «record».Request.Request}, Executions.Execution, Book.is_on, Figures.{Positions, counts_account, figures, kind_figures, net_done, no_figures, on_side, other_side, reference, side_asked, side_done, side_live, stock_asked}, Rules.{figured, figured_from}, Verdicts.with_figures}
+use Rattle.gx_history_laws.proofs.{Names.{account_is, same_account_flip, stock_is}, Numbers.all_weaker}
 use Rattle.gx_positions.specs.Sound.{AreSound, IsListed}
 use Rattle.gx_positions.proofs.Sums.{done_are, is_chosen, none_of, shares_of, sum_of_none}
-use Rattle.gx_ledger.specs.declared.group.Group.{Group}
-use Rattle.gx_ledger.specs.declared.sides.SideSums.{SideSums}
-use Rattle.gx_ledger.specs.declared.sides.StockSums.{StockSums}
-use Rattle.gx_ledger.specs.declared.tally.Asks.{Asks}
-use Rattle.gx_ledger.specs.declared.tally.Asks.TheVariants as asks
-use Rattle.gx_ledger.specs.declared.tally.Tally.{Tally}
-use Rattle.gx_ledger.specs.declared.tally.Wanted.{Wanted}
-use Rattle.gx_ledger.specs.Keeping.{Kept, account_names, account_place, price_of, reference_for}
-use Rattle.gx_ledger.specs.Running.{capped_signed, net_of, no_sides, on_its_side, sides_at}
-use Rattle.gx_ledger.specs.StandsFor.{GivesFigures, IsMadeIn, StandsFor, both_sides, group_of, members_of, side_sums_of, sides_of, tally_of, total_of}
-use Rattle.gx_ledger.specs.Tallies.{asks_of, count_of, figures_among, figures_of_group, live_in, net_in, place_in, tally_figures}
-use Rattle.gx_ledger.specs.Told.{figures_at}
-use Rattle.gx_ledger.proofs.Counted.{alike_is, recent_counted}
-use Rattle.gx_ledger.proofs.Counting.{map_twice, place-cons}
-use Rattle.gx_ledger.proofs.Totals.{done_fit}
+use Rattle.gx_ledger.specs.{declared.{group.Group.Group, sides.{SideSums.SideSums, StockSums.StockSums}, tally.{Asks.Asks, Tally.Tally, Wanted.Wanted}}, Keeping.{Kept, account_names, account_place, price_of, reference_for}, Running.{capped_signed, net_of, no_sides, on_its_side, sides_at}, StandsFor.{GivesFigures, IsMadeIn, StandsFor, both_sides, group_of, members_of, side_sums_of, sides_of, tally_of, total_of}, Tallies.{asks_of, count_of, figures_among, figures_of_group, live_in, net_in, place_in, tally_figures}, Told.figures_at}
+use Rattle.gx_ledger.proofs.{Counted.{alike_is, recent_counted}, Counting.{map_twice, place-cons}, Totals.done_fit}
 
 later_group : {X : Type 0} (y : X) (ys : List X) (place : Option ℕ) → option_and_then (slice_get (y ∷ ys)) (option_map suc place) ≡ option_and_then (slice_get ys) place
 later_group y ys None = refl
@@ -87,8 +48,8 @@ pub group_found : (policy : PolicyData) (held : Positions) (asked : Asks) (accou
     → option_and_then (slice_get (map (λ (among : AccountName → Bool). group_of policy.stocks asked (total_of held among)) (members_of (Some count) scope (account_names policy.accounts))))
     (place_in (Some count) (account_place (account_names policy.accounts) account))
     ≡ Some (group_of policy.stocks asked (total_of held (counts_account count scope account)))
-group_found policy held asked account scope counts.Together known inside = refl
-group_found policy held asked account scope counts.Each known inside =
+group_found policy held asked account scope Count.Together known inside = refl
+group_found policy held asked account scope Count.Each known inside =
     ap (λ groups. option_and_then (slice_get groups) (account_place (account_names policy.accounts) account))
     (map_twice (λ (among : AccountName → Bool). group_of policy.stocks asked (total_of held among)) (λ (name : AccountName). λ other. covers scope other && same_account name other) (account_names policy.accounts))
     ∙ found_at (λ name. group_of policy.stocks asked (total_of held (λ other. covers scope other && same_account name other))) account policy.accounts known
@@ -200,30 +161,25 @@ module _ (policy : PolicyData) (held : Positions) (account : AccountName) (q : R
     theirs count = counts_account count scope account
 
     kind_answers : (kind : RuleKind) → figures_among (asks_of kind) asking (group (asks_of kind) (count_of kind)) ≡ kind_figures policy held theirs q replaced moment kind
-    kind_answers (kinds.Halt stocks) = refl
-    kind_answers (kinds.Restricted stocks) = refl
-    kind_answers kinds.NoShort = refl
-    kind_answers kinds.NoIso = refl
-    kind_answers kinds.OddLot = refl
-    kind_answers (kinds.OrderShares limit) = refl
-    kind_answers (kinds.OrderValue limit) = refl
-    kind_answers (kinds.Collar limit) = refl
-    kind_answers (kinds.GrossShares limit count) =
-        ap (λ (g : Option Group). option_map_or (figures_of_group asks.Shares asking) g no_figures) (group_found policy held asks.Shares account scope count known inside)
-    kind_answers (kinds.GrossValue limit count) =
-        ap (λ (g : Option Group). option_map_or (figures_of_group asks.Values asking) g no_figures) (group_found policy held asks.Values account scope count known inside)
-    kind_answers (kinds.NetShares limit count) =
-        ap (λ (g : Option Group). option_map_or (figures_of_group asks.Sides asking) g no_figures) (group_found policy held asks.Sides account scope count known inside)
+    kind_answers (RuleKind.Listed kind stocks) = refl
+    kind_answers (RuleKind.Plain kind) = refl
+    kind_answers (RuleKind.Order kind limit) = refl
+    kind_answers (RuleKind.Exposure ExposureLimit.GrossShares limit count) =
+        ap (λ (g : Option Group). option_map_or (figures_of_group Asks.Shares asking) g no_figures) (group_found policy held Asks.Shares account scope count known inside)
+    kind_answers (RuleKind.Exposure ExposureLimit.GrossValue limit count) =
+        ap (λ (g : Option Group). option_map_or (figures_of_group Asks.Values asking) g no_figures) (group_found policy held Asks.Values account scope count known inside)
+    kind_answers (RuleKind.Exposure ExposureLimit.NetShares limit count) =
+        ap (λ (g : Option Group). option_map_or (figures_of_group Asks.Sides asking) g no_figures) (group_found policy held Asks.Sides account scope count known inside)
         ∙ (λ i. record no_figures {
           net_done = net_answers policy held (theirs count) sound all_made (side_asked q replaced) i;
           side_live = live_answers policy held (theirs count) sound all_made (side_asked q replaced) i;
           replaced_shares = option_map_or shares_open replaced 0;
         })
-    kind_answers (kinds.Rate rate count) =
-        ap (λ (g : Option Group). option_map_or (figures_of_group (asks.Recent rate) asking) g no_figures) (group_found policy held (asks.Recent rate) account scope count known inside)
+    kind_answers (RuleKind.Rate rate count) =
+        ap (λ (g : Option Group). option_map_or (figures_of_group (Asks.Recent rate) asking) g no_figures) (group_found policy held (Asks.Recent rate) account scope count known inside)
         ∙ ap (λ n. record no_figures { recent = n }) (recent_counted rate.limit held.grants (theirs count) rate.window moment sound.never_fall)
-    kind_answers (kinds.Repeat repeat count) =
-        ap (λ (g : Option Group). option_map_or (figures_of_group (asks.Alike repeat) asking) g no_figures) (group_found policy held (asks.Alike repeat) account scope count known inside)
+    kind_answers (RuleKind.Repeat repeat count) =
+        ap (λ (g : Option Group). option_map_or (figures_of_group (Asks.Alike repeat) asking) g no_figures) (group_found policy held (Asks.Alike repeat) account scope count known inside)
         ∙ ap (λ n. record no_figures { equal_recent = n }) (alike_is repeat.span held.grants (theirs count) q)
 
   -- the figures of one rule

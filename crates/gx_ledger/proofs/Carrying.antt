@@ -1,19 +1,12 @@
 -- How a ledger goes on standing for live orders, fills and grants.
-use Rattle.std.proofs.Common.{◌≡◌, ℕ, ◌-◌, Bool, [], map, refl, sym, ◌∙◌, arith}
-use Rattle.std.proofs.Math.Path.{subst}
+use Rattle.std.proofs.{Common.{◌≡◌, ℕ, ◌-◌, Bool, [], map, refl, sym, ◌∙◌, arith}, Math.Path.subst}
 use Rattle.gx_units.specs.declared.names.AccountName.{AccountName}
-use Rattle.gx_history.specs.declared.live_order.LiveOrder.{LiveOrder}
+use Rattle.gx_history.specs.{declared.live_order.LiveOrder.LiveOrder, Figures.Positions, LiveOrders.shares_open, Turns.{Ends, Sizes, Turn, new_in}}
 use Rattle.gx_policy.specs.declared.policy.PolicyData.{PolicyData}
-use Rattle.gx_history.specs.Figures.{Positions}
-use Rattle.gx_history.specs.LiveOrders.{shares_open}
-use Rattle.gx_history.specs.Turns.{Ends, Sizes, Turn, new_in}
-use Rattle.gx_positions.specs.Changing.{executed_by, positions_with}
-use Rattle.gx_positions.specs.Sound.{AreSound}
+use Rattle.gx_positions.specs.{Changing.{executed_by, positions_with}, Sound.AreSound}
 use Rattle.gx_positions.proofs.Sums.{Loses, ended_loses, left_by, sized_loses}
-use Rattle.gx_ledger.specs.Keeping.{Kept, comes, kept_noted, leaves}
-use Rattle.gx_ledger.specs.StandsFor.{Accepts, Closes, Cuts, StandsFor, tally_of, total_of}
-use Rattle.gx_ledger.proofs.Counting.{Totals, kept_follows}
-use Rattle.gx_ledger.proofs.Totals.{accepted_total, left_total, none_comes, order_added, same_total, with_order}
+use Rattle.gx_ledger.specs.{Keeping.{Kept, comes, kept_noted, leaves}, StandsFor.{Accepts, Closes, Cuts, StandsFor, tally_of, total_of}}
+use Rattle.gx_ledger.proofs.{Counting.{Totals, kept_follows}, Totals.{accepted_total, left_total, none_comes, order_added, same_total, with_order}}
 
 -- the tallies are those of other totals, where these agree
 pub tallies_same : (policy : PolicyData) (k : Kept) (first second : Totals) → ((among : AccountName → Bool) → first among ≡ second among)

@@ -1,21 +1,11 @@
 -- Counting among the last of a list, by moments and by likeness.
-use Rattle.std.proofs.Common.{◌≡◌, ℕ, ◌+◌, ◌-◌, ◌<◌, ◌≤◌, zero, suc, Bool, true, false, cond, eqb, ◌&&◌, List, [], ◌∷◌, map, length, drop, reverse, refl, sym, ap, ◌∙◌, arith, min, true≢false}
-use Rattle.std.specs.Prelude.{count_by, is_none, nat_lt}
-use Rattle.std.specs.List.{AllByRecursion, filter, prefix_len}
-use Rattle.std.proofs.lemmas.Bool.{eq-eqb, eqb-true, lt-ltb, ltb-false, ltb-true}
-use Rattle.std.proofs.lemmas.List.{drop-map, length-map, length-reverse}
-use Rattle.std.proofs.lemmas.Grind.{reverse_onto}
-use Rattle.std.proofs.lemmas.List.Folds.{prefix_len-append}
-use Rattle.std.proofs.lemmas.List.Sums.{sum_by-cons}
+use Rattle.std.proofs.{Common.{◌≡◌, ℕ, ◌+◌, ◌-◌, ◌<◌, ◌≤◌, zero, suc, Bool, true, false, cond, eqb, ◌&&◌, List, [], ◌∷◌, map, length, drop, reverse, refl, sym, ap, ◌∙◌, arith, min, true≢false}, lemmas.{Bool.{eq-eqb, eqb-true, lt-ltb, ltb-false, ltb-true}, List.{drop-map, length-map, length-reverse, Folds.prefix_len-append, Sums.sum_by-cons}, Grind.reverse_onto}}
+use Rattle.std.specs.{Prelude.{count_by, is_none, nat_lt}, List.{AllByRecursion, filter, prefix_len}}
 use Rattle.gx_units.specs.declared.names.AccountName.{AccountName}
-use Rattle.gx_history.specs.declared.record.Request.{Request}
-use Rattle.gx_history.specs.declared.record.Request.TheVariants as requests
-use Rattle.gx_history.specs.Figures.{equal_recent, is_alike, recent}
+use Rattle.gx_history.specs.{declared.record.Request.Request, Figures.{equal_recent, is_alike, recent}, Orders.Order}
 use Rattle.gx_policy.specs.Lists.{last_few}
-use Rattle.gx_history.specs.Orders.{Order}
 use Rattle.gx_positions.specs.Sound.{NeverFall}
-use Rattle.gx_ledger.specs.Running.{alike_in, is_like, is_recent, recent_in}
-use Rattle.gx_ledger.specs.StandsFor.{entered_of, enters_of, moments_of}
+use Rattle.gx_ledger.specs.{Running.{alike_in, is_like, is_recent, recent_in}, StandsFor.{entered_of, enters_of, moments_of}}
 
 none_left : {X : Type 0} (n : ℕ) → drop {A = X} n [] ≡ []
 none_left zero = refl
@@ -158,13 +148,13 @@ recent_is grants among window moment =
     ∙ sym (count_chosen (λ (o : Order). among o.account) (λ (o : Order). nat_lt (moment - o.moment) window) grants)
 
 like_is : (q : Request) (o : Order) → is_like q (entered_of o) ≡ is_alike q o
-like_is (requests.Enter m) o = refl
-like_is (requests.Replace m) o = refl
-like_is (requests.Cancel m) o = refl
-like_is (requests.Login m) o = refl
-like_is requests.Logout o = refl
-like_is (requests.Unreadable m) o = refl
-like_is (requests.Command m) o = refl
+like_is (Request.Enter m) o = refl
+like_is (Request.Replace m) o = refl
+like_is (Request.Cancel m) o = refl
+like_is (Request.Login m) o = refl
+like_is Request.Logout o = refl
+like_is (Request.Unreadable m) o = refl
+like_is (Request.Command m) o = refl
 
 -- counting like Enters is counting orders
 pub alike_is : (n : ℕ) (grants : List Order) (among : AccountName → Bool) (q : Request) → alike_in (last_few n (enters_of grants among)) q ≡ equal_recent grants among n (is_alike q)

@@ -1,16 +1,9 @@
 -- Enters counted by cells.
-use Rattle.std.proofs.Common.{◌≡◌, ℕ, ◌+◌, ◌-◌, ◌<◌, ◌≤◌, min, Bool, true, false, cond, ◌&&◌, List, [], ◌∷◌, ◌++◌, length, set, get_or, drop, Some, None, if◌then◌else◌, refl, sym, ap, subst, ◌∙◌, arith}
+use Rattle.std.proofs.{Common.{◌≡◌, ℕ, ◌+◌, ◌-◌, ◌<◌, ◌≤◌, min, Bool, true, false, cond, ◌&&◌, List, [], ◌∷◌, ◌++◌, length, set, get_or, drop, Some, None, if◌then◌else◌, refl, sym, ap, subst, ◌∙◌, arith}, lemmas.{Option.{none-some, same_Some}, Slice.Eq.bytes_eq-Decides, Bool.{and_parts, eqb-true, eqb-false, ltb-false}, List.{get_or_default, get_or-set_same, get_or-set_other, length-append, length-set, Sums.{sum_by-cons, sum_by-le-sum_by, sum_by_push}}}}
 use Rattle.std.specs.Prelude.{◌==◌, count_by, nat_lt, slice_get}
-use Rattle.std.proofs.lemmas.Option.{none-some, same_Some}
-use Rattle.std.proofs.lemmas.Slice.Eq.{bytes_eq-Decides}
-use Rattle.std.proofs.lemmas.Bool.{and_parts, eqb-true, eqb-false, ltb-false}
-use Rattle.std.proofs.lemmas.List.{get_or_default, get_or-set_same, get_or-set_other, length-append, length-set}
-use Rattle.std.proofs.lemmas.List.Sums.{sum_by-cons, sum_by-le-sum_by, sum_by_push}
 use Rattle.circular_buffer.specs.Buffer.{keep_last}
 use Rattle.gx_units.specs.Names.{same_stock}
-use Rattle.gx_ledger.specs.declared.group.Entered.{Entered}
-use Rattle.gx_ledger.specs.Cells.{AreCounted, cell_of, one_less}
-use Rattle.gx_ledger.specs.Running.{are_alike}
+use Rattle.gx_ledger.specs.{declared.group.Entered.Entered, Cells.{AreCounted, cell_of, one_less}, Running.are_alike}
 
 -- one where it is so
 abbrev one_of : Bool → ℕ

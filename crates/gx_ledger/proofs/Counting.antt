@@ -1,40 +1,12 @@
 -- What a change makes of what counts, and so of all groups and rules.
-use Rattle.std.proofs.Common.{◌≡◌, ℕ, ◌+◌, ◌-◌, ◌≤◌, suc, Bool, true, false, cond, ◌&&◌, ◌||◌, not, List, [], ◌∷◌, ◌++◌, map, length, drop, refl, sym, ap, ◌∙◌, arith, ltb}
-use Rattle.std.specs.Prelude.{Option, Some, None, option_map}
-use Rattle.std.specs.List.{list_any, position_or_len}
-use Rattle.std.proofs.lemmas.Bool.{lt-ltb, ltb-false, ltb-true}
-use Rattle.std.proofs.lemmas.Bool.Decides.{nat_tests}
-use Rattle.std.proofs.lemmas.List.{length-append, length-drop, drop-drop, drop-append-le}
+use Rattle.std.proofs.{Common.{◌≡◌, ℕ, ◌+◌, ◌-◌, ◌≤◌, suc, Bool, true, false, cond, ◌&&◌, ◌||◌, not, List, [], ◌∷◌, ◌++◌, map, length, drop, refl, sym, ap, ◌∙◌, arith, ltb}, lemmas.{Bool.{lt-ltb, ltb-false, ltb-true, Decides.nat_tests}, List.{length-append, length-drop, drop-drop, drop-append-le}}}
+use Rattle.std.specs.{Prelude.{Option, Some, None, option_map}, List.{list_any, position_or_len}, Cmp.Lexicographic.nat_list_eq_equiv}
 use Rattle.circular_buffer.specs.Buffer.{buffer}
-use Rattle.gx_units.specs.Names.{same_account, same_stock}
-use Rattle.gx_units.specs.declared.names.AccountName.{AccountName}
-use Rattle.gx_units.specs.declared.names.Symbol.{Symbol}
-use Rattle.std.specs.Cmp.Lexicographic.{nat_list_eq_equiv}
-use Rattle.gx_history.specs.declared.live_order.LiveOrder.{LiveOrder}
-use Rattle.gx_policy.specs.declared.policy.Count.{Count}
-use Rattle.gx_policy.specs.declared.policy.Count.TheVariants as counts
-use Rattle.gx_policy.specs.declared.policy.FileRule.{FileRule}
-use Rattle.gx_policy.specs.declared.policy.PolicyData.{PolicyData}
-use Rattle.gx_policy.specs.declared.policy.Scope.{Scope}
-use Rattle.gx_policy.specs.declared.policy.Stock.{Stock}
-use Rattle.gx_history.specs.Book.{is_buy}
-use Rattle.gx_history.specs.Book.{is_on}
-use Rattle.gx_policy.specs.Lists.{are_distinct}
-use Rattle.gx_history.specs.LiveOrders.{shares_open}
-use Rattle.gx_policy.specs.People.{covers}
-use Rattle.gx_history_laws.proofs.Granting.{left_false, right_false}
-use Rattle.gx_history_laws.proofs.Names.{same_account_flip}
-use Rattle.gx_ledger.specs.declared.group.Group.{Group}
-use Rattle.gx_ledger.specs.declared.change.Change.{Change}
-use Rattle.gx_ledger.specs.declared.change.ChangeKind.{ChangeKind}
-use Rattle.gx_ledger.specs.declared.change.ChangeKind.TheVariants as changes
-use Rattle.gx_ledger.specs.declared.sides.SideSums.{SideSums}
-use Rattle.gx_ledger.specs.declared.sides.StockSums.{StockSums}
-use Rattle.gx_ledger.specs.declared.tally.Asks.{Asks}
-use Rattle.gx_ledger.specs.Keeping.{Kept, account_place, kept_noted, noted}
-use Rattle.gx_ledger.specs.Running.{changed_group, changed_side, changed_so, entered_as, noted_sides, pushed, with_done, with_live, without_live}
-use Rattle.gx_ledger.specs.StandsFor.{Total, group_of, members_of, ring, sides_of, tally_of}
-use Rattle.gx_ledger.specs.Tallies.{asks_of, changed_in, count_of, place_in, room_for_enters, room_for_moments, stocks_for, tally_after}
+use Rattle.gx_units.specs.{Names.{same_account, same_stock}, declared.names.{AccountName.AccountName, Symbol.Symbol}}
+use Rattle.gx_history.specs.{declared.live_order.LiveOrder.LiveOrder, Book.{is_buy, is_on}, LiveOrders.shares_open}
+use Rattle.gx_policy.specs.{declared.policy.{Count.Count, FileRule.FileRule, PolicyData.PolicyData, Scope.Scope, Stock.Stock}, Lists.are_distinct, People.covers}
+use Rattle.gx_history_laws.proofs.{Granting.{left_false, right_false}, Names.same_account_flip}
+use Rattle.gx_ledger.specs.{declared.{group.Group.Group, change.{Change.Change, ChangeKind.ChangeKind}, sides.{SideSums.SideSums, StockSums.StockSums}, tally.Asks.Asks}, Keeping.{Kept, account_place, kept_noted, noted}, Running.{changed_group, changed_side, changed_so, entered_as, noted_sides, pushed, with_done, with_live, without_live}, StandsFor.{Total, group_of, members_of, ring, sides_of, tally_of}, Tallies.{asks_of, changed_in, count_of, place_in, room_for_enters, room_for_moments, stocks_for, tally_after}}
 
 -- the change is of an order on this side of the stock
 abbrev pub changes_side : Change → Symbol → Bool → Bool
@@ -46,14 +18,14 @@ sides_after change sides stock buys = cond (changes_side change stock buys) (cha
 
 -- what counts but for the sides, once an order changed so
 abbrev pub total_so : LiveOrder → ChangeKind → Total → Total
-total_so o (changes.Accepted moment replacement) t = record {
+total_so o (ChangeKind.Accepted moment replacement) t = record {
   sums = with_live (shares_open o) o.terms.price t.sums;
   moments = t.moments ++ moment ∷ [];
   enters = cond replacement t.enters (t.enters ++ entered_as o ∷ []);
   sides = t.sides;
 }
-total_so o (changes.Left shares) t = record t { sums = without_live shares o.terms.price t.sums }
-total_so o (changes.Executed shares price) t = record t { sums = with_done shares price t.sums }
+total_so o (ChangeKind.Left shares) t = record t { sums = without_live shares o.terms.price t.sums }
+total_so o (ChangeKind.Executed shares price) t = record t { sums = with_done shares price t.sums }
 
 -- what counts of the accounts that a change is of
 abbrev pub changed_total : Change → Total → Total
@@ -110,7 +82,7 @@ group_changed stocks change asked t =
     told = record t { sides = sides_after change t.sides }
 
     by : (o : LiveOrder) (kind : ChangeKind) → changed_so o kind (group_of stocks asked told) ≡ group_of stocks asked (total_so o kind told)
-    by o (changes.Accepted moment replacement) = λ i. record (group_of stocks asked told) {
+    by o (ChangeKind.Accepted moment replacement) = λ i. record (group_of stocks asked told) {
       sums = with_live (shares_open o) o.terms.price t.sums;
       moments = pushed_ring (room_for_moments asked) t.moments moment i;
       enters = entered replacement i;
@@ -119,8 +91,8 @@ group_changed stocks change asked t =
         entered : (b : Bool) → cond b (ring (room_for_enters asked) t.enters) (pushed (entered_as o) (ring (room_for_enters asked) t.enters)) ≡ ring (room_for_enters asked) (cond b t.enters (t.enters ++ entered_as o ∷ []))
         entered true = refl
         entered false = pushed_ring (room_for_enters asked) t.enters (entered_as o)
-    by o (changes.Left shares) = refl
-    by o (changes.Executed shares price) = refl
+    by o (ChangeKind.Left shares) = refl
+    by o (ChangeKind.Executed shares price) = refl
 
 both_less : (m n : ℕ) → ltb (suc m) (suc n) ≡ ltb m n
 both_less m n = by (ltb m n) refl
@@ -231,18 +203,18 @@ groups_changed stocks change totals names None asked scope distinct = either (co
     either : (b : Bool) → cond {A = List Group} b [] [] ≡ []
     either true = refl
     either false = refl
-groups_changed stocks change totals names (Some counts.Together) asked scope distinct = by (covers scope change.order.account)
+groups_changed stocks change totals names (Some Count.Together) asked scope distinct = by (covers scope change.order.account)
   where
     by : (b : Bool) → cond b (changed_group change (group_of stocks asked (totals (covers scope))) ∷ []) (group_of stocks asked (totals (covers scope)) ∷ [])
         ≡ group_of stocks asked (cond b (changed_total change (totals (covers scope))) (totals (covers scope))) ∷ []
     by true = ap (λ g. g ∷ []) (group_changed stocks change asked (totals (covers scope)))
     by false = refl
-groups_changed stocks change totals names (Some counts.Each) asked scope distinct =
+groups_changed stocks change totals names (Some Count.Each) asked scope distinct =
     (λ i. cond (covers scope change.order.account) (changed_in (account_place names change.order.account) (changed_group change) (first i)) (first i))
     ∙ by (covers scope change.order.account) refl
     ∙ sym (map_twice (λ (among : AccountName → Bool). group_of stocks asked (totals_after change totals among)) (λ (name : AccountName). member stocks change scope asked totals name) names)
   where
-    first : map (λ (among : AccountName → Bool). group_of stocks asked (totals among)) (members_of (Some counts.Each) scope names) ≡ map (before stocks change scope asked totals) names
+    first : map (λ (among : AccountName → Bool). group_of stocks asked (totals among)) (members_of (Some Count.Each) scope names) ≡ map (before stocks change scope asked totals) names
     first = map_twice (λ (among : AccountName → Bool). group_of stocks asked (totals among)) (λ (name : AccountName). member stocks change scope asked totals name) names
 
     by : (b : Bool) → covers scope change.order.account ≡ b

@@ -1,25 +1,11 @@
 -- Entries of tables, one of them changed.
-use Rattle.std.proofs.Common.{◌≡◌, ℕ, ◌+◌, ◌<◌, zero, suc, Bool, true, false, cond, not, ◌||◌, List, [], ◌∷◌, ◌++◌, map, length, get_or, take, refl, sym, ap, ◌∙◌, subst, arith}
-use Rattle.std.specs.Prelude.{Option, Some, None}
-use Rattle.std.specs.List.{list_any, AllByRecursion, IsDistinct}
-use Rattle.std.specs.Map.{keys_of, lookup, set_value}
-use Rattle.std.proofs.lemmas.List.{map-append, take_more}
-use Rattle.std.specs.Cmp.Lexicographic.{nat_list_eq_equiv}
-use Rattle.indexmap.specs.IndexMap.{insert_entry}
-use Rattle.indexmap.specs.IndexSet.{insert_key}
-use Rattle.gx_units.specs.Names.{same_account, same_stock}
-use Rattle.gx_units.specs.declared.names.AccountName.{AccountName}
-use Rattle.gx_units.specs.declared.names.Symbol.{Symbol}
-use Rattle.gx_policy.specs.declared.policy.Account.{Account}
-use Rattle.gx_policy.specs.declared.policy.Stock.{Stock}
-use Rattle.gx_policy.specs.Lists.{are_distinct}
-use Rattle.gx_history_laws.proofs.Granting.{left_false, right_false}
-use Rattle.gx_history_laws.proofs.Names.{stock_is}
-use Rattle.gx_ledger.specs.Keeping.{account_names, priced}
-use Rattle.gx_ledger.specs.declared.change.Change.{Change}
-use Rattle.gx_ledger.specs.declared.sides.StockSums.{StockSums}
-use Rattle.gx_ledger.specs.Running.{noted_sides}
-use Rattle.gx_ledger.specs.Tables.{accounts_differ, names_differ}
+use Rattle.std.proofs.{Common.{◌≡◌, ℕ, ◌+◌, ◌<◌, zero, suc, Bool, true, false, cond, not, ◌||◌, List, [], ◌∷◌, ◌++◌, map, length, get_or, take, refl, sym, ap, ◌∙◌, subst, arith}, lemmas.List.{map-append, take_more}}
+use Rattle.std.specs.{Prelude.{Option, Some, None}, List.{list_any, AllByRecursion, IsDistinct}, Map.{keys_of, lookup, set_value}, Cmp.Lexicographic.nat_list_eq_equiv}
+use Rattle.indexmap.specs.{IndexMap.insert_entry, IndexSet.insert_key}
+use Rattle.gx_units.specs.{Names.{same_account, same_stock}, declared.names.{AccountName.AccountName, Symbol.Symbol}}
+use Rattle.gx_policy.specs.{declared.policy.{Account.Account, Stock.Stock}, Lists.are_distinct}
+use Rattle.gx_history_laws.proofs.{Granting.{left_false, right_false}, Names.stock_is}
+use Rattle.gx_ledger.specs.{Keeping.{account_names, priced}, declared.{change.Change.Change, sides.StockSums.StockSums}, Running.noted_sides, Tables.{accounts_differ, names_differ}}
 use Rattle.gx_ledger.proofs.Counting.{left_none, right_true}
 
 pub some_is : {X : Type 0} {x y : X} → Some x ≡ Some y → x ≡ y

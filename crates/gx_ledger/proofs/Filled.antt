@@ -1,41 +1,17 @@
 -- What counts, and which prices are last, once a fill was made.
-use Rattle.std.proofs.Common.{◌≡◌, ℕ, ◌+◌, ◌<◌, ◌≤◌, ◌^◌, Bool, true, false, cond, ◌&&◌, List, [], ◌∷◌, ◌++◌, map, refl, sym, ap, ◌∙◌, arith, true≢false}
-use Rattle.std.proofs.Math.Path.{subst}
-use Rattle.std.specs.Prelude.{None, ◌==◌, is_some, unwrap_or}
-use Rattle.std.specs.List.{AllByRecursion, cons_option, filter_map, last_or}
-use Rattle.std.proofs.lemmas.List.{append-nil}
-use Rattle.gx_units.specs.Money.{value}
-use Rattle.gx_units.specs.Names.{same_stock}
-use Rattle.gx_units.specs.declared.names.AccountName.{AccountName}
-use Rattle.gx_units.specs.declared.names.Symbol.{Symbol}
+use Rattle.std.proofs.{Common.{◌≡◌, ℕ, ◌+◌, ◌<◌, ◌≤◌, ◌^◌, Bool, true, false, cond, ◌&&◌, List, [], ◌∷◌, ◌++◌, map, refl, sym, ap, ◌∙◌, arith, true≢false}, Math.Path.subst, lemmas.List.append-nil}
+use Rattle.std.specs.{Prelude.{None, ◌==◌, is_some, unwrap_or}, List.{AllByRecursion, cons_option, filter_map, last_or}}
+use Rattle.gx_units.specs.{Money.value, Names.same_stock, declared.names.{AccountName.AccountName, Symbol.Symbol}}
 use Rattle.gx_ouch.specs.declared.outbound.OrderTerms.{OrderTerms}
-use Rattle.gx_history.specs.declared.facts.StockSide.{StockSide}
-use Rattle.gx_history.specs.declared.live_order.LiveOrder.{LiveOrder}
-use Rattle.gx_policy.specs.declared.policy.PolicyData.{PolicyData}
-use Rattle.gx_policy.specs.declared.policy.Stock.{Stock}
-use Rattle.gx_history.specs.declared.record.Fill.{Fill}
-use Rattle.gx_history.specs.Executions.{Execution}
-use Rattle.gx_history.specs.Figures.{Positions, done_of_chosen, done_shares, done_value, live_shares, live_value, of_accounts, on_side, reference, side_done, side_live}
-use Rattle.gx_policy.specs.Lists.{where_true}
-use Rattle.gx_policy.specs.People.{stock_named}
-use Rattle.gx_history_laws.proofs.Names.{stock_is}
-use Rattle.gx_history_laws.proofs.NextFigures.{reference_more}
-use Rattle.gx_history_laws.proofs.Order.{some_same}
-use Rattle.gx_history_laws.proofs.Owners.{all_both}
+use Rattle.gx_history.specs.{declared.{facts.StockSide.StockSide, live_order.LiveOrder.LiveOrder, «record».Fill.Fill}, Executions.Execution, Figures.{Positions, done_of_chosen, done_shares, done_value, live_shares, live_value, of_accounts, on_side, reference, side_done, side_live}, Turns.becomes}
+use Rattle.gx_policy.specs.{declared.policy.{PolicyData.PolicyData, Stock.Stock}, Lists.where_true, People.stock_named}
+use Rattle.gx_history_laws.proofs.{Names.stock_is, NextFigures.reference_more, Order.some_same, Owners.all_both}
 use Rattle.gx_history.specs.Turns as turns
-use Rattle.gx_history.specs.Turns.{becomes}
-use Rattle.gx_effects.proofs.Fills.{both_sides}
-use Rattle.gx_effects.proofs.NewOrders.{found_is}
-use Rattle.gx_positions.specs.Changing.{executed_by, positions_with}
-use Rattle.gx_positions.specs.Sound.{AreSound, IsListed, MayFill, SumsFit, anyone}
+use Rattle.gx_effects.proofs.{Fills.both_sides, NewOrders.found_is}
+use Rattle.gx_positions.specs.{Changing.{executed_by, positions_with}, Sound.{AreSound, IsListed, MayFill, SumsFit, anyone}}
 use Rattle.gx_positions.proofs.Sums.{IsOpenSum, done_shares_filled, done_value_filled, filled_by, is_chosen, shares_of, sides_are, value_of}
-use Rattle.gx_ledger.specs.declared.sides.SideSums.{SideSums}
-use Rattle.gx_ledger.specs.Keeping.{Kept, executes, kept_executed, kept_noted, leaves, priced, with_price}
-use Rattle.gx_ledger.specs.Running.{capped}
-use Rattle.gx_ledger.specs.StandsFor.{AreFilled, Fills, IsMadeIn, StandsFor, Total, enters_of, moments_of, prices_of, total_of}
-use Rattle.gx_ledger.proofs.Carrying.{tallies_same}
-use Rattle.gx_ledger.proofs.Counting.{Totals, changed_total, changes_side, kept_follows, totals_after}
-use Rattle.gx_ledger.proofs.Totals.{done_fit, done_value_fit, leaves_so, less, more, on_its_own_side, with_left}
+use Rattle.gx_ledger.specs.{declared.sides.SideSums.SideSums, Keeping.{Kept, executes, kept_executed, kept_noted, leaves, priced, with_price}, Running.capped, StandsFor.{AreFilled, Fills, IsMadeIn, StandsFor, Total, enters_of, moments_of, prices_of, total_of}}
+use Rattle.gx_ledger.proofs.{Carrying.tallies_same, Counting.{Totals, changed_total, changes_side, kept_follows, totals_after}, Totals.{done_fit, done_value_fit, leaves_so, less, more, on_its_own_side, with_left}}
 
 -- what counts after both sides
 abbrev pub totals_filled : LiveOrder → LiveOrder → ℕ → ℕ → Totals → Totals

@@ -1,26 +1,14 @@
 -- How a ledger follows orders that end one after another, and an order that takes the place of another.
-use Rattle.std.proofs.Common.{◌≡◌, ℕ, ◌<◌, ◌^◌, Bool, true, false, cond, ◌&&◌, ◌||◌, not, List, [], ◌∷◌, ◌++◌, refl, sym, ap, ◌∙◌, subst, arith}
-use Rattle.std.specs.Prelude.{Some, None, nat_eq}
-use Rattle.std.specs.List.{AllByRecursion, IsDistinct, filter, filter_map, list_any}
-use Rattle.std.specs.Cmp.{nat_eq_equiv}
-use Rattle.std.proofs.lemmas.Bool.{eqb-true}
-use Rattle.std.proofs.lemmas.List.{append-nil}
-use Rattle.std.proofs.lemmas.List.Sums.{fold_push}
-use Rattle.gx_history.specs.declared.live_order.LiveOrder.{LiveOrder}
+use Rattle.std.proofs.{Common.{◌≡◌, ℕ, ◌<◌, ◌^◌, Bool, true, false, cond, ◌&&◌, ◌||◌, not, List, [], ◌∷◌, ◌++◌, refl, sym, ap, ◌∙◌, subst, arith}, lemmas.{Bool.eqb-true, List.{append-nil, Sums.fold_push}}}
+use Rattle.std.specs.{Prelude.{Some, None, nat_eq}, List.{AllByRecursion, IsDistinct, filter, filter_map, list_any}, Cmp.nat_eq_equiv}
+use Rattle.gx_history.specs.{declared.live_order.LiveOrder.LiveOrder, Figures.{Positions, live_shares, live_value, of_accounts}, Live.live_numbered, Orders.ends_account, Turns.becomes}
 use Rattle.gx_policy.specs.declared.policy.PolicyData.{PolicyData}
-use Rattle.gx_history.specs.Figures.{Positions, live_shares, live_value, of_accounts}
-use Rattle.gx_history.specs.Live.{live_numbered}
-use Rattle.gx_history.specs.Orders.{ends_account}
 use Rattle.gx_history.specs.Turns as turns
-use Rattle.gx_history.specs.Turns.{becomes}
-use Rattle.gx_history_laws.proofs.Owners.{filtered}
-use Rattle.gx_history_laws.proofs.Pushing.{all_before}
+use Rattle.gx_history_laws.proofs.{Owners.filtered, Pushing.all_before}
 use Rattle.gx_effects.proofs.World.{all_stay, those_go}
-use Rattle.gx_positions.specs.Changing.{positions_with}
-use Rattle.gx_positions.specs.Sound.{AreSound, IsListed, IsLive, MayCome, anyone, numbers_of}
+use Rattle.gx_positions.specs.{Changing.positions_with, Sound.{AreSound, IsListed, IsLive, MayCome, anyone, numbers_of}}
 use Rattle.gx_positions.proofs.Sums.{IsNoMore, is_numbered, no_rise_by, none_if_gone, shares_of, value_of}
-use Rattle.gx_ledger.specs.Following.{AllAreEnded, EndedThenAccepted, NoneCloses, OneMoreCloses, all_closed, closed, ended_by}
-use Rattle.gx_ledger.specs.StandsFor.{IsHeld, StandsFor}
+use Rattle.gx_ledger.specs.{Following.{AllAreEnded, EndedThenAccepted, NoneCloses, OneMoreCloses, all_closed, closed, ended_by}, StandsFor.{IsHeld, StandsFor}}
 
 -- any other number
 abbrev pub is_other : ℕ → LiveOrder → Bool

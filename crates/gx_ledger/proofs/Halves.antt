@@ -1,11 +1,6 @@
 -- Moments that rise: the recent ones are the last.
-use Rattle.std.proofs.Common.{◌≡◌, ℕ, ◌-◌, ◌<◌, ◌≤◌, true, List, [], ◌∷◌, ◌++◌, length, get_or, sym, ap, ◌∙◌, arith}
-use Rattle.std.specs.Option.{option_map_or}
-use Rattle.std.specs.Prelude.{nat_le}
-use Rattle.std.specs.List.Sorted.{IsNonDecreasing}
-use Rattle.std.proofs.lemmas.Bool.{leb-true, lt-ltb, ltb-true}
-use Rattle.std.proofs.lemmas.List.Sorted.{IsNonDecreasingBy-drop, IsNonDecreasingBy-push}
-use Rattle.std.proofs.lemmas.Option.{slice_get-get_or}
+use Rattle.std.proofs.{Common.{◌≡◌, ℕ, ◌-◌, ◌<◌, ◌≤◌, true, List, [], ◌∷◌, ◌++◌, length, get_or, sym, ap, ◌∙◌, arith}, lemmas.{Bool.{leb-true, lt-ltb, ltb-true}, List.Sorted.{IsNonDecreasingBy-drop, IsNonDecreasingBy-push}, Option.slice_get-get_or}}
+use Rattle.std.specs.{Option.option_map_or, Prelude.nat_le, List.Sorted.IsNonDecreasing}
 use Rattle.circular_buffer.specs.Buffer.{keep_last}
 use Rattle.gx_ledger.specs.Running.{comes_last, is_recent_at}
 use Rattle.gx_ledger.proofs.Latest.{AreRecentFrom, moment_there}

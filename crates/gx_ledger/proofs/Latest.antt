@@ -1,8 +1,6 @@
 -- The latest moments, from the newest back.
-use Rattle.std.proofs.Common.{◌≡◌, ℕ, ◌-◌, ◌<◌, ◌≤◌, zero, suc, Bool, true, false, List, [], ◌∷◌, length, get_or, refl, sym, ◌∙◌, subst, arith}
+use Rattle.std.proofs.{Common.{◌≡◌, ℕ, ◌-◌, ◌<◌, ◌≤◌, zero, suc, Bool, true, false, List, [], ◌∷◌, length, get_or, refl, sym, ◌∙◌, subst, arith}, lemmas.{Bool.{ltb-false, ltb-true}, List.Sums.suffix_len_is}}
 use Rattle.std.specs.Prelude.{nat_lt}
-use Rattle.std.proofs.lemmas.Bool.{ltb-false, ltb-true}
-use Rattle.std.proofs.lemmas.List.Sums.{suffix_len_is}
 use Rattle.gx_ledger.specs.Running.{is_recent, is_recent_at, recent_in}
 
 -- a moment that is there

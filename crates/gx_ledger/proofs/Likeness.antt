@@ -1,14 +1,9 @@
 -- Counting Enters that are alike.
-use Rattle.std.proofs.Common.{◌≡◌, ◌+◌, Bool, true, false, ◌&&◌, ◌||◌, cond, List, [], ◌∷◌, refl, ap, ◌∙◌, true≢false, arith}
-use Rattle.std.specs.Option.{option_map_or}
-use Rattle.std.specs.Prelude.{◌==◌, count_by}
-use Rattle.std.specs.List.{list_any}
-use Rattle.std.proofs.lemmas.List.Sums.{sum_by-cons}
+use Rattle.std.proofs.{Common.{◌≡◌, ◌+◌, Bool, true, false, ◌&&◌, ◌||◌, cond, List, [], ◌∷◌, refl, ap, ◌∙◌, true≢false, arith}, lemmas.List.Sums.sum_by-cons}
+use Rattle.std.specs.{Option.option_map_or, Prelude.{◌==◌, count_by}, List.list_any}
 use Rattle.gx_units.specs.Names.{same_stock}
 use Rattle.gx_history.specs.declared.record.Request.{Request}
-use Rattle.gx_history.specs.declared.record.Request.TheVariants as requests
-use Rattle.gx_ledger.specs.declared.group.Entered.{Entered}
-use Rattle.gx_ledger.specs.Running.{alike_in, are_alike, are_sized_alike, asked_as}
+use Rattle.gx_ledger.specs.{declared.group.Entered.Entered, Running.{alike_in, are_alike, are_sized_alike, asked_as}}
 
 size_fails : (side shares stock price : Bool) → (price && shares) ≡ false → (side && shares && stock && price) ≡ false
 size_fails false shares stock price fails = refl
@@ -38,10 +33,10 @@ none_passes (e ∷ es) = let more = sum_by-cons (λ (e : Entered). 0) e es in le
 
 -- an Enter is like those with which it has all in common, and no other request is
 pub asked_alike : (es : List Entered) (q : Request) → alike_in es q ≡ option_map_or (λ asked. count_by (are_alike asked) es) (asked_as q) 0
-asked_alike es (requests.Enter m) = refl
-asked_alike es (requests.Replace m) = none_passes es
-asked_alike es (requests.Cancel m) = none_passes es
-asked_alike es (requests.Login m) = none_passes es
-asked_alike es requests.Logout = none_passes es
-asked_alike es (requests.Unreadable m) = none_passes es
-asked_alike es (requests.Command m) = none_passes es
+asked_alike es (Request.Enter m) = refl
+asked_alike es (Request.Replace m) = none_passes es
+asked_alike es (Request.Cancel m) = none_passes es
+asked_alike es (Request.Login m) = none_passes es
+asked_alike es Request.Logout = none_passes es
+asked_alike es (Request.Unreadable m) = none_passes es
+asked_alike es (Request.Command m) = none_passes es

@@ -1,21 +1,11 @@
 -- To tell the tallies that count an account's orders is to tell all.
-use Rattle.std.proofs.Common.{◌≡◌, ℕ, zero, suc, ◌+◌, ◌<◌, Bool, true, false, cond, ◌&&◌, List, [], ◌∷◌, ◌++◌, map, length, get_or, take, slice_get, refl, sym, ap, ◌∙◌, arith}
+use Rattle.std.proofs.{Common.{◌≡◌, ℕ, zero, suc, ◌+◌, ◌<◌, Bool, true, false, cond, ◌&&◌, List, [], ◌∷◌, ◌++◌, map, length, get_or, take, slice_get, refl, sym, ap, ◌∙◌, arith}, lemmas.List.take_more}
 use Rattle.std.specs.Prelude.{Option, Some, None, option_map, is_some, fold}
-use Rattle.std.proofs.lemmas.List.{take_more}
-use Rattle.gx_units.specs.Names.{same_account}
-use Rattle.gx_units.specs.declared.names.AccountName.{AccountName}
-use Rattle.gx_policy.specs.declared.policy.Account.{Account}
-use Rattle.gx_policy.specs.declared.policy.Count.{Count}
-use Rattle.gx_policy.specs.People.{covers}
+use Rattle.gx_units.specs.{Names.same_account, declared.names.AccountName.AccountName}
+use Rattle.gx_policy.specs.{declared.policy.{Account.Account, Count.Count}, People.covers}
 use Rattle.gx_history_laws.proofs.Names.{account_is}
-use Rattle.gx_ledger.specs.declared.change.Change.{Change}
-use Rattle.gx_ledger.specs.declared.tally.Tally.{Tally}
-use Rattle.gx_ledger.specs.Counts.{AreCounted, counting, counting_from, counts, noted_in, tally_inside}
-use Rattle.gx_ledger.specs.Keeping.{Kept, account_names, account_place, kept_noted, noted}
-use Rattle.gx_ledger.specs.Running.{changed_group}
-use Rattle.gx_ledger.specs.Tallies.{changed_at, changed_in, place_in, tally_after}
-use Rattle.gx_ledger.proofs.Counting.{place-cons}
-use Rattle.gx_ledger.proofs.Entries.{some_is}
+use Rattle.gx_ledger.specs.{declared.{change.Change.Change, tally.Tally.Tally}, Counts.{AreCounted, counting, counting_from, counts, noted_in, tally_inside}, Keeping.{Kept, account_names, account_place, kept_noted, noted}, Running.changed_group, Tallies.{changed_at, changed_in, place_in, tally_after}}
+use Rattle.gx_ledger.proofs.{Counting.place-cons, Entries.some_is}
 
 -- the place of one more tally
 pub counting-more : (account : AccountName) (place : ℕ) (tallies : List Tally) (i : ℕ) (d : Tally) → i < length tallies

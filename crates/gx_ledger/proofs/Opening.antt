@@ -1,35 +1,14 @@
 -- A ledger before any order.
 use Rattle.std.proofs.Common.{◌≡◌, ℕ, ◌-◌, Bool, true, false, cond, ◌&&◌, ◌||◌, not, List, [], ◌∷◌, map, drop, refl, sym, ap, ◌∙◌, zero, suc}
-use Rattle.std.specs.Prelude.{Option, Some, None, is_some}
-use Rattle.std.specs.Option.{option_map_or}
-use Rattle.std.specs.List.{AllByRecursion, find, list_any}
-use Rattle.std.specs.Cmp.Lexicographic.{nat_list_eq_equiv}
+use Rattle.std.specs.{Prelude.{Option, Some, None, is_some}, Option.option_map_or, List.{AllByRecursion, find, list_any}, Cmp.Lexicographic.nat_list_eq_equiv}
 use Rattle.circular_buffer.specs.Buffer.{buffer}
-use Rattle.gx_units.specs.Names.{same_account, same_stock}
-use Rattle.gx_units.specs.declared.names.AccountName.{AccountName}
-use Rattle.gx_policy.specs.declared.policy.Account.{Account}
-use Rattle.gx_history.specs.declared.facts.StockSide.{StockSide}
-use Rattle.gx_policy.specs.declared.policy.Count.{Count}
-use Rattle.gx_policy.specs.declared.policy.Count.TheVariants as counts
-use Rattle.gx_policy.specs.declared.policy.FileRule.{FileRule}
-use Rattle.gx_policy.specs.declared.policy.PolicyData.{PolicyData}
-use Rattle.gx_policy.specs.declared.policy.Scope.{Scope}
-use Rattle.gx_policy.specs.declared.policy.Stock.{Stock}
-use Rattle.gx_history.specs.Figures.{of_accounts, on_side, reference}
-use Rattle.gx_policy.specs.Lists.{are_distinct}
-use Rattle.gx_policy.specs.People.{covers, stock_named}
-use Rattle.gx_policy.specs.Soundness.{is_sound}
-use Rattle.gx_history_laws.proofs.Granting.{left_false, right_false}
-use Rattle.gx_history_laws.proofs.Judging.{both}
-use Rattle.gx_history_laws.proofs.Names.{accounts_differ as accounts_apart}
-use Rattle.gx_history_laws.proofs.NextFigures.{done_none, done_value_none, reference_none}
+use Rattle.gx_units.specs.{Names.{same_account, same_stock}, declared.names.AccountName.AccountName}
+use Rattle.gx_policy.specs.{declared.policy.{Account.Account, Count.Count, FileRule.FileRule, PolicyData.PolicyData, Scope.Scope, Stock.Stock}, Lists.are_distinct, People.{covers, stock_named}, Soundness.is_sound}
+use Rattle.gx_history.specs.{declared.facts.StockSide.StockSide, Figures.{of_accounts, on_side, reference}}
+use Rattle.gx_history_laws.proofs.{Granting.{left_false, right_false}, Judging.both, Names.accounts_differ as accounts_apart, NextFigures.{done_none, done_value_none, reference_none}}
 use Rattle.gx_positions.specs.Changing.{nothing}
 use Rattle.gx_positions.proofs.Sums.{none_of, shares_of, value_of}
-use Rattle.gx_ledger.specs.declared.tally.Asks.{Asks}
-use Rattle.gx_ledger.specs.Keeping.{account_names, reference_prices}
-use Rattle.gx_ledger.specs.StandsFor.{StandsFor, group_of, members_of, prices_of, side_sums_of, tally_of, total_of}
-use Rattle.gx_ledger.specs.Tables.{accounts_differ, names_differ}
-use Rattle.gx_ledger.specs.Tallies.{asked_group, asks_of, count_of, new_groups, new_tally, room_for_enters, room_for_moments, stocks_for}
+use Rattle.gx_ledger.specs.{declared.tally.Asks.Asks, Keeping.{account_names, reference_prices}, StandsFor.{StandsFor, group_of, members_of, prices_of, side_sums_of, tally_of, total_of}, Tables.{accounts_differ, names_differ}, Tallies.{asked_group, asks_of, count_of, new_groups, new_tally, room_for_enters, room_for_moments, stocks_for}}
 use Rattle.gx_ledger.proofs.Counting.{left_none, right_true}
 
 -- no two stocks of the policy have one name
@@ -95,10 +74,10 @@ new_group_is stocks asked among = λ i. record {
 new_groups_are : (stocks : List Stock) (count : Option Count) (asked : Asks) (scope : Scope) (accounts : List Account)
     → new_groups count asked accounts stocks ≡ map (λ (among : AccountName → Bool). group_of stocks asked (total_of nothing among)) (members_of count scope (account_names accounts))
 new_groups_are stocks None asked scope accounts = refl
-new_groups_are stocks (Some counts.Together) asked scope accounts = ap (λ g. g ∷ []) (new_group_is stocks asked (covers scope))
-new_groups_are stocks (Some counts.Each) asked scope [] = refl
-new_groups_are stocks (Some counts.Each) asked scope (a ∷ accounts) =
-    λ i. new_group_is stocks asked (λ account. covers scope account && same_account a.name account) i ∷ new_groups_are stocks (Some counts.Each) asked scope accounts i
+new_groups_are stocks (Some Count.Together) asked scope accounts = ap (λ g. g ∷ []) (new_group_is stocks asked (covers scope))
+new_groups_are stocks (Some Count.Each) asked scope [] = refl
+new_groups_are stocks (Some Count.Each) asked scope (a ∷ accounts) =
+    λ i. new_group_is stocks asked (λ account. covers scope account && same_account a.name account) i ∷ new_groups_are stocks (Some Count.Each) asked scope accounts i
 
 new_tallies_are : (stocks : List Stock) (accounts : List Account) (rules : List FileRule) → map (new_tally accounts stocks) rules ≡ map (tally_of stocks (account_names accounts) (total_of nothing)) rules
 new_tallies_are stocks accounts [] = refl

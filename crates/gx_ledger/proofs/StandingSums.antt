@@ -1,31 +1,13 @@
 -- The sums that a ledger gives are those of what it stands for.
-use Rattle.std.proofs.Common.{◌≡◌, ℕ, suc, Bool, true, false, cond, ◌&&◌, List, [], ◌∷◌, map, refl, ap, ◌∙◌}
-use Rattle.std.specs.Prelude.{Option, Some, None, is_some, find, option_and_then, option_map, slice_get}
-use Rattle.std.specs.List.{AllByRecursion}
-use Rattle.std.proofs.lemmas.Option.{slice_get-map}
-use Rattle.gx_units.specs.Names.{same_account}
-use Rattle.gx_units.specs.declared.names.AccountName.{AccountName}
-use Rattle.gx_policy.specs.declared.policy.Account.{Account}
-use Rattle.gx_policy.specs.declared.policy.Count.{Count}
-use Rattle.gx_policy.specs.declared.policy.FileRule.{FileRule}
-use Rattle.gx_policy.specs.declared.policy.PolicyData.{PolicyData}
-use Rattle.gx_policy.specs.People.{account_named, covers}
-use Rattle.gx_history.specs.declared.facts.StockSide.{StockSide}
-use Rattle.gx_history.specs.Figures.{Positions, counts_account}
+use Rattle.std.proofs.{Common.{◌≡◌, ℕ, suc, Bool, true, false, cond, ◌&&◌, List, [], ◌∷◌, map, refl, ap, ◌∙◌}, lemmas.Option.slice_get-map}
+use Rattle.std.specs.{Prelude.{Option, Some, None, is_some, find, option_and_then, option_map, slice_get}, List.AllByRecursion}
+use Rattle.gx_units.specs.{Names.same_account, declared.names.AccountName.AccountName}
+use Rattle.gx_policy.specs.{declared.policy.{Account.Account, Count.Count, FileRule.FileRule, PolicyData.PolicyData}, People.{account_named, covers}}
+use Rattle.gx_history.specs.{declared.facts.StockSide.StockSide, Figures.{Positions, counts_account}}
 use Rattle.gx_history_laws.proofs.Names.{same_account_flip}
 use Rattle.gx_positions.specs.Sound.{AreSound}
-use Rattle.gx_ledger.specs.declared.group.Group.{Group}
-use Rattle.gx_ledger.specs.declared.sums.Sums.{Sums}
-use Rattle.gx_ledger.specs.declared.tally.Asks.{Asks}
-use Rattle.gx_ledger.specs.declared.tally.Asks.TheVariants as asks
-use Rattle.gx_ledger.specs.declared.sums.NetSums.{NetSums}
-use Rattle.gx_ledger.specs.declared.tally.Tally.{Tally}
-use Rattle.gx_ledger.specs.Keeping.{Kept, account_names, account_place}
-use Rattle.gx_ledger.specs.Standing.{GivesNet, GivesSums, counted_with, group_net, group_with, net_sums_of, of_sides, tally_net, tally_sums}
-use Rattle.gx_ledger.specs.StandsFor.{IsMadeIn, StandsFor, group_of, members_of, sums_of, tally_of, total_of}
-use Rattle.gx_ledger.specs.Tallies.{asks_of, count_of, group_in, place_in}
-use Rattle.gx_ledger.proofs.Answering.{group_found, live_answers, net_answers}
-use Rattle.gx_ledger.proofs.Counting.{place-cons}
+use Rattle.gx_ledger.specs.{declared.{group.Group.Group, sums.{Sums.Sums, NetSums.NetSums}, tally.{Asks.Asks, Tally.Tally}}, Keeping.{Kept, account_names, account_place}, Standing.{GivesNet, GivesSums, counted_with, group_net, group_with, net_sums_of, of_sides, tally_net, tally_sums}, StandsFor.{IsMadeIn, StandsFor, group_of, members_of, sums_of, tally_of, total_of}, Tallies.{asks_of, count_of, group_in, place_in}}
+use Rattle.gx_ledger.proofs.{Answering.{group_found, live_answers, net_answers}, Counting.place-cons}
 
 still_there : (o : Option ℕ) → is_some (option_map suc o) ≡ is_some o
 still_there None = refl
@@ -89,17 +71,17 @@ module _ (policy : PolicyData) (held : Positions) (account : AccountName) (rule 
       by : (asked : Asks) (found : Option (AccountName → Bool))
           → of_sides asked (option_map (group_net side) (option_map (λ among. group_of policy.stocks asked (total_of held among)) found))
           ≡ of_sides asked (option_map (net_sums_of held side) found)
-      by asks.Sides None = refl
-      by asks.Sides (Some among) = λ i. Some (record {
+      by Asks.Sides None = refl
+      by Asks.Sides (Some among) = λ i. Some (record {
         done = net_answers policy held among sound all_made (Some side) i;
         live = live_answers policy held among sound all_made (Some side) i;
       })
-      by asks.Nothing found = refl
-      by asks.Reference found = refl
-      by asks.Shares found = refl
-      by asks.Values found = refl
-      by (asks.Recent rate) found = refl
-      by (asks.Alike repeat) found = refl
+      by Asks.Nothing found = refl
+      by Asks.Reference found = refl
+      by Asks.Shares found = refl
+      by Asks.Values found = refl
+      by (Asks.Recent rate) found = refl
+      by (Asks.Alike repeat) found = refl
 
 -- of the rule at a place
 at_place : {X : Type 0} (f : Tally → Option X) (t : FileRule → Tally) (g : FileRule → Option X) → ((rule : FileRule) → f (t rule) ≡ g rule) → (rules : List FileRule) (place : ℕ)

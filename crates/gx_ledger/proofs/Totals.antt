@@ -1,33 +1,14 @@
 -- What counts of any accounts, once live orders, fills or grants changed.
-use Rattle.std.proofs.Common.{◌≡◌, ℕ, ◌+◌, ◌-◌, ◌<◌, ◌≤◌, ◌^◌, Bool, true, false, cond, ◌&&◌, not, List, [], ◌∷◌, ◌++◌, map, refl, sym, ap, ◌∙◌, arith}
-use Rattle.std.specs.Prelude.{Option, Some, None, is_none, is_some, nat_eq}
-use Rattle.std.specs.List.{IsDistinct, filter, filter_map}
-use Rattle.std.proofs.lemmas.List.{append-nil, map-append}
-use Rattle.std.proofs.lemmas.List.Elements.{filter-append}
-use Rattle.gx_units.specs.Money.{value}
-use Rattle.gx_units.specs.Names.{same_stock}
-use Rattle.gx_units.specs.declared.names.AccountName.{AccountName}
-use Rattle.gx_units.specs.declared.names.Symbol.{Symbol}
-use Rattle.gx_units.specs.declared.names.Token.{Token}
-use Rattle.gx_history.specs.declared.facts.StockSide.{StockSide}
-use Rattle.gx_history.specs.declared.live_order.LiveOrder.{LiveOrder}
+use Rattle.std.proofs.{Common.{◌≡◌, ℕ, ◌+◌, ◌-◌, ◌<◌, ◌≤◌, ◌^◌, Bool, true, false, cond, ◌&&◌, not, List, [], ◌∷◌, ◌++◌, map, refl, sym, ap, ◌∙◌, arith}, lemmas.List.{append-nil, map-append, Elements.filter-append}}
+use Rattle.std.specs.{Prelude.{Option, Some, None, is_none, is_some, nat_eq}, List.{IsDistinct, filter, filter_map}}
+use Rattle.gx_units.specs.{Money.value, Names.same_stock, declared.names.{AccountName.AccountName, Symbol.Symbol, Token.Token}}
+use Rattle.gx_history.specs.{declared.{facts.StockSide.StockSide, live_order.LiveOrder.LiveOrder}, Executions.Execution, Book.is_on, Figures.{Positions, done_of_chosen, done_shares, done_value, live_shares, live_value, of_accounts, on_side, open_of_chosen, open_value, side_done, side_live}, LiveOrders.shares_open, Orders.Order, Turns.{Turn, becomes, new_in}}
 use Rattle.gx_ouch.specs.declared.outbound.OrderTerms.{OrderTerms}
-use Rattle.gx_history.specs.Executions.{Execution}
-use Rattle.gx_history.specs.Book.{is_on}
-use Rattle.gx_history.specs.Figures.{Positions, done_of_chosen, done_shares, done_value, live_shares, live_value, of_accounts, on_side, open_of_chosen, open_value, side_done, side_live}
-use Rattle.gx_history.specs.LiveOrders.{shares_open}
-use Rattle.gx_history.specs.Orders.{Order}
 use Rattle.gx_history.specs.Turns as turns
-use Rattle.gx_history.specs.Turns.{Turn, becomes, new_in}
 use Rattle.gx_effects.proofs.World.{all_stay}
-use Rattle.gx_positions.specs.Changing.{executed_by, positions_with}
-use Rattle.gx_positions.specs.Sound.{SumsFit, anyone, numbers_of}
+use Rattle.gx_positions.specs.{Changing.{executed_by, positions_with}, Sound.{SumsFit, anyone, numbers_of}}
 use Rattle.gx_positions.proofs.Sums.{IsOpenSum, Loses, added, done_are, done_value_are, is_chosen, left_by, lost_by, open_of, shares_of, stays_by, sum_where, value_of}
-use Rattle.gx_ledger.specs.declared.change.Change.{Change}
-use Rattle.gx_ledger.specs.Keeping.{comes, leaves}
-use Rattle.gx_ledger.specs.Running.{capped, entered_as}
-use Rattle.gx_ledger.specs.declared.sides.SideSums.{SideSums}
-use Rattle.gx_ledger.specs.StandsFor.{IsAccepted, Total, entered_of, enters_of, moments_of, total_of}
+use Rattle.gx_ledger.specs.{declared.{change.Change.Change, sides.SideSums.SideSums}, Keeping.{comes, leaves}, Running.{capped, entered_as}, StandsFor.{IsAccepted, Total, entered_of, enters_of, moments_of, total_of}}
 use Rattle.gx_ledger.proofs.Counting.{changed_total, changes_side, totals_after}
 
 -- a sum over some is at most that over all

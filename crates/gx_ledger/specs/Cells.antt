@@ -1,6 +1,5 @@
 -- Enters counted by cells.
-use Rattle.std.specs.Prelude.{◌≡◌, ℕ, ◌+◌, ◌-◌, ◌*◌, ◌/◌, ◌%◌, ◌^◌, ◌<◌, ◌==◌, List, length, slice_index, count_by, if◌then◌else◌}
-use Rattle.std.specs.Int.{w64, from_le_bytes}
+use Rattle.std.specs.{Prelude.{◌≡◌, ℕ, ◌+◌, ◌-◌, ◌*◌, ◌/◌, ◌%◌, ◌^◌, ◌<◌, ◌==◌, List, length, slice_index, count_by, if◌then◌else◌}, Int.{w64, from_le_bytes}}
 use Rattle.gx_ledger.specs.declared.group.Entered.{Entered}
 
 -- all that like Enters have in common, spread over the numbers of 64 bits

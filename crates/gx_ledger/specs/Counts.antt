@@ -2,10 +2,7 @@
 use Rattle.std.specs.Prelude.{◌≡◌, ℕ, suc, Bool, ◌&&◌, List, [], ◌∷◌, map, fold, Option, is_some, if◌then◌else◌}
 use Rattle.gx_units.specs.declared.names.AccountName.{AccountName}
 use Rattle.gx_policy.specs.People.{covers}
-use Rattle.gx_ledger.specs.declared.change.Change.{Change}
-use Rattle.gx_ledger.specs.declared.tally.Tally.{Tally}
-use Rattle.gx_ledger.specs.Running.{changed_group}
-use Rattle.gx_ledger.specs.Tallies.{changed_at, changed_in, place_in}
+use Rattle.gx_ledger.specs.{declared.{change.Change.Change, tally.Tally.Tally}, Running.changed_group, Tallies.{changed_at, changed_in, place_in}}
 
 -- the rule counts the orders of the account
 abbrev pub counts : Tally → AccountName → Bool

@@ -1,16 +1,11 @@
 -- How a ledger follows orders that end one after another, and an order that takes the place of another.
-use Rattle.std.specs.Prelude.{ℕ, ◌≡◌, true, nat_eq, List, [], ◌∷◌, ◌++◌, fold}
-use Rattle.std.specs.List.{filter, AllByRecursion, IsDistinct}
+use Rattle.std.specs.{Prelude.{ℕ, ◌≡◌, true, nat_eq, List, [], ◌∷◌, ◌++◌, fold}, List.{filter, AllByRecursion, IsDistinct}}
 use Rattle.gx_desk.specs.declared.Action.{Action}
 use Rattle.gx_policy.specs.declared.policy.PolicyData.{PolicyData}
-use Rattle.gx_history.specs.declared.live_order.LiveOrder.{LiveOrder}
-use Rattle.gx_history.specs.Figures.{Positions}
-use Rattle.gx_history.specs.Orders.{Order, ends_account}
+use Rattle.gx_history.specs.{declared.live_order.LiveOrder.LiveOrder, Figures.Positions, Orders.{Order, ends_account}}
 use Rattle.gx_history.specs.Turns as turns
-use Rattle.gx_positions.specs.Changing.{positions_with}
-use Rattle.gx_positions.specs.Sound.{AreSound, MayReplace, numbers_of}
-use Rattle.gx_ledger.specs.Keeping.{Kept}
-use Rattle.gx_ledger.specs.StandsFor.{Accepts, Carries, Closes, IsAccepted, IsHeld, StandsFor}
+use Rattle.gx_positions.specs.{Changing.positions_with, Sound.{AreSound, MayReplace, numbers_of}}
+use Rattle.gx_ledger.specs.{Keeping.Kept, StandsFor.{Accepts, Carries, Closes, IsAccepted, IsHeld, StandsFor}}
 
 -- the live orders, fills and grants, once one order has ended
 abbrev pub closed : Positions → LiveOrder → Positions

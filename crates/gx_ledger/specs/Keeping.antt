@@ -1,19 +1,9 @@
 -- What the ledger keeps, and what each change makes of it.
-use Rattle.std.specs.Option.{option_map_or}
-use Rattle.std.specs.Prelude.{ℕ, Bool, List, map, Option, unwrap_or, position, if◌then◌else◌}
-use Rattle.std.specs.Map.{lookup}
-use Rattle.gx_units.specs.Names.{same_account, same_stock}
-use Rattle.gx_units.specs.declared.names.AccountName.{AccountName}
-use Rattle.gx_units.specs.declared.names.Symbol.{Symbol}
-use Rattle.gx_history.specs.declared.live_order.LiveOrder.{LiveOrder}
-use Rattle.gx_policy.specs.declared.policy.Account.{Account}
-use Rattle.gx_policy.specs.declared.policy.Stock.{Stock}
-use Rattle.gx_history.specs.declared.record.Request.{Request}
-use Rattle.gx_history.specs.Figures.{stock_asked}
-use Rattle.gx_ledger.specs.declared.change.Change.{Change}
-use Rattle.gx_ledger.specs.declared.change.ChangeKind.TheVariants as changes
-use Rattle.gx_ledger.specs.declared.tally.Tally.{Tally}
-use Rattle.gx_ledger.specs.Tallies.{tally_after}
+use Rattle.std.specs.{Option.option_map_or, Prelude.{ℕ, Bool, List, map, Option, unwrap_or, position, if◌then◌else◌}, Map.lookup}
+use Rattle.gx_units.specs.{Names.{same_account, same_stock}, declared.names.{AccountName.AccountName, Symbol.Symbol}}
+use Rattle.gx_history.specs.{declared.{live_order.LiveOrder.LiveOrder, «record».Request.Request}, Figures.stock_asked}
+use Rattle.gx_policy.specs.declared.policy.{Account.Account, Stock.Stock}
+use Rattle.gx_ledger.specs.{declared.{change.{Change.Change, ChangeKind.ChangeKind}, tally.Tally.Tally}, Tallies.tally_after}
 
 -- what a ledger keeps
 pub record Kept : Type 0 where
@@ -58,15 +48,15 @@ kept_noted change k = record {
 
 -- the order comes, granted at the moment to a Replace or to an Enter
 abbrev pub comes : LiveOrder → ℕ → Bool → Change
-comes o moment replacement = record { order = o; kind = changes.Accepted moment replacement }
+comes o moment replacement = record { order = o; kind = ChangeKind.Accepted moment replacement }
 
 -- so many shares of the order are open no more
 abbrev pub leaves : LiveOrder → ℕ → Change
-leaves o shares = record { order = o; kind = changes.Left shares }
+leaves o shares = record { order = o; kind = ChangeKind.Left shares }
 
 -- so many shares of the order were executed at this price
 abbrev pub executes : LiveOrder → ℕ → ℕ → Change
-executes o shares price = record { order = o; kind = changes.Executed shares price }
+executes o shares price = record { order = o; kind = ChangeKind.Executed shares price }
 
 -- some shares of the order were executed, and are open no more
 abbrev pub kept_executed : LiveOrder → ℕ → ℕ → Kept → Kept

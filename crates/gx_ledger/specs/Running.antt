@@ -1,26 +1,10 @@
 -- Running figures, and what each change makes of them.
-use Rattle.std.specs.Option.{option_map_or}
-use Rattle.std.specs.Prelude.{ℕ, ◌+◌, ◌-◌, ◌^◌, ℤ, pos, ◌-ℤ◌, Bool, true, false, ◌&&◌, ◌==◌, min, nat_lt, nat_le, List, [], ◌∷◌, ◌++◌, map, unwrap_or, count_by, slice_get, Option, Some, None, if◌then◌else◌}
-use Rattle.std.specs.List.{suffix_len}
-use Rattle.std.specs.Map.{lookup}
+use Rattle.std.specs.{Option.option_map_or, Prelude.{ℕ, ◌+◌, ◌-◌, ◌^◌, ℤ, pos, ◌-ℤ◌, Bool, true, false, ◌&&◌, ◌==◌, min, nat_lt, nat_le, List, [], ◌∷◌, ◌++◌, map, unwrap_or, count_by, slice_get, Option, Some, None, if◌then◌else◌}, List.suffix_len, Map.lookup}
 use Rattle.circular_buffer.specs.Buffer.{Buffer, buffer, keep_last, last_item}
-use Rattle.gx_units.specs.Money.{value}
-use Rattle.gx_units.specs.Names.{same_stock}
-use Rattle.gx_units.specs.declared.names.Symbol.{Symbol}
-use Rattle.gx_history.specs.declared.live_order.LiveOrder.{LiveOrder}
+use Rattle.gx_units.specs.{Money.value, Names.same_stock, declared.names.Symbol.Symbol}
+use Rattle.gx_history.specs.{declared.{live_order.LiveOrder.LiveOrder, «record».Request.Request}, Book.is_buy, LiveOrders.shares_open}
 use Rattle.gx_policy.specs.declared.policy.Stock.{Stock}
-use Rattle.gx_history.specs.declared.record.Request.{Request}
-use Rattle.gx_history.specs.declared.record.Request.TheVariants as requests
-use Rattle.gx_history.specs.Book.{is_buy}
-use Rattle.gx_history.specs.LiveOrders.{shares_open}
-use Rattle.gx_ledger.specs.declared.group.Entered.{Entered}
-use Rattle.gx_ledger.specs.declared.group.Group.{Group}
-use Rattle.gx_ledger.specs.declared.change.Change.{Change}
-use Rattle.gx_ledger.specs.declared.change.ChangeKind.{ChangeKind}
-use Rattle.gx_ledger.specs.declared.change.ChangeKind.TheVariants as changes
-use Rattle.gx_ledger.specs.declared.sides.SideSums.{SideSums}
-use Rattle.gx_ledger.specs.declared.sides.StockSums.{StockSums}
-use Rattle.gx_ledger.specs.declared.sums.Sums.{Sums}
+use Rattle.gx_ledger.specs.declared.{group.{Entered.Entered, Group.Group}, change.{Change.Change, ChangeKind.ChangeKind}, sides.{SideSums.SideSums, StockSums.StockSums}, sums.Sums.Sums}
 
 -- the number, or the greatest of 128 bits where it is past that
 abbrev pub capped : ℕ → ℕ
@@ -72,9 +56,9 @@ with_accepted o moment replacement g = record {
 
 -- the sums of a side of a stock, once an order there has changed so
 abbrev pub changed_side : LiveOrder → ChangeKind → SideSums → SideSums
-changed_side o (changes.Accepted moment replacement) s = record { live = capped (s.live + shares_open o); done = s.done }
-changed_side o (changes.Left shares) s = record { live = s.live - shares; done = s.done }
-changed_side o (changes.Executed shares price) s = record { live = s.live; done = capped (s.done + shares) }
+changed_side o (ChangeKind.Accepted moment replacement) s = record { live = capped (s.live + shares_open o); done = s.done }
+changed_side o (ChangeKind.Left shares) s = record { live = s.live - shares; done = s.done }
+changed_side o (ChangeKind.Executed shares price) s = record { live = s.live; done = capped (s.done + shares) }
 
 -- the sums of a stock, once an order in it has changed
 abbrev pub changed_sides : Change → StockSums → StockSums
@@ -122,9 +106,9 @@ with_sides change g = record { sums = g.sums; moments = g.moments; enters = g.en
 
 -- the group but for its sides, once an order of its accounts changed so
 abbrev pub changed_so : LiveOrder → ChangeKind → Group → Group
-changed_so o (changes.Accepted moment replacement) g = with_accepted o moment replacement g
-changed_so o (changes.Left shares) g = with_sums (without_live shares o.terms.price g.sums) g
-changed_so o (changes.Executed shares price) g = with_sums (with_done shares price g.sums) g
+changed_so o (ChangeKind.Accepted moment replacement) g = with_accepted o moment replacement g
+changed_so o (ChangeKind.Left shares) g = with_sums (without_live shares o.terms.price g.sums) g
+changed_so o (ChangeKind.Executed shares price) g = with_sums (with_done shares price g.sums) g
 
 -- the group, once an order of its accounts changed
 abbrev pub changed_group : Change → Group → Group
@@ -165,12 +149,12 @@ are_sized_alike asked e = e.price == asked.price && e.shares == asked.shares
 
 -- what an Enter would have in common with like ones
 abbrev pub asked_as : Request → Option Entered
-asked_as (requests.Enter m) = Some (record { side = m.side; shares = m.shares; stock = m.stock; price = m.price })
+asked_as (Request.Enter m) = Some (record { side = m.side; shares = m.shares; stock = m.stock; price = m.price })
 asked_as other = None
 
 -- the request is such an Enter
 abbrev pub is_like : Request → Entered → Bool
-is_like (requests.Enter m) e = e.side == m.side && e.shares == m.shares && same_stock e.stock m.stock && e.price == m.price
+is_like (Request.Enter m) e = e.side == m.side && e.shares == m.shares && same_stock e.stock m.stock && e.price == m.price
 is_like other e = false
 
 -- the Enters that are such as the request is

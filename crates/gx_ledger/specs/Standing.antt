@@ -1,21 +1,10 @@
 -- What a ledger tells of what stands: the sums of the accounts that a rule counts together with one of them.
 use Rattle.std.specs.Prelude.{ℕ, ◌≡◌, ◌&&◌, Bool, List, Option, Some, None, is_some, option_map, option_and_then, slice_get, if◌then◌else◌}
 use Rattle.gx_units.specs.declared.names.AccountName.{AccountName}
-use Rattle.gx_policy.specs.declared.policy.FileRule.{FileRule}
-use Rattle.gx_policy.specs.declared.policy.PolicyData.{PolicyData}
-use Rattle.gx_policy.specs.People.{account_named, covers}
-use Rattle.gx_history.specs.declared.facts.StockSide.{StockSide}
-use Rattle.gx_history.specs.Figures.{Positions, counts_account, net_done, side_live}
+use Rattle.gx_policy.specs.{declared.policy.{FileRule.FileRule, PolicyData.PolicyData}, People.{account_named, covers}}
+use Rattle.gx_history.specs.{declared.facts.StockSide.StockSide, Figures.{Positions, counts_account, net_done, side_live}}
 use Rattle.gx_positions.specs.Sound.{AreSound}
-use Rattle.gx_ledger.specs.declared.group.Group.{Group}
-use Rattle.gx_ledger.specs.declared.sums.Sums.{Sums}
-use Rattle.gx_ledger.specs.declared.tally.Asks.{Asks}
-use Rattle.gx_ledger.specs.declared.tally.Asks.TheVariants as asks
-use Rattle.gx_ledger.specs.declared.sums.NetSums.{NetSums}
-use Rattle.gx_ledger.specs.declared.tally.Tally.{Tally}
-use Rattle.gx_ledger.specs.Keeping.{Kept}
-use Rattle.gx_ledger.specs.StandsFor.{StandsFor, sums_of}
-use Rattle.gx_ledger.specs.Tallies.{asks_of, count_of, group_in, live_in, net_in}
+use Rattle.gx_ledger.specs.{declared.{group.Group.Group, sums.{Sums.Sums, NetSums.NetSums}, tally.{Asks.Asks, Tally.Tally}}, Keeping.Kept, StandsFor.{StandsFor, sums_of}, Tallies.{asks_of, count_of, group_in, live_in, net_in}}
 
 -- the accounts that the rule counts together with this one of the policy: it alone, or all of the scope. None where the
 -- rule counts nothing, or is not for the account
@@ -27,7 +16,7 @@ counted_with policy account rule =
 
 -- what is found, for a rule that looks at the sides of a stock
 abbrev pub of_sides : {X : Type 0} → Asks → Option X → Option X
-of_sides asks.Sides found = found
+of_sides Asks.Sides found = found
 of_sides other found = None
 
 -- what these accounts executed on the side of the stock, less what they did on the other, and what they have open there

@@ -1,42 +1,12 @@
 -- The relation between what a ledger keeps and the live orders, fills and grants that it stands for.
-use Rattle.std.specs.Prelude.{ℕ, ◌≡◌, ◌+◌, ◌-◌, ◌&&◌, Bool, true, false, List, [], ◌∷◌, map, Option, Some, None, is_none, is_some, IsFalse, IsTrue}
-use Rattle.std.specs.List.{filter, AllByRecursion}
+use Rattle.std.specs.{Prelude.{ℕ, ◌≡◌, ◌+◌, ◌-◌, ◌&&◌, Bool, true, false, List, [], ◌∷◌, map, Option, Some, None, is_none, is_some, IsFalse, IsTrue}, List.{filter, AllByRecursion}}
 use Rattle.circular_buffer.specs.Buffer.{Buffer, buffer}
-use Rattle.gx_units.specs.Names.{same_account}
-use Rattle.gx_units.specs.declared.names.AccountName.{AccountName}
-use Rattle.gx_units.specs.declared.names.Symbol.{Symbol}
-use Rattle.gx_history.specs.declared.live_order.LiveOrder.{LiveOrder}
-use Rattle.gx_policy.specs.declared.policy.Count.{Count}
-use Rattle.gx_policy.specs.declared.policy.Count.TheVariants as counts
-use Rattle.gx_policy.specs.declared.policy.FileRule.{FileRule}
-use Rattle.gx_policy.specs.declared.policy.PolicyData.{PolicyData}
-use Rattle.gx_policy.specs.declared.policy.Scope.{Scope}
-use Rattle.gx_policy.specs.declared.policy.Stock.{Stock}
-use Rattle.gx_history.specs.declared.record.Fill.{Fill}
-use Rattle.gx_history.specs.declared.record.Request.{Request}
-use Rattle.gx_history.specs.Executions.{Execution}
-use Rattle.gx_history.specs.Figures.{Positions, figures, live_shares, live_value, done_shares, done_value, reference, side_done, side_live}
-use Rattle.gx_policy.specs.Lists.{are_distinct, last_few}
-use Rattle.gx_history.specs.Live.{live_numbered}
-use Rattle.gx_history.specs.LiveOrders.{shares_open}
-use Rattle.gx_history.specs.Orders.{Order}
-use Rattle.gx_policy.specs.People.{account_named, covers, stock_named}
-use Rattle.gx_history.specs.Rules.{figured}
-use Rattle.gx_history.specs.Verdicts.{with_figures}
+use Rattle.gx_units.specs.{Names.same_account, declared.names.{AccountName.AccountName, Symbol.Symbol}}
+use Rattle.gx_history.specs.{declared.{live_order.LiveOrder.LiveOrder, «record».{Fill.Fill, Request.Request}}, Executions.Execution, Figures.{Positions, figures, live_shares, live_value, done_shares, done_value, reference, side_done, side_live}, Live.live_numbered, LiveOrders.shares_open, Orders.Order, Rules.figured, Verdicts.with_figures, Turns.Turn}
+use Rattle.gx_policy.specs.{declared.policy.{Count.Count, FileRule.FileRule, PolicyData.PolicyData, Scope.Scope, Stock.Stock}, Lists.{are_distinct, last_few}, People.{account_named, covers, stock_named}}
 use Rattle.gx_history.specs.Turns as turns
-use Rattle.gx_history.specs.Turns.{Turn}
-use Rattle.gx_positions.specs.Changing.{positions_with}
-use Rattle.gx_positions.specs.Sound.{AreSound, IsOf, MayCome, MayFill}
-use Rattle.gx_ledger.specs.declared.group.Entered.{Entered}
-use Rattle.gx_ledger.specs.declared.group.Group.{Group}
-use Rattle.gx_ledger.specs.declared.sides.SideSums.{SideSums}
-use Rattle.gx_ledger.specs.declared.sides.StockSums.{StockSums}
-use Rattle.gx_ledger.specs.declared.sums.Sums.{Sums}
-use Rattle.gx_ledger.specs.declared.tally.Asks.{Asks}
-use Rattle.gx_ledger.specs.declared.tally.Tally.{Tally}
-use Rattle.gx_ledger.specs.Keeping.{Kept, account_names}
-use Rattle.gx_ledger.specs.Tallies.{asks_of, count_of, room_for_enters, room_for_moments, stocks_for}
-use Rattle.gx_ledger.specs.Told.{Asking, figures_at}
+use Rattle.gx_positions.specs.{Changing.positions_with, Sound.{AreSound, IsOf, MayCome, MayFill}}
+use Rattle.gx_ledger.specs.{declared.{group.{Entered.Entered, Group.Group}, sides.{SideSums.SideSums, StockSums.StockSums}, sums.Sums.Sums, tally.{Asks.Asks, Tally.Tally}}, Keeping.{Kept, account_names}, Tallies.{asks_of, count_of, room_for_enters, room_for_moments, stocks_for}, Told.{Asking, figures_at}}
 
 -- the sums over these accounts
 abbrev pub sums_of : Positions → (AccountName → Bool) → Sums
@@ -103,8 +73,8 @@ group_of stocks asked total = record {
 -- the accounts of each group of a rule: one group for each account of the policy, or one for all in scope
 abbrev pub members_of : Option Count → Scope → List AccountName → List (AccountName → Bool)
 members_of None scope accounts = []
-members_of (Some counts.Each) scope accounts = map (λ (name : AccountName). λ account. covers scope account && same_account name account) accounts
-members_of (Some counts.Together) scope accounts = covers scope ∷ []
+members_of (Some Count.Each) scope accounts = map (λ (name : AccountName). λ account. covers scope account && same_account name account) accounts
+members_of (Some Count.Together) scope accounts = covers scope ∷ []
 
 -- what a rule counts
 abbrev pub tally_of : List Stock → List AccountName → ((AccountName → Bool) → Total) → FileRule → Tally

@@ -1,9 +1,7 @@
 -- What the tables ask of the policy.
 use Rattle.std.specs.Prelude.{Bool, List}
 use Rattle.gx_units.specs.Names.{same_account, same_stock}
-use Rattle.gx_policy.specs.declared.policy.Account.{Account}
-use Rattle.gx_policy.specs.declared.policy.Stock.{Stock}
-use Rattle.gx_policy.specs.Lists.{are_distinct}
+use Rattle.gx_policy.specs.{declared.policy.{Account.Account, Stock.Stock}, Lists.are_distinct}
 
 -- no two stocks have one name
 abbrev pub names_differ : List Stock → Bool

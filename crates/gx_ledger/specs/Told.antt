@@ -1,11 +1,7 @@
 -- The figures that are told for one request.
-use Rattle.std.specs.Option.{option_map_or}
-use Rattle.std.specs.Prelude.{ℕ, List, slice_get}
-use Rattle.gx_history.specs.declared.facts.RuleFigures.{RuleFigures}
-use Rattle.gx_history.specs.Figures.{no_figures}
-use Rattle.gx_ledger.specs.declared.tally.Tally.{Tally}
-use Rattle.gx_ledger.specs.declared.tally.Wanted.{Wanted}
-use Rattle.gx_ledger.specs.Tallies.{tally_figures}
+use Rattle.std.specs.{Option.option_map_or, Prelude.{ℕ, List, slice_get}}
+use Rattle.gx_history.specs.{declared.facts.RuleFigures.RuleFigures, Figures.no_figures}
+use Rattle.gx_ledger.specs.{declared.tally.{Tally.Tally, Wanted.Wanted}, Tallies.tally_figures}
 
 -- what each rule of the file counts, and what is asked for
 pub record Asking : Type 0 where

@@ -1,7 +1,6 @@
 //! Enters that are alike.
 
-ghost use Rattle.std.specs.Prelude.{◌≡◌, ◌≤◌, count_by, length};
-ghost use Rattle.std.specs.List.{list_any};
+ghost use Rattle.std.specs.{Prelude.{◌≡◌, ◌≤◌, count_by, length}, List.list_any};
 ghost use Rattle.gx_ledger.specs.Running.{are_alike, are_sized_alike};
 
 use crate::group::Entered;

@@ -1,11 +1,8 @@
 //! The last granted Enters, and how many of them are alike.
 
-ghost use Rattle.std.specs.Prelude.{◌≡◌, ◌∷◌, ◌++◌, ◌<◌, List, [], IfOk, IsTrue};
-ghost use Rattle.std.specs.Prelude.{count_by, length};
+ghost use Rattle.std.specs.Prelude.{◌≡◌, ◌∷◌, ◌++◌, ◌<◌, List, [], IfOk, IsTrue, count_by, length};
 ghost use Rattle.circular_buffer.specs.Buffer.{buffer};
-ghost use Rattle.gx_ledger.specs.Cells.{AreCounted, cell_of, one_less, spread};
-ghost use Rattle.gx_ledger.specs.Running.{are_alike, pushed};
-ghost use Rattle.gx_ledger.specs.declared.group.Entered.{Entered};
+ghost use Rattle.gx_ledger.specs.{Cells.{AreCounted, cell_of, one_less, spread}, Running.{are_alike, pushed}, declared.group.Entered.Entered};
 
 use crate::alike::alike_among;
 use crate::group::Entered;

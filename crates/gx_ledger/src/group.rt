@@ -1,9 +1,7 @@
 //! The running figures of a group of accounts.
 
 ghost use Rattle.std.specs.Prelude.{◌≡◌, IfOk, IsTrue};
-ghost use Rattle.gx_ledger.specs.Running.{alike_in, asked_as, changed_group, entered_as};
-ghost use Rattle.gx_ledger.specs.Running.{new_group, with_accepted};
-ghost use Rattle.gx_ledger.specs.Tables.{names_differ};
+ghost use Rattle.gx_ledger.specs.{Running.{alike_in, asked_as, changed_group, entered_as, new_group, with_accepted}, Tables.names_differ};
 
 use crate::change::{Change, ChangeKind};
 use crate::enters::Enters;

@@ -1,7 +1,6 @@
 //! How a ledger follows more than one call, each as what a function without a body ensures.
 
-ghost use Rattle.gx_ledger.specs.Following.{AllAreEnded, EndedThenAccepted, NoneCloses};
-ghost use Rattle.gx_ledger.specs.Following.{OneMoreCloses};
+ghost use Rattle.gx_ledger.specs.Following.{AllAreEnded, EndedThenAccepted, NoneCloses, OneMoreCloses};
 
 /// Orders that are closed one after another, as those of a killed account are and all at the end of
 /// the day: none is nothing, one more follows those before it, and when each order of the accounts

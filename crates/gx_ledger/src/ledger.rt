@@ -3,11 +3,7 @@
 ghost use Rattle.std.specs.Prelude.{◌≡◌, IfOk, option_and_then, slice_get};
 ghost use Rattle.gx_history.specs.Figures.{side_asked};
 ghost use Rattle.gx_positions.specs.Changing.{nothing};
-ghost use Rattle.gx_ledger.specs.Keeping.{account_place, kept_executed, kept_noted, price_of};
-ghost use Rattle.gx_ledger.specs.Keeping.{reference_for, with_price};
-ghost use Rattle.gx_ledger.specs.StandsFor.{Accepts, Closes, Cuts, Fills, GivesFigures, StandsFor};
-ghost use Rattle.gx_ledger.specs.Standing.{GivesNet, GivesSums, tally_net, tally_sums};
-ghost use Rattle.gx_ledger.specs.Told.{figures_at};
+ghost use Rattle.gx_ledger.specs.{Keeping.{account_place, kept_executed, kept_noted, price_of, reference_for, with_price}, StandsFor.{Accepts, Closes, Cuts, Fills, GivesFigures, StandsFor}, Standing.{GivesNet, GivesSums, tally_net, tally_sums}, Told.figures_at};
 
 use crate::change::{Change, ChangeKind};
 use crate::sums::{NetSums, Sums};

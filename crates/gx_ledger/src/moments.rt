@@ -1,7 +1,6 @@
 //! The moments of the last orders.
 
-ghost use Rattle.std.specs.Prelude.{◌≡◌, [], IfOk};
-ghost use Rattle.std.specs.List.Sorted.{IsNonDecreasing};
+ghost use Rattle.std.specs.{Prelude.{◌≡◌, [], IfOk}, List.Sorted.IsNonDecreasing};
 ghost use Rattle.circular_buffer.specs.Buffer.{buffer};
 ghost use Rattle.gx_ledger.specs.Running.{comes_last, is_recent_at, pushed, recent_in};
 

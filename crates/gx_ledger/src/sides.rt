@@ -1,9 +1,7 @@
 //! Running sums over each side of a stock.
 
 ghost use Rattle.std.specs.Prelude.{◌≡◌, IfOk, IsTrue};
-ghost use Rattle.gx_ledger.specs.Running.{changed_side, changed_sides, first_sides, net_of};
-ghost use Rattle.gx_ledger.specs.Running.{noted_sides, on_its_side, sides_at};
-ghost use Rattle.gx_ledger.specs.Tables.{names_differ};
+ghost use Rattle.gx_ledger.specs.{Running.{changed_side, changed_sides, first_sides, net_of, noted_sides, on_its_side, sides_at}, Tables.names_differ};
 
 use crate::change::{Change, ChangeKind};
 use gx_policy::Stock;

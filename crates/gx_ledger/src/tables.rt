@@ -1,10 +1,7 @@
 //! The tables of a ledger.
 
 ghost use Rattle.std.specs.Prelude.{◌≡◌, map, None, Some, IfOk, IsTrue};
-ghost use Rattle.gx_ledger.specs.Counts.{noted_in, tally_inside};
-ghost use Rattle.gx_ledger.specs.Keeping.{account_names, noted, priced, reference_prices};
-ghost use Rattle.gx_ledger.specs.Tables.{accounts_differ, names_differ};
-ghost use Rattle.gx_ledger.specs.Tallies.{changed_at, new_tally};
+ghost use Rattle.gx_ledger.specs.{Counts.{noted_in, tally_inside}, Keeping.{account_names, noted, priced, reference_prices}, Tables.{accounts_differ, names_differ}, Tallies.{changed_at, new_tally}};
 
 use crate::change::Change;
 use crate::tally::Tally;

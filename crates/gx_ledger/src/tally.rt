@@ -1,19 +1,8 @@
 //! What one rule of the file counts.
 
-ghost use Rattle.std.specs.Prelude.{◌≡◌, [], ◌∷◌, map, option_copied, pos, slice_get, IfOk, IsTrue};
-ghost use Rattle.std.specs.Option.{option_map_or};
-ghost use Rattle.gx_history.specs.LiveOrders.{shares_open};
-ghost use Rattle.gx_ledger.specs.Counts.{counts, tally_inside};
-ghost use Rattle.gx_ledger.specs.Running.{changed_group};
-ghost use Rattle.gx_ledger.specs.Tables.{names_differ};
-ghost use Rattle.gx_ledger.specs.Tallies.{asked_group, asks_of, changed_at, count_of};
-ghost use Rattle.gx_ledger.specs.Tallies.{figures_of_group};
-ghost use Rattle.gx_ledger.specs.Tallies.{group_in, live_in, net_in, new_groups, new_tally};
-ghost use Rattle.gx_ledger.specs.Tallies.{place_in, stocks_for};
-ghost use Rattle.gx_ledger.specs.Tallies.{room_for_enters, room_for_moments, tally_after};
-ghost use Rattle.gx_history.specs.Figures.{open_value};
-ghost use Rattle.gx_ledger.specs.Tallies.{tally_figures};
-ghost use Rattle.gx_ledger.specs.Standing.{group_net, group_with, tally_net, tally_sums};
+ghost use Rattle.std.specs.{Prelude.{◌≡◌, [], ◌∷◌, map, option_copied, pos, slice_get, IfOk, IsTrue}, Option.option_map_or};
+ghost use Rattle.gx_history.specs.{LiveOrders.shares_open, Figures.open_value};
+ghost use Rattle.gx_ledger.specs.{Counts.{counts, tally_inside}, Running.changed_group, Tables.names_differ, Tallies.{asked_group, asks_of, changed_at, count_of, figures_of_group, group_in, live_in, net_in, new_groups, new_tally, place_in, stocks_for, room_for_enters, room_for_moments, tally_after, tally_figures}, Standing.{group_net, group_with, tally_net, tally_sums}};
 
 use crate::change::Change;
 use crate::group::Group;
@@ -22,7 +11,7 @@ use crate::sums::{NetSums, Sums};
 use gx_history::facts::{NO_FIGURES, RuleFigures, StockSide};
 use gx_history::live_order::LiveOrder;
 use gx_history::record::Request;
-use gx_policy::{Account, Count, FileRule, Rate, Repeat, RuleKind, Scope, Stock};
+use gx_policy::{Account, Count, ExposureLimit, FileRule, Rate, Repeat, RuleKind, Scope, Stock};
 use gx_units::{AccountName, OutOfMemory, value_of};
 use std::alloc::Global;
 use std::marker::Model;
@@ -31,7 +20,7 @@ use std::marker::Model;
 #[derive(Clone, Copy)]
 pub enum Asks {
     Nothing,
-    /// The last price of the stock.
+    /// The last price of the stock, which is all that a limit of one order can ask for.
     Reference,
     /// Open and executed shares.
     Shares,
@@ -50,19 +39,13 @@ impl Asks {
         ensures { result ≡ asks_of kind.now }
     {
         match kind {
-            RuleKind::Collar(_) => Asks::Reference,
-            RuleKind::GrossShares(_, _) => Asks::Shares,
-            RuleKind::GrossValue(_, _) => Asks::Values,
-            RuleKind::NetShares(_, _) => Asks::Sides,
+            RuleKind::Listed(_, _) | RuleKind::Plain(_) => Asks::Nothing,
+            RuleKind::Order(_, _) => Asks::Reference,
+            RuleKind::Exposure(ExposureLimit::GrossShares, _, _) => Asks::Shares,
+            RuleKind::Exposure(ExposureLimit::GrossValue, _, _) => Asks::Values,
+            RuleKind::Exposure(ExposureLimit::NetShares, _, _) => Asks::Sides,
             RuleKind::Rate(rate, _) => Asks::Recent(*rate),
             RuleKind::Repeat(repeat, _) => Asks::Alike(*repeat),
-            RuleKind::Halt(_)
-            | RuleKind::Restricted(_)
-            | RuleKind::NoShort
-            | RuleKind::NoIso
-            | RuleKind::OddLot
-            | RuleKind::OrderShares(_)
-            | RuleKind::OrderValue(_) => Asks::Nothing,
         }
     }
 
@@ -104,19 +87,9 @@ fn count_of(kind: &RuleKind) -> Option<Count>
     ensures { result ≡ count_of kind.now }
 {
     match kind {
-        RuleKind::GrossShares(_, count) => Some(*count),
-        RuleKind::GrossValue(_, count) => Some(*count),
-        RuleKind::NetShares(_, count) => Some(*count),
-        RuleKind::Rate(_, count) => Some(*count),
-        RuleKind::Repeat(_, count) => Some(*count),
-        RuleKind::Halt(_)
-        | RuleKind::Restricted(_)
-        | RuleKind::NoShort
-        | RuleKind::NoIso
-        | RuleKind::OddLot
-        | RuleKind::OrderShares(_)
-        | RuleKind::OrderValue(_)
-        | RuleKind::Collar(_) => None,
+        RuleKind::Exposure(_, _, count) | RuleKind::Rate(_, count) | RuleKind::Repeat(_, count) =>
+            Some(*count),
+        RuleKind::Listed(_, _) | RuleKind::Plain(_) | RuleKind::Order(_, _) => None,
     }
 }
 

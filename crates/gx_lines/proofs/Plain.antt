@@ -1,19 +1,9 @@
 -- What is printed: spaces and visible characters.
-use Rattle.std.proofs.Common.{◌≡◌, ℕ, zero, suc, ◌+◌, ◌-◌, ◌/◌, ◌%◌, ◌^◌, ◌<◌, Bool, true, false, cond, List, [], ◌∷◌, ◌++◌, length, replicate, refl, ◌∙◌, arith, decimal}
-use Rattle.std.specs.Prelude.{◌==◌, nat_lt, codes, Option, Some, None, unwrap_or}
-use Rattle.std.specs.List.{list_all}
-use Rattle.std.proofs.lemmas.Bool.{and_parts, and_from}
-use Rattle.std.proofs.lemmas.Bool.Decides.{nat_tests}
-use Rattle.std.proofs.lemmas.Fmt.{decimal_by_steps}
-use Rattle.std.proofs.lemmas.List.Folds.{list_all-append}
+use Rattle.std.proofs.{Common.{◌≡◌, ℕ, zero, suc, ◌+◌, ◌-◌, ◌/◌, ◌%◌, ◌^◌, ◌<◌, Bool, true, false, cond, List, [], ◌∷◌, ◌++◌, length, replicate, refl, ◌∙◌, arith, decimal}, lemmas.{Bool.{and_parts, and_from, Decides.nat_tests}, Fmt.decimal_by_steps, List.Folds.list_all-append}}
+use Rattle.std.specs.{Prelude.{◌==◌, nat_lt, codes, Option, Some, None, unwrap_or}, List.list_all}
 use Rattle.gx_units.specs.Spelling.{without_right_spaces}
-use Rattle.gx_text.specs.Laws.{JsonIsPrinted, ShownIsVisible}
-use Rattle.gx_text.specs.Moments.{minute_text, moment_text, with_zeros}
-use Rattle.gx_text.specs.Shown.{is_printed, is_visible, json_string, shown, shown_name}
-use Rattle.gx_text.specs.declared.moments.Decimals.TheVariants.{Nine}
-use Rattle.gx_lines.specs.Showing.{decimals_text, price_text, key_text, text_field, name_field, number_field, json_front, json_line}
-use Rattle.gx_lines.specs.NameLaws.{IsBytes}
-use Rattle.gx_lines.specs.LineLaws.{IsOneLine}
+use Rattle.gx_text.specs.{Laws.{JsonIsPrinted, ShownIsVisible}, Moments.{minute_text, moment_text, with_zeros}, Shown.{is_printed, is_visible, json_string, shown, shown_name}, declared.moments.Decimals.TheVariants.Nine}
+use Rattle.gx_lines.specs.{Showing.{decimals_text, price_text, key_text, text_field, name_field, number_field, json_front, json_line}, NameLaws.IsBytes, LineLaws.IsOneLine}
 use Rattle.gx_lines.proofs.Visible.{kept, names_are_visible}
 
 abbrev pub are_plain : List ℕ → Bool

@@ -1,19 +1,9 @@
 -- Whatever names and numbers an answer shows, its line is one line.
 use Rattle.std.proofs.Common.{◌≡◌, ℕ, ◌^◌, ◌<◌, Bool, true, false, List, [], ◌∷◌, ◌++◌, refl}
 use Rattle.std.specs.Prelude.{◌==◌, codes, None, unwrap_or}
-use Rattle.gx_desk.specs.declared.Action.{Action}
-use Rattle.gx_desk.specs.declared.Action.TheVariants as actions
-use Rattle.gx_desk.specs.declared.Answer.{Answer}
-use Rattle.gx_desk.specs.declared.AnswerCode.{AnswerCode}
-use Rattle.gx_desk.specs.declared.AnswerCode.TheVariants as answers
-use Rattle.gx_desk.specs.Messages.{kill, lift, set_limit, restrict, unrestrict, grant, revoke, close_day}
-use Rattle.gx_desk.specs.Writing.{answer_code}
-use Rattle.gx_text.specs.Laws.{JsonIsPrinted, ShownIsVisible}
-use Rattle.gx_text.specs.Shown.{shown, shown_name}
-use Rattle.gx_text.specs.declared.form.Form.TheVariants.{Text, Json}
-use Rattle.gx_lines.specs.NameLaws.{IsBytes}
-use Rattle.gx_lines.specs.AnswerLines.{done_text, partly_text, capitals_hint, unknown_text, power_word, powerless_text, foreign_text, unchanged_text, record_text, denied_text, answered_text, command_word, account_field, stock_field, rule_field, reader_field, named_fields, answer_fields, type_word, type_text, type_field, earlier_text, earlier_fields}
-use Rattle.gx_lines.specs.LineLaws.{IsActionInRange, IsAnswerInRange, AnswersAreOneLine, EarlierAnswersAreOneLine}
+use Rattle.gx_desk.specs.{declared.{Action.Action, Answer.Answer, AnswerCode.AnswerCode}, Messages.{kill, lift, set_limit, restrict, unrestrict, grant, revoke, close_day}, Writing.answer_code}
+use Rattle.gx_text.specs.{Laws.{JsonIsPrinted, ShownIsVisible}, Shown.{shown, shown_name}, declared.form.Form.TheVariants.{Text, Json}}
+use Rattle.gx_lines.specs.{NameLaws.IsBytes, AnswerLines.{done_text, partly_text, capitals_hint, unknown_text, power_word, powerless_text, foreign_text, unchanged_text, record_text, denied_text, answered_text, command_word, account_field, stock_field, rule_field, reader_field, named_fields, answer_fields, type_word, type_text, type_field, earlier_text, earlier_fields}, LineLaws.{IsActionInRange, IsAnswerInRange, AnswersAreOneLine, EarlierAnswersAreOneLine}}
 use Rattle.gx_lines.proofs.Plain.{are_plain, joined, numbered, moment_plain, IsPlain, ◌&◌, plain, chosen, or_plain, or_bytes, one_byte, decimal_field, shown_plain, named, text_field_plain, name_field_plain, word_field, json_is_line}
 
 hint_plain : (in_capitals : Bool) → are_plain (capitals_hint in_capitals) ≡ true
@@ -23,14 +13,14 @@ hint_plain false = refl
 
 power_plain : (asked : Action) → are_plain (power_word asked) ≡ true
 unfolding power_word
-power_plain (actions.Kill account) = refl
-power_plain (actions.Lift account) = refl
-power_plain (actions.SetLimit rule limit) = refl
-power_plain (actions.Restrict rule stock) = refl
-power_plain (actions.Unrestrict rule stock) = refl
-power_plain (actions.Grant reader account) = refl
-power_plain (actions.Revoke reader account) = refl
-power_plain actions.CloseDay = refl
+power_plain (Action.Kill account) = refl
+power_plain (Action.Lift account) = refl
+power_plain (Action.SetLimit rule limit) = refl
+power_plain (Action.Restrict rule stock) = refl
+power_plain (Action.Unrestrict rule stock) = refl
+power_plain (Action.Grant reader account) = refl
+power_plain (Action.Revoke reader account) = refl
+power_plain Action.CloseDay = refl
 
 powerless_plain : (asked : Action) → are_plain (powerless_text asked) ≡ true
 unfolding powerless_text
@@ -40,22 +30,22 @@ record_plain : (moment number : ℕ) → moment < 2 ^ 64 → number < 2 ^ 64 →
 record_plain moment number m n = search (joined, numbered, moment_plain, m, n)
 
 word_plain : (asked : Action) → are_plain (command_word asked) ≡ true
-word_plain (actions.Kill account) = refl
-word_plain (actions.Lift account) = refl
-word_plain (actions.SetLimit rule limit) = refl
-word_plain (actions.Restrict rule stock) = refl
-word_plain (actions.Unrestrict rule stock) = refl
-word_plain (actions.Grant reader account) = refl
-word_plain (actions.Revoke reader account) = refl
-word_plain actions.CloseDay = refl
+word_plain (Action.Kill account) = refl
+word_plain (Action.Lift account) = refl
+word_plain (Action.SetLimit rule limit) = refl
+word_plain (Action.Restrict rule stock) = refl
+word_plain (Action.Unrestrict rule stock) = refl
+word_plain (Action.Grant reader account) = refl
+word_plain (Action.Revoke reader account) = refl
+word_plain Action.CloseDay = refl
 
 code_plain : (code : AnswerCode) → are_plain (answer_code code) ≡ true
-code_plain answers.Done = refl
-code_plain answers.PartlyLifted = refl
-code_plain answers.UnknownName = refl
-code_plain answers.NoPower = refl
-code_plain answers.NotHisAccount = refl
-code_plain answers.NoChange = refl
+code_plain AnswerCode.Done = refl
+code_plain AnswerCode.PartlyLifted = refl
+code_plain AnswerCode.UnknownName = refl
+code_plain AnswerCode.NoPower = refl
+code_plain AnswerCode.NotHisAccount = refl
+code_plain AnswerCode.NoChange = refl
 
 type_word_plain : (kind : ℕ) → are_plain (unwrap_or (type_word kind) []) ≡ true
 unfolding type_word
@@ -67,80 +57,80 @@ type_word_plain kind =
 module _ (seen : ShownIsVisible) where
   done_plain : (asked : Action) → IsActionInRange asked → are_plain (done_text asked) ≡ true
   unfolding done_text
-  done_plain (actions.Kill account) h = search (joined, named seen, h)
-  done_plain (actions.Lift account) h = search (joined, named seen, h)
-  done_plain (actions.SetLimit rule limit) h = search (joined, named seen, numbered, h)
-  done_plain (actions.Restrict rule stock) h = search (joined, named seen, h)
-  done_plain (actions.Unrestrict rule stock) h = search (joined, named seen, h)
-  done_plain (actions.Grant reader account) h = search (joined, named seen, h)
-  done_plain (actions.Revoke reader account) h = search (joined, named seen, h)
-  done_plain actions.CloseDay h = refl
+  done_plain (Action.Kill account) h = search (joined, named seen, h)
+  done_plain (Action.Lift account) h = search (joined, named seen, h)
+  done_plain (Action.SetLimit rule limit) h = search (joined, named seen, numbered, h)
+  done_plain (Action.Restrict rule stock) h = search (joined, named seen, h)
+  done_plain (Action.Unrestrict rule stock) h = search (joined, named seen, h)
+  done_plain (Action.Grant reader account) h = search (joined, named seen, h)
+  done_plain (Action.Revoke reader account) h = search (joined, named seen, h)
+  done_plain Action.CloseDay h = refl
 
   partly_plain : (asked : Action) → IsActionInRange asked → are_plain (partly_text asked) ≡ true
   unfolding partly_text
-  partly_plain (actions.Lift account) h = search (joined, named seen, h)
-  partly_plain (actions.Kill account) h = joined (done_text (actions.Kill account)) (codes " in part") (done_plain _ h) refl
-  partly_plain (actions.SetLimit rule limit) h = joined (done_text (actions.SetLimit rule limit)) (codes " in part") (done_plain _ h) refl
-  partly_plain (actions.Restrict rule stock) h = joined (done_text (actions.Restrict rule stock)) (codes " in part") (done_plain _ h) refl
-  partly_plain (actions.Unrestrict rule stock) h = joined (done_text (actions.Unrestrict rule stock)) (codes " in part") (done_plain _ h) refl
-  partly_plain (actions.Grant reader account) h = joined (done_text (actions.Grant reader account)) (codes " in part") (done_plain _ h) refl
-  partly_plain (actions.Revoke reader account) h = joined (done_text (actions.Revoke reader account)) (codes " in part") (done_plain _ h) refl
-  partly_plain actions.CloseDay h = joined (done_text actions.CloseDay) (codes " in part") (done_plain actions.CloseDay h) refl
+  partly_plain (Action.Lift account) h = search (joined, named seen, h)
+  partly_plain (Action.Kill account) h = joined (done_text (Action.Kill account)) (codes " in part") (done_plain _ h) refl
+  partly_plain (Action.SetLimit rule limit) h = joined (done_text (Action.SetLimit rule limit)) (codes " in part") (done_plain _ h) refl
+  partly_plain (Action.Restrict rule stock) h = joined (done_text (Action.Restrict rule stock)) (codes " in part") (done_plain _ h) refl
+  partly_plain (Action.Unrestrict rule stock) h = joined (done_text (Action.Unrestrict rule stock)) (codes " in part") (done_plain _ h) refl
+  partly_plain (Action.Grant reader account) h = joined (done_text (Action.Grant reader account)) (codes " in part") (done_plain _ h) refl
+  partly_plain (Action.Revoke reader account) h = joined (done_text (Action.Revoke reader account)) (codes " in part") (done_plain _ h) refl
+  partly_plain Action.CloseDay h = joined (done_text Action.CloseDay) (codes " in part") (done_plain Action.CloseDay h) refl
 
   unknown_plain : (asked : Action) → IsActionInRange asked → are_plain (unknown_text asked) ≡ true
   unfolding unknown_text
-  unknown_plain (actions.Kill account) h = search (joined, named seen, hint_plain, h)
-  unknown_plain (actions.Lift account) h = search (joined, named seen, hint_plain, h)
-  unknown_plain (actions.SetLimit rule limit) h = search (joined, named seen, hint_plain, h)
-  unknown_plain (actions.Restrict rule stock) h = search (joined, named seen, hint_plain, h)
-  unknown_plain (actions.Unrestrict rule stock) h = search (joined, named seen, hint_plain, h)
-  unknown_plain (actions.Grant reader account) h = search (joined, named seen, hint_plain, h)
-  unknown_plain (actions.Revoke reader account) h = search (joined, named seen, hint_plain, h)
-  unknown_plain actions.CloseDay h = refl
+  unknown_plain (Action.Kill account) h = search (joined, named seen, hint_plain, h)
+  unknown_plain (Action.Lift account) h = search (joined, named seen, hint_plain, h)
+  unknown_plain (Action.SetLimit rule limit) h = search (joined, named seen, hint_plain, h)
+  unknown_plain (Action.Restrict rule stock) h = search (joined, named seen, hint_plain, h)
+  unknown_plain (Action.Unrestrict rule stock) h = search (joined, named seen, hint_plain, h)
+  unknown_plain (Action.Grant reader account) h = search (joined, named seen, hint_plain, h)
+  unknown_plain (Action.Revoke reader account) h = search (joined, named seen, hint_plain, h)
+  unknown_plain Action.CloseDay h = refl
 
   foreign_plain : (asked : Action) → IsActionInRange asked → are_plain (foreign_text asked) ≡ true
   unfolding foreign_text
-  foreign_plain (actions.Kill account) h = search (joined, named seen, h)
-  foreign_plain (actions.Lift account) h = search (joined, named seen, h)
-  foreign_plain (actions.SetLimit rule limit) h = search (joined, named seen, h)
-  foreign_plain (actions.Restrict rule stock) h = search (joined, named seen, h)
-  foreign_plain (actions.Unrestrict rule stock) h = search (joined, named seen, h)
-  foreign_plain (actions.Grant reader account) h = search (joined, named seen, h)
-  foreign_plain (actions.Revoke reader account) h = search (joined, named seen, h)
-  foreign_plain actions.CloseDay h = refl
+  foreign_plain (Action.Kill account) h = search (joined, named seen, h)
+  foreign_plain (Action.Lift account) h = search (joined, named seen, h)
+  foreign_plain (Action.SetLimit rule limit) h = search (joined, named seen, h)
+  foreign_plain (Action.Restrict rule stock) h = search (joined, named seen, h)
+  foreign_plain (Action.Unrestrict rule stock) h = search (joined, named seen, h)
+  foreign_plain (Action.Grant reader account) h = search (joined, named seen, h)
+  foreign_plain (Action.Revoke reader account) h = search (joined, named seen, h)
+  foreign_plain Action.CloseDay h = refl
 
   unchanged_plain : (asked : Action) → IsActionInRange asked → are_plain (unchanged_text asked) ≡ true
   unfolding unchanged_text
-  unchanged_plain (actions.Kill account) h = search (joined, named seen, h)
-  unchanged_plain (actions.Lift account) h = search (joined, named seen, h)
-  unchanged_plain (actions.SetLimit rule limit) h = search (joined, named seen, numbered, h)
-  unchanged_plain (actions.Restrict rule stock) h = search (joined, named seen, h)
-  unchanged_plain (actions.Unrestrict rule stock) h = search (joined, named seen, h)
-  unchanged_plain (actions.Grant reader account) h = search (joined, named seen, h)
-  unchanged_plain (actions.Revoke reader account) h = search (joined, named seen, h)
-  unchanged_plain actions.CloseDay h = refl
+  unchanged_plain (Action.Kill account) h = search (joined, named seen, h)
+  unchanged_plain (Action.Lift account) h = search (joined, named seen, h)
+  unchanged_plain (Action.SetLimit rule limit) h = search (joined, named seen, numbered, h)
+  unchanged_plain (Action.Restrict rule stock) h = search (joined, named seen, h)
+  unchanged_plain (Action.Unrestrict rule stock) h = search (joined, named seen, h)
+  unchanged_plain (Action.Grant reader account) h = search (joined, named seen, h)
+  unchanged_plain (Action.Revoke reader account) h = search (joined, named seen, h)
+  unchanged_plain Action.CloseDay h = refl
 
   denied_plain : (asked : Action) (code : AnswerCode) → IsActionInRange asked → are_plain (denied_text asked code) ≡ true
   unfolding denied_text
-  denied_plain asked answers.Done h = refl
-  denied_plain asked answers.PartlyLifted h = refl
-  denied_plain asked answers.UnknownName h = search (unknown_plain, h)
-  denied_plain asked answers.NoPower h = search powerless_plain
-  denied_plain asked answers.NotHisAccount h = search (foreign_plain, h)
-  denied_plain asked answers.NoChange h = search (unchanged_plain, h)
+  denied_plain asked AnswerCode.Done h = refl
+  denied_plain asked AnswerCode.PartlyLifted h = refl
+  denied_plain asked AnswerCode.UnknownName h = search (unknown_plain, h)
+  denied_plain asked AnswerCode.NoPower h = search powerless_plain
+  denied_plain asked AnswerCode.NotHisAccount h = search (foreign_plain, h)
+  denied_plain asked AnswerCode.NoChange h = search (unchanged_plain, h)
 
   answered_plain : (moment : ℕ) (asked : Action) (number : ℕ) (code : AnswerCode) → moment < 2 ^ 64 → IsActionInRange asked → number < 2 ^ 64
       → are_plain (answered_text moment asked number code) ≡ true
   unfolding answered_text
-  answered_plain moment asked number answers.Done m h n =
+  answered_plain moment asked number AnswerCode.Done m h n =
       joined (done_text asked) (record_text moment number) (done_plain asked h) (record_plain moment number m n)
-  answered_plain moment asked number answers.PartlyLifted m h n =
+  answered_plain moment asked number AnswerCode.PartlyLifted m h n =
       (plain (partly_text asked) (partly_plain asked h) & plain (record_text moment number) (record_plain moment number m n)
       & plain (codes "; another officer has to lift it too") refl).is
-  answered_plain moment asked number answers.UnknownName m h n = denied_plain asked answers.UnknownName h
-  answered_plain moment asked number answers.NoPower m h n = denied_plain asked answers.NoPower h
-  answered_plain moment asked number answers.NotHisAccount m h n = denied_plain asked answers.NotHisAccount h
-  answered_plain moment asked number answers.NoChange m h n = denied_plain asked answers.NoChange h
+  answered_plain moment asked number AnswerCode.UnknownName m h n = denied_plain asked AnswerCode.UnknownName h
+  answered_plain moment asked number AnswerCode.NoPower m h n = denied_plain asked AnswerCode.NoPower h
+  answered_plain moment asked number AnswerCode.NotHisAccount m h n = denied_plain asked AnswerCode.NotHisAccount h
+  answered_plain moment asked number AnswerCode.NoChange m h n = denied_plain asked AnswerCode.NoChange h
 
   type_plain : (kind : ℕ) → kind < 256 → are_plain (type_text kind) ≡ true
   type_plain kind h =
@@ -169,14 +159,14 @@ module _ (printed : JsonIsPrinted) where
 
   named_fields_plain : (asked : Action) → IsActionInRange asked → are_plain (named_fields asked) ≡ true
   unfolding named_fields
-  named_fields_plain (actions.Kill a) h = (account a.bytes h).is
-  named_fields_plain (actions.Lift a) h = (account a.bytes h).is
-  named_fields_plain (actions.SetLimit r limit) h = (rule r.bytes h.0 & decimal_field (codes "limit") limit refl h.1).is
-  named_fields_plain (actions.Restrict r s) h = (rule r.bytes h.0 & stock s.bytes h.1).is
-  named_fields_plain (actions.Unrestrict r s) h = (rule r.bytes h.0 & stock s.bytes h.1).is
-  named_fields_plain (actions.Grant r a) h = (reader r.bytes h.0 & account a.bytes h.1).is
-  named_fields_plain (actions.Revoke r a) h = (reader r.bytes h.0 & account a.bytes h.1).is
-  named_fields_plain actions.CloseDay h = refl
+  named_fields_plain (Action.Kill a) h = (account a.bytes h).is
+  named_fields_plain (Action.Lift a) h = (account a.bytes h).is
+  named_fields_plain (Action.SetLimit r limit) h = (rule r.bytes h.0 & decimal_field (codes "limit") limit refl h.1).is
+  named_fields_plain (Action.Restrict r s) h = (rule r.bytes h.0 & stock s.bytes h.1).is
+  named_fields_plain (Action.Unrestrict r s) h = (rule r.bytes h.0 & stock s.bytes h.1).is
+  named_fields_plain (Action.Grant r a) h = (reader r.bytes h.0 & account a.bytes h.1).is
+  named_fields_plain (Action.Revoke r a) h = (reader r.bytes h.0 & account a.bytes h.1).is
+  named_fields_plain Action.CloseDay h = refl
 
   answer_fields_plain : (asked : Action) (answer : Answer) → IsActionInRange asked → IsAnswerInRange answer
       → are_plain (answer_fields asked answer) ≡ true

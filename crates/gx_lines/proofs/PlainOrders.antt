@@ -2,27 +2,10 @@
 use Rattle.std.proofs.Common.{◌≡◌, ℕ, ◌^◌, ◌<◌, true, List, [], ◌∷◌, ◌++◌, refl, decimal}
 use Rattle.std.specs.Prelude.{◌==◌, codes, None, unwrap_or}
 use Rattle.gx_desk.specs.declared.DropCopy.{DropCopy}
-use Rattle.gx_ouch.specs.declared.letters.Liquidity.{Liquidity}
-use Rattle.gx_ouch.specs.declared.letters.Liquidity.TheVariants as liquidities
-use Rattle.gx_ouch.specs.declared.letters.CancelReason.{CancelReason}
-use Rattle.gx_ouch.specs.declared.letters.CancelReason.TheVariants as cancels
-use Rattle.gx_ouch.specs.declared.letters.RejectReason.{RejectReason}
-use Rattle.gx_ouch.specs.declared.letters.RejectReason.TheVariants as rejects
-use Rattle.gx_ouch.specs.declared.outbound.OrderTerms.{OrderTerms}
-use Rattle.gx_ouch.specs.declared.outbound.Executed.{Executed}
-use Rattle.gx_ouch.specs.declared.outbound.Outbound.{Outbound}
-use Rattle.gx_ouch.specs.declared.outbound.Outbound.TheVariants as outbounds
-use Rattle.gx_ouch.specs.Letters.{reject_letter}
+use Rattle.gx_ouch.specs.{declared.{letters.{Liquidity.Liquidity, CancelReason.CancelReason, RejectReason.RejectReason}, outbound.{OrderTerms.OrderTerms, Executed.Executed, Outbound.Outbound}}, Letters.reject_letter}
 use Rattle.gx_history.specs.OuchValues.{side_buy, side_sell, side_sell_short, side_sell_short_exempt}
-use Rattle.gx_text.specs.Laws.{JsonIsPrinted, ShownIsVisible}
-use Rattle.gx_text.specs.Moments.{moment_text}
-use Rattle.gx_text.specs.Shown.{shown, shown_name}
-use Rattle.gx_text.specs.declared.form.Form.TheVariants.{Text, Json}
-use Rattle.gx_text.specs.declared.moments.Decimals.TheVariants.{Nine}
-use Rattle.gx_lines.specs.NameLaws.{IsBytes}
-use Rattle.gx_lines.specs.Showing.{price_text}
-use Rattle.gx_lines.specs.OrderLines.{side_words, side_text, side_field, liquidity_word, cancel_words, reject_words, shares_text, terms_text, match_text, told_text, time_text, token_field, terms_fields, executed_fields, event_word, told_fields, copy_text, copy_fields}
-use Rattle.gx_lines.specs.LineLaws.{AreTermsInRange, IsExecutedInRange, IsMessageInRange, IsCopyInRange, OrdersAreOneLine, CopiesAreOneLine}
+use Rattle.gx_text.specs.{Laws.{JsonIsPrinted, ShownIsVisible}, Moments.moment_text, Shown.{shown, shown_name}, declared.{form.Form.TheVariants.{Text, Json}, moments.Decimals.TheVariants.Nine}}
+use Rattle.gx_lines.specs.{NameLaws.IsBytes, Showing.price_text, OrderLines.{side_words, side_text, side_field, liquidity_word, cancel_words, reject_words, shares_text, terms_text, match_text, told_text, time_text, token_field, terms_fields, executed_fields, event_word, told_fields, copy_text, copy_fields}, LineLaws.{AreTermsInRange, IsExecutedInRange, IsMessageInRange, IsCopyInRange, OrdersAreOneLine, CopiesAreOneLine}}
 use Rattle.gx_lines.proofs.Plain.{are_plain, joined, numbered, moment_plain, price_plain, IsPlain, ◌&◌, plain, chosen, or_plain, or_bytes, one_byte, decimal_field, price_field, shown_plain, named, text_field_plain, name_field_plain, word_field, json_is_line}
 
 side_words_plain : (side : ℕ) → are_plain (unwrap_or (side_words side) []) ≡ true
@@ -33,53 +16,53 @@ side_words_plain side =
 
 liquidity_plain : (liquidity : Liquidity) → are_plain (liquidity_word liquidity) ≡ true
 unfolding liquidity_word
-liquidity_plain liquidities.Added = refl
-liquidity_plain liquidities.Removed = refl
+liquidity_plain Liquidity.Added = refl
+liquidity_plain Liquidity.Removed = refl
 
 cancel_plain : (reason : CancelReason) → are_plain (cancel_words reason) ≡ true
 unfolding cancel_words
-cancel_plain cancels.UserRequested = refl
-cancel_plain cancels.ImmediateOrCancel = refl
-cancel_plain cancels.Supervisory = refl
+cancel_plain CancelReason.UserRequested = refl
+cancel_plain CancelReason.ImmediateOrCancel = refl
+cancel_plain CancelReason.Supervisory = refl
 
 reject_plain : (reason : RejectReason) → are_plain (reject_words reason) ≡ true
 unfolding reject_words
-reject_plain rejects.Closed = refl
-reject_plain rejects.RejectAll = refl
-reject_plain rejects.FirmNotAuthorized = refl
-reject_plain rejects.InvalidStock = refl
-reject_plain rejects.SharesExceedSafety = refl
-reject_plain rejects.InvalidPrice = refl
-reject_plain rejects.InvalidDisplay = refl
-reject_plain rejects.InvalidMinimumQuantity = refl
-reject_plain rejects.NotAllowedInCross = refl
-reject_plain rejects.Other = refl
-reject_plain rejects.Halted = refl
-reject_plain rejects.RestrictedStock = refl
-reject_plain rejects.ShortSale = refl
-reject_plain rejects.IntermarketSweep = refl
-reject_plain rejects.OddLot = refl
-reject_plain rejects.SharesLimit = refl
-reject_plain rejects.DollarLimit = refl
+reject_plain RejectReason.Closed = refl
+reject_plain RejectReason.RejectAll = refl
+reject_plain RejectReason.FirmNotAuthorized = refl
+reject_plain RejectReason.InvalidStock = refl
+reject_plain RejectReason.SharesExceedSafety = refl
+reject_plain RejectReason.InvalidPrice = refl
+reject_plain RejectReason.InvalidDisplay = refl
+reject_plain RejectReason.InvalidMinimumQuantity = refl
+reject_plain RejectReason.NotAllowedInCross = refl
+reject_plain RejectReason.Other = refl
+reject_plain RejectReason.Halted = refl
+reject_plain RejectReason.RestrictedStock = refl
+reject_plain RejectReason.ShortSale = refl
+reject_plain RejectReason.IntermarketSweep = refl
+reject_plain RejectReason.OddLot = refl
+reject_plain RejectReason.SharesLimit = refl
+reject_plain RejectReason.DollarLimit = refl
 
 letter_plain : (reason : RejectReason) → are_plain (reject_letter reason ∷ []) ≡ true
-letter_plain rejects.Closed = refl
-letter_plain rejects.RejectAll = refl
-letter_plain rejects.FirmNotAuthorized = refl
-letter_plain rejects.InvalidStock = refl
-letter_plain rejects.SharesExceedSafety = refl
-letter_plain rejects.InvalidPrice = refl
-letter_plain rejects.InvalidDisplay = refl
-letter_plain rejects.InvalidMinimumQuantity = refl
-letter_plain rejects.NotAllowedInCross = refl
-letter_plain rejects.Other = refl
-letter_plain rejects.Halted = refl
-letter_plain rejects.RestrictedStock = refl
-letter_plain rejects.ShortSale = refl
-letter_plain rejects.IntermarketSweep = refl
-letter_plain rejects.OddLot = refl
-letter_plain rejects.SharesLimit = refl
-letter_plain rejects.DollarLimit = refl
+letter_plain RejectReason.Closed = refl
+letter_plain RejectReason.RejectAll = refl
+letter_plain RejectReason.FirmNotAuthorized = refl
+letter_plain RejectReason.InvalidStock = refl
+letter_plain RejectReason.SharesExceedSafety = refl
+letter_plain RejectReason.InvalidPrice = refl
+letter_plain RejectReason.InvalidDisplay = refl
+letter_plain RejectReason.InvalidMinimumQuantity = refl
+letter_plain RejectReason.NotAllowedInCross = refl
+letter_plain RejectReason.Other = refl
+letter_plain RejectReason.Halted = refl
+letter_plain RejectReason.RestrictedStock = refl
+letter_plain RejectReason.ShortSale = refl
+letter_plain RejectReason.IntermarketSweep = refl
+letter_plain RejectReason.OddLot = refl
+letter_plain RejectReason.SharesLimit = refl
+letter_plain RejectReason.DollarLimit = refl
 
 number : (n : ℕ) → n < 2 ^ 64 → IsPlain (decimal n)
 number n h = plain (decimal n) (numbered n h)
@@ -102,12 +85,12 @@ time moment h = plain _ (plain (codes ", at ") refl & plain (moment_text Nine mo
 
 event_plain : (message : Outbound) → are_plain (event_word message) ≡ true
 unfolding event_word
-event_plain (outbounds.SystemEvent event) = refl
-event_plain (outbounds.Accepted m) = refl
-event_plain (outbounds.Replaced m) = refl
-event_plain (outbounds.Canceled m) = refl
-event_plain (outbounds.Executed m) = refl
-event_plain (outbounds.Rejected m) = refl
+event_plain (Outbound.SystemEvent event) = refl
+event_plain (Outbound.Accepted m) = refl
+event_plain (Outbound.Replaced m) = refl
+event_plain (Outbound.Canceled m) = refl
+event_plain (Outbound.Executed m) = refl
+event_plain (Outbound.Rejected m) = refl
 
 module _ (seen : ShownIsVisible) where
   side_plain : (side : ℕ) → side < 256 → IsPlain (side_text side)
@@ -124,19 +107,19 @@ module _ (seen : ShownIsVisible) where
 
   told_plain : (message : Outbound) → IsMessageInRange message → are_plain (told_text message) ≡ true
   unfolding told_text
-  told_plain (outbounds.SystemEvent event) r = refl
-  told_plain (outbounds.Accepted m) r =
+  told_plain (Outbound.SystemEvent event) r = refl
+  told_plain (Outbound.Accepted m) r =
       (plain (shown_name m.token.bytes) (named seen m.token.bytes r.0) & plain (codes " accepted: ") refl & terms m.terms m.order_reference r.1 r.2).is
-  told_plain (outbounds.Replaced m) r =
+  told_plain (Outbound.Replaced m) r =
       (plain (shown_name m.token.bytes) (named seen m.token.bytes r.0) & plain (codes " replaces ") refl
       & plain (shown_name m.previous_token.bytes) (named seen m.previous_token.bytes r.3) & plain (codes ": ") refl & terms m.terms m.order_reference r.1 r.2).is
-  told_plain (outbounds.Canceled m) r =
+  told_plain (Outbound.Canceled m) r =
       (plain (shown_name m.token.bytes) (named seen m.token.bytes r.0) & plain (codes " canceled: ") refl & number m.decrement r.1
       & plain (codes ", ") refl & plain (cancel_words m.reason) (cancel_plain m.reason)).is
-  told_plain (outbounds.Executed m) r =
+  told_plain (Outbound.Executed m) r =
       (plain (shown_name m.token.bytes) (named seen m.token.bytes r.token) & plain (codes " executed: ") refl
       & shares m.shares m.price r.shares r.price & match m r).is
-  told_plain (outbounds.Rejected m) r =
+  told_plain (Outbound.Rejected m) r =
       (plain (shown_name m.token.bytes) (named seen m.token.bytes r) & plain (codes " rejected: ") refl
       & plain (reject_letter m.reason ∷ codes ", ") (joined (reject_letter m.reason ∷ []) (codes ", ") (letter_plain m.reason) refl)
       & plain (reject_words m.reason) (reject_plain m.reason)).is
@@ -174,15 +157,15 @@ module _ (printed : JsonIsPrinted) where
 
   told_fields_plain : (message : Outbound) → IsMessageInRange message → are_plain (told_fields message) ≡ true
   unfolding told_fields
-  told_fields_plain (outbounds.SystemEvent event) r = refl
-  told_fields_plain (outbounds.Accepted m) r = (token m.token.bytes r.0 & terms_of m.terms m.order_reference r.1 r.2).is
-  told_fields_plain (outbounds.Replaced m) r =
+  told_fields_plain (Outbound.SystemEvent event) r = refl
+  told_fields_plain (Outbound.Accepted m) r = (token m.token.bytes r.0 & terms_of m.terms m.order_reference r.1 r.2).is
+  told_fields_plain (Outbound.Replaced m) r =
       (token m.token.bytes r.0 & name_field_plain printed (codes "previous") m.previous_token.bytes refl r.3 & terms_of m.terms m.order_reference r.1 r.2).is
-  told_fields_plain (outbounds.Canceled m) r =
+  told_fields_plain (Outbound.Canceled m) r =
       (token m.token.bytes r.0 & decimal_field (codes "shares") m.decrement refl r.1
       & word_field printed (codes "reason") (cancel_words m.reason) refl (cancel_plain m.reason)).is
-  told_fields_plain (outbounds.Executed m) r = (executed m r).is
-  told_fields_plain (outbounds.Rejected m) r =
+  told_fields_plain (Outbound.Executed m) r = (executed m r).is
+  told_fields_plain (Outbound.Rejected m) r =
       (token m.token.bytes r & word_field printed (codes "reason") (reject_letter m.reason ∷ []) refl (letter_plain m.reason)
       & word_field printed (codes "text") (reject_words m.reason) refl (reject_plain m.reason)).is
 

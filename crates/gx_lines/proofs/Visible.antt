@@ -1,7 +1,6 @@
 -- What is shown of a name is visible, since what is shown of any bytes is.
-use Rattle.std.proofs.Common.{◌≡◌, ℕ, Bool, true, false, cond, List, [], ◌∷◌, refl}
+use Rattle.std.proofs.{Common.{◌≡◌, ℕ, Bool, true, false, cond, List, [], ◌∷◌, refl}, lemmas.Bool.{and_parts, and_from}}
 use Rattle.std.specs.Prelude.{nat_lt}
-use Rattle.std.proofs.lemmas.Bool.{and_parts, and_from}
 use Rattle.gx_units.specs.Spelling.{is_blank, without_right_spaces}
 use Rattle.gx_text.specs.Laws.{are_bytes, JsonIsPrinted, ShownIsVisible}
 use Rattle.gx_lines.specs.NameLaws.{IsBytes, NamesAreVisible, JsonNamesArePrinted}

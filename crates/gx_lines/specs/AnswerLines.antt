@@ -1,37 +1,27 @@
 -- The line that an officer is shown of an answer to a command of his.
 use Rattle.std.specs.Prelude.{ℕ, Bool, ◌&&◌, ◌==◌, if◌then◌else◌, List, [], ◌∷◌, ◌++◌, codes, decimal, Option, Some, None, unwrap_or}
 use Rattle.gx_units.specs.Names.{has_no_lower_case}
-use Rattle.gx_desk.specs.declared.Action.{Action}
-use Rattle.gx_desk.specs.declared.Action.TheVariants as actions
-use Rattle.gx_desk.specs.declared.Answer.{Answer}
-use Rattle.gx_desk.specs.declared.AnswerCode.{AnswerCode}
-use Rattle.gx_desk.specs.declared.AnswerCode.TheVariants as answers
-use Rattle.gx_desk.specs.Messages.{kill, lift, set_limit, restrict, unrestrict, grant, revoke, close_day}
-use Rattle.gx_desk.specs.Writing.{answer_code}
+use Rattle.gx_desk.specs.{declared.{Action.Action, Answer.Answer, AnswerCode.AnswerCode}, Messages.{kill, lift, set_limit, restrict, unrestrict, grant, revoke, close_day}, Writing.answer_code}
 use Rattle.gx_script.specs.Printing.{line_end}
-use Rattle.gx_text.specs.declared.form.Form.{Form}
-use Rattle.gx_text.specs.declared.form.Form.TheVariants.{Text, Json}
-use Rattle.gx_text.specs.declared.moments.Decimals.TheVariants.{Nine}
-use Rattle.gx_text.specs.Moments.{moment_text}
-use Rattle.gx_text.specs.Shown.{shown, shown_name}
+use Rattle.gx_text.specs.{declared.{form.Form.{Form, TheVariants.{Text, Json}}, moments.Decimals.TheVariants.Nine}, Moments.moment_text, Shown.{shown, shown_name}}
 use Rattle.gx_lines.specs.Showing.{text_field, name_field, number_field, json_line}
 
 -- what a granted command has done
 unfoldable pub done_text : Action → List ℕ
-done_text (actions.Kill account) = shown_name account.bytes ++ codes " killed"
-done_text (actions.Lift account) = shown_name account.bytes ++ codes " lifted"
-done_text (actions.SetLimit rule limit) = shown_name rule.bytes ++ codes " limit is " ++ decimal limit
-done_text (actions.Restrict rule stock) = shown_name rule.bytes ++ codes " lists " ++ shown_name stock.bytes
-done_text (actions.Unrestrict rule stock) =
+done_text (Action.Kill account) = shown_name account.bytes ++ codes " killed"
+done_text (Action.Lift account) = shown_name account.bytes ++ codes " lifted"
+done_text (Action.SetLimit rule limit) = shown_name rule.bytes ++ codes " limit is " ++ decimal limit
+done_text (Action.Restrict rule stock) = shown_name rule.bytes ++ codes " lists " ++ shown_name stock.bytes
+done_text (Action.Unrestrict rule stock) =
     shown_name rule.bytes ++ codes " lists " ++ shown_name stock.bytes ++ codes " no longer"
-done_text (actions.Grant reader account) = shown_name reader.bytes ++ codes " sees " ++ shown_name account.bytes
-done_text (actions.Revoke reader account) =
+done_text (Action.Grant reader account) = shown_name reader.bytes ++ codes " sees " ++ shown_name account.bytes
+done_text (Action.Revoke reader account) =
     shown_name reader.bytes ++ codes " sees " ++ shown_name account.bytes ++ codes " no longer"
-done_text actions.CloseDay = codes "day closed"
+done_text Action.CloseDay = codes "day closed"
 
 -- what a Lift has done that leaves its account killed: no other command is answered so
 unfoldable pub partly_text : Action → List ℕ
-partly_text (actions.Lift account) = shown_name account.bytes ++ codes " partly lifted"
+partly_text (Action.Lift account) = shown_name account.bytes ++ codes " partly lifted"
 partly_text other = done_text other ++ codes " in part"
 
 -- a hint for who wrote a name of the policy in small letters
@@ -40,36 +30,36 @@ capitals_hint in_capitals = if in_capitals then [] else codes "; names are in ca
 
 -- Q1: what the policy does not have
 unfoldable pub unknown_text : Action → List ℕ
-unknown_text (actions.Kill account) =
+unknown_text (Action.Kill account) =
     codes "the policy has no account " ++ shown_name account.bytes ++ capitals_hint (has_no_lower_case account.bytes)
-unknown_text (actions.Lift account) =
+unknown_text (Action.Lift account) =
     codes "the policy has no account " ++ shown_name account.bytes ++ capitals_hint (has_no_lower_case account.bytes)
-unknown_text (actions.SetLimit rule limit) =
+unknown_text (Action.SetLimit rule limit) =
     codes "the policy has no rule " ++ shown_name rule.bytes ++ codes " with a limit to set" ++ capitals_hint (has_no_lower_case rule.bytes)
-unknown_text (actions.Restrict rule stock) =
+unknown_text (Action.Restrict rule stock) =
     codes "the policy has no rule " ++ shown_name rule.bytes ++ codes " with a list, or no stock " ++ shown_name stock.bytes
     ++ capitals_hint (has_no_lower_case rule.bytes && has_no_lower_case stock.bytes)
-unknown_text (actions.Unrestrict rule stock) =
+unknown_text (Action.Unrestrict rule stock) =
     codes "the policy has no rule " ++ shown_name rule.bytes ++ codes " with a list, or no stock " ++ shown_name stock.bytes
     ++ capitals_hint (has_no_lower_case rule.bytes && has_no_lower_case stock.bytes)
-unknown_text (actions.Grant reader account) =
+unknown_text (Action.Grant reader account) =
     codes "the policy has no reader " ++ shown_name reader.bytes ++ codes ", or no account " ++ shown_name account.bytes
     ++ capitals_hint (has_no_lower_case account.bytes)
-unknown_text (actions.Revoke reader account) =
+unknown_text (Action.Revoke reader account) =
     codes "the policy has no reader " ++ shown_name reader.bytes ++ codes ", or no account " ++ shown_name account.bytes
     ++ capitals_hint (has_no_lower_case account.bytes)
-unknown_text actions.CloseDay = codes "a name is unknown"
+unknown_text Action.CloseDay = codes "a name is unknown"
 
 -- the power, as a policy names it, that a command asks for
 unfoldable pub power_word : Action → List ℕ
-power_word (actions.Kill account) = codes "kill"
-power_word (actions.Lift account) = codes "lift"
-power_word (actions.SetLimit rule limit) = codes "limits"
-power_word (actions.Restrict rule stock) = codes "symbols"
-power_word (actions.Unrestrict rule stock) = codes "symbols"
-power_word (actions.Grant reader account) = codes "people"
-power_word (actions.Revoke reader account) = codes "people"
-power_word actions.CloseDay = codes "close"
+power_word (Action.Kill account) = codes "kill"
+power_word (Action.Lift account) = codes "lift"
+power_word (Action.SetLimit rule limit) = codes "limits"
+power_word (Action.Restrict rule stock) = codes "symbols"
+power_word (Action.Unrestrict rule stock) = codes "symbols"
+power_word (Action.Grant reader account) = codes "people"
+power_word (Action.Revoke reader account) = codes "people"
+power_word Action.CloseDay = codes "close"
 
 -- Q2: the power that is missing
 unfoldable pub powerless_text : Action → List ℕ
@@ -77,30 +67,30 @@ powerless_text action = codes "you have not the power `" ++ power_word action ++
 
 -- Q3: the account that is not the officer's
 unfoldable pub foreign_text : Action → List ℕ
-foreign_text (actions.Kill account) = shown_name account.bytes ++ codes " is not an account of yours"
-foreign_text (actions.Lift account) = shown_name account.bytes ++ codes " is not an account of yours"
-foreign_text (actions.SetLimit rule limit) = shown_name rule.bytes ++ codes " is for an account that is not yours"
-foreign_text (actions.Restrict rule stock) = shown_name rule.bytes ++ codes " is for an account that is not yours"
-foreign_text (actions.Unrestrict rule stock) = shown_name rule.bytes ++ codes " is for an account that is not yours"
-foreign_text (actions.Grant reader account) = shown_name account.bytes ++ codes " is not an account of yours"
-foreign_text (actions.Revoke reader account) = shown_name account.bytes ++ codes " is not an account of yours"
-foreign_text actions.CloseDay = codes "an account is not yours"
+foreign_text (Action.Kill account) = shown_name account.bytes ++ codes " is not an account of yours"
+foreign_text (Action.Lift account) = shown_name account.bytes ++ codes " is not an account of yours"
+foreign_text (Action.SetLimit rule limit) = shown_name rule.bytes ++ codes " is for an account that is not yours"
+foreign_text (Action.Restrict rule stock) = shown_name rule.bytes ++ codes " is for an account that is not yours"
+foreign_text (Action.Unrestrict rule stock) = shown_name rule.bytes ++ codes " is for an account that is not yours"
+foreign_text (Action.Grant reader account) = shown_name account.bytes ++ codes " is not an account of yours"
+foreign_text (Action.Revoke reader account) = shown_name account.bytes ++ codes " is not an account of yours"
+foreign_text Action.CloseDay = codes "an account is not yours"
 
 -- Q4: what is so already
 unfoldable pub unchanged_text : Action → List ℕ
-unchanged_text (actions.Kill account) = shown_name account.bytes ++ codes " is killed already"
-unchanged_text (actions.Lift account) =
+unchanged_text (Action.Kill account) = shown_name account.bytes ++ codes " is killed already"
+unchanged_text (Action.Lift account) =
     shown_name account.bytes ++ codes " is not killed, or you have lifted it already"
-unchanged_text (actions.SetLimit rule limit) = shown_name rule.bytes ++ codes " limit is " ++ decimal limit ++ codes " already"
-unchanged_text (actions.Restrict rule stock) =
+unchanged_text (Action.SetLimit rule limit) = shown_name rule.bytes ++ codes " limit is " ++ decimal limit ++ codes " already"
+unchanged_text (Action.Restrict rule stock) =
     shown_name rule.bytes ++ codes " lists " ++ shown_name stock.bytes ++ codes " already"
-unchanged_text (actions.Unrestrict rule stock) =
+unchanged_text (Action.Unrestrict rule stock) =
     shown_name rule.bytes ++ codes " does not list " ++ shown_name stock.bytes
-unchanged_text (actions.Grant reader account) =
+unchanged_text (Action.Grant reader account) =
     shown_name reader.bytes ++ codes " sees " ++ shown_name account.bytes ++ codes " already"
-unchanged_text (actions.Revoke reader account) =
+unchanged_text (Action.Revoke reader account) =
     shown_name reader.bytes ++ codes " does not see " ++ shown_name account.bytes
-unchanged_text actions.CloseDay = codes "the day is closed already"
+unchanged_text Action.CloseDay = codes "the day is closed already"
 
 -- where a granted command stands in the day's history
 abbrev pub record_text : ℕ → ℕ → List ℕ
@@ -108,12 +98,12 @@ record_text moment number = codes ": record " ++ decimal number ++ codes " at " 
 
 -- why a command was denied
 abbrev pub reason_text : Action → AnswerCode → List ℕ
-reason_text action answers.Done = []
-reason_text action answers.PartlyLifted = []
-reason_text action answers.UnknownName = unknown_text action
-reason_text action answers.NoPower = powerless_text action
-reason_text action answers.NotHisAccount = foreign_text action
-reason_text action answers.NoChange = unchanged_text action
+reason_text action AnswerCode.Done = []
+reason_text action AnswerCode.PartlyLifted = []
+reason_text action AnswerCode.UnknownName = unknown_text action
+reason_text action AnswerCode.NoPower = powerless_text action
+reason_text action AnswerCode.NotHisAccount = foreign_text action
+reason_text action AnswerCode.NoChange = unchanged_text action
 
 -- that a command was denied, and why
 unfoldable pub denied_text : Action → AnswerCode → List ℕ
@@ -121,24 +111,24 @@ denied_text action code = codes "gate: denied " ++ answer_code code ++ codes ": 
 
 -- what an answer of this moment says, with the number of the command's record
 unfoldable pub answered_text : ℕ → Action → ℕ → AnswerCode → List ℕ
-answered_text moment action number answers.Done = done_text action ++ record_text moment number
-answered_text moment action number answers.PartlyLifted =
+answered_text moment action number AnswerCode.Done = done_text action ++ record_text moment number
+answered_text moment action number AnswerCode.PartlyLifted =
     partly_text action ++ record_text moment number ++ codes "; another officer has to lift it too"
-answered_text moment action number answers.UnknownName = denied_text action answers.UnknownName
-answered_text moment action number answers.NoPower = denied_text action answers.NoPower
-answered_text moment action number answers.NotHisAccount = denied_text action answers.NotHisAccount
-answered_text moment action number answers.NoChange = denied_text action answers.NoChange
+answered_text moment action number AnswerCode.UnknownName = denied_text action AnswerCode.UnknownName
+answered_text moment action number AnswerCode.NoPower = denied_text action AnswerCode.NoPower
+answered_text moment action number AnswerCode.NotHisAccount = denied_text action AnswerCode.NotHisAccount
+answered_text moment action number AnswerCode.NoChange = denied_text action AnswerCode.NoChange
 
 -- the word of a command
 abbrev pub command_word : Action → List ℕ
-command_word (actions.Kill account) = codes "kill"
-command_word (actions.Lift account) = codes "lift"
-command_word (actions.SetLimit rule limit) = codes "limit"
-command_word (actions.Restrict rule stock) = codes "restrict"
-command_word (actions.Unrestrict rule stock) = codes "unrestrict"
-command_word (actions.Grant reader account) = codes "grant"
-command_word (actions.Revoke reader account) = codes "revoke"
-command_word actions.CloseDay = codes "close"
+command_word (Action.Kill account) = codes "kill"
+command_word (Action.Lift account) = codes "lift"
+command_word (Action.SetLimit rule limit) = codes "limit"
+command_word (Action.Restrict rule stock) = codes "restrict"
+command_word (Action.Unrestrict rule stock) = codes "unrestrict"
+command_word (Action.Grant reader account) = codes "grant"
+command_word (Action.Revoke reader account) = codes "revoke"
+command_word Action.CloseDay = codes "close"
 
 -- the names of a command, each a field of a JSON line
 abbrev pub account_field : List ℕ → List ℕ
@@ -155,14 +145,14 @@ reader_field reader = name_field (codes "reader") reader
 
 -- what a command names
 unfoldable pub named_fields : Action → List ℕ
-named_fields (actions.Kill account) = account_field account.bytes
-named_fields (actions.Lift account) = account_field account.bytes
-named_fields (actions.SetLimit rule limit) = rule_field rule.bytes ++ number_field (codes "limit") (decimal limit)
-named_fields (actions.Restrict rule stock) = rule_field rule.bytes ++ stock_field stock.bytes
-named_fields (actions.Unrestrict rule stock) = rule_field rule.bytes ++ stock_field stock.bytes
-named_fields (actions.Grant reader account) = reader_field reader.bytes ++ account_field account.bytes
-named_fields (actions.Revoke reader account) = reader_field reader.bytes ++ account_field account.bytes
-named_fields actions.CloseDay = []
+named_fields (Action.Kill account) = account_field account.bytes
+named_fields (Action.Lift account) = account_field account.bytes
+named_fields (Action.SetLimit rule limit) = rule_field rule.bytes ++ number_field (codes "limit") (decimal limit)
+named_fields (Action.Restrict rule stock) = rule_field rule.bytes ++ stock_field stock.bytes
+named_fields (Action.Unrestrict rule stock) = rule_field rule.bytes ++ stock_field stock.bytes
+named_fields (Action.Grant reader account) = reader_field reader.bytes ++ account_field account.bytes
+named_fields (Action.Revoke reader account) = reader_field reader.bytes ++ account_field account.bytes
+named_fields Action.CloseDay = []
 
 -- what an answer says, behind its event
 unfoldable pub answer_fields : Action → Answer → List ℕ

@@ -1,20 +1,10 @@
 -- Whatever names and numbers a line shows, it is one line.
-use Rattle.std.specs.Prelude.{ℕ, ◌≡◌, ◌<◌, ◌^◌, List, ◌++◌, IsTrue}
-use Rattle.std.specs.List.{list_all}
-use Rattle.gx_desk.specs.declared.Action.{Action}
-use Rattle.gx_desk.specs.declared.Action.TheVariants as actions
-use Rattle.gx_desk.specs.declared.Answer.{Answer}
-use Rattle.gx_desk.specs.declared.DropCopy.{DropCopy}
-use Rattle.gx_ouch.specs.declared.outbound.OrderTerms.{OrderTerms}
-use Rattle.gx_ouch.specs.declared.outbound.Executed.{Executed}
-use Rattle.gx_ouch.specs.declared.outbound.Outbound.{Outbound}
-use Rattle.gx_ouch.specs.declared.outbound.Outbound.TheVariants as outbounds
-use Rattle.gx_text.specs.declared.form.Form.{Form}
-use Rattle.gx_text.specs.Shown.{is_printed}
+use Rattle.std.specs.{Prelude.{ℕ, ◌≡◌, ◌<◌, ◌^◌, List, ◌++◌, IsTrue}, List.list_all}
+use Rattle.gx_desk.specs.declared.{Action.Action, Answer.Answer, DropCopy.DropCopy}
+use Rattle.gx_ouch.specs.declared.outbound.{OrderTerms.OrderTerms, Executed.Executed, Outbound.Outbound}
+use Rattle.gx_text.specs.{declared.form.Form.Form, Shown.is_printed}
 use Rattle.gx_script.specs.Printing.{line_end}
-use Rattle.gx_lines.specs.NameLaws.{IsBytes}
-use Rattle.gx_lines.specs.AnswerLines.{answer_line, earlier_answer_line}
-use Rattle.gx_lines.specs.OrderLines.{order_line, copy_line}
+use Rattle.gx_lines.specs.{NameLaws.IsBytes, AnswerLines.{answer_line, earlier_answer_line}, OrderLines.{order_line, copy_line}}
 
 -- spaces and visible characters, and an LF behind them
 pub record IsOneLine (line : List ℕ) : Type 0 where
@@ -24,14 +14,14 @@ pub record IsOneLine (line : List ℕ) : Type 0 where
 
 -- The values of a message are those that its fields hold: bytes, and numbers of at most 64 bits.
 abbrev pub IsActionInRange : Action → Type 0
-IsActionInRange (actions.Kill account) = IsBytes account.bytes
-IsActionInRange (actions.Lift account) = IsBytes account.bytes
-IsActionInRange (actions.SetLimit rule limit) = IsBytes rule.bytes × (limit < 2 ^ 64)
-IsActionInRange (actions.Restrict rule stock) = IsBytes rule.bytes × IsBytes stock.bytes
-IsActionInRange (actions.Unrestrict rule stock) = IsBytes rule.bytes × IsBytes stock.bytes
-IsActionInRange (actions.Grant reader account) = IsBytes reader.bytes × IsBytes account.bytes
-IsActionInRange (actions.Revoke reader account) = IsBytes reader.bytes × IsBytes account.bytes
-IsActionInRange actions.CloseDay = Unit {0}
+IsActionInRange (Action.Kill account) = IsBytes account.bytes
+IsActionInRange (Action.Lift account) = IsBytes account.bytes
+IsActionInRange (Action.SetLimit rule limit) = IsBytes rule.bytes × (limit < 2 ^ 64)
+IsActionInRange (Action.Restrict rule stock) = IsBytes rule.bytes × IsBytes stock.bytes
+IsActionInRange (Action.Unrestrict rule stock) = IsBytes rule.bytes × IsBytes stock.bytes
+IsActionInRange (Action.Grant reader account) = IsBytes reader.bytes × IsBytes account.bytes
+IsActionInRange (Action.Revoke reader account) = IsBytes reader.bytes × IsBytes account.bytes
+IsActionInRange Action.CloseDay = Unit {0}
 
 pub record IsAnswerInRange (answer : Answer) : Type 0 where
   pub tag : IsBytes answer.tag.bytes
@@ -52,13 +42,13 @@ pub record IsExecutedInRange (m : Executed) : Type 0 where
   pub match_number : m.match_number < 2 ^ 64
 
 abbrev pub IsMessageInRange : Outbound → Type 0
-IsMessageInRange (outbounds.SystemEvent event) = Unit {0}
-IsMessageInRange (outbounds.Accepted m) = IsBytes m.token.bytes × AreTermsInRange m.terms × (m.order_reference < 2 ^ 64)
-IsMessageInRange (outbounds.Replaced m) =
+IsMessageInRange (Outbound.SystemEvent event) = Unit {0}
+IsMessageInRange (Outbound.Accepted m) = IsBytes m.token.bytes × AreTermsInRange m.terms × (m.order_reference < 2 ^ 64)
+IsMessageInRange (Outbound.Replaced m) =
     IsBytes m.token.bytes × AreTermsInRange m.terms × (m.order_reference < 2 ^ 64) × IsBytes m.previous_token.bytes
-IsMessageInRange (outbounds.Canceled m) = IsBytes m.token.bytes × (m.decrement < 2 ^ 64)
-IsMessageInRange (outbounds.Executed m) = IsExecutedInRange m
-IsMessageInRange (outbounds.Rejected m) = IsBytes m.token.bytes
+IsMessageInRange (Outbound.Canceled m) = IsBytes m.token.bytes × (m.decrement < 2 ^ 64)
+IsMessageInRange (Outbound.Executed m) = IsExecutedInRange m
+IsMessageInRange (Outbound.Rejected m) = IsBytes m.token.bytes
 
 pub record IsCopyInRange (copy : DropCopy) : Type 0 where
   pub executed : IsExecutedInRange copy.executed

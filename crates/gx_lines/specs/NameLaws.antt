@@ -1,8 +1,6 @@
 -- What is so of every name that is shown.
-use Rattle.std.specs.Prelude.{ℕ, List, IsTrue}
-use Rattle.std.specs.List.{list_all}
-use Rattle.gx_text.specs.Laws.{are_bytes}
-use Rattle.gx_text.specs.Shown.{is_printed, is_visible, shown_name, json_name}
+use Rattle.std.specs.{Prelude.{ℕ, List, IsTrue}, List.list_all}
+use Rattle.gx_text.specs.{Laws.are_bytes, Shown.{is_printed, is_visible, shown_name, json_name}}
 
 -- bytes, as a field has them
 abbrev pub IsBytes : List ℕ → Type 0

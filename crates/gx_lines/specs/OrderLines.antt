@@ -1,24 +1,10 @@
 -- The line that a trader is shown of what became of his orders, and a reader of a fill.
 use Rattle.std.specs.Prelude.{ℕ, ◌==◌, if◌then◌else◌, List, [], ◌∷◌, ◌++◌, codes, decimal, Option, Some, None, unwrap_or}
 use Rattle.gx_desk.specs.declared.DropCopy.{DropCopy}
-use Rattle.gx_ouch.specs.declared.letters.Liquidity.{Liquidity}
-use Rattle.gx_ouch.specs.declared.letters.Liquidity.TheVariants as liquidities
-use Rattle.gx_ouch.specs.declared.letters.CancelReason.{CancelReason}
-use Rattle.gx_ouch.specs.declared.letters.CancelReason.TheVariants as cancels
-use Rattle.gx_ouch.specs.declared.letters.RejectReason.{RejectReason}
-use Rattle.gx_ouch.specs.declared.letters.RejectReason.TheVariants as rejects
-use Rattle.gx_ouch.specs.declared.outbound.OrderTerms.{OrderTerms}
-use Rattle.gx_ouch.specs.declared.outbound.Executed.{Executed}
-use Rattle.gx_ouch.specs.declared.outbound.Outbound.{Outbound}
-use Rattle.gx_ouch.specs.declared.outbound.Outbound.TheVariants as outbounds
-use Rattle.gx_ouch.specs.Letters.{reject_letter}
+use Rattle.gx_ouch.specs.{declared.{letters.{Liquidity.Liquidity, CancelReason.CancelReason, RejectReason.RejectReason}, outbound.{OrderTerms.OrderTerms, Executed.Executed, Outbound.Outbound}}, Letters.reject_letter}
 use Rattle.gx_history.specs.OuchValues.{side_buy, side_sell, side_sell_short, side_sell_short_exempt}
 use Rattle.gx_script.specs.Printing.{line_end}
-use Rattle.gx_text.specs.declared.form.Form.{Form}
-use Rattle.gx_text.specs.declared.form.Form.TheVariants.{Text, Json}
-use Rattle.gx_text.specs.declared.moments.Decimals.TheVariants.{Nine}
-use Rattle.gx_text.specs.Moments.{moment_text}
-use Rattle.gx_text.specs.Shown.{shown, shown_name}
+use Rattle.gx_text.specs.{declared.{form.Form.{Form, TheVariants.{Text, Json}}, moments.Decimals.TheVariants.Nine}, Moments.moment_text, Shown.{shown, shown_name}}
 use Rattle.gx_lines.specs.Showing.{price_text, text_field, name_field, number_field, json_line}
 
 -- the side of an order by its Buy/Sell Indicator, where there is such a side
@@ -40,34 +26,34 @@ side_field side = text_field (codes "side") (unwrap_or (side_words side) (codes 
 
 -- whether an execution added liquidity to the book or removed it
 unfoldable pub liquidity_word : Liquidity → List ℕ
-liquidity_word liquidities.Added = codes "added"
-liquidity_word liquidities.Removed = codes "removed"
+liquidity_word Liquidity.Added = codes "added"
+liquidity_word Liquidity.Removed = codes "removed"
 
 -- why shares were canceled
 unfoldable pub cancel_words : CancelReason → List ℕ
-cancel_words cancels.UserRequested = codes "requested"
-cancel_words cancels.ImmediateOrCancel = codes "immediate or cancel"
-cancel_words cancels.Supervisory = codes "supervisory"
+cancel_words CancelReason.UserRequested = codes "requested"
+cancel_words CancelReason.ImmediateOrCancel = codes "immediate or cancel"
+cancel_words CancelReason.Supervisory = codes "supervisory"
 
 -- why an order was rejected, behind the letter of the reason
 unfoldable pub reject_words : RejectReason → List ℕ
-reject_words rejects.Closed = codes "the day is closed"
-reject_words rejects.RejectAll = codes "all orders of the account are rejected"
-reject_words rejects.FirmNotAuthorized = codes "the firm is not the account's"
-reject_words rejects.InvalidStock = codes "the stock is not listed"
-reject_words rejects.SharesExceedSafety = codes "no shares, or more than is safe"
-reject_words rejects.InvalidPrice = codes "no order may have this price, or it is off its collar"
-reject_words rejects.InvalidDisplay = codes "there is no such display"
-reject_words rejects.InvalidMinimumQuantity = codes "a minimum quantity is not taken"
-reject_words rejects.NotAllowedInCross = codes "crosses are not taken"
-reject_words rejects.Other = codes "another reason"
-reject_words rejects.Halted = codes "the stock is halted"
-reject_words rejects.RestrictedStock = codes "the stock is restricted"
-reject_words rejects.ShortSale = codes "short sales are not taken"
-reject_words rejects.IntermarketSweep = codes "intermarket sweeps are not taken"
-reject_words rejects.OddLot = codes "odd lots are not taken"
-reject_words rejects.SharesLimit = codes "more shares than the limit"
-reject_words rejects.DollarLimit = codes "more dollars than the limit"
+reject_words RejectReason.Closed = codes "the day is closed"
+reject_words RejectReason.RejectAll = codes "all orders of the account are rejected"
+reject_words RejectReason.FirmNotAuthorized = codes "the firm is not the account's"
+reject_words RejectReason.InvalidStock = codes "the stock is not listed"
+reject_words RejectReason.SharesExceedSafety = codes "no shares, or more than is safe"
+reject_words RejectReason.InvalidPrice = codes "no order may have this price, or it is off its collar"
+reject_words RejectReason.InvalidDisplay = codes "there is no such display"
+reject_words RejectReason.InvalidMinimumQuantity = codes "a minimum quantity is not taken"
+reject_words RejectReason.NotAllowedInCross = codes "crosses are not taken"
+reject_words RejectReason.Other = codes "another reason"
+reject_words RejectReason.Halted = codes "the stock is halted"
+reject_words RejectReason.RestrictedStock = codes "the stock is restricted"
+reject_words RejectReason.ShortSale = codes "short sales are not taken"
+reject_words RejectReason.IntermarketSweep = codes "intermarket sweeps are not taken"
+reject_words RejectReason.OddLot = codes "odd lots are not taken"
+reject_words RejectReason.SharesLimit = codes "more shares than the limit"
+reject_words RejectReason.DollarLimit = codes "more dollars than the limit"
 
 -- so many shares at a price
 unfoldable pub shares_text : ℕ → ℕ → List ℕ
@@ -85,15 +71,15 @@ match_text m = codes ", match " ++ decimal m.match_number ++ codes ", " ++ liqui
 
 -- what a trader is told
 unfoldable pub told_text : Outbound → List ℕ
-told_text (outbounds.SystemEvent event) = codes "the day ends"
-told_text (outbounds.Accepted m) = shown_name m.token.bytes ++ codes " accepted: " ++ terms_text m.terms m.order_reference
-told_text (outbounds.Replaced m) =
+told_text (Outbound.SystemEvent event) = codes "the day ends"
+told_text (Outbound.Accepted m) = shown_name m.token.bytes ++ codes " accepted: " ++ terms_text m.terms m.order_reference
+told_text (Outbound.Replaced m) =
     shown_name m.token.bytes ++ codes " replaces " ++ shown_name m.previous_token.bytes ++ codes ": " ++ terms_text m.terms m.order_reference
-told_text (outbounds.Canceled m) =
+told_text (Outbound.Canceled m) =
     shown_name m.token.bytes ++ codes " canceled: " ++ decimal m.decrement ++ codes ", " ++ cancel_words m.reason
-told_text (outbounds.Executed m) =
+told_text (Outbound.Executed m) =
     shown_name m.token.bytes ++ codes " executed: " ++ shares_text m.shares m.price ++ match_text m
-told_text (outbounds.Rejected m) =
+told_text (Outbound.Rejected m) =
     shown_name m.token.bytes ++ codes " rejected: " ++ reject_letter m.reason ∷ codes ", " ++ reject_words m.reason
 
 -- when it was
@@ -119,23 +105,23 @@ executed_fields m =
 
 -- the event of a message
 unfoldable pub event_word : Outbound → List ℕ
-event_word (outbounds.SystemEvent event) = codes "day_ends"
-event_word (outbounds.Accepted m) = codes "accepted"
-event_word (outbounds.Replaced m) = codes "replaced"
-event_word (outbounds.Canceled m) = codes "canceled"
-event_word (outbounds.Executed m) = codes "executed"
-event_word (outbounds.Rejected m) = codes "rejected"
+event_word (Outbound.SystemEvent event) = codes "day_ends"
+event_word (Outbound.Accepted m) = codes "accepted"
+event_word (Outbound.Replaced m) = codes "replaced"
+event_word (Outbound.Canceled m) = codes "canceled"
+event_word (Outbound.Executed m) = codes "executed"
+event_word (Outbound.Rejected m) = codes "rejected"
 
 -- what a trader is told, behind the event
 unfoldable pub told_fields : Outbound → List ℕ
-told_fields (outbounds.SystemEvent event) = []
-told_fields (outbounds.Accepted m) = token_field m.token.bytes ++ terms_fields m.terms m.order_reference
-told_fields (outbounds.Replaced m) =
+told_fields (Outbound.SystemEvent event) = []
+told_fields (Outbound.Accepted m) = token_field m.token.bytes ++ terms_fields m.terms m.order_reference
+told_fields (Outbound.Replaced m) =
     token_field m.token.bytes ++ name_field (codes "previous") m.previous_token.bytes ++ terms_fields m.terms m.order_reference
-told_fields (outbounds.Canceled m) =
+told_fields (Outbound.Canceled m) =
     token_field m.token.bytes ++ number_field (codes "shares") (decimal m.decrement) ++ text_field (codes "reason") (cancel_words m.reason)
-told_fields (outbounds.Executed m) = executed_fields m
-told_fields (outbounds.Rejected m) =
+told_fields (Outbound.Executed m) = executed_fields m
+told_fields (Outbound.Rejected m) =
     token_field m.token.bytes ++ text_field (codes "reason") (reject_letter m.reason ∷ []) ++ text_field (codes "text") (reject_words m.reason)
 
 -- the line of a message to a trader of this moment

@@ -2,9 +2,8 @@
 
 ghost use Rattle.std.specs.Prelude.{◌≡◌, ◌++◌, ◌&&◌, IfOk, OnOk, codes, decimal};
 ghost use Rattle.gx_units.specs.Names.{has_no_lower_case};
-ghost use Rattle.gx_text.specs.Shown.{shown_name};
+ghost use Rattle.gx_text.specs.{Shown.shown_name, declared.form.Form.TheVariants.{Text, Json}};
 ghost use Rattle.gx_lines.specs.AnswerLines.{done_text, partly_text, capitals_hint, unknown_text, power_word, powerless_text, foreign_text, unchanged_text, record_text, reason_text, denied_text, answered_text, command_word, named_fields, answer_fields, answer_line};
-ghost use Rattle.gx_text.specs.declared.form.Form.TheVariants.{Text, Json};
 
 use crate::json::{append_front, append_name_field, append_number_field, append_text_field};
 use crate::showing::LINE_ROOM;

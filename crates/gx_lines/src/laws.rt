@@ -1,7 +1,6 @@
 //! What is so of every line.
 
-ghost use Rattle.gx_lines.specs.NameLaws.{NamesAreVisible, JsonNamesArePrinted};
-ghost use Rattle.gx_lines.specs.LineLaws.{AnswersAreOneLine, EarlierAnswersAreOneLine, OrdersAreOneLine, CopiesAreOneLine};
+ghost use Rattle.gx_lines.specs.{NameLaws.{NamesAreVisible, JsonNamesArePrinted}, LineLaws.{AnswersAreOneLine, EarlierAnswersAreOneLine, OrdersAreOneLine, CopiesAreOneLine}};
 
 use gx_text::shown_bytes_are_visible;
 

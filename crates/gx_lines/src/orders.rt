@@ -1,11 +1,10 @@
 //! What traders and readers are told, as lines.
 
 ghost use Rattle.std.specs.Prelude.{◌≡◌, ◌++◌, IfOk, OnOk, decimal, option_map};
-ghost use Rattle.gx_text.specs.Shown.{shown_name};
+ghost use Rattle.gx_text.specs.{Shown.shown_name, declared.form.Form.TheVariants.{Text, Json}};
 ghost use Rattle.gx_script.specs.Printing.{line_end};
 ghost use Rattle.gx_ouch.specs.declared.outbound.Outbound.TheVariants as messages;
 ghost use Rattle.gx_lines.specs.OrderLines.{side_words, side_text, side_field, liquidity_word, cancel_words, reject_words, shares_text, terms_text, match_text, told_text, time_text, terms_fields, executed_fields, event_word, told_fields, order_line, copy_text, copy_fields, copy_line};
-ghost use Rattle.gx_text.specs.declared.form.Form.TheVariants.{Text, Json};
 
 use crate::json::{
     append_front, append_name_field, append_number_field, append_price_field, append_text_field,

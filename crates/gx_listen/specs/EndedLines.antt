@@ -1,21 +1,15 @@
 -- The line of the log that tells what a command ended.
 use Rattle.std.specs.Prelude.{ℕ, List, ◌++◌, codes, decimal}
-use Rattle.gx_text.specs.declared.form.Form.{Form}
-use Rattle.gx_text.specs.declared.form.Form.TheVariants.{Text, Json}
-use Rattle.gx_text.specs.declared.moments.Decimals.TheVariants.{Nine, Six}
-use Rattle.gx_text.specs.Moments.{moment_text}
-use Rattle.gx_text.specs.Shown.{shown_name}
+use Rattle.gx_text.specs.{declared.{form.Form.{Form, TheVariants.{Text, Json}}, moments.Decimals.TheVariants.{Nine, Six}}, Moments.moment_text, Shown.shown_name}
 use Rattle.gx_units.specs.declared.names.UserName.{UserName}
 use Rattle.gx_door.specs.declared.ended.Ended.{Ended}
 use Rattle.gx_events.specs.Fields.{event_field, key, name_field, number_field}
-use Rattle.gx_serve.specs.declared.announcing.EndedBy.{EndedBy}
-use Rattle.gx_serve.specs.declared.announcing.EndedBy.TheVariants as by
-use Rattle.gx_serve.specs.declared.announcing.EndedOrders.{EndedOrders}
+use Rattle.gx_serve.specs.declared.announcing.{EndedBy.EndedBy, EndedOrders.EndedOrders}
 
 -- the command, in words
 abbrev pub command_text : EndedBy → List ℕ
-command_text (by.Kill account) = codes "Kill of " ++ shown_name account.bytes
-command_text by.CloseDay = codes "Close Day"
+command_text (EndedBy.Kill account) = codes "Kill of " ++ shown_name account.bytes
+command_text EndedBy.CloseDay = codes "Close Day"
 
 -- the value of the key `command`
 abbrev pub command_field : List ℕ → List ℕ
@@ -23,8 +17,8 @@ command_field word = key (codes "command") ++ codes "\"" ++ word ++ codes "\""
 
 -- the command as fields of a JSON object
 unfoldable pub command_fields : EndedBy → List ℕ
-command_fields (by.Kill account) = command_field (codes "kill") ++ name_field (codes "account") account.bytes
-command_fields by.CloseDay = command_field (codes "close")
+command_fields (EndedBy.Kill account) = command_field (codes "kill") ++ name_field (codes "account") account.bytes
+command_fields EndedBy.CloseDay = command_field (codes "close")
 
 -- who gave which command by which record, and how many orders and shares it ended
 abbrev pub ended_text : EndedOrders → List ℕ

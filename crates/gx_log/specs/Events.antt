@@ -1,10 +1,6 @@
 -- The line of an event.
 use Rattle.std.specs.Prelude.{ℕ, List, ◌++◌, codes, Option, Some, None}
-use Rattle.gx_text.specs.declared.form.Form.{Form}
-use Rattle.gx_text.specs.declared.form.Form.TheVariants.{Text, Json}
-use Rattle.gx_text.specs.declared.moments.Decimals.TheVariants.{Nine, Six}
-use Rattle.gx_text.specs.Moments.{moment_text}
-use Rattle.gx_text.specs.Shown.{json_string}
+use Rattle.gx_text.specs.{declared.{form.Form.{Form, TheVariants.{Text, Json}}, moments.Decimals.TheVariants.{Nine, Six}}, Moments.moment_text, Shown.json_string}
 
 -- where no log is asked for, the words alone; in a text the moment and the words; in JSON an object of the moment, the kind and the words
 unfoldable pub event_line : Option Form → ℕ → List ℕ → List ℕ → List ℕ

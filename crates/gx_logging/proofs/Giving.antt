@@ -1,14 +1,11 @@
 -- What is known once the lines of more records were given.
-use Rattle.std.proofs.Common.{◌≡◌, ℕ, ◌+◌, ◌-◌, ◌≤◌, List, ◌++◌, ◌<◌, length, take, drop, min, sym, ap, ◌∙◌, arith, take-add}
-use Rattle.std.proofs.lemmas.List.{length-take, length-drop, drop-take}
-use Rattle.gx_policy.specs.Lists.{slice}
+use Rattle.std.proofs.{Common.{◌≡◌, ℕ, ◌+◌, ◌-◌, ◌≤◌, List, ◌++◌, ◌<◌, length, take, drop, min, sym, ap, ◌∙◌, arith, take-add}, lemmas.List.{length-take, length-drop, drop-take}}
+use Rattle.gx_policy.specs.{Lists.slice, declared.policy.PolicyData.PolicyData}
 use Rattle.gx_journal.proofs.Rolling as rolling
-use Rattle.gx_policy.specs.declared.policy.PolicyData.{PolicyData}
 use Rattle.gx_history.specs.declared.record.RecordData.{RecordData}
 use Rattle.gx_pass.specs.declared.view.Holds.{Holds}
 use Rattle.gx_text.specs.declared.form.Form.{Form}
-use Rattle.gx_events.specs.Known.{known_of, Known}
-use Rattle.gx_events.specs.Lines.{closing_line}
+use Rattle.gx_events.specs.{Known.{known_of, Known}, Lines.closing_line}
 use Rattle.gx_logging.specs.Logging.{IsLogging}
 
 -- the next records are there

@@ -5,8 +5,7 @@ ghost use mathlib.Core.List.{IsPrefix};
 ghost use Rattle.gx_policy.specs.Lists.{slice};
 ghost use Rattle.gx_pass.specs.Views.{retold};
 ghost use Rattle.gx_door.specs.Acts.{IsLater};
-ghost use Rattle.gx_events.specs.Known.{known_of};
-ghost use Rattle.gx_events.specs.Lines.{closing_line, lines_behind};
+ghost use Rattle.gx_events.specs.{Known.known_of, Lines.{closing_line, lines_behind}};
 
 use gx_door::Door;
 use gx_events::EventLog;

@@ -1,20 +1,11 @@
 -- The book after the records, one side of one stock at a time.
 use Rattle.std.proofs.Common.{◌≡◌, ℕ, Bool, true, false, not, List, [], ◌∷◌, refl, ◌∙◌, ap, sym, map, cond}
-use Rattle.std.specs.Prelude.{Some, ◌&&◌, is_some}
-use Rattle.std.specs.Option.{option_map_or}
-use Rattle.std.specs.Cmp.Lexicographic.{nat_list_eq_equiv}
-use Rattle.std.specs.List.{find}
-use Rattle.gx_units.specs.Names.{same_stock}
-use Rattle.gx_units.specs.declared.names.Symbol.{Symbol}
-use Rattle.gx_policy.specs.declared.policy.PolicyData.{PolicyData}
-use Rattle.gx_policy.specs.declared.policy.Stock.{Stock}
-use Rattle.gx_policy.specs.People.{stock_named}
-use Rattle.gx_history.specs.declared.record.RecordData.{RecordData}
-use Rattle.gx_history.specs.Book.{is_buy, is_on}
-use Rattle.gx_history.specs.Live.{side}
+use Rattle.std.specs.{Prelude.{Some, ◌&&◌, is_some}, Option.option_map_or, Cmp.Lexicographic.nat_list_eq_equiv, List.find}
+use Rattle.gx_units.specs.{Names.same_stock, declared.names.Symbol.Symbol}
+use Rattle.gx_policy.specs.{declared.policy.{PolicyData.PolicyData, Stock.Stock}, People.stock_named}
+use Rattle.gx_history.specs.{declared.record.RecordData.RecordData, Book.{is_buy, is_on}, Live.side}
 use Rattle.gx_history_laws.proofs.Names.{stock_is}
-use Rattle.gx_book.specs.declared.resting.Resting.{Resting}
-use Rattle.gx_book.specs.Books.{StockOrders, empty_book, on_each_side, on_side, resting_in, side_of, with_side}
+use Rattle.gx_book.specs.{declared.resting.Resting.Resting, Books.{StockOrders, empty_book, on_each_side, on_side, resting_in, side_of, with_side}}
 use Rattle.gx_market.specs.BookInForce.{book_in_force, rested_in, stock_in_force}
 
 abbrev made : Symbol → List Resting → List Resting → StockOrders

@@ -1,29 +1,13 @@
 -- What each record makes of the book, from the one law of the sides.
-use Rattle.std.proofs.Common.{◌≡◌, ℕ, ◌+◌, ◌-◌, ◌<◌, ◌≤◌, Bool, true, false, List, [], ◌∷◌, ◌++◌, refl, ◌∙◌, ap, sym, cond, arith}
-use Rattle.std.specs.Prelude.{Option, Some, None, ◌==◌, ◌||◌, nat_lt, is_some, option_map}
-use Rattle.std.specs.Option.{option_map_or}
-use Rattle.std.specs.List.{filter_map}
-use Rattle.std.proofs.lemmas.Bool.{eq-eqb, eqb-true, le-ltb, lt-ltb, ltb-false, ltb-true, ne_eqb}
+use Rattle.std.proofs.{Common.{◌≡◌, ℕ, ◌+◌, ◌-◌, ◌<◌, ◌≤◌, Bool, true, false, List, [], ◌∷◌, ◌++◌, refl, ◌∙◌, ap, sym, cond, arith}, lemmas.Bool.{eq-eqb, eqb-true, le-ltb, lt-ltb, ltb-false, ltb-true, ne_eqb}}
+use Rattle.std.specs.{Prelude.{Option, Some, None, ◌==◌, ◌||◌, nat_lt, is_some, option_map}, Option.option_map_or, List.filter_map}
 use Rattle.gx_units.specs.declared.names.Symbol.{Symbol}
 use Rattle.gx_policy.specs.declared.policy.PolicyData.{PolicyData}
-use Rattle.gx_history.specs.declared.live_order.LiveOrder.{LiveOrder}
-use Rattle.gx_history.specs.declared.moves.Move.{Move}
-use Rattle.gx_history.specs.declared.moves.Move.TheVariants as moves
-use Rattle.gx_history.specs.declared.record.Fill.{Fill}
-use Rattle.gx_history.specs.declared.record.RecordData.{RecordData}
-use Rattle.gx_history.specs.Live.{live, live_numbered, side}
-use Rattle.gx_history.specs.LiveOrders.{shares_open}
-use Rattle.gx_history.specs.MayMove.{MayExpire, MayFill}
-use Rattle.gx_history.specs.Turns.{Ends, Fills, Keeps, Replaces, Sizes, becomes, side_turned, while_open}
-use Rattle.gx_history.specs.World.{Does, turn_in, world}
-use Rattle.gx_effects.proofs.Doing.{may_do, side_does}
-use Rattle.gx_effects.proofs.Known.{number_found}
-use Rattle.gx_effects.proofs.Resting.{does_not_rest}
+use Rattle.gx_history.specs.{declared.{live_order.LiveOrder.LiveOrder, moves.Move.Move, «record».{Fill.Fill, RecordData.RecordData}}, Live.{live, live_numbered, side}, LiveOrders.shares_open, MayMove.{MayExpire, MayFill}, Turns.{Ends, Fills, Keeps, Replaces, Sizes, becomes, side_turned, while_open}, World.{Does, turn_in, world}}
+use Rattle.gx_effects.proofs.{Doing.{may_do, side_does}, Known.number_found, Resting.does_not_rest}
 use Rattle.gx_orders.specs.Laws.{ComesFirst}
 use Rattle.gx_orders.proofs.Finding.{finds_orders}
-use Rattle.gx_market.specs.BookInForce.{book_in_force}
-use Rattle.gx_market.specs.Changes.{book_moved, left_with, put_to_rest, resting_of}
-use Rattle.gx_market.specs.Laws.{BooksGoOn}
+use Rattle.gx_market.specs.{BookInForce.book_in_force, Changes.{book_moved, left_with, put_to_rest, resting_of}, Laws.BooksGoOn}
 use Rattle.gx_market.proofs.Turned.{book_ends, book_rests, book_stays, one_left, order_left}
 
 -- what leaves each side as it is
@@ -40,27 +24,27 @@ some_left gone size = at (nat_lt gone size) refl
     at false e = let none : size ≤ gone = ltb-false gone size e in sym (le-ltb 0 (size - gone) (omega arith))
 
 -- a Cancel
-cuts : (policy : PolicyData) (history : List RecordData) (r : RecordData) (cut : LiveOrder) (size : ℕ) → Does policy history r (moves.Sizes cut size)
+cuts : (policy : PolicyData) (history : List RecordData) (r : RecordData) (cut : LiveOrder) (size : ℕ) → Does policy history r (Move.Sizes cut size)
     → book_in_force policy (history ++ r ∷ []) ≡ left_with cut (size - cut.done) (book_in_force policy history)
 cuts policy history r cut size d =
     order_left policy history (history ++ r ∷ []) (becomes (Sizes cut.number size)) cut (record cut { total = size }) (size - cut.done) d.legal
-    (λ stock buy. side_does policy history r (moves.Sizes cut size) stock buy d) (finds_orders policy history r (moves.Sizes cut size) d)
+    (λ stock buy. side_does policy history r (Move.Sizes cut size) stock buy d) (finds_orders policy history r (Move.Sizes cut size) d)
     (ap (λ (b : Bool). cond b (while_open (record cut { total = size })) (Some cut)) (eq-eqb cut.number cut.number refl)) refl (some_left cut.done size)
     (λ y found rests differs. ap (λ (b : Bool). cond b (while_open (record y { total = size })) (Some y)) differs)
 
 -- a Replace
-makes_place : (policy : PolicyData) (history : List RecordData) (r : RecordData) (old new : LiveOrder) → Does policy history r (moves.Replaces old new)
-    → book_in_force policy (history ++ r ∷ []) ≡ book_moved (moves.Replaces old new) (live policy history) (book_in_force policy history)
+makes_place : (policy : PolicyData) (history : List RecordData) (r : RecordData) (old new : LiveOrder) → Does policy history r (Move.Replaces old new)
+    → book_in_force policy (history ++ r ∷ []) ≡ book_moved (Move.Replaces old new) (live policy history) (book_in_force policy history)
 makes_place policy history r old new d =
     one_left policy history (history ++ r ∷ []) (becomes (Replaces old.number new)) old false d.legal
-    (λ stock buy. side_does policy history r (moves.Replaces old new) stock buy d) (finds_orders policy history r (moves.Replaces old new) d).is_live
+    (λ stock buy. side_does policy history r (Move.Replaces old new) stock buy d) (finds_orders policy history r (Move.Replaces old new) d).is_live
     (ap (λ (b : Bool). option_map resting_of (cond b None (Some old))) (eq-eqb old.number old.number refl))
     (λ y found rests differs. ap (λ (b : Bool). cond {A = Option LiveOrder} b None (Some y)) differs)
 
 -- a fill
-fills : (policy : PolicyData) (history : List RecordData) (r : RecordData) (f : Fill) (maker : LiveOrder) → Does policy history r (moves.Fills f) → live_numbered (live policy history) f.maker ≡ Some maker
+fills : (policy : PolicyData) (history : List RecordData) (r : RecordData) (f : Fill) (maker : LiveOrder) → Does policy history r (Move.Fills f) → live_numbered (live policy history) f.maker ≡ Some maker
     → book_in_force policy (history ++ r ∷ []) ≡ left_with maker (shares_open maker - f.shares) (book_in_force policy history)
-fills policy history r f maker d found = by (may_do policy history r (moves.Fills f) d)
+fills policy history r f maker d found = by (may_do policy history r (Move.Fills f) d)
   where
     maker_is : (maker.number == f.maker) ≡ true
     maker_is = number_found (live policy history) f.maker maker found
@@ -81,7 +65,7 @@ fills policy history r f maker d found = by (may_do policy history r (moves.Fill
     by : MayFill (world policy history) r f → book_in_force policy (history ++ r ∷ []) ≡ left_with maker ((maker.total - maker.done) - f.shares) (book_in_force policy history)
     by is =
         order_left policy history (history ++ r ∷ []) (becomes (Fills f)) maker (record maker { done = maker.done + f.shares }) ((maker.total - maker.done) - f.shares) d.legal
-        (λ stock buy. side_does policy history r (moves.Fills f) stock buy d)
+        (λ stock buy. side_does policy history r (Move.Fills f) stock buy d)
         (ap (live_numbered (live policy history)) number_is ∙ found) (ap (λ (b : Bool). filled_so maker (maker.number == f.taker || b)) maker_is ∙ ap (filled_so maker) (or_true (maker.number == f.taker))) refl
         (left_of maker.total maker.done f.shares)
         (λ y also rests differs.
@@ -90,30 +74,30 @@ fills policy history r f maker d found = by (may_do policy history r (moves.Fill
         ∙ ap (filled_so y) differs)
 
 -- an order that ends has not rested
-ends : (policy : PolicyData) (history : List RecordData) (r : RecordData) (number : ℕ) → Does policy history r (moves.Expires number) → MayExpire (world policy history) r number
+ends : (policy : PolicyData) (history : List RecordData) (r : RecordData) (number : ℕ) → Does policy history r (Move.Expires number) → MayExpire (world policy history) r number
     → book_in_force policy (history ++ r ∷ []) ≡ book_in_force policy history
 ends policy history r number d is =
-    book_stays policy history (history ++ r ∷ []) (becomes (Ends number)) d.legal (λ stock buy. side_does policy history r (moves.Expires number) stock buy d)
+    book_stays policy history (history ++ r ∷ []) (becomes (Ends number)) d.legal (λ stock buy. side_does policy history r (Move.Expires number) stock buy d)
     (λ o found rests. ap (λ (b : Bool). option_map resting_of (cond b None (Some o)))
     (ne_eqb number o.number (λ same. does_not_rest policy history is.first is.waiting d.legal is.comes_first o found rests (sym same ∙ is.has_number))))
 
 pub books_next : BooksGoOn
-books_next policy history r moves.Nothing d = stays policy history r moves.Nothing d (λ stock buy. refl)
-books_next policy history r (moves.Denies a rule) d = stays policy history r (moves.Denies a rule) d (λ stock buy. refl)
-books_next policy history r (moves.PutsOn user line) d = stays policy history r (moves.PutsOn user line) d (λ stock buy. refl)
-books_next policy history r (moves.Adds new) d = stays policy history r (moves.Adds new) d (λ stock buy. refl)
-books_next policy history r (moves.Sizes cut size) d = cuts policy history r cut size d
-books_next policy history r (moves.Replaces old new) d = makes_place policy history r old new d
-books_next policy history r (moves.Commands officer c) d =
-    book_ends policy history (history ++ r ∷ []) c.action d.legal (λ stock buy. side_does policy history r (moves.Commands officer c) stock buy d)
-books_next policy history r (moves.Fills f) d = at (live_numbered (live policy history) f.maker) refl
+books_next policy history r Move.Nothing d = stays policy history r Move.Nothing d (λ stock buy. refl)
+books_next policy history r (Move.Denies a rule) d = stays policy history r (Move.Denies a rule) d (λ stock buy. refl)
+books_next policy history r (Move.PutsOn user line) d = stays policy history r (Move.PutsOn user line) d (λ stock buy. refl)
+books_next policy history r (Move.Adds new) d = stays policy history r (Move.Adds new) d (λ stock buy. refl)
+books_next policy history r (Move.Sizes cut size) d = cuts policy history r cut size d
+books_next policy history r (Move.Replaces old new) d = makes_place policy history r old new d
+books_next policy history r (Move.Commands officer c) d =
+    book_ends policy history (history ++ r ∷ []) c.action d.legal (λ stock buy. side_does policy history r (Move.Commands officer c) stock buy d)
+books_next policy history r (Move.Fills f) d = at (live_numbered (live policy history) f.maker) refl
   where
     at : (found : Option LiveOrder) → live_numbered (live policy history) f.maker ≡ found
         → book_in_force policy (history ++ r ∷ []) ≡ option_map_or (λ (maker : LiveOrder). left_with maker (shares_open maker - f.shares) (book_in_force policy history)) found (book_in_force policy history)
-    at None is = let lives : false ≡ true = sym (ap is_some is) ∙ (finds_orders policy history r (moves.Fills f) d).maker_lives in cc
+    at None is = let lives : false ≡ true = sym (ap is_some is) ∙ (finds_orders policy history r (Move.Fills f) d).maker_lives in cc
     at (Some maker) is = fills policy history r f maker d is
-books_next policy history r (moves.Rests number) d =
-    let first : ComesFirst (live policy history) number = finds_orders policy history r (moves.Rests number) d in
-    book_rests policy history (history ++ r ∷ []) number first.order first.is_found (λ stock buy. side_does policy history r (moves.Rests number) stock buy d)
+books_next policy history r (Move.Rests number) d =
+    let first : ComesFirst (live policy history) number = finds_orders policy history r (Move.Rests number) d in
+    book_rests policy history (history ++ r ∷ []) number first.order first.is_found (λ stock buy. side_does policy history r (Move.Rests number) stock buy d)
     ∙ ap (λ (found : Option LiveOrder). option_map_or (λ (o : LiveOrder). put_to_rest o (book_in_force policy history)) found (book_in_force policy history)) (sym first.is_found)
-books_next policy history r (moves.Expires number) d = ends policy history r number d (may_do policy history r (moves.Expires number) d)
+books_next policy history r (Move.Expires number) d = ends policy history r number d (may_do policy history r (Move.Expires number) d)

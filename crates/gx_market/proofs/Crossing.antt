@@ -1,30 +1,15 @@
 -- What is kept meets as the records say.
 use Rattle.std.proofs.Common.{◌≡◌, ℕ, Bool, not, List, [], ◌∷◌, refl, ◌∙◌, ap, sym, map}
-use Rattle.std.specs.Prelude.{Option, Some, option_and_then, option_map, slice_get}
-use Rattle.std.specs.List.{AllByRecursion}
+use Rattle.std.specs.{Prelude.{Option, Some, option_and_then, option_map, slice_get}, List.AllByRecursion}
 use Rattle.gx_units.specs.declared.names.Symbol.{Symbol}
 use Rattle.gx_policy.specs.declared.policy.PolicyData.{PolicyData}
-use Rattle.gx_history.specs.declared.live_order.LiveOrder.{LiveOrder}
-use Rattle.gx_history.specs.declared.record.RecordData.{RecordData}
-use Rattle.gx_history.specs.declared.record.Step.TheVariants as steps
-use Rattle.gx_history.specs.declared.record.Verdict.{Verdict}
-use Rattle.gx_history.specs.Book.{is_buy}
-use Rattle.gx_history.specs.Matching.{first_outcome, matching, outcome}
-use Rattle.gx_history.specs.MayMove.{opposite}
-use Rattle.gx_history.specs.Live.{live, live_numbered, side, waiting}
-use Rattle.gx_history.specs.Verdicts.{IsLegal, next, step_verdict}
-use Rattle.gx_history.specs.World.{world}
+use Rattle.gx_history.specs.{declared.{live_order.LiveOrder.LiveOrder, «record».{RecordData.RecordData, Step.Step, Verdict.Verdict}}, Book.is_buy, Matching.{first_outcome, matching, outcome}, MayMove.opposite, Live.{live, live_numbered, side, waiting}, Verdicts.{IsLegal, next, step_verdict}, World.world}
 use Rattle.gx_book.specs.declared.resting.Resting.{Resting}
 use Rattle.gx_orders.specs.InForce.{orders_in_force}
-use Rattle.gx_market.specs.BookInForce.{book_in_force}
-use Rattle.gx_market.specs.Changes.{resting_of}
-use Rattle.gx_market.specs.Laws.{NextIsMet, NextRecordIsMet}
-use Rattle.gx_market.specs.Meeting.{best_against, match_record, met, next_met}
+use Rattle.gx_market.specs.{BookInForce.book_in_force, Changes.resting_of, Laws.{NextIsMet, NextRecordIsMet}, Meeting.{best_against, match_record, met, next_met}}
 use Rattle.gx_market.proofs.Booked.{resting_found}
 use Rattle.gx_orders.proofs.Finding.{comes_first, first_is}
-use Rattle.gx_effects.proofs.Resting.{first_lives}
-use Rattle.gx_effects.proofs.Known.{RestsThere, all_resting}
-use Rattle.gx_effects.proofs.Orderly.{legal_is_orderly}
+use Rattle.gx_effects.proofs.{Resting.first_lives, Known.{RestsThere, all_resting}, Orderly.legal_is_orderly}
 
 -- the best that is kept is the best that rests
 best_is : (policy : PolicyData) (history : List RecordData) (first : LiveOrder) (others : List LiveOrder) → IsLegal policy history → waiting policy history ≡ first ∷ others
@@ -59,7 +44,7 @@ best_tells o [] = refl
 best_tells o (best ∷ behind) = refl
 
 -- the record of a matching step is the next execution's
-next_is : (policy : PolicyData) (history : List RecordData) (handed : ℕ) → next policy history (steps.Matching handed) ≡ option_map (match_record history handed) (matching policy history)
+next_is : (policy : PolicyData) (history : List RecordData) (handed : ℕ) → next policy history (Step.Matching handed) ≡ option_map (match_record history handed) (matching policy history)
 unfolding next step_verdict
 next_is policy history handed = refl
 

@@ -1,41 +1,15 @@
 -- Orders come to rest in the order of their numbers.
-use Rattle.std.proofs.Common.{◌≡◌, ℕ, ◌<◌, ◌≤◌, Bool, true, false, List, [], ◌∷◌, ◌++◌, refl, ◌∙◌, ap, sym, cond, arith}
-use Rattle.std.proofs.Math.Path.{subst}
-use Rattle.std.specs.Prelude.{Option, Some, None, ◌==◌}
-use Rattle.std.specs.List.{AllByRecursion, cons_option, filter_map}
-use Rattle.std.proofs.lemmas.Bool.{ne_eqb}
-use Rattle.std.proofs.lemmas.List.{append-nil}
+use Rattle.std.proofs.{Common.{◌≡◌, ℕ, ◌<◌, ◌≤◌, Bool, true, false, List, [], ◌∷◌, ◌++◌, refl, ◌∙◌, ap, sym, cond, arith}, Math.Path.subst, lemmas.{Bool.ne_eqb, List.append-nil}}
+use Rattle.std.specs.{Prelude.{Option, Some, None, ◌==◌}, List.{AllByRecursion, cons_option, filter_map}}
 use Rattle.gx_policy.specs.declared.policy.PolicyData.{PolicyData}
-use Rattle.gx_history.specs.declared.live_order.LiveOrder.{LiveOrder}
-use Rattle.gx_history.specs.declared.record.RecordData.{RecordData}
-use Rattle.gx_history.specs.declared.record.Verdict.{Verdict}
-use Rattle.gx_history.specs.declared.record.Verdict.TheVariants as verdicts
-use Rattle.gx_history.specs.Book.{is_buy, rested_of}
-use Rattle.gx_history.specs.MayMove.{MayRest}
-use Rattle.gx_history.specs.Live.{live, side}
-use Rattle.gx_history.specs.Turns.{Turn, Adds, Replaces, Rests, becomes, new_in, turned}
-use Rattle.gx_history.specs.Verdicts.{IsLegal, next}
-use Rattle.gx_history.specs.World.{world, turn_by}
-use Rattle.gx_history_laws.proofs.Granting.{legal_keeps}
-use Rattle.gx_history_laws.proofs.NextReports.{legal_next, legal_none}
-use Rattle.gx_history_laws.proofs.Numbers.{all_weaker, number_left}
-use Rattle.gx_history_laws.proofs.Order.{some_same}
-use Rattle.gx_history_laws.proofs.Owners.{all_both}
-use Rattle.gx_effects.proofs.Entered.{all_mapped, all_found_of}
-use Rattle.gx_effects.proofs.Known.{RestsThere, all_resting}
-use Rattle.gx_effects.proofs.Live.{live_next}
-use Rattle.gx_effects.proofs.Moving.{may_by}
-use Rattle.gx_effects.proofs.NewOrders.{found_is}
-use Rattle.gx_effects.proofs.Resting.{IsLiving, all_living}
-use Rattle.gx_effects.proofs.Sides.{AreNew, becomes_same, goes, new_by, puts_to_rest}
-use Rattle.gx_effects.proofs.Orderly.{legal_is_orderly}
+use Rattle.gx_history.specs.{declared.{live_order.LiveOrder.LiveOrder, «record».{RecordData.RecordData, Verdict.Verdict}}, Book.{is_buy, rested_of}, MayMove.MayRest, Live.{live, side}, Turns.{Turn, Adds, Replaces, Rests, becomes, new_in, turned}, Verdicts.{IsLegal, next}, World.{world, turn_by}}
+use Rattle.gx_history_laws.proofs.{Granting.legal_keeps, NextReports.{legal_next, legal_none}, Numbers.{all_weaker, number_left}, Order.some_same, Owners.all_both}
+use Rattle.gx_effects.proofs.{Entered.{all_mapped, all_found_of}, Known.{RestsThere, all_resting}, Live.live_next, Moving.may_by, NewOrders.found_is, Resting.{IsLiving, all_living}, Sides.{AreNew, becomes_same, goes, new_by, puts_to_rest}, Orderly.legal_is_orderly}
 use Rattle.gx_orders.specs.LiveOrders.{OrdersData, first_waiting}
-use Rattle.gx_orders.proofs.Staying.{live_within, none_at_first}
+use Rattle.gx_orders.proofs.{Staying.{live_within, none_at_first}, Finding.comes_first}
 use Rattle.gx_book.specs.declared.resting.Resting.{Resting}
-use Rattle.gx_market.specs.Changes.{resting_of}
-use Rattle.gx_market.specs.Laws.{FirstIsLatest}
+use Rattle.gx_market.specs.{Changes.resting_of, Laws.FirstIsLatest}
 use Rattle.gx_market.proofs.Booked.{resting_found}
-use Rattle.gx_orders.proofs.Finding.{comes_first}
 
 never : {X : Type 0} {b : Bool} → b ≡ true → b ≡ false → X
 never h k = cc
@@ -133,16 +107,16 @@ ascend_next policy history r legal left h = by r.verdict refl
     none_rests v e none =
         then_by v e (turns_on r (turn_by policy (world policy history) r v r.step) os (goes policy (world policy history) r v r.step none) (new_by policy (world policy history) r v r.step) (live_within policy history r.number legal (number_left policy history r.step r left)) h)
 
-    first_rests : (number : ℕ) → r.verdict ≡ verdicts.Rested number → MayRest (world policy history) r number → Ascend (live policy (history ++ r ∷ []))
+    first_rests : (number : ℕ) → r.verdict ≡ Verdict.Rested number → MayRest (world policy history) r number → Ascend (live policy (history ++ r ∷ []))
     first_rests number e is =
-        then_by (verdicts.Rested number) e (subst Ascend (sym (append-nil _)) (rests_on number is.first os (comes_first policy history is.first is.waiting is.comes_first) is.has_number h))
+        then_by (Verdict.Rested number) e (subst Ascend (sym (append-nil _)) (rests_on number is.first os (comes_first policy history is.first is.waiting is.comes_first) is.has_number h))
 
     by : (v : Verdict) → r.verdict ≡ v → Ascend (live policy (history ++ r ∷ []))
-    by (verdicts.Rested number) e = first_rests number e (may_by policy history r.step r (verdicts.Rested number) legal left e)
-    by verdicts.Granted e = none_rests verdicts.Granted e refl
-    by (verdicts.Denied rule) e = none_rests (verdicts.Denied rule) e refl
-    by (verdicts.Filled f) e = none_rests (verdicts.Filled f) e refl
-    by (verdicts.Expired number) e = none_rests (verdicts.Expired number) e refl
+    by (Verdict.Rested number) e = first_rests number e (may_by policy history r.step r (Verdict.Rested number) legal left e)
+    by Verdict.Granted e = none_rests Verdict.Granted e refl
+    by (Verdict.Denied rule) e = none_rests (Verdict.Denied rule) e refl
+    by (Verdict.Filled f) e = none_rests (Verdict.Filled f) e refl
+    by (Verdict.Expired number) e = none_rests (Verdict.Expired number) e refl
 
 live_ascend : (policy : PolicyData) (history : List RecordData) → IsLegal policy history → Ascend (live policy history)
 live_ascend policy history legal =

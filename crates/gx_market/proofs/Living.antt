@@ -1,40 +1,14 @@
 -- The book has the live orders that do not wait, and no other.
-use Rattle.std.proofs.Common.{◌≡◌, Bool, true, false, not, List, [], ◌∷◌, refl, ◌∙◌, ap, sym, map, cond}
-use Rattle.std.proofs.Math.Path.{subst}
-use Rattle.std.specs.Prelude.{Option, Some, None, ◌==◌, ◌&&◌, ◌||◌, option_map}
-use Rattle.std.specs.Option.{option_map_or}
-use Rattle.std.specs.List.{AllByRecursion, filter, find, list_any}
-use Rattle.std.proofs.lemmas.Bool.{and_from, and_parts, eq-eqb, eqb-true}
-use Rattle.std.proofs.lemmas.Slice.Eq.{bytes_eq-Decides}
-use Rattle.gx_units.specs.Names.{same_account, same_stock}
-use Rattle.gx_units.specs.declared.names.Symbol.{Symbol}
-use Rattle.gx_policy.specs.declared.policy.PolicyData.{PolicyData}
-use Rattle.gx_policy.specs.declared.policy.Stock.{Stock}
-use Rattle.gx_history.specs.declared.live_order.LiveOrder.{LiveOrder}
-use Rattle.gx_history.specs.declared.record.RecordData.{RecordData}
-use Rattle.gx_history.specs.Book.{is_buy, is_on, rested}
-use Rattle.gx_history.specs.Live.{has_come, is_there, live, live_numbered, side}
-use Rattle.gx_history.specs.Verdicts.{IsLegal}
-use Rattle.gx_history_laws.proofs.Names.{same_account_flip}
-use Rattle.gx_history_laws.proofs.Numbers.{all_weaker}
-use Rattle.gx_history_laws.proofs.Order.{IsFirstSuch, first_such, none_such, some_same}
-use Rattle.gx_history_laws.proofs.Owners.{all_both}
-use Rattle.gx_history_laws.proofs.Granting.{none_pass}
-use Rattle.gx_effects.proofs.Entered.{all_mapped}
-use Rattle.gx_effects.proofs.NewOrders.{found_is}
-use Rattle.gx_effects.proofs.Ordered.{all_parted}
-use Rattle.gx_book.specs.declared.resting.Resting.{Resting}
-use Rattle.gx_book.specs.Books.{StockOrders, all_orders, both_sides, order_in, resting_in, side_of, stock_in}
-use Rattle.gx_book.specs.Queue.{is_numbered, is_same}
-use Rattle.gx_market.specs.BookInForce.{book_in_force, rested_in, stock_in_force}
-use Rattle.gx_market.specs.Changes.{resting_of}
-use Rattle.gx_market.specs.Laws.{BooksAreLive, LiveWaitOrRest, RestingAreLive}
-use Rattle.gx_market.specs.Standing.{IsLiveBook, IsLiveThere, rests_as}
+use Rattle.std.proofs.{Common.{◌≡◌, Bool, true, false, not, List, [], ◌∷◌, refl, ◌∙◌, ap, sym, map, cond}, Math.Path.subst, lemmas.{Bool.{and_from, and_parts, eq-eqb, eqb-true}, Slice.Eq.bytes_eq-Decides}}
+use Rattle.std.specs.{Prelude.{Option, Some, None, ◌==◌, ◌&&◌, ◌||◌, option_map}, Option.option_map_or, List.{AllByRecursion, filter, find, list_any}}
+use Rattle.gx_units.specs.{Names.{same_account, same_stock}, declared.names.Symbol.Symbol}
+use Rattle.gx_policy.specs.declared.policy.{PolicyData.PolicyData, Stock.Stock}
+use Rattle.gx_history.specs.{declared.{live_order.LiveOrder.LiveOrder, «record».RecordData.RecordData}, Book.{is_buy, is_on, rested}, Live.{has_come, is_there, live, live_numbered, side}, Verdicts.IsLegal}
+use Rattle.gx_history_laws.proofs.{Names.same_account_flip, Numbers.all_weaker, Order.{IsFirstSuch, first_such, none_such, some_same}, Owners.all_both, Granting.none_pass}
+use Rattle.gx_effects.proofs.{Entered.all_mapped, NewOrders.found_is, Ordered.all_parted, Resting.{IsLiving, all_living, same_order}, Known.{RestsThere, all_resting}, BookSides.side_has, Orderly.legal_is_orderly}
+use Rattle.gx_book.specs.{declared.resting.Resting.Resting, Books.{StockOrders, all_orders, both_sides, order_in, resting_in, side_of, stock_in}, Queue.{is_numbered, is_same}}
+use Rattle.gx_market.specs.{BookInForce.{book_in_force, rested_in, stock_in_force}, Changes.resting_of, Laws.{BooksAreLive, LiveWaitOrRest, RestingAreLive}, Standing.{IsLiveBook, IsLiveThere, rests_as}}
 use Rattle.gx_market.proofs.Booked.{resting_found}
-use Rattle.gx_effects.proofs.Resting.{IsLiving, all_living, same_order}
-use Rattle.gx_effects.proofs.Known.{RestsThere, all_resting}
-use Rattle.gx_effects.proofs.BookSides.{side_has}
-use Rattle.gx_effects.proofs.Orderly.{legal_is_orderly}
 
 clash : {b : Bool} → b ≡ true → b ≡ false → ⊥
 clash h k = cc

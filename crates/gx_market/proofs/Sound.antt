@@ -1,34 +1,13 @@
 -- Each side of a book in force has the better price first, and no book is crossed.
-use Rattle.std.proofs.Common.{◌≡◌, ◌<◌, Bool, true, false, not, List, [], ◌∷◌, refl, ◌∙◌, ap, sym, map, arith}
-use Rattle.std.specs.Prelude.{◌&&◌, nat_le}
-use Rattle.std.specs.List.{AllByRecursion, filter, filter_map, list_all}
-use Rattle.std.proofs.lemmas.Bool.{le-ltb, leb-false}
-use Rattle.gx_units.specs.Names.{same_stock}
-use Rattle.gx_units.specs.declared.names.Symbol.{Symbol}
-use Rattle.gx_policy.specs.declared.policy.PolicyData.{PolicyData}
-use Rattle.gx_policy.specs.declared.policy.Stock.{Stock}
-use Rattle.gx_policy.specs.Lists.{IsInOrder}
-use Rattle.gx_history.specs.declared.live_order.LiveOrder.{LiveOrder}
-use Rattle.gx_history.specs.declared.record.RecordData.{RecordData}
-use Rattle.gx_history.specs.Book.{rested}
-use Rattle.gx_history.specs.Matching.{crosses}
-use Rattle.gx_history.specs.Live.{ahead, is_buy_order, is_there, live, live_numbered, side}
-use Rattle.gx_history.specs.Verdicts.{IsLegal}
-use Rattle.gx_history_laws.proofs.Judging.{both}
-use Rattle.gx_history_laws.proofs.Numbers.{all_weaker}
-use Rattle.gx_effects.proofs.Entered.{all_mapped}
-use Rattle.gx_effects.proofs.Known.{RestsThere, all_resting}
-use Rattle.gx_effects.proofs.NeverCrossed.{never_crossed}
-use Rattle.gx_effects.proofs.Among.{all_and}
-use Rattle.gx_effects.proofs.Ordered.{ordered_by}
-use Rattle.gx_effects.proofs.Orderly.{legal_is_orderly}
-use Rattle.gx_effects.proofs.Sides.{prices_rank}
-use Rattle.gx_book.specs.declared.resting.Resting.{Resting}
-use Rattle.gx_book.specs.Books.{is_sound_stock}
-use Rattle.gx_book.specs.Queue.{is_better, is_in_order}
-use Rattle.gx_market.specs.BookInForce.{book_in_force, rested_in, stock_in_force}
-use Rattle.gx_market.specs.Changes.{resting_of}
-use Rattle.gx_market.specs.Laws.{BooksAreSound, BooksAreUncrossed, IsUncrossed}
+use Rattle.std.proofs.{Common.{◌≡◌, ◌<◌, Bool, true, false, not, List, [], ◌∷◌, refl, ◌∙◌, ap, sym, map, arith}, lemmas.Bool.{le-ltb, leb-false}}
+use Rattle.std.specs.{Prelude.{◌&&◌, nat_le}, List.{AllByRecursion, filter, filter_map, list_all}}
+use Rattle.gx_units.specs.{Names.same_stock, declared.names.Symbol.Symbol}
+use Rattle.gx_policy.specs.{declared.policy.{PolicyData.PolicyData, Stock.Stock}, Lists.IsInOrder}
+use Rattle.gx_history.specs.{declared.{live_order.LiveOrder.LiveOrder, «record».RecordData.RecordData}, Book.rested, Matching.crosses, Live.{ahead, is_buy_order, is_there, live, live_numbered, side}, Verdicts.IsLegal}
+use Rattle.gx_history_laws.proofs.{Judging.both, Numbers.all_weaker}
+use Rattle.gx_effects.proofs.{Entered.all_mapped, Known.{RestsThere, all_resting}, NeverCrossed.never_crossed, Among.all_and, Ordered.ordered_by, Orderly.legal_is_orderly, Sides.prices_rank}
+use Rattle.gx_book.specs.{declared.resting.Resting.Resting, Books.is_sound_stock, Queue.{is_better, is_in_order}}
+use Rattle.gx_market.specs.{BookInForce.{book_in_force, rested_in, stock_in_force}, Changes.resting_of, Laws.{BooksAreSound, BooksAreUncrossed, IsUncrossed}}
 
 both_are : (a b : Bool) → a ≡ true → b ≡ true → (a && b) ≡ true
 both_are a b h k = ap (λ (c : Bool). c && b) h ∙ k

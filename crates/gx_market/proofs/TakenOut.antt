@@ -1,19 +1,11 @@
 -- An account's live orders taken out one after the other are all that rests of the account.
 use Rattle.std.proofs.Common.{◌≡◌, Bool, true, false, not, List, [], ◌∷◌, refl, ◌∙◌, ap, sym, map, cond}
-use Rattle.std.specs.Prelude.{◌&&◌, ◌||◌}
-use Rattle.std.specs.List.{AllByRecursion, filter, list_any}
-use Rattle.gx_units.specs.declared.names.Symbol.{Symbol}
-use Rattle.gx_units.specs.Names.{same_stock}
-use Rattle.gx_history.specs.declared.live_order.LiveOrder.{LiveOrder}
-use Rattle.gx_history.specs.Book.{is_buy}
-use Rattle.gx_history.specs.Live.{is_there}
-use Rattle.gx_book.specs.declared.resting.Resting.{Resting}
-use Rattle.gx_book.specs.Books.{StockOrders, on_each_side, with_side}
-use Rattle.gx_book.specs.Queue.{is_of, is_same, without_account, without_order}
+use Rattle.std.specs.{Prelude.{◌&&◌, ◌||◌}, List.{AllByRecursion, filter, list_any}}
+use Rattle.gx_units.specs.{declared.names.Symbol.Symbol, Names.same_stock}
+use Rattle.gx_history.specs.{declared.live_order.LiveOrder.LiveOrder, Book.is_buy, Live.is_there}
+use Rattle.gx_book.specs.{declared.resting.Resting.Resting, Books.{StockOrders, on_each_side, with_side}, Queue.{is_of, is_same, without_account, without_order}}
 use Rattle.gx_orders.specs.LiveOrders.{of_account}
-use Rattle.gx_market.specs.Changes.{each_taken_out, resting_of, taken_out}
-use Rattle.gx_market.specs.Laws.{KillTakesLiveOrders}
-use Rattle.gx_market.specs.Standing.{IsLiveBook, IsLiveThere, rests_as}
+use Rattle.gx_market.specs.{Changes.{each_taken_out, resting_of, taken_out}, Laws.KillTakesLiveOrders, Standing.{IsLiveBook, IsLiveThere, rests_as}}
 
 abbrev made : Symbol → List Resting → List Resting → StockOrders
 made stock buys sells = record { stock = stock; buys = buys; sells = sells }

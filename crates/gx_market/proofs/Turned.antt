@@ -1,33 +1,16 @@
 -- What becomes of the book by a turn of the live orders.
-use Rattle.std.proofs.Common.{◌≡◌, ℕ, Bool, true, false, not, List, [], ◌∷◌, ◌++◌, refl, ◌∙◌, ap, sym, map, cond}
-use Rattle.std.proofs.Math.Path.{subst}
-use Rattle.std.specs.Prelude.{Option, Some, None, option_map, ◌==◌, ◌&&◌, ◌||◌, nat_lt}
-use Rattle.std.specs.Option.{option_map_or}
-use Rattle.std.specs.List.{AllByRecursion, cons_option, filter, filter_map}
-use Rattle.std.proofs.lemmas.Bool.{eq-eqb, eqb-true, ne_eqb}
-use Rattle.std.proofs.lemmas.List.{map-append}
-use Rattle.gx_units.specs.Names.{same_account}
-use Rattle.gx_units.specs.declared.names.Symbol.{Symbol}
+use Rattle.std.proofs.{Common.{◌≡◌, ℕ, Bool, true, false, not, List, [], ◌∷◌, ◌++◌, refl, ◌∙◌, ap, sym, map, cond}, Math.Path.subst, lemmas.{Bool.{eq-eqb, eqb-true, ne_eqb}, List.map-append}}
+use Rattle.std.specs.{Prelude.{Option, Some, None, option_map, ◌==◌, ◌&&◌, ◌||◌, nat_lt}, Option.option_map_or, List.{AllByRecursion, cons_option, filter, filter_map}}
+use Rattle.gx_units.specs.{Names.same_account, declared.names.Symbol.Symbol}
 use Rattle.gx_desk.specs.declared.Action.{Action}
-use Rattle.gx_desk.specs.declared.Action.TheVariants as actions
-use Rattle.gx_policy.specs.declared.policy.PolicyData.{PolicyData}
-use Rattle.gx_policy.specs.Lists.{placed, where_true}
-use Rattle.gx_history.specs.declared.live_order.LiveOrder.{LiveOrder}
-use Rattle.gx_history.specs.declared.record.RecordData.{RecordData}
-use Rattle.gx_history.specs.Live.{ahead, is_there, live, live_numbered, side}
-use Rattle.gx_history.specs.Turns.{EndsAll, Rests, becomes, side_turned, while_open}
-use Rattle.gx_history.specs.Verdicts.{IsLegal}
-use Rattle.gx_history_laws.proofs.Names.{same_account_flip}
-use Rattle.gx_history_laws.proofs.Numbers.{all_weaker}
-use Rattle.gx_book.specs.declared.resting.Resting.{Resting}
+use Rattle.gx_policy.specs.{declared.policy.PolicyData.PolicyData, Lists.{placed, where_true}}
+use Rattle.gx_history.specs.{declared.{live_order.LiveOrder.LiveOrder, «record».RecordData.RecordData}, Live.{ahead, is_there, live, live_numbered, side}, Turns.{EndsAll, Rests, becomes, side_turned, while_open}, Verdicts.IsLegal}
+use Rattle.gx_history_laws.proofs.{Names.same_account_flip, Numbers.all_weaker}
+use Rattle.gx_book.specs.{declared.resting.Resting.Resting, Queue.{is_same, no_orders, with_order, without_account, without_order}}
 use Rattle.gx_book.specs.Queue as queue
-use Rattle.gx_book.specs.Queue.{is_same, no_orders, with_order, without_account, without_order}
-use Rattle.gx_market.specs.BookInForce.{book_in_force, rested_in}
-use Rattle.gx_market.specs.Changes.{ended_by, left_with, put_to_rest, resting_of, taken_out}
+use Rattle.gx_market.specs.{BookInForce.{book_in_force, rested_in}, Changes.{ended_by, left_with, put_to_rest, resting_of, taken_out}}
 use Rattle.gx_market.proofs.Booked.{each_side, no_side, one_side}
-use Rattle.gx_effects.proofs.Resting.{same_order}
-use Rattle.gx_effects.proofs.Known.{RestsThere, all_resting}
-use Rattle.gx_effects.proofs.Orderly.{legal_is_orderly}
+use Rattle.gx_effects.proofs.{Resting.same_order, Known.{RestsThere, all_resting}, Orderly.legal_is_orderly}
 
 clash : {b : Bool} → b ≡ true → b ≡ false → ⊥
 clash h k = cc
@@ -138,21 +121,21 @@ order_left policy before after f o x shares legal turn found becomes_so same som
 
 -- a command
 pub book_ends : (policy : PolicyData) (before after : List RecordData) (action : Action) → IsLegal policy before → SidesTurn policy before after (becomes (EndsAll action)) → book_in_force policy after ≡ ended_by action (book_in_force policy before)
-book_ends policy before after (actions.Kill account) legal turn =
-    each_side policy before after (without_account account) (λ stock buy. sides_left policy before after (becomes (EndsAll (actions.Kill account))) (λ r. not (queue.is_of account r)) stock buy legal turn
+book_ends policy before after (Action.Kill account) legal turn =
+    each_side policy before after (without_account account) (λ stock buy. sides_left policy before after (becomes (EndsAll (Action.Kill account))) (λ r. not (queue.is_of account r)) stock buy legal turn
     (λ o there. ap (λ (b : Bool). option_map resting_of (cond b None (Some o))) (same_account_flip account o.account) ∙ at o (same_account o.account account)))
   where
     at : (o : LiveOrder) (b : Bool) → option_map resting_of (cond b None (Some o)) ≡ where_true (not b) (resting_of o)
     at o true = refl
     at o false = refl
-book_ends policy before after actions.CloseDay legal turn =
-    each_side policy before after no_orders (λ stock buy. sides_left policy before after (becomes (EndsAll actions.CloseDay)) (λ r. false) stock buy legal turn (λ o there. refl) ∙ none_left (rested_in policy before stock buy))
-book_ends policy before after (actions.Lift account) legal turn = book_stays policy before after (becomes (EndsAll (actions.Lift account))) legal turn (λ o found rests. refl)
-book_ends policy before after (actions.SetLimit rule limit) legal turn = book_stays policy before after (becomes (EndsAll (actions.SetLimit rule limit))) legal turn (λ o found rests. refl)
-book_ends policy before after (actions.Restrict rule stock) legal turn = book_stays policy before after (becomes (EndsAll (actions.Restrict rule stock))) legal turn (λ o found rests. refl)
-book_ends policy before after (actions.Unrestrict rule stock) legal turn = book_stays policy before after (becomes (EndsAll (actions.Unrestrict rule stock))) legal turn (λ o found rests. refl)
-book_ends policy before after (actions.Grant reader account) legal turn = book_stays policy before after (becomes (EndsAll (actions.Grant reader account))) legal turn (λ o found rests. refl)
-book_ends policy before after (actions.Revoke reader account) legal turn = book_stays policy before after (becomes (EndsAll (actions.Revoke reader account))) legal turn (λ o found rests. refl)
+book_ends policy before after Action.CloseDay legal turn =
+    each_side policy before after no_orders (λ stock buy. sides_left policy before after (becomes (EndsAll Action.CloseDay)) (λ r. false) stock buy legal turn (λ o there. refl) ∙ none_left (rested_in policy before stock buy))
+book_ends policy before after (Action.Lift account) legal turn = book_stays policy before after (becomes (EndsAll (Action.Lift account))) legal turn (λ o found rests. refl)
+book_ends policy before after (Action.SetLimit rule limit) legal turn = book_stays policy before after (becomes (EndsAll (Action.SetLimit rule limit))) legal turn (λ o found rests. refl)
+book_ends policy before after (Action.Restrict rule stock) legal turn = book_stays policy before after (becomes (EndsAll (Action.Restrict rule stock))) legal turn (λ o found rests. refl)
+book_ends policy before after (Action.Unrestrict rule stock) legal turn = book_stays policy before after (becomes (EndsAll (Action.Unrestrict rule stock))) legal turn (λ o found rests. refl)
+book_ends policy before after (Action.Grant reader account) legal turn = book_stays policy before after (becomes (EndsAll (Action.Grant reader account))) legal turn (λ o found rests. refl)
+book_ends policy before after (Action.Revoke reader account) legal turn = book_stays policy before after (becomes (EndsAll (Action.Revoke reader account))) legal turn (λ o found rests. refl)
 
 filter_of_map : {X Y : Type 0} (p : Y → Bool) (f : X → Y) (xs : List X) → filter p (map f xs) ≡ map f (filter (λ x. p (f x)) xs)
 filter_of_map p f [] = refl

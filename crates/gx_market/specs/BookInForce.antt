@@ -1,12 +1,9 @@
 -- The book after the records of a day: for each listed stock, the orders that rest on either side.
 use Rattle.std.specs.Prelude.{Bool, true, false, List, map}
 use Rattle.gx_units.specs.declared.names.Symbol.{Symbol}
-use Rattle.gx_policy.specs.declared.policy.PolicyData.{PolicyData}
-use Rattle.gx_policy.specs.declared.policy.Stock.{Stock}
-use Rattle.gx_history.specs.declared.record.RecordData.{RecordData}
-use Rattle.gx_history.specs.Live.{side}
-use Rattle.gx_book.specs.declared.resting.Resting.{Resting}
-use Rattle.gx_book.specs.Books.{StockOrders}
+use Rattle.gx_policy.specs.declared.policy.{PolicyData.PolicyData, Stock.Stock}
+use Rattle.gx_history.specs.{declared.record.RecordData.RecordData, Live.side}
+use Rattle.gx_book.specs.{declared.resting.Resting.Resting, Books.StockOrders}
 use Rattle.gx_market.specs.Changes.{resting_of}
 
 -- what the book holds on one side of a stock, true for buys

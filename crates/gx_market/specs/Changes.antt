@@ -1,17 +1,8 @@
 -- What becomes of the book by one more record, in the words of the book's calls.
-use Rattle.std.specs.Option.{option_map_or}
-use Rattle.std.specs.Prelude.{ℕ, ◌-◌, nat_lt, List, fold, if◌then◌else◌}
+use Rattle.std.specs.{Option.option_map_or, Prelude.{ℕ, ◌-◌, nat_lt, List, fold, if◌then◌else◌}}
 use Rattle.gx_desk.specs.declared.Action.{Action}
-use Rattle.gx_desk.specs.declared.Action.TheVariants as actions
-use Rattle.gx_history.specs.declared.live_order.LiveOrder.{LiveOrder}
-use Rattle.gx_history.specs.declared.moves.Move.{Move}
-use Rattle.gx_history.specs.declared.moves.Move.TheVariants.{Sizes, Replaces, Commands, Fills, Rests}
-use Rattle.gx_history.specs.Book.{is_buy}
-use Rattle.gx_history.specs.Live.{live_numbered}
-use Rattle.gx_history.specs.LiveOrders.{shares_open}
-use Rattle.gx_book.specs.declared.resting.Resting.{Resting}
-use Rattle.gx_book.specs.Books.{StockOrders, on_each_side, on_side, with_rested}
-use Rattle.gx_book.specs.Queue.{no_orders, without_account, without_order}
+use Rattle.gx_history.specs.{declared.{live_order.LiveOrder.LiveOrder, moves.Move.{Move, TheVariants.{Sizes, Replaces, Commands, Fills, Rests}}}, Book.is_buy, Live.live_numbered, LiveOrders.shares_open}
+use Rattle.gx_book.specs.{declared.resting.Resting.Resting, Books.{StockOrders, on_each_side, on_side, with_rested}, Queue.{no_orders, without_account, without_order}}
 
 -- what the book holds of a live order that rests
 abbrev pub resting_of : LiveOrder → Resting
@@ -35,8 +26,8 @@ left_with o shares book = if nat_lt 0 shares then book else taken_out o book
 
 -- the orders that an action ends taken out: those of an account, or all
 abbrev pub ended_by : Action → List StockOrders → List StockOrders
-ended_by (actions.Kill account) book = on_each_side (without_account account) book
-ended_by actions.CloseDay book = on_each_side no_orders book
+ended_by (Action.Kill account) book = on_each_side (without_account account) book
+ended_by Action.CloseDay book = on_each_side no_orders book
 ended_by other book = book
 
 -- what is open of an order beyond another size

@@ -1,27 +1,12 @@
 -- What the definitions say of every legal history, in the words of the orders and the book that are kept.
-use Rattle.std.specs.Prelude.{◌≡◌, ℕ, ◌<◌, IsTrue, List, [], ◌∷◌, ◌++◌, Some, None, option_map, if◌then◌else◌}
-use Rattle.std.specs.List.{AllByRecursion}
+use Rattle.std.specs.{Prelude.{◌≡◌, ℕ, ◌<◌, IsTrue, List, [], ◌∷◌, ◌++◌, Some, None, option_map, if◌then◌else◌}, List.AllByRecursion}
 use Rattle.gx_units.specs.declared.names.AccountName.{AccountName}
-use Rattle.gx_desk.specs.declared.Action.TheVariants as actions
+use Rattle.gx_desk.specs.declared.Action.{Action}
 use Rattle.gx_policy.specs.declared.policy.PolicyData.{PolicyData}
-use Rattle.gx_history.specs.declared.live_order.LiveOrder.{LiveOrder}
-use Rattle.gx_history.specs.declared.moves.Move.{Move}
-use Rattle.gx_history.specs.declared.record.RecordData.{RecordData}
-use Rattle.gx_history.specs.declared.record.Step.TheVariants as steps
-use Rattle.gx_history.specs.Book.{is_buy}
-use Rattle.gx_history.specs.Live.{live}
-use Rattle.gx_history.specs.Matching.{matching}
-use Rattle.gx_history.specs.Verdicts.{IsLegal, next}
-use Rattle.gx_history.specs.World.{Does}
-use Rattle.gx_book.specs.declared.resting.Resting.{Resting}
-use Rattle.gx_book.specs.Books.{StockOrders, all_orders, empty_book, is_sound_book, order_in, resting_in}
-use Rattle.gx_book.specs.Queue.{IsLatest}
-use Rattle.gx_orders.specs.InForce.{orders_in_force}
-use Rattle.gx_orders.specs.LiveOrders.{first_waiting, live_numbered, of_account}
-use Rattle.gx_market.specs.BookInForce.{book_in_force}
-use Rattle.gx_market.specs.Changes.{book_moved, each_taken_out, ended_by, resting_of}
-use Rattle.gx_market.specs.Standing.{IsLiveBook}
-use Rattle.gx_market.specs.Meeting.{match_record, next_met}
+use Rattle.gx_history.specs.{declared.{live_order.LiveOrder.LiveOrder, moves.Move.Move, «record».{RecordData.RecordData, Step.Step}}, Book.is_buy, Live.live, Matching.matching, Verdicts.{IsLegal, next}, World.Does}
+use Rattle.gx_book.specs.{declared.resting.Resting.Resting, Books.{StockOrders, all_orders, empty_book, is_sound_book, order_in, resting_in}, Queue.IsLatest}
+use Rattle.gx_orders.specs.{InForce.orders_in_force, LiveOrders.{first_waiting, live_numbered, of_account}}
+use Rattle.gx_market.specs.{BookInForce.book_in_force, Changes.{book_moved, each_taken_out, ended_by, resting_of}, Standing.IsLiveBook, Meeting.{match_record, next_met}}
 
 -- before any record nothing rests
 abbrev pub NoneRestsAtFirst : Type 0
@@ -47,7 +32,7 @@ NextIsMet = (policy : PolicyData) (history : List RecordData)
 abbrev pub NextRecordIsMet : Type 0
 NextRecordIsMet = (policy : PolicyData) (history : List RecordData) (handed : ℕ)
     → IsLegal policy history
-    → next policy history (steps.Matching handed)
+    → next policy history (Step.Matching handed)
     ≡ option_map (match_record history handed) (next_met (orders_in_force policy history) (book_in_force policy history))
 
 -- each buy that rests in the stock is for less than each sell
@@ -83,4 +68,4 @@ BooksAreLive = (policy : PolicyData) (history : List RecordData) → IsLegal pol
 -- the live orders of an account taken out one after the other: that is what a Kill does
 abbrev pub KillTakesLiveOrders : Type 0
 KillTakesLiveOrders = (live : List LiveOrder) (book : List StockOrders) (account : AccountName)
-    → IsLiveBook live book → each_taken_out (of_account account live) book ≡ ended_by (actions.Kill account) book
+    → IsLiveBook live book → each_taken_out (of_account account live) book ≡ ended_by (Action.Kill account) book

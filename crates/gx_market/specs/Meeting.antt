@@ -1,14 +1,7 @@
 -- The next execution, by what is kept: the first that waits, against the best that rests on the other side of its stock.
 use Rattle.std.specs.Prelude.{ℕ, ◌+◌, length, not, List, Option, option_and_then, option_map, option_to_list}
-use Rattle.gx_history.specs.declared.record.RecordData.{RecordData}
-use Rattle.gx_history.specs.declared.record.Step.TheVariants as steps
-use Rattle.gx_history.specs.declared.record.Verdict.{Verdict}
-use Rattle.gx_history.specs.Book.{is_buy}
-use Rattle.gx_history.specs.Verdicts.{moment_of}
-use Rattle.gx_book.specs.declared.resting.Resting.{Resting}
-use Rattle.gx_book.specs.Books.{StockOrders, best_in}
-use Rattle.gx_history.specs.declared.live_order.LiveOrder.{LiveOrder}
-use Rattle.gx_history.specs.Matching.{outcome}
+use Rattle.gx_history.specs.{declared.{«record».{RecordData.RecordData, Step.Step, Verdict.Verdict}, live_order.LiveOrder.LiveOrder}, Book.is_buy, Verdicts.moment_of, Matching.outcome}
+use Rattle.gx_book.specs.{declared.resting.Resting.Resting, Books.{StockOrders, best_in}}
 use Rattle.gx_orders.specs.LiveOrders.{OrdersData, first_waiting, live_numbered}
 
 -- what becomes of an order, over the best on the other side
@@ -27,7 +20,7 @@ next_met orders book = option_map (λ (o : LiveOrder). met o (best_against book 
 abbrev pub match_record : List RecordData → ℕ → Verdict → RecordData
 match_record history handed v = record {
   number = length history + 1;
-  moment = moment_of history (steps.Matching handed);
-  step = steps.Matching handed;
+  moment = moment_of history (Step.Matching handed);
+  step = Step.Matching handed;
   verdict = v;
 }

@@ -1,13 +1,8 @@
 -- Which live orders the orders of a book are.
-use Rattle.std.specs.Prelude.{◌≡◌, Bool, true, false, ◌&&◌, List}
-use Rattle.std.specs.List.{AllByRecursion, list_any}
-use Rattle.gx_units.specs.declared.names.AccountName.{AccountName}
-use Rattle.gx_units.specs.declared.names.Symbol.{Symbol}
-use Rattle.gx_history.specs.declared.live_order.LiveOrder.{LiveOrder}
-use Rattle.gx_history.specs.Live.{is_there}
-use Rattle.gx_book.specs.declared.resting.Resting.{Resting}
-use Rattle.gx_book.specs.Books.{StockOrders}
-use Rattle.gx_book.specs.Queue.{is_of, is_same}
+use Rattle.std.specs.{Prelude.{◌≡◌, Bool, true, false, ◌&&◌, List}, List.{AllByRecursion, list_any}}
+use Rattle.gx_units.specs.declared.names.{AccountName.AccountName, Symbol.Symbol}
+use Rattle.gx_history.specs.{declared.live_order.LiveOrder.LiveOrder, Live.is_there}
+use Rattle.gx_book.specs.{declared.resting.Resting.Resting, Books.StockOrders, Queue.{is_of, is_same}}
 use Rattle.gx_orders.specs.LiveOrders.{of_account}
 use Rattle.gx_market.specs.Changes.{resting_of}
 

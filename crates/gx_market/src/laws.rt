@@ -1,9 +1,6 @@
 //! Laws of the definitions, each as what a function without a body ensures.
 
-ghost use Rattle.gx_market.specs.Laws.{BooksAreLive, BooksAreSound, BooksAreUncrossed, BooksGoOn};
-ghost use Rattle.gx_market.specs.Laws.{FirstIsLatest, KillTakesLiveOrders, LiveWaitOrRest};
-ghost use Rattle.gx_market.specs.Laws.{NextIsMet, NextRecordIsMet, NoneRestsAtFirst};
-ghost use Rattle.gx_market.specs.Laws.{RestingAreLive};
+ghost use Rattle.gx_market.specs.Laws.{BooksAreLive, BooksAreSound, BooksAreUncrossed, BooksGoOn, FirstIsLatest, KillTakesLiveOrders, LiveWaitOrRest, NextIsMet, NextRecordIsMet, NoneRestsAtFirst, RestingAreLive};
 
 /// Before any record nothing rests.
 pub fn book_at_first()

@@ -1,8 +1,7 @@
 //! The next execution: the first order that waits, against the best that rests on the other side of its stock.
 
 ghost use Rattle.std.specs.Prelude.{◌≡◌, not};
-ghost use Rattle.gx_history.specs.Book.{is_buy};
-ghost use Rattle.gx_history.specs.Matching.{crosses, unmatched};
+ghost use Rattle.gx_history.specs.{Book.is_buy, Matching.{crosses, unmatched}};
 ghost use Rattle.gx_market.specs.Meeting.{best_against, met};
 
 use gx_book::book::Book;

@@ -2,8 +2,7 @@
 
 ghost use Rattle.std.specs.Prelude.{◌≡◌, OnErr, OnOk};
 ghost use Rattle.gx_history.specs.Book.{is_buy};
-ghost use Rattle.gx_book.specs.Books.{resting_in};
-ghost use Rattle.gx_book.specs.Queue.{IsLatest};
+ghost use Rattle.gx_book.specs.{Books.resting_in, Queue.IsLatest};
 ghost use Rattle.gx_market.specs.Changes.{left_with, put_to_rest, resting_of, taken_out};
 
 use gx_book::book::Book;

@@ -1,9 +1,7 @@
 -- One Kill more of those of a list of accounts.
-use Rattle.std.proofs.Common.{◌≡◌, ℕ, List, [], ◌∷◌, ◌++◌, ap, sym, ◌∙◌}
-use Rattle.std.proofs.lemmas.List.{append_assoc, append-nil}
+use Rattle.std.proofs.{Common.{◌≡◌, ℕ, List, [], ◌∷◌, ◌++◌, ap, sym, ◌∙◌}, lemmas.List.{append_assoc, append-nil}}
 use Rattle.gx_units.specs.declared.names.AccountName.{AccountName}
-use Rattle.gx_operator.specs.declared.asked.Asked.{Asked}
-use Rattle.gx_operator.specs.Asking.{behind, kill_of, kills_of}
+use Rattle.gx_operator.specs.{declared.asked.Asked.Asked, Asking.{behind, kill_of, kills_of}}
 
 pub one_more : (number next : ℕ) (account : AccountName) (left rest : List AccountName) (kills more all : List Asked)
     → left ≡ account ∷ rest → more ≡ kills ++ kill_of number account ∷ [] → next ≡ behind number

@@ -1,15 +1,12 @@
 -- What is asked of the gate, and under which serials.
 use Rattle.std.specs.Prelude.{ℕ, ◌+◌, ◌*◌, ◌/◌, ◌%◌, min, List, [], ◌∷◌, Option, Some, None}
 use Rattle.gx_units.specs.declared.names.AccountName.{AccountName}
-use Rattle.gx_desk.specs.declared.Action.TheVariants as actions
-use Rattle.gx_desk.specs.declared.Command.{Command}
+use Rattle.gx_desk.specs.declared.{Action.Action, Command.Command}
 use Rattle.gx_ouch.specs.declared.inbound.Inbound.{Inbound}
 use Rattle.gx_soup.specs.Login.{greatest}
 use Rattle.gx_client.specs.Sending.{CarriesCommand, CarriesInbound}
-use Rattle.gx_terminal.specs.declared.wish.Wish.{Wish}
-use Rattle.gx_terminal.specs.Wishes.{command_of, order_of}
+use Rattle.gx_terminal.specs.{declared.wish.Wish.Wish, Wishes.{command_of, order_of}}
 use Rattle.gx_operator.specs.declared.asked.Asked.{Asked}
-use Rattle.gx_operator.specs.declared.asked.Asked.TheVariants as asks
 
 -- the digit of a number whose unit this is
 abbrev pub digit_of : ℕ → ℕ → ℕ
@@ -28,8 +25,8 @@ abbrev pub first_of : ℕ → ℕ
 first_of start = start * 1000000
 
 abbrev pub either : Option Command → Option Inbound → Option Asked
-either (Some command) order = Some (asks.Command command)
-either None (Some order) = Some (asks.Order order)
+either (Some command) order = Some (Asked.Command command)
+either None (Some order) = Some (Asked.Order order)
 either None None = None
 
 -- the command or the order that is wished, under the serial of this number
@@ -39,7 +36,7 @@ asked_of number wish =
 
 -- a Kill of the account, under the serial of this number
 abbrev pub kill_of : ℕ → AccountName → Asked
-kill_of number account = asks.Command (record { tag = record { bytes = serial_of number }; action = actions.Kill account })
+kill_of number account = Asked.Command (record { tag = record { bytes = serial_of number }; action = Action.Kill account })
 
 -- the serial behind this one
 abbrev pub behind : ℕ → ℕ
@@ -52,5 +49,5 @@ kills_of number (account ∷ rest) = kill_of number account ∷ kills_of (behind
 
 -- one packet, in which what was asked is read
 abbrev pub Carries : List ℕ → Asked → Type 0
-Carries bytes (asks.Command command) = CarriesCommand bytes command
-Carries bytes (asks.Order order) = CarriesInbound bytes order
+Carries bytes (Asked.Command command) = CarriesCommand bytes command
+Carries bytes (Asked.Order order) = CarriesInbound bytes order

@@ -1,8 +1,7 @@
 //! What is asked of the gate, and what answers it.
 
 ghost use Rattle.std.specs.Prelude.{◌≡◌, IfOk};
-ghost use Rattle.gx_operator.specs.Asking.{Carries, asked_of, kill_of, kills_of};
-ghost use Rattle.gx_operator.specs.Hearing.{decides, cancels, answers_order, answers};
+ghost use Rattle.gx_operator.specs.{Asking.{Carries, asked_of, kill_of, kills_of}, Hearing.{decides, cancels, answers_order, answers}};
 
 use crate::serial::serial;
 use gx_client::{command_packet, inbound_packet};

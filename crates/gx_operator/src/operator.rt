@@ -1,12 +1,10 @@
 //! A run of the client: what it asks, what it waits for, and what it shows.
 
-ghost use Rattle.std.specs.Prelude.{◌≡◌, ◌∷◌, ◌++◌, ◌+◌, [], ℕ, List, Bool, min, option_map, IfOk, OnOk, OnErr, true, false};
-ghost use Rattle.std.specs.List.{list_any};
+ghost use Rattle.std.specs.{Prelude.{◌≡◌, ◌∷◌, ◌++◌, ◌+◌, [], ℕ, List, Bool, min, option_map, IfOk, OnOk, OnErr, true, false}, List.list_any};
 ghost use Rattle.gx_soup.specs.Login.{greatest};
 ghost use Rattle.gx_history.specs.declared.report.Message.{Message};
 ghost use Rattle.gx_terminal.specs.Statuses.{status_of};
-ghost use Rattle.gx_operator.specs.Asking.{Carries, asked_of, behind, first_of, kills_of};
-ghost use Rattle.gx_operator.specs.Hearing.{answers, answered_by, still_waiting, own_answer, shown_line};
+ghost use Rattle.gx_operator.specs.{Asking.{Carries, asked_of, behind, first_of, kills_of}, Hearing.{answers, answered_by, still_waiting, own_answer, shown_line}};
 
 use crate::asked::{Asked, answers, asked_of, kills_of};
 use crate::telling::{is_of_run, shown_answer, shown_copy, shown_order};

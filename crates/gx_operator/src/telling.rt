@@ -4,8 +4,7 @@ ghost use Rattle.std.specs.Prelude.{◌≡◌, ℕ, IfOk, IfSome, Some, None, op
 ghost use Rattle.gx_history.specs.ReportBytes.{message_bytes, report_bytes};
 ghost use Rattle.gx_client.specs.Reports.{report_bytes as told_bytes};
 ghost use Rattle.gx_operator.specs.Hearing.{token_of, is_own_token, shown_answer};
-ghost use Rattle.gx_lines.specs.AnswerLines.{earlier_answer_line};
-ghost use Rattle.gx_lines.specs.OrderLines.{order_line, copy_line};
+ghost use Rattle.gx_lines.specs.{AnswerLines.earlier_answer_line, OrderLines.{order_line, copy_line}};
 
 use crate::asked::Asked;
 use crate::serial::serial;

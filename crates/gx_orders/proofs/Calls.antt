@@ -1,22 +1,12 @@
 -- What each call leaves in the tables, and what it answers from them.
-use Rattle.std.proofs.Common.{◌≡◌, ℕ, ◌<◌, ◌≤◌, Bool, true, false, cond, List, [], ◌∷◌, ◌++◌, refl, ◌∙◌, sym, ap, subst, if◌then◌else◌, arith}
-use Rattle.std.specs.Prelude.{Option, Some, None}
-use Rattle.std.specs.List.{last_or, AllByRecursion}
-use Rattle.std.specs.Map.{keys_of, lookup}
+use Rattle.std.proofs.{Common.{◌≡◌, ℕ, ◌<◌, ◌≤◌, Bool, true, false, cond, List, [], ◌∷◌, ◌++◌, refl, ◌∙◌, sym, ap, subst, if◌then◌else◌, arith}, lemmas.Bool.{ne_eqb, le-ltb}}
+use Rattle.std.specs.{Prelude.{Option, Some, None}, List.{last_or, AllByRecursion}, Map.{keys_of, lookup}}
 use Rattle.indexmap.specs.IndexMap as index
-use Rattle.std.proofs.lemmas.Bool.{ne_eqb, le-ltb}
-use Rattle.gx_units.specs.declared.names.Token.{Token}
-use Rattle.gx_units.specs.declared.names.UserName.{UserName}
-use Rattle.gx_history.specs.declared.live_order.LiveOrder.{LiveOrder}
-use Rattle.gx_history.specs.declared.live_order.UserToken.{UserToken}
-use Rattle.gx_history.specs.LiveOrders.{is_under, key, token_of}
-use Rattle.gx_history.specs.Live.{live_under}
+use Rattle.gx_units.specs.declared.names.{Token.Token, UserName.UserName}
+use Rattle.gx_history.specs.{declared.live_order.{LiveOrder.LiveOrder, UserToken.UserToken}, LiveOrders.{is_under, key, token_of}, Live.live_under}
 use Rattle.gx_slab.specs.Slabs as slabs
-use Rattle.gx_orders.specs.LiveOrders.{OrdersData, IsOpen, NumbersRise, at_rest, changed, is_used, open_ones, live_numbered, resized, resized_at, same_user_token, without}
-use Rattle.gx_orders.specs.Tables.{AreTied, shown}
-use Rattle.gx_orders.proofs.Kept.{IsBelow, all_changed, changed_alike, changed_nowhere, found_has_number, none_shut, shut}
-use Rattle.gx_orders.proofs.Tying.{tied_entered, tied_resized}
-use Rattle.gx_orders.proofs.Answering.{nothing_under, under_found, token_last, unused}
+use Rattle.gx_orders.specs.{LiveOrders.{OrdersData, IsOpen, NumbersRise, at_rest, changed, is_used, open_ones, live_numbered, resized, resized_at, same_user_token, without}, Tables.{AreTied, shown}}
+use Rattle.gx_orders.proofs.{Kept.{IsBelow, all_changed, changed_alike, changed_nowhere, found_has_number, none_shut, shut}, Tying.{tied_entered, tied_resized}, Answering.{nothing_under, under_found, token_last, unused}}
 
 -- the order of the user under the token, where one was entered under it, is live and is under it
 abbrev pub checked : UserName → Token → Option LiveOrder → Option LiveOrder

@@ -1,24 +1,14 @@
 -- The orders of an account end one by one.
-use Rattle.std.proofs.Common.{◌≡◌, ℕ, ◌<◌, ◌≤◌, ◌+◌, arith, true, false, not, Bool, cond, List, [], ◌∷◌, length, drop, get_or, refl, ◌∙◌, ap, sym, subst, ◌==◌}
-use Rattle.std.specs.Prelude.{Option, Some, None, ◌&&◌}
-use Rattle.std.specs.List.{cons_option, AllByRecursion}
-use Rattle.std.proofs.Math.ListN.{drop_of_length-le}
-use Rattle.std.proofs.lemmas.Bool.{eqb-true, ne_eqb}
-use Rattle.std.proofs.lemmas.List.{drop_more}
-use Rattle.gx_units.specs.Names.{same_account}
-use Rattle.gx_units.specs.declared.names.AccountName.{AccountName}
-use Rattle.gx_units.specs.declared.names.UserName.{UserName}
-use Rattle.gx_history_laws.proofs.Judging.{both}
-use Rattle.gx_history_laws.proofs.Owners.{filtered}
+use Rattle.std.proofs.{Common.{◌≡◌, ℕ, ◌<◌, ◌≤◌, ◌+◌, arith, true, false, not, Bool, cond, List, [], ◌∷◌, length, drop, get_or, refl, ◌∙◌, ap, sym, subst, ◌==◌}, Math.ListN.drop_of_length-le, lemmas.{Bool.{eqb-true, ne_eqb}, List.drop_more}}
+use Rattle.std.specs.{Prelude.{Option, Some, None, ◌&&◌}, List.{cons_option, AllByRecursion}}
+use Rattle.gx_units.specs.{Names.same_account, declared.names.{AccountName.AccountName, UserName.UserName}}
+use Rattle.gx_history_laws.proofs.{Judging.both, Owners.filtered}
 use Rattle.gx_history.specs.declared.live_order.LiveOrder.{LiveOrder}
 use Rattle.gx_slab.specs.Slabs as slabs
 use Rattle.gx_slab.specs.Slabs.{numbered_of, order_of}
-use Rattle.gx_orders.specs.LiveOrders.{IsOpen, NumbersRise, has_number, live_numbered, of_account, of_others, resized, without}
-use Rattle.gx_orders.specs.Tables.{CanEnd, CountsOneLess, without_of}
+use Rattle.gx_orders.specs.{LiveOrders.{IsOpen, NumbersRise, has_number, live_numbered, of_account, of_others, resized, without}, Tables.{CanEnd, CountsOneLess, without_of}}
 use Rattle.gx_orders.proofs.Calls as calls
-use Rattle.gx_orders.proofs.Counted.{counted_ended}
-use Rattle.gx_orders.proofs.Kept.{IsAbove, behind, none_taken, rise_chosen}
-use Rattle.gx_orders.proofs.Listing.{found_left, found_passes, given_always, given_left, is_its, its_number, none_ends}
+use Rattle.gx_orders.proofs.{Counted.counted_ended, Kept.{IsAbove, behind, none_taken, rise_chosen}, Listing.{found_left, found_passes, given_always, given_left, is_its, its_number, none_ends}}
 
 -- ---- one order ends
 

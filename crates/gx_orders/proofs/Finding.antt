@@ -1,34 +1,13 @@
 -- How each record finds the orders that are kept.
 use Rattle.std.proofs.Common.{◌≡◌, ℕ, ◌<◌, List, ◌∷◌, refl, ◌∙◌, sym, ap, subst}
 use Rattle.std.specs.Prelude.{Option, Some, None, IfSome, IsFalse, slice_get}
-use Rattle.gx_units.specs.declared.names.Token.{Token}
-use Rattle.gx_units.specs.declared.names.UserName.{UserName}
-use Rattle.gx_policy.specs.declared.policy.PolicyData.{PolicyData}
-use Rattle.gx_policy.specs.declared.rule_name.RuleName.{RuleName}
-use Rattle.gx_history.specs.declared.live_order.LiveOrder.{LiveOrder}
-use Rattle.gx_history.specs.declared.moves.Move.{Move}
-use Rattle.gx_history.specs.declared.moves.Move.TheVariants.{Adds, Commands, Denies, Expires, Fills, Nothing, PutsOn, Replaces, Rests, Sizes}
-use Rattle.gx_history.specs.declared.record.Asked.{Asked}
-use Rattle.gx_history.specs.declared.record.RecordData.{RecordData}
-use Rattle.gx_history.specs.declared.record.Verdict.TheVariants as verdicts
-use Rattle.gx_history.specs.Live.{live, live_under, waiting}
-use Rattle.gx_history.specs.LiveOrders.{is_under}
-use Rattle.gx_history.specs.MayMove.{IsNew, MayExpire, MayReplace, MayRest}
-use Rattle.gx_history.specs.Verdicts.{IsLegal, next, verdict}
-use Rattle.gx_history.specs.World.{Does, world}
-use Rattle.gx_history_laws.proofs.Granting.{verdict_of_next}
-use Rattle.gx_history_laws.proofs.Numbers.{number_left}
-use Rattle.gx_history_laws.proofs.Owners.{last_such_is}
-use Rattle.gx_effects.proofs.Doing.{IsDenied, denial_does, may_do}
-use Rattle.gx_effects.proofs.Resting.{IsLiving, all_living, first_lives}
-use Rattle.gx_orders.specs.Changes.{IsUnused, denied_token}
-use Rattle.gx_orders.specs.InForce.{orders_in_force}
-use Rattle.gx_orders.specs.Laws.{ComesFirst, IsNewTo, MakesPlace, RecordsFindOrders}
-use Rattle.gx_orders.specs.LiveOrders.{AreBelow, first_waiting, is_used, live_numbered}
-use Rattle.gx_orders.proofs.Keeping.{first_of_filter, used_is}
-use Rattle.gx_orders.proofs.Matching.{fills_fit}
-use Rattle.gx_orders.proofs.Staying.{live_within}
-use Rattle.gx_orders.proofs.Tokens.{denied_is_new}
+use Rattle.gx_units.specs.declared.names.{Token.Token, UserName.UserName}
+use Rattle.gx_policy.specs.declared.{policy.PolicyData.PolicyData, rule_name.RuleName.RuleName}
+use Rattle.gx_history.specs.{declared.{live_order.LiveOrder.LiveOrder, moves.Move.{Move, TheVariants.{Adds, Commands, Denies, Expires, Fills, Nothing, PutsOn, Replaces, Rests, Sizes}}, «record».{Asked.Asked, RecordData.RecordData, Verdict.Verdict}}, Live.{live, live_under, waiting}, LiveOrders.is_under, MayMove.{IsNew, MayExpire, MayReplace, MayRest}, Verdicts.{IsLegal, next, verdict}, World.{Does, world}}
+use Rattle.gx_history_laws.proofs.{Granting.verdict_of_next, Numbers.number_left, Owners.last_such_is}
+use Rattle.gx_effects.proofs.{Doing.{IsDenied, denial_does, may_do}, Resting.{IsLiving, all_living, first_lives}}
+use Rattle.gx_orders.specs.{Changes.{IsUnused, denied_token}, InForce.orders_in_force, Laws.{ComesFirst, IsNewTo, MakesPlace, RecordsFindOrders}, LiveOrders.{AreBelow, first_waiting, is_used, live_numbered}}
+use Rattle.gx_orders.proofs.{Keeping.{first_of_filter, used_is}, Matching.fills_fit, Staying.live_within, Tokens.denied_is_new}
 
 -- an order that is found under a token is found under its number
 pub named_lives : (policy : PolicyData) (history : List RecordData) (user : UserName) (token : Token) (o : LiveOrder) → IsLegal policy history → live_under (live policy history) user token ≡ Some o
@@ -50,7 +29,7 @@ unused policy history r a rule d = by (denied_token rule a.request) refl
     is : IsDenied r.verdict r.step a rule
     is = denial_does policy history r a rule d
 
-    denied : verdict policy history a ≡ verdicts.Denied rule
+    denied : verdict policy history a ≡ Verdict.Denied rule
     denied = sym (verdict_of_next policy history a r (ap (next policy history) (sym is.asks) ∙ d.is_next)) ∙ is.denied
 
     by : (found : Option Token) → denied_token rule a.request ≡ found → IfSome found (λ (token : Token). IsFalse (is_used (orders_in_force policy history).used a.user token))

@@ -1,22 +1,11 @@
 -- What is kept answers what the definitions ask.
-use Rattle.std.proofs.Common.{◌≡◌, Bool, true, false, cond, List, [], ◌∷◌, ◌++◌, refl, ◌∙◌, sym, ap, if◌then◌else◌}
-use Rattle.std.specs.Prelude.{Option, Some, None, ◌&&◌, ◌||◌, option_map, option_to_list, slice_get}
-use Rattle.std.specs.Option.{option_map_or}
-use Rattle.std.specs.List.{filter, find, filter_map, cons_option, list_any}
-use Rattle.std.proofs.lemmas.List.Elements.{filter_map-append}
-use Rattle.gx_units.specs.Names.{same_user, same_token}
-use Rattle.gx_units.specs.declared.names.Token.{Token}
-use Rattle.gx_units.specs.declared.names.UserName.{UserName}
+use Rattle.std.proofs.{Common.{◌≡◌, Bool, true, false, cond, List, [], ◌∷◌, ◌++◌, refl, ◌∙◌, sym, ap, if◌then◌else◌}, lemmas.List.Elements.filter_map-append}
+use Rattle.std.specs.{Prelude.{Option, Some, None, ◌&&◌, ◌||◌, option_map, option_to_list, slice_get}, Option.option_map_or, List.{filter, find, filter_map, cons_option, list_any}}
+use Rattle.gx_units.specs.{Names.{same_user, same_token}, declared.names.{Token.Token, UserName.UserName}}
 use Rattle.gx_policy.specs.declared.policy.PolicyData.{PolicyData}
-use Rattle.gx_history.specs.declared.record.Asked.{Asked}
-use Rattle.gx_history.specs.declared.record.RecordData.{RecordData}
-use Rattle.gx_history.specs.Orders.{asks_under, is_token_used, record_uses, uses_token}
-use Rattle.gx_history.specs.Requests.{asked, new_token}
+use Rattle.gx_history.specs.{declared.{«record».{Asked.Asked, RecordData.RecordData}, live_order.UserToken.UserToken}, Orders.{asks_under, is_token_used, record_uses, uses_token}, Requests.{asked, new_token}, LiveOrders.key}
 use Rattle.gx_history_laws.proofs.Names.{same_token_flip, same_user_flip}
-use Rattle.gx_history.specs.declared.live_order.UserToken.{UserToken}
-use Rattle.gx_history.specs.LiveOrders.{key}
-use Rattle.gx_orders.specs.LiveOrders.{is_used, same_user_token}
-use Rattle.gx_orders.specs.InForce.{orders_in_force, token_asked, token_used_by, used_tokens}
+use Rattle.gx_orders.specs.{LiveOrders.{is_used, same_user_token}, InForce.{orders_in_force, token_asked, token_used_by, used_tokens}}
 
 -- the first that passes is the first of those that pass
 pub first_of_filter : {X : Type 0} (p : X → Bool) (xs : List X) → find p xs ≡ slice_get (filter p xs) 0

@@ -1,20 +1,11 @@
 -- The orders that the numbers of an account give, after each change.
-use Rattle.std.proofs.Common.{◌≡◌, ℕ, ◌<◌, arith, true, false, not, Bool, cond, List, [], ◌∷◌, ◌++◌, map, refl, ◌∙◌, ap, sym, subst, ◌==◌, if◌then◌else◌}
-use Rattle.std.specs.Prelude.{OnOk, Option, Some, None, Result, Ok, Err, ◌&&◌, is_some, option_map, unwrap_or}
-use Rattle.std.specs.List.{cons_option, filter, filter_map, find, AllByRecursion}
-use Rattle.std.specs.Map.{lookup}
-use Rattle.std.proofs.lemmas.Bool.{eq-eqb, eqb-true, ne_eqb}
-use Rattle.std.proofs.lemmas.List.{append-nil}
-use Rattle.std.proofs.lemmas.List.Elements.{filter-append, filter_map-append}
-use Rattle.gx_units.specs.Names.{same_account}
-use Rattle.gx_units.specs.declared.names.AccountName.{AccountName}
-use Rattle.gx_history_laws.proofs.Judging.{both}
-use Rattle.gx_history_laws.proofs.Names.{account_is, account_is_itself, same_account_flip}
-use Rattle.gx_history_laws.proofs.Order.{some_same}
+use Rattle.std.proofs.{Common.{◌≡◌, ℕ, ◌<◌, arith, true, false, not, Bool, cond, List, [], ◌∷◌, ◌++◌, map, refl, ◌∙◌, ap, sym, subst, ◌==◌, if◌then◌else◌}, lemmas.{Bool.{eq-eqb, eqb-true, ne_eqb}, List.{append-nil, Elements.{filter-append, filter_map-append}}}}
+use Rattle.std.specs.{Prelude.{OnOk, Option, Some, None, Result, Ok, Err, ◌&&◌, is_some, option_map, unwrap_or}, List.{cons_option, filter, filter_map, find, AllByRecursion}, Map.lookup}
+use Rattle.gx_units.specs.{Names.same_account, declared.names.AccountName.AccountName}
+use Rattle.gx_history_laws.proofs.{Judging.both, Names.{account_is, account_is_itself, same_account_flip}, Order.some_same}
 use Rattle.gx_history.specs.declared.live_order.LiveOrder.{LiveOrder}
 use Rattle.gx_slab.specs.Slabs.{numbered_of, order_of}
-use Rattle.gx_orders.specs.LiveOrders.{changed, has_number, of_account, of_others, without}
-use Rattle.gx_orders.specs.Tables.{AreListed, ListsOneMore, ListsTheSame, NumbersBelow, is_live_of, listed_of}
+use Rattle.gx_orders.specs.{LiveOrders.{changed, has_number, of_account, of_others, without}, Tables.{AreListed, ListsOneMore, ListsTheSame, NumbersBelow, is_live_of, listed_of}}
 use Rattle.gx_orders.proofs.Kept.{IsBelow}
 
 -- ---- what is found

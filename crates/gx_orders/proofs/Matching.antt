@@ -1,27 +1,11 @@
 -- What the record of a matching step does to the orders that are kept.
-use Rattle.std.proofs.Common.{◌≡◌, ℕ, ◌+◌, ◌-◌, ◌<◌, ◌≤◌, Bool, true, false, not, cond, List, [], ◌∷◌, map, refl, ◌∙◌, sym, ap, subst, arith, if◌then◌else◌, min}
-use Rattle.std.proofs.Math.Nat.{min-le_left, min-le_right}
-use Rattle.std.specs.Prelude.{Option, Some, ◌||◌, ◌==◌, is_some, IfSome}
-use Rattle.std.specs.List.{AllByRecursion}
-use Rattle.std.proofs.lemmas.Bool.{le-ltb, ltb-false, eqb-true, eq-eqb, ne_eqb, lt-ltb}
-use Rattle.gx_history.specs.declared.live_order.LiveOrder.{LiveOrder}
-use Rattle.gx_history.specs.declared.record.Fill.{Fill}
-use Rattle.gx_history.specs.declared.record.RecordData.{RecordData}
+use Rattle.std.proofs.{Common.{◌≡◌, ℕ, ◌+◌, ◌-◌, ◌<◌, ◌≤◌, Bool, true, false, not, cond, List, [], ◌∷◌, map, refl, ◌∙◌, sym, ap, subst, arith, if◌then◌else◌, min}, Math.Nat.{min-le_left, min-le_right}, lemmas.Bool.{le-ltb, ltb-false, eqb-true, eq-eqb, ne_eqb, lt-ltb}}
+use Rattle.std.specs.{Prelude.{Option, Some, ◌||◌, ◌==◌, is_some, IfSome}, List.AllByRecursion}
+use Rattle.gx_history.specs.{declared.{live_order.LiveOrder.LiveOrder, «record».{Fill.Fill, RecordData.RecordData}}, Verdicts.IsLegal, Book.is_buy, LiveOrders.shares_open, MayMove.MayFill, Live.live, World.world}
 use Rattle.gx_policy.specs.declared.policy.PolicyData.{PolicyData}
-use Rattle.gx_history.specs.Verdicts.{IsLegal}
-use Rattle.gx_history.specs.Book.{is_buy}
-use Rattle.gx_history.specs.LiveOrders.{shares_open}
-use Rattle.gx_history.specs.MayMove.{MayFill}
-use Rattle.gx_history.specs.Live.{live}
-use Rattle.gx_history.specs.World.{world}
-use Rattle.gx_history_laws.proofs.Order.{some_same}
-use Rattle.gx_history_laws.proofs.Ends.{live_have_open}
-use Rattle.gx_effects.proofs.NewOrders.{found_is}
-use Rattle.gx_effects.proofs.Resting.{does_not_rest, first_lives}
-use Rattle.gx_effects.proofs.Known.{RestsThere, all_resting}
-use Rattle.gx_effects.proofs.Orderly.{legal_is_orderly}
-use Rattle.gx_orders.specs.LiveOrders.{HasOpen, filled, filled_at, has_number, is_open, open_ones, live_numbered, IsOpen}
-use Rattle.gx_orders.specs.Laws.{CanFill}
+use Rattle.gx_history_laws.proofs.{Order.some_same, Ends.live_have_open}
+use Rattle.gx_effects.proofs.{NewOrders.found_is, Resting.{does_not_rest, first_lives}, Known.{RestsThere, all_resting}, Orderly.legal_is_orderly}
+use Rattle.gx_orders.specs.{LiveOrders.{HasOpen, filled, filled_at, has_number, is_open, open_ones, live_numbered, IsOpen}, Laws.CanFill}
 
 -- a fill
 

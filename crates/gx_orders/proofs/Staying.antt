@@ -1,23 +1,11 @@
 -- What of the orders that are kept stays after one more record.
 use Rattle.std.proofs.Common.{◌≡◌, ℕ, ◌+◌, ◌<◌, ◌≤◌, List, [], ◌∷◌, ◌++◌, length, ◌∙◌, ap, arith}
-use Rattle.std.specs.Prelude.{Option, Some, option_to_list}
-use Rattle.std.specs.List.{AllByRecursion, filter_map}
-use Rattle.gx_policy.specs.declared.policy.PolicyData.{PolicyData}
-use Rattle.gx_history.specs.declared.record.RecordData.{RecordData}
-use Rattle.gx_history.specs.Executions.{executions}
-use Rattle.gx_history.specs.Orders.{Order}
-use Rattle.gx_policy.specs.People.{account_of}
-use Rattle.gx_history.specs.Verdicts.{IsLegal}
-use Rattle.gx_history_laws.proofs.NextOrders.{orders_none}
-use Rattle.gx_history_laws.proofs.Numbers.{numbers_are_within}
-use Rattle.gx_history_laws.proofs.Owners.{orders_are_their_users}
+use Rattle.std.specs.{Prelude.{Option, Some, option_to_list}, List.{AllByRecursion, filter_map}}
+use Rattle.gx_policy.specs.{declared.policy.PolicyData.PolicyData, People.account_of}
+use Rattle.gx_history.specs.{declared.{«record».RecordData.RecordData, live_order.{LiveOrder.LiveOrder, UserToken.UserToken}}, Executions.executions, Orders.Order, Verdicts.IsLegal, Live.{live, open_now}}
+use Rattle.gx_history_laws.proofs.{NextOrders.orders_none, Numbers.numbers_are_within, Owners.orders_are_their_users}
 use Rattle.gx_effects.proofs.Resting.{of_live}
-use Rattle.gx_history.specs.declared.live_order.LiveOrder.{LiveOrder}
-use Rattle.gx_history.specs.declared.live_order.UserToken.{UserToken}
-use Rattle.gx_history.specs.Live.{live, open_now}
-use Rattle.gx_orders.specs.LiveOrders.{OrdersData}
-use Rattle.gx_orders.specs.InForce.{token_used_by, used_tokens}
-use Rattle.gx_orders.specs.Laws.{AccountsAreTheUsers, NoneAtFirst}
+use Rattle.gx_orders.specs.{LiveOrders.OrdersData, InForce.{token_used_by, used_tokens}, Laws.{AccountsAreTheUsers, NoneAtFirst}}
 use Rattle.gx_orders.proofs.Keeping.{used_next}
 
 -- both lists are the same

@@ -1,41 +1,23 @@
 -- A token that a denial uses was not used before.
 use Rattle.std.proofs.Common.{◌≡◌, ◌+◌, Bool, true, false, cond, List, [], ◌∷◌, ◌++◌, map, length, refl, ◌∙◌, sym, ap, subst, if◌then◌else◌}
-use Rattle.std.specs.Prelude.{Option, Some, None, option_map, drop}
-use Rattle.std.specs.List.{find, AllByRecursion}
+use Rattle.std.specs.{Prelude.{Option, Some, None, option_map, drop}, List.{find, AllByRecursion}}
 use Rattle.gx_units.specs.declared.names.Token.{Token}
-use Rattle.gx_history.specs.declared.facts.Facts.{Facts}
-use Rattle.gx_history.specs.declared.facts.RuleFigures.{RuleFigures}
-use Rattle.gx_policy.specs.declared.policy.FileRule.{FileRule}
-use Rattle.gx_policy.specs.declared.policy.PolicyData.{PolicyData}
-use Rattle.gx_history.specs.declared.record.Asked.{Asked}
-use Rattle.gx_history.specs.declared.record.RecordData.{RecordData}
-use Rattle.gx_history.specs.declared.record.Request.{Request}
-use Rattle.gx_policy.specs.declared.rule_name.RuleName.{RuleName}
-use Rattle.gx_policy.specs.declared.rule_name.RuleName.TheVariants.{L1, L2, L3, G1, G2, G3, I1}
-use Rattle.gx_history.specs.declared.record.Step.TheVariants as steps
-use Rattle.gx_history.specs.declared.record.Verdict.TheVariants as verdicts
-use Rattle.gx_history.specs.Orders.{is_token_used}
-use Rattle.gx_history.specs.Requests.{new_token}
-use Rattle.gx_policy.specs.RuleNames.{is_answered_rule, rules_before, rules_behind}
-use Rattle.gx_history.specs.Rules.{Rule, BuiltIn, OfFile, applies, first_forbidding, forbids, name_of, written_order}
-use Rattle.gx_history.specs.Verdicts.{facts_now, moment_of, next, rules_now, verdict, verdict_by}
-use Rattle.gx_history_laws.proofs.Granting.{left_by_request, verdict_left}
-use Rattle.gx_history_laws.proofs.Order.{some_same}
-use Rattle.gx_orders.specs.LiveOrders.{is_used}
-use Rattle.gx_orders.specs.InForce.{orders_in_force}
+use Rattle.gx_history.specs.{declared.{facts.{Facts.Facts, RuleFigures.RuleFigures}, «record».{Asked.Asked, RecordData.RecordData, Request.Request, Step.Step, Verdict.Verdict}}, Orders.is_token_used, Requests.new_token, Rules.{Rule, BuiltIn, OfFile, applies, first_forbidding, forbids, name_of, written_order}, Verdicts.{facts_now, moment_of, next, rules_now, verdict, verdict_by}}
+use Rattle.gx_policy.specs.{declared.{policy.{FileRule.FileRule, PolicyData.PolicyData}, rule_name.RuleName.{RuleName, TheVariants.{L1, L2, L3, G1, G2, G3, I1}}}, RuleNames.{is_answered_rule, rules_before, rules_behind}}
+use Rattle.gx_history_laws.proofs.{Granting.{left_by_request, verdict_left}, Order.some_same}
+use Rattle.gx_orders.specs.{LiveOrders.is_used, InForce.orders_in_force, Changes.denied_token}
 use Rattle.gx_effects.proofs.Moving.{token_fact}
-use Rattle.gx_orders.specs.Changes.{denied_token}
 use Rattle.gx_orders.proofs.Keeping.{used_is}
 
 -- the record that the request leaves
 abbrev pub left_now : PolicyData → List RecordData → Asked → RecordData
 left_now policy history a =
-    record { number = length history + 1; moment = moment_of history (steps.Asked a); step = steps.Asked a; verdict = verdict policy history a }
+    record { number = length history + 1; moment = moment_of history (Step.Asked a); step = Step.Asked a; verdict = verdict policy history a }
 
-pub is_left : (policy : PolicyData) (history : List RecordData) (a : Asked) → next policy history (steps.Asked a) ≡ Some (left_now policy history a)
+pub is_left : (policy : PolicyData) (history : List RecordData) (a : Asked) → next policy history (Step.Asked a) ≡ Some (left_now policy history a)
 is_left policy history a = left_by_request policy history a
 
-found_that : (found : Option RuleName) (name : RuleName) → verdict_by found ≡ verdicts.Denied name → found ≡ Some name
+found_that : (found : Option RuleName) (name : RuleName) → verdict_by found ≡ Verdict.Denied name → found ≡ Some name
 found_that None name h = cc
 found_that (Some rule) name h = cc
 
@@ -63,7 +45,7 @@ used_is_unanswered rules given q name used found = at (find (applies given q) (w
         ∙ found_early IsUnanswered (applies given q) (BuiltIn L1 ∷ BuiltIn L2 ∷ BuiltIn L3 ∷ BuiltIn G1 ∷ BuiltIn G2 ∷ BuiltIn G3 ∷ []) (BuiltIn I1)
         (map BuiltIn (drop 7 rules_before) ++ map OfFile rules ++ map BuiltIn rules_behind) rule (refl, (refl, (refl, (refl, (refl, (refl, tt)))))) refl used e
 
-answered_is_new : (policy : PolicyData) (history : List RecordData) (a : Asked) (rule : RuleName) (token : Token) → verdict policy history a ≡ verdicts.Denied rule
+answered_is_new : (policy : PolicyData) (history : List RecordData) (a : Asked) (rule : RuleName) (token : Token) → verdict policy history a ≡ Verdict.Denied rule
     → is_answered_rule rule ≡ true → new_token a.request ≡ Some token → is_token_used history a.user token ≡ false
 answered_is_new policy history a rule token denied answered under = at (is_token_used history a.user token) refl
   where
@@ -77,7 +59,7 @@ answered_is_new policy history a rule token denied answered under = at (is_token
         cc
 
 -- the token that a denial uses
-pub denied_is_new : (policy : PolicyData) (history : List RecordData) (a : Asked) (rule : RuleName) (token : Token) → verdict policy history a ≡ verdicts.Denied rule → denied_token rule a.request ≡ Some token
+pub denied_is_new : (policy : PolicyData) (history : List RecordData) (a : Asked) (rule : RuleName) (token : Token) → verdict policy history a ≡ Verdict.Denied rule → denied_token rule a.request ≡ Some token
     → is_used (orders_in_force policy history).used a.user token ≡ false
 denied_is_new policy history a rule token denied uses = at (is_answered_rule rule) refl uses
   where

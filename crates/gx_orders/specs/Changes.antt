@@ -1,19 +1,9 @@
 -- What one more record does to the orders that are kept.
 use Rattle.std.specs.Prelude.{IfSome, IsFalse, Bool, true, false, List, [], ◌∷◌, ◌++◌, Option, None, option_map, option_to_list, if◌then◌else◌}
-use Rattle.gx_units.specs.declared.names.Token.{Token}
-use Rattle.gx_units.specs.declared.names.UserName.{UserName}
+use Rattle.gx_units.specs.declared.names.{Token.Token, UserName.UserName}
 use Rattle.gx_desk.specs.declared.Action.{Action}
-use Rattle.gx_desk.specs.declared.Action.TheVariants as actions
-use Rattle.gx_history.specs.declared.moves.Move.{Move}
-use Rattle.gx_history.specs.declared.moves.Move.TheVariants.{Denies, Adds, Sizes, Replaces, Commands, Fills, Rests, Expires}
-use Rattle.gx_history.specs.declared.record.Asked.{Asked}
-use Rattle.gx_history.specs.declared.record.Request.{Request}
-use Rattle.gx_policy.specs.declared.rule_name.RuleName.{RuleName}
-use Rattle.gx_history.specs.Requests.{new_token}
-use Rattle.gx_policy.specs.RuleNames.{is_answered_rule}
-use Rattle.gx_history.specs.declared.live_order.LiveOrder.{LiveOrder}
-use Rattle.gx_history.specs.declared.live_order.UserToken.{UserToken}
-use Rattle.gx_history.specs.LiveOrders.{key, token_of}
+use Rattle.gx_history.specs.{declared.{moves.Move.{Move, TheVariants.{Denies, Adds, Sizes, Replaces, Commands, Fills, Rests, Expires}}, «record».{Asked.Asked, Request.Request}, live_order.{LiveOrder.LiveOrder, UserToken.UserToken}}, Requests.new_token, LiveOrders.{key, token_of}}
+use Rattle.gx_policy.specs.{declared.rule_name.RuleName.RuleName, RuleNames.is_answered_rule}
 use Rattle.gx_orders.specs.LiveOrders.{OrdersData, at_rest, changed, cut_at, filled_at, is_used, of_others, without}
 
 -- the orders with another list of live ones
@@ -42,14 +32,14 @@ marked_by a rule orders = marking a.user (denied_token rule a.request) orders
 
 -- a command that ends no order
 abbrev pub is_lasting : Action → Bool
-is_lasting (actions.Kill account) = false
-is_lasting actions.CloseDay = false
+is_lasting (Action.Kill account) = false
+is_lasting Action.CloseDay = false
 is_lasting other = true
 
 -- the orders that the action leaves, in their places
 abbrev pub live_left : Action → List LiveOrder → List LiveOrder
-live_left (actions.Kill account) live = of_others account live
-live_left actions.CloseDay live = []
+live_left (Action.Kill account) live = of_others account live
+live_left Action.CloseDay live = []
 live_left other live = live
 
 -- the orders that are kept, once a record has done this

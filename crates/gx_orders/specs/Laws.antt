@@ -1,22 +1,9 @@
 -- What the definitions say of every history, in the words of what is kept.
-use Rattle.std.specs.Prelude.{◌≡◌, ◌<◌, ◌==◌, is_some, IsTrue, IsFalse, IfSome, List, [], ◌∷◌, ◌++◌, Some}
-use Rattle.std.specs.List.{AllByRecursion}
-use Rattle.gx_units.specs.declared.names.UserName.{UserName}
-use Rattle.gx_units.specs.declared.names.Token.{Token}
-use Rattle.std.specs.Prelude.{ℕ}
-use Rattle.gx_policy.specs.declared.policy.PolicyData.{PolicyData}
-use Rattle.gx_policy.specs.People.{account_of}
-use Rattle.gx_history.specs.declared.live_order.LiveOrder.{LiveOrder}
-use Rattle.gx_history.specs.declared.moves.Move.{Move}
-use Rattle.gx_history.specs.declared.moves.Move.TheVariants.{Denies, Adds, Sizes, Replaces, Fills, Rests, Expires}
-use Rattle.gx_history.specs.declared.record.Fill.{Fill}
-use Rattle.gx_history.specs.declared.record.RecordData.{RecordData}
-use Rattle.gx_history.specs.Orders.{is_token_used}
-use Rattle.gx_history.specs.Live.{live}
-use Rattle.gx_history.specs.World.{Does}
-use Rattle.gx_orders.specs.LiveOrders.{OrdersData, AreBelow, HasOpen, filled_at, first_waiting, is_used, live_numbered}
-use Rattle.gx_orders.specs.InForce.{orders_in_force}
-use Rattle.gx_orders.specs.Changes.{IsUnused, orders_moved}
+use Rattle.std.specs.{Prelude.{◌≡◌, ◌<◌, ◌==◌, is_some, IsTrue, IsFalse, IfSome, List, [], ◌∷◌, ◌++◌, Some, ℕ}, List.AllByRecursion}
+use Rattle.gx_units.specs.declared.names.{UserName.UserName, Token.Token}
+use Rattle.gx_policy.specs.{declared.policy.PolicyData.PolicyData, People.account_of}
+use Rattle.gx_history.specs.{declared.{live_order.LiveOrder.LiveOrder, moves.Move.{Move, TheVariants.{Denies, Adds, Sizes, Replaces, Fills, Rests, Expires}}, «record».{Fill.Fill, RecordData.RecordData}}, Orders.is_token_used, Live.live, World.Does}
+use Rattle.gx_orders.specs.{LiveOrders.{OrdersData, AreBelow, HasOpen, filled_at, first_waiting, is_used, live_numbered}, InForce.orders_in_force, Changes.{IsUnused, orders_moved}}
 
 -- before any record there is no order and no used token
 abbrev pub NoneAtFirst : Type 0

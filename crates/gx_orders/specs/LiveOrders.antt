@@ -1,13 +1,8 @@
 -- The live orders, and what becomes of them.
-use Rattle.std.specs.Prelude.{IsTrue, ℕ, ◌+◌, ◌<◌, ◌≤◌, Bool, false, ◌&&◌, not, List, [], ◌∷◌, map, if◌then◌else◌}
-use Rattle.std.specs.List.{filter, list_any, AllByRecursion}
-use Rattle.gx_units.specs.Names.{same_user, same_token}
-use Rattle.gx_units.specs.declared.names.Token.{Token}
-use Rattle.gx_units.specs.declared.names.UserName.{UserName}
-use Rattle.gx_history.specs.LiveOrders.{key, token_of}
+use Rattle.std.specs.{Prelude.{IsTrue, ℕ, ◌+◌, ◌<◌, ◌≤◌, Bool, false, ◌&&◌, not, List, [], ◌∷◌, map, if◌then◌else◌}, List.{filter, list_any, AllByRecursion}}
+use Rattle.gx_units.specs.{Names.{same_user, same_token}, declared.names.{Token.Token, UserName.UserName}}
+use Rattle.gx_history.specs.{LiveOrders.{key, token_of}, declared.live_order.{LiveOrder.LiveOrder, UserToken.UserToken}}
 use Rattle.gx_policy.specs.Lists.{are_distinct}
-use Rattle.gx_history.specs.declared.live_order.LiveOrder.{LiveOrder}
-use Rattle.gx_history.specs.declared.live_order.UserToken.{UserToken}
 pub use Rattle.gx_slab.specs.Slabs.{is_open, has_number, live_numbered, first_waiting, open_ones, of_account, of_others}
 
 -- the live orders by number, and the used tokens in the order of their first use

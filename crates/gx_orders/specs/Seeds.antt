@@ -1,6 +1,5 @@
 -- How a seed hashes what a trader chooses.
-use Rattle.std.specs.Prelude.{ℕ, ◌+◌, ◌-◌, ◌*◌, ◌/◌, ◌%◌, ◌^◌, List, [], ◌∷◌, length, fold, bit_and, bit_or, bit_xor, nat_lt, slice_index, if◌then◌else◌}
-use Rattle.std.specs.Int.{w64, from_le_bytes}
+use Rattle.std.specs.{Prelude.{ℕ, ◌+◌, ◌-◌, ◌*◌, ◌/◌, ◌%◌, ◌^◌, List, [], ◌∷◌, length, fold, bit_and, bit_or, bit_xor, nat_lt, slice_index, if◌then◌else◌}, Int.{w64, from_le_bytes}}
 use Rattle.gx_orders.specs.declared.seed.Seed.{Seed}
 
 -- the two halves of the product, joined

@@ -1,13 +1,7 @@
 -- How the tables of the live orders hang together.
-use Rattle.std.specs.Prelude.{◌≡◌, ℕ, ◌+◌, ◌-◌, ◌<◌, ◌≤◌, Bool, not, ◌&&◌, List, [], ◌∷◌, ◌++◌, length, Some, is_some, unwrap_or, if◌then◌else◌}
-use Rattle.std.specs.List.{filter, AllByRecursion}
-use Rattle.std.specs.Map.{keys_of, lookup}
-use Rattle.gx_units.specs.Names.{same_account, same_user}
-use Rattle.gx_units.specs.declared.names.AccountName.{AccountName}
-use Rattle.gx_units.specs.declared.names.UserName.{UserName}
-use Rattle.gx_history.specs.declared.live_order.LiveOrder.{LiveOrder}
-use Rattle.gx_history.specs.declared.live_order.UserToken.{UserToken}
-use Rattle.gx_history.specs.LiveOrders.{token_of}
+use Rattle.std.specs.{Prelude.{◌≡◌, ℕ, ◌+◌, ◌-◌, ◌<◌, ◌≤◌, Bool, not, ◌&&◌, List, [], ◌∷◌, ◌++◌, length, Some, is_some, unwrap_or, if◌then◌else◌}, List.{filter, AllByRecursion}, Map.{keys_of, lookup}}
+use Rattle.gx_units.specs.{Names.{same_account, same_user}, declared.names.{AccountName.AccountName, UserName.UserName}}
+use Rattle.gx_history.specs.{declared.live_order.{LiveOrder.LiveOrder, UserToken.UserToken}, LiveOrders.token_of}
 use Rattle.gx_slab.specs.Slabs.{numbered_of, order_of}
 use Rattle.gx_orders.specs.LiveOrders.{OrdersData, NumbersRise, IsOpen, has_number, is_of_user, of_account, same_user_token}
 

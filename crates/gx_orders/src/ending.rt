@@ -2,8 +2,7 @@
 
 ghost use Rattle.std.specs.Prelude.{◌≡◌};
 ghost use Rattle.gx_slab.specs.Slabs.{numbered_of};
-ghost use Rattle.gx_orders.specs.LiveOrders.{of_account, of_others};
-ghost use Rattle.gx_orders.specs.Tables.{CanEnd, without_of};
+ghost use Rattle.gx_orders.specs.{LiveOrders.{of_account, of_others}, Tables.{CanEnd, without_of}};
 
 use crate::counts::count_one_less;
 use gx_history::live_order::LiveOrder;

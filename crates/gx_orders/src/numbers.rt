@@ -1,11 +1,8 @@
 //! Which orders each account has.
 
-ghost use Rattle.std.specs.Prelude.{◌≡◌, ◌<◌, ◌∷◌, ◌++◌, [], OnOk};
-ghost use Rattle.std.specs.List.{filter};
-ghost use Rattle.std.specs.Vec.{vec_capacity, vec_len};
+ghost use Rattle.std.specs.{Prelude.{◌≡◌, ◌<◌, ◌∷◌, ◌++◌, [], OnOk}, List.filter, Vec.{vec_capacity, vec_len}};
 ghost use Rattle.gx_slab.specs.Slabs.{numbered_of};
-ghost use Rattle.gx_orders.specs.LiveOrders.{AreBelow};
-ghost use Rattle.gx_orders.specs.Tables.{ListsOneMore, ListsTheSame, NumbersBelow, NumbersUpTo, is_live_of, listed_of};
+ghost use Rattle.gx_orders.specs.{LiveOrders.AreBelow, Tables.{ListsOneMore, ListsTheSame, NumbersBelow, NumbersUpTo, is_live_of, listed_of}};
 
 use gx_history::live_order::LiveOrder;
 use gx_slab::table::Table;

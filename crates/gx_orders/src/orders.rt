@@ -1,11 +1,8 @@
 //! The live orders, and the tokens that are used.
 
-ghost use Rattle.std.specs.Prelude.{◌≡◌, ◌<◌, length, [], ◌∷◌, ◌++◌, Some, OnOk, OnErr, IfSome, IsTrue, IsFalse};
-ghost use Rattle.std.specs.List.{filter};
-ghost use Rattle.gx_history.specs.LiveOrders.{key, token_of};
-ghost use Rattle.gx_history.specs.Live.{live_under};
-ghost use Rattle.gx_orders.specs.Changes.{IsUnused, marked_by};
-ghost use Rattle.gx_orders.specs.LiveOrders.{AreBelow, AreSound, HasOpen, at_rest, changed, cut_at, filled_at, first_waiting, is_of_user, is_used, of_account, of_others, live_numbered, resized_at, without};
+ghost use Rattle.std.specs.{Prelude.{◌≡◌, ◌<◌, length, [], ◌∷◌, ◌++◌, Some, OnOk, OnErr, IfSome, IsTrue, IsFalse}, List.filter};
+ghost use Rattle.gx_history.specs.{LiveOrders.{key, token_of}, Live.live_under};
+ghost use Rattle.gx_orders.specs.{Changes.{IsUnused, marked_by}, LiveOrders.{AreBelow, AreSound, HasOpen, at_rest, changed, cut_at, filled_at, first_waiting, is_of_user, is_used, of_account, of_others, live_numbered, resized_at, without}};
 
 use crate::counts::{count_in, count_one_less, count_one_more};
 use crate::ending::end_each;

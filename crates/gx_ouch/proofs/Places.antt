@@ -1,12 +1,7 @@
 -- Fields that are written one behind the other stand at the places of a layout that has no gaps.
-use Rattle.std.proofs.Common.{◌≡◌, ℕ, ◌+◌, Bool, true, ◌&&◌, ◌==◌, List, [], ◌∷◌, ◌++◌, length, take, map, slice_index, refl, sym, ap, subst, ◌∙◌, append_assoc, arith}
+use Rattle.std.proofs.{Common.{◌≡◌, ℕ, ◌+◌, Bool, true, ◌&&◌, ◌==◌, List, [], ◌∷◌, ◌++◌, length, take, map, slice_index, refl, sym, ap, subst, ◌∙◌, append_assoc, arith}, lemmas.{List.{take_at, drop_at, length-append, append-nil}, Bool.Decides.nat_tests}}
 use Rattle.std.specs.List.{concat}
-use Rattle.std.proofs.lemmas.List.{take_at, drop_at, length-append, append-nil}
-use Rattle.std.proofs.lemmas.Bool.Decides.{nat_tests}
-use Rattle.gx_ouch.specs.declared.outbound.Outbound.{Outbound}
-use Rattle.gx_ouch.specs.declared.outbound.Outbound.TheVariants as outbounds
-use Rattle.gx_ouch.specs.Writing.{outbound_layout, outbound_contents, outbound_bytes}
-use Rattle.gx_ouch.specs.Layout.{Field, Layout, LiesIn, HasSizes, IsWithoutGaps, bytes_at, laid_out, with_fields, offsets_from, end_from}
+use Rattle.gx_ouch.specs.{declared.outbound.Outbound.Outbound, Writing.{outbound_layout, outbound_contents, outbound_bytes}, Layout.{Field, Layout, LiesIn, HasSizes, IsWithoutGaps, bytes_at, laid_out, with_fields, offsets_from, end_from}}
 
 joined : (bytes : List ℕ) (contents : List (List ℕ)) → with_fields bytes contents ≡ bytes ++ concat contents
 joined bytes [] = sym (append-nil bytes)
@@ -65,12 +60,12 @@ lies layout contents gapless sizes =
 
 outbound_lies : (timestamp : ℕ) (message : Outbound) → HasSizes (outbound_layout message) (outbound_contents timestamp message) → LiesIn (outbound_layout message) (outbound_contents timestamp message) (outbound_bytes timestamp message)
 unfolding outbound_bytes
-outbound_lies timestamp (outbounds.SystemEvent event) sizes = lies _ _ (record { offsets = refl; size = refl }) sizes
-outbound_lies timestamp (outbounds.Accepted m) sizes = lies _ _ (record { offsets = refl; size = refl }) sizes
-outbound_lies timestamp (outbounds.Replaced m) sizes = lies _ _ (record { offsets = refl; size = refl }) sizes
-outbound_lies timestamp (outbounds.Canceled m) sizes = lies _ _ (record { offsets = refl; size = refl }) sizes
-outbound_lies timestamp (outbounds.Executed m) sizes = lies _ _ (record { offsets = refl; size = refl }) sizes
-outbound_lies timestamp (outbounds.Rejected m) sizes = lies _ _ (record { offsets = refl; size = refl }) sizes
+outbound_lies timestamp (Outbound.SystemEvent event) sizes = lies _ _ (record { offsets = refl; size = refl }) sizes
+outbound_lies timestamp (Outbound.Accepted m) sizes = lies _ _ (record { offsets = refl; size = refl }) sizes
+outbound_lies timestamp (Outbound.Replaced m) sizes = lies _ _ (record { offsets = refl; size = refl }) sizes
+outbound_lies timestamp (Outbound.Canceled m) sizes = lies _ _ (record { offsets = refl; size = refl }) sizes
+outbound_lies timestamp (Outbound.Executed m) sizes = lies _ _ (record { offsets = refl; size = refl }) sizes
+outbound_lies timestamp (Outbound.Rejected m) sizes = lies _ _ (record { offsets = refl; size = refl }) sizes
 
 -- the same of bytes that are known to be these
 pub known_to_lie : (layout : Layout) (contents : List (List ℕ)) (bytes : List ℕ) → bytes ≡ laid_out layout contents → IsWithoutGaps layout → HasSizes layout contents → LiesIn layout contents bytes

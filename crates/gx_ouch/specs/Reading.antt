@@ -1,10 +1,6 @@
 -- The message that some bytes are. Numbers are unsigned, the highest byte first.
-use Rattle.std.specs.Prelude.{ℕ, List, [], ◌∷◌, Option, Some, None, if◌then◌else◌}
-use Rattle.std.specs.Int.{w8, w32, from_be_bytes}
-use Rattle.gx_ouch.specs.declared.inbound.Inbound.{Inbound}
-use Rattle.gx_ouch.specs.declared.inbound.Inbound.TheVariants as inbounds
-use Rattle.gx_ouch.specs.Layout.{cut, is_of}
-use Rattle.gx_ouch.specs.Messages.{enter_order, replace_order, cancel_order}
+use Rattle.std.specs.{Prelude.{ℕ, List, [], ◌∷◌, Option, Some, None, if◌then◌else◌}, Int.{w8, w32, from_be_bytes}}
+use Rattle.gx_ouch.specs.{declared.inbound.Inbound.Inbound, Layout.{cut, is_of}, Messages.{enter_order, replace_order, cancel_order}}
 
 -- a field of one byte
 abbrev pub byte : List ℕ → ℕ
@@ -17,7 +13,7 @@ number bytes = from_be_bytes w32 bytes
 -- the Enter Order of these fields
 abbrev pub enter_of : List (List ℕ) → Option Inbound
 enter_of (token ∷ side ∷ shares ∷ stock ∷ price ∷ time_in_force ∷ firm ∷ display ∷ capacity ∷ sweep ∷ minimum ∷ cross ∷ customer ∷ []) =
-    Some (inbounds.Enter (record {
+    Some (Inbound.Enter (record {
       token = record { bytes = token };
       side = byte side;
       shares = number shares;
@@ -37,7 +33,7 @@ enter_of _ = None
 -- the Replace Order of these fields
 abbrev pub replace_of : List (List ℕ) → Option Inbound
 replace_of (existing ∷ replacement ∷ shares ∷ price ∷ time_in_force ∷ display ∷ sweep ∷ minimum ∷ []) =
-    Some (inbounds.Replace (record {
+    Some (Inbound.Replace (record {
       existing_token = record { bytes = existing };
       replacement_token = record { bytes = replacement };
       shares = number shares;
@@ -52,7 +48,7 @@ replace_of _ = None
 -- the Cancel Order of these fields
 abbrev pub cancel_of : List (List ℕ) → Option Inbound
 cancel_of (token ∷ shares ∷ []) =
-    Some (inbounds.Cancel (record { token = record { bytes = token }; shares = number shares }))
+    Some (Inbound.Cancel (record { token = record { bytes = token }; shares = number shares }))
 cancel_of _ = None
 
 -- the message whose type and length are those of the bytes, with the fields that stand at its places

@@ -1,12 +1,6 @@
 -- The bytes of a message that is written. Numbers are unsigned, the highest byte first.
-use Rattle.std.specs.Prelude.{ℕ, List, [], ◌∷◌, ◌++◌}
-use Rattle.std.specs.Int.{w32, w64, to_be_bytes}
-use Rattle.gx_ouch.specs.declared.outbound.OrderTerms.{OrderTerms}
-use Rattle.gx_ouch.specs.declared.outbound.Outbound.{Outbound}
-use Rattle.gx_ouch.specs.declared.outbound.Outbound.TheVariants as outbounds
-use Rattle.gx_ouch.specs.Layout.{Layout, laid_out}
-use Rattle.gx_ouch.specs.Letters.{event_letter, liquidity_letter, cancel_letter, reject_letter, order_state, weight_indicator}
-use Rattle.gx_ouch.specs.Messages.{system_event, accepted, replaced, canceled, executed, rejected}
+use Rattle.std.specs.{Prelude.{ℕ, List, [], ◌∷◌, ◌++◌}, Int.{w32, w64, to_be_bytes}}
+use Rattle.gx_ouch.specs.{declared.outbound.{OrderTerms.OrderTerms, Outbound.Outbound}, Layout.{Layout, laid_out}, Letters.{event_letter, liquidity_letter, cancel_letter, reject_letter, order_state, weight_indicator}, Messages.{system_event, accepted, replaced, canceled, executed, rejected}}
 
 -- a field of one byte
 abbrev pub letter : ℕ → List ℕ
@@ -31,25 +25,25 @@ order_contents terms order_reference =
     []
 
 abbrev pub outbound_layout : Outbound → Layout
-outbound_layout (outbounds.SystemEvent event) = system_event
-outbound_layout (outbounds.Accepted m) = accepted
-outbound_layout (outbounds.Replaced m) = replaced
-outbound_layout (outbounds.Canceled m) = canceled
-outbound_layout (outbounds.Executed m) = executed
-outbound_layout (outbounds.Rejected m) = rejected
+outbound_layout (Outbound.SystemEvent event) = system_event
+outbound_layout (Outbound.Accepted m) = accepted
+outbound_layout (Outbound.Replaced m) = replaced
+outbound_layout (Outbound.Canceled m) = canceled
+outbound_layout (Outbound.Executed m) = executed
+outbound_layout (Outbound.Rejected m) = rejected
 
 -- the fields behind the timestamp
 abbrev pub contents_behind : Outbound → List (List ℕ)
-contents_behind (outbounds.SystemEvent event) = letter (event_letter event) ∷ []
-contents_behind (outbounds.Accepted m) =
+contents_behind (Outbound.SystemEvent event) = letter (event_letter event) ∷ []
+contents_behind (Outbound.Accepted m) =
     m.token.bytes ∷ order_contents m.terms m.order_reference ++ letter weight_indicator ∷ []
-contents_behind (outbounds.Replaced m) =
+contents_behind (Outbound.Replaced m) =
     m.token.bytes ∷ order_contents m.terms m.order_reference ++ m.previous_token.bytes ∷ letter weight_indicator ∷ []
-contents_behind (outbounds.Canceled m) =
+contents_behind (Outbound.Canceled m) =
     m.token.bytes ∷ to_be_bytes w32 m.decrement ∷ letter (cancel_letter m.reason) ∷ []
-contents_behind (outbounds.Executed m) =
+contents_behind (Outbound.Executed m) =
     m.token.bytes ∷ to_be_bytes w32 m.shares ∷ to_be_bytes w32 m.price ∷ letter (liquidity_letter m.liquidity) ∷ to_be_bytes w64 m.match_number ∷ []
-contents_behind (outbounds.Rejected m) =
+contents_behind (Outbound.Rejected m) =
     m.token.bytes ∷ letter (reject_letter m.reason) ∷ []
 
 -- the fields of a message of this moment

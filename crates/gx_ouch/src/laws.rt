@@ -1,7 +1,6 @@
 //! What the layouts of the messages say together.
 
-ghost use Rattle.gx_ouch.specs.Layout.{IsWithoutGaps};
-ghost use Rattle.gx_ouch.specs.Messages.{enter_order, replace_order, cancel_order};
+ghost use Rattle.gx_ouch.specs.{Layout.IsWithoutGaps, Messages.{enter_order, replace_order, cancel_order}};
 
 /// Each byte of a message that is read is its type or in one of its fields.
 pub fn read_messages_have_no_gaps()

@@ -1,11 +1,8 @@
 //! Messages from a trader, read from bytes.
 
-ghost use Rattle.std.specs.Prelude.{◌≡◌, length, Some};
-ghost use Rattle.std.specs.Int.{w32, from_be_bytes};
+ghost use Rattle.std.specs.{Prelude.{◌≡◌, length, Some}, Int.{w32, from_be_bytes}};
 ghost use Rattle.gx_ouch.specs.declared.inbound.Inbound.TheVariants as inbounds;
-ghost use Rattle.gx_ouch.specs.Layout.{cut};
-ghost use Rattle.gx_ouch.specs.Messages.{enter_order, replace_order, cancel_order};
-ghost use Rattle.gx_ouch.specs.Reading.{inbound_of, enter_of, replace_of, cancel_of};
+ghost use Rattle.gx_ouch.specs.{Layout.cut, Messages.{enter_order, replace_order, cancel_order}, Reading.{inbound_of, enter_of, replace_of, cancel_of}};
 
 use crate::inbound::{CancelOrder, EnterOrder, Inbound, ReplaceOrder};
 use gx_units::{Firm, Symbol, Token};

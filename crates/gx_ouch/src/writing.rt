@@ -2,9 +2,7 @@
 
 ghost use Rattle.std.specs.Prelude.{◌≡◌, ◌+◌, ◌≤◌, length, take, drop, map};
 ghost use Rattle.gx_ouch.specs.declared.outbound.Outbound.TheVariants as outbounds;
-ghost use Rattle.gx_ouch.specs.Layout.{HasSizes, LiesIn, with_fields};
-ghost use Rattle.gx_ouch.specs.Messages.{order_fields, accepted, replaced, canceled, executed, rejected};
-ghost use Rattle.gx_ouch.specs.Writing.{order_contents, contents_behind, outbound_contents, outbound_layout, outbound_bytes};
+ghost use Rattle.gx_ouch.specs.{Layout.{HasSizes, LiesIn, with_fields}, Messages.{order_fields, accepted, replaced, canceled, executed, rejected}, Writing.{order_contents, contents_behind, outbound_contents, outbound_layout, outbound_bytes}};
 
 use crate::draft::Draft;
 use crate::outbound::{

@@ -1,30 +1,13 @@
 -- What a pass over the live orders counts.
-use Rattle.std.proofs.Common.{◌≡◌, ℕ, ◌+◌, arith, Bool, true, false, not, cond, ◌&&◌, List, [], ◌∷◌, ◌++◌, map, length, take, drop, refl, ap, sym, ◌∙◌, append_assoc, sum_by}
-use Rattle.std.specs.Prelude.{Option, Some, None, fold, unwrap_or}
-use Rattle.std.specs.Map.{lookup}
-use Rattle.std.specs.List.{filter}
-use Rattle.std.proofs.lemmas.List.{append-nil, length-append, length-map}
-use Rattle.std.proofs.lemmas.List.Elements.{filter-append}
-use Rattle.std.proofs.lemmas.List.Sums.{sum_by-append}
-use Rattle.gx_units.specs.Names.{same_account}
-use Rattle.gx_units.specs.declared.names.AccountName.{AccountName}
+use Rattle.std.proofs.{Common.{◌≡◌, ℕ, ◌+◌, arith, Bool, true, false, not, cond, ◌&&◌, List, [], ◌∷◌, ◌++◌, map, length, take, drop, refl, ap, sym, ◌∙◌, append_assoc, sum_by}, lemmas.List.{append-nil, length-append, length-map, Elements.filter-append, Sums.sum_by-append}}
+use Rattle.std.specs.{Prelude.{Option, Some, None, fold, unwrap_or}, Map.lookup, List.filter}
+use Rattle.gx_units.specs.{Names.same_account, declared.names.AccountName.AccountName}
 use Rattle.gx_ouch.specs.declared.outbound.OrderTerms.{OrderTerms}
-use Rattle.gx_policy.specs.declared.policy.Account.{Account}
-use Rattle.gx_policy.specs.declared.policy.PolicyData.{PolicyData}
-use Rattle.gx_history.specs.declared.live_order.LiveOrder.{LiveOrder}
-use Rattle.gx_history.specs.declared.record.RecordData.{RecordData}
-use Rattle.gx_history.specs.Book.{is_buy}
-use Rattle.gx_history.specs.Figures.{open_of_chosen}
-use Rattle.gx_history.specs.Live.{live}
-use Rattle.gx_history.specs.LiveOrders.{shares_open}
-use Rattle.gx_overview.specs.declared.accounts.AccountRow.{AccountRow}
-use Rattle.gx_overview.specs.declared.accounts.LiveSums.{LiveSums}
-use Rattle.gx_overview.specs.declared.commands.GrantedCommand.{GrantedCommand}
-use Rattle.gx_overview.specs.Accounts.{account_row, capped, capped_count, entries_with, is_of, live_sums, no_orders, row_of, sums_in, with_order}
-use Rattle.gx_overview.specs.Commands.{granted_commands}
+use Rattle.gx_policy.specs.declared.policy.{Account.Account, PolicyData.PolicyData}
+use Rattle.gx_history.specs.{declared.{live_order.LiveOrder.LiveOrder, «record».RecordData.RecordData}, Book.is_buy, Figures.open_of_chosen, Live.live, LiveOrders.shares_open}
+use Rattle.gx_overview.specs.{declared.{accounts.{AccountRow.AccountRow, LiveSums.LiveSums}, commands.GrantedCommand.GrantedCommand}, Accounts.{account_row, capped, capped_count, entries_with, is_of, live_sums, no_orders, row_of, sums_in, with_order}, Commands.granted_commands}
 use Rattle.gx_history_laws.proofs.Names.{account_is}
-use Rattle.gx_overview.proofs.Keeping.{inserted}
-use Rattle.gx_overview.proofs.Passing.{map_same}
+use Rattle.gx_overview.proofs.{Keeping.inserted, Passing.map_same}
 
 -- one more that passes, or does not
 filtered_next : {X : Type 0} (p : X → Bool) (xs : List X) (x : X) → length (filter p (xs ++ x ∷ [])) ≡ length (filter p xs) + cond (p x) 1 0

@@ -1,33 +1,13 @@
 -- What a pass over the records notes of fills.
-use Rattle.std.proofs.Common.{◌≡◌, ℕ, ◌+◌, ◌<◌, Bool, true, false, not, cond, ◌&&◌, List, [], ◌∷◌, ◌++◌, map, length, take, drop, get_or, arith, refl, ap, sym, subst, ◌∙◌, append_assoc, sum_by}
-use Rattle.std.specs.Prelude.{Option, Some, None, fold, option_map, option_to_list, nat_eq}
-use Rattle.std.specs.List.{filter}
-use Rattle.std.specs.Map.{lookup}
-use Rattle.std.proofs.lemmas.List.{append-nil, length-map, take_more}
-use Rattle.std.proofs.lemmas.List.Elements.{filter-append}
-use Rattle.std.proofs.lemmas.List.Sums.{fold-append, sum_by-append}
-use Rattle.gx_units.specs.Money.{value}
-use Rattle.gx_units.specs.Names.{same_account}
-use Rattle.gx_units.specs.declared.names.AccountName.{AccountName}
-use Rattle.gx_ouch.specs.declared.letters.Liquidity.{Liquidity}
-use Rattle.gx_ouch.specs.declared.letters.Liquidity.TheVariants as liquidities
-use Rattle.gx_ouch.specs.declared.outbound.OrderTerms.{OrderTerms}
-use Rattle.gx_policy.specs.declared.policy.Account.{Account}
-use Rattle.gx_policy.specs.declared.policy.PolicyData.{PolicyData}
-use Rattle.gx_history.specs.declared.record.Fill.{Fill}
-use Rattle.gx_history.specs.declared.record.RecordData.{RecordData}
-use Rattle.gx_history.specs.Book.{is_buy}
-use Rattle.gx_history.specs.Executions.{Execution, executions, side_of, sides_in}
-use Rattle.gx_history.specs.Figures.{done_of_chosen}
-use Rattle.gx_history.specs.Orders.{Order, order_numbered, orders}
+use Rattle.std.proofs.{Common.{◌≡◌, ℕ, ◌+◌, ◌<◌, Bool, true, false, not, cond, ◌&&◌, List, [], ◌∷◌, ◌++◌, map, length, take, drop, get_or, arith, refl, ap, sym, subst, ◌∙◌, append_assoc, sum_by}, lemmas.List.{append-nil, length-map, take_more, Elements.filter-append, Sums.{fold-append, sum_by-append}}}
+use Rattle.std.specs.{Prelude.{Option, Some, None, fold, option_map, option_to_list, nat_eq}, List.filter, Map.lookup}
+use Rattle.gx_units.specs.{Money.value, Names.same_account, declared.names.AccountName.AccountName}
+use Rattle.gx_ouch.specs.declared.{letters.Liquidity.Liquidity, outbound.OrderTerms.OrderTerms}
+use Rattle.gx_policy.specs.declared.policy.{Account.Account, PolicyData.PolicyData}
+use Rattle.gx_history.specs.{declared.record.{Fill.Fill, RecordData.RecordData}, Book.is_buy, Executions.{Execution, executions, side_of, sides_in}, Figures.done_of_chosen, Orders.{Order, order_numbered, orders}}
 use Rattle.gx_history_laws.proofs.NextOrders.{executions_next, executions_none, orders_next, orders_none}
-use Rattle.gx_overview.specs.declared.executed.Executed.{Executed}
-use Rattle.gx_overview.specs.declared.executed.ExecutedRow.{ExecutedRow}
-use Rattle.gx_overview.specs.declared.owners.Owners.{Owners}
-use Rattle.gx_overview.specs.Accounts.{capped, is_of}
-use Rattle.gx_overview.specs.Executed.{KnowOrders, NoteRecord, executed_by, executed_row, no_executions, owner_of, row_filled, rows_after, rows_filled, side_filled, value_of_chosen}
-use Rattle.gx_overview.proofs.Counting.{sum_capped}
-use Rattle.gx_overview.proofs.Passing.{each_folded, map_same, map_twice, written_back}
+use Rattle.gx_overview.specs.{declared.{executed.{Executed.Executed, ExecutedRow.ExecutedRow}, owners.Owners.Owners}, Accounts.{capped, is_of}, Executed.{KnowOrders, NoteRecord, executed_by, executed_row, no_executions, owner_of, row_filled, rows_after, rows_filled, side_filled, value_of_chosen}}
+use Rattle.gx_overview.proofs.{Counting.sum_capped, Passing.{each_folded, map_same, map_twice, written_back}}
 
 -- one side of a fill
 side_noted : (known : List Order) (f : Fill) (l : Liquidity) (number : ℕ) (owners : Owners) (rows : List ExecutedRow) → KnowOrders owners known
@@ -42,11 +22,11 @@ side_noted known f l number owners rows knows = ap (rows_filled f rows) (knows.n
 -- both sides
 pub fill_noted : (known : List Order) (f : Fill) (owners : Owners) (rows : List ExecutedRow) → KnowOrders owners known
     → rows_filled f (rows_filled f rows (lookup (nat_eq f.taker) owners.by_number.entries)) (lookup (nat_eq f.maker) owners.by_number.entries)
-    ≡ fold rows_after rows (side_of known f liquidities.Removed f.taker ++ side_of known f liquidities.Added f.maker)
+    ≡ fold rows_after rows (side_of known f Liquidity.Removed f.taker ++ side_of known f Liquidity.Added f.maker)
 fill_noted known f owners rows knows =
-    ap (λ now. rows_filled f now (lookup (nat_eq f.maker) owners.by_number.entries)) (side_noted known f liquidities.Removed f.taker owners rows knows)
-    ∙ side_noted known f liquidities.Added f.maker owners (fold rows_after rows (side_of known f liquidities.Removed f.taker)) knows
-    ∙ sym (fold-append rows_after rows (side_of known f liquidities.Removed f.taker) (side_of known f liquidities.Added f.maker))
+    ap (λ now. rows_filled f now (lookup (nat_eq f.maker) owners.by_number.entries)) (side_noted known f Liquidity.Removed f.taker owners rows knows)
+    ∙ side_noted known f Liquidity.Added f.maker owners (fold rows_after rows (side_of known f Liquidity.Removed f.taker)) knows
+    ∙ sym (fold-append rows_after rows (side_of known f Liquidity.Removed f.taker) (side_of known f Liquidity.Added f.maker))
 
 -- before any record
 pub nothing_noted : (policy : PolicyData) (rows : List ExecutedRow) → rows ≡ fold rows_after rows (executions policy [])

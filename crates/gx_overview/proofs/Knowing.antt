@@ -1,27 +1,12 @@
 -- What is known once one more order is noted.
-use Rattle.std.proofs.Common.{◌≡◌, Bool, true, false, cond, ◌&&◌, ◌==◌, List, [], ◌∷◌, ◌++◌, refl, ap, sym, subst, ◌∙◌, true≢false}
-use Rattle.std.specs.Prelude.{Option, Some, None, Result, Ok, Err, OnOk, find, option_map, is_some, nat_eq}
-use Rattle.std.specs.Option.{option_map_or, option_or}
-use Rattle.std.specs.List.{filter, last_or}
-use Rattle.std.specs.Map.{lookup}
-use Rattle.std.proofs.lemmas.List.{append-nil}
-use Rattle.gx_units.specs.Names.{same_token, same_user}
-use Rattle.gx_units.specs.declared.names.AccountName.{AccountName}
-use Rattle.gx_units.specs.declared.names.UserName.{UserName}
-use Rattle.gx_ouch.specs.declared.inbound.EnterOrder.{EnterOrder}
-use Rattle.gx_ouch.specs.declared.inbound.ReplaceOrder.{ReplaceOrder}
-use Rattle.gx_policy.specs.declared.policy.PolicyData.{PolicyData}
-use Rattle.gx_policy.specs.People.{account_of}
-use Rattle.gx_history.specs.declared.record.RecordData.{RecordData}
-use Rattle.gx_history.specs.declared.record.Request.TheVariants as requests
-use Rattle.gx_history.specs.Orders.{Order, entered, order_numbered, order_under, orders_made, replacing}
-use Rattle.gx_history.specs.Book.{is_buy}
-use Rattle.gx_history_laws.proofs.Adding.{user_is}
-use Rattle.gx_history_laws.proofs.Order.{some_same}
-use Rattle.gx_overview.specs.declared.owners.Owner.{Owner}
-use Rattle.gx_overview.specs.declared.owners.Owners.{Owners}
-use Rattle.gx_overview.specs.Executed.{KnowOrders, is_key, owner_of}
-use Rattle.gx_overview.specs.Owning.{IsOneMore, Learn}
+use Rattle.std.proofs.{Common.{◌≡◌, Bool, true, false, cond, ◌&&◌, ◌==◌, List, [], ◌∷◌, ◌++◌, refl, ap, sym, subst, ◌∙◌, true≢false}, lemmas.List.append-nil}
+use Rattle.std.specs.{Prelude.{Option, Some, None, Result, Ok, Err, OnOk, find, option_map, is_some, nat_eq}, Option.{option_map_or, option_or}, List.{filter, last_or}, Map.lookup}
+use Rattle.gx_units.specs.{Names.{same_token, same_user}, declared.names.{AccountName.AccountName, UserName.UserName}}
+use Rattle.gx_ouch.specs.declared.inbound.{EnterOrder.EnterOrder, ReplaceOrder.ReplaceOrder}
+use Rattle.gx_policy.specs.{declared.policy.PolicyData.PolicyData, People.account_of}
+use Rattle.gx_history.specs.{declared.record.{RecordData.RecordData, Request.Request}, Orders.{Order, entered, order_numbered, order_under, orders_made, replacing}, Book.is_buy}
+use Rattle.gx_history_laws.proofs.{Adding.user_is, Order.some_same}
+use Rattle.gx_overview.specs.{declared.owners.{Owner.Owner, Owners.Owners}, Executed.{KnowOrders, is_key, owner_of}, Owning.{IsOneMore, Learn}}
 use Rattle.gx_overview.proofs.Passing.{last_such_next}
 
 -- the first that passes, of one more
@@ -66,13 +51,13 @@ none_more_known owners known knows = subst (KnowOrders owners) (sym (append-nil 
 -- a granted Enter
 pub entered_known : (policy : PolicyData) (r : RecordData) (user : UserName) (m : EnterOrder) (account : AccountName) (old new : Owners) → account_of policy user ≡ Some account
     → IsOneMore r.number (record { user = user; token = m.token }) (record { account = account; stock = m.stock; buys = is_buy m.side }) old new
-    → Learn old new (λ known. orders_made policy known r user (requests.Enter m))
+    → Learn old new (λ known. orders_made policy known r user (Request.Enter m))
 entered_known policy r user m account old new is more =
     λ known knows. subst (λ (found : Option AccountName). KnowOrders new (known ++ option_map_or (λ (a : AccountName). entered policy r user a m ∷ []) found [])) (sym is)
     (one_more_known old new known (entered policy r user account m) more knows)
 
 pub none_entered : (policy : PolicyData) (r : RecordData) (user : UserName) (m : EnterOrder) (owners : Owners) → account_of policy user ≡ None
-    → Learn owners owners (λ known. orders_made policy known r user (requests.Enter m))
+    → Learn owners owners (λ known. orders_made policy known r user (Request.Enter m))
 none_entered policy r user m owners is =
     λ known knows. subst (λ (found : Option AccountName). KnowOrders owners (known ++ option_map_or (λ (a : AccountName). entered policy r user a m ∷ []) found [])) (sym is)
     (none_more_known owners known knows)
@@ -97,7 +82,7 @@ first_part false b h = h
 -- a granted Replace of an order that is known
 pub replaced_known : (policy : PolicyData) (r : RecordData) (user : UserName) (m : ReplaceOrder) (owner : Owner) (old new : Owners) → lookup (is_key user m.existing_token) old.by_token.entries ≡ Some owner
     → IsOneMore r.number (record { user = user; token = m.replacement_token }) owner old new
-    → Learn old new (λ known. orders_made policy known r user (requests.Replace m))
+    → Learn old new (λ known. orders_made policy known r user (Request.Replace m))
 replaced_known policy r user m owner old new is more = λ known knows. by known knows (order_under known user m.existing_token) refl (sym (knows.under user m.existing_token) ∙ is)
   where
     by : (known : List Order) → KnowOrders old known → (found : Option Order) → order_under known user m.existing_token ≡ found → option_map owner_of found ≡ Some owner
@@ -112,7 +97,7 @@ replaced_known policy r user m owner old new is more = λ known knows. by known 
         (subst (λ (w : Owner). IsOneMore r.number (record { user = user; token = m.replacement_token }) w old new) (sym (some_same his)) more)) knows
 
 pub none_replaced : (policy : PolicyData) (r : RecordData) (user : UserName) (m : ReplaceOrder) (owners : Owners) → lookup (is_key user m.existing_token) owners.by_token.entries ≡ None
-    → Learn owners owners (λ known. orders_made policy known r user (requests.Replace m))
+    → Learn owners owners (λ known. orders_made policy known r user (Request.Replace m))
 none_replaced policy r user m owners is = λ known knows. by known knows (order_under known user m.existing_token) (sym (knows.under user m.existing_token) ∙ is)
   where
     by : (known : List Order) → KnowOrders owners known → (found : Option Order) → option_map owner_of found ≡ None

@@ -1,10 +1,6 @@
 -- What one more item makes of what a pass over a list keeps.
-use Rattle.std.proofs.Common.{◌≡◌, ℕ, ◌+◌, ◌<◌, Bool, true, false, cond, List, [], ◌∷◌, ◌++◌, map, length, take, drop, set, get_or, ◌-◌, min, arith, refl, ap, sym, ◌∙◌}
-use Rattle.std.specs.Prelude.{Option, Some, None, fold}
-use Rattle.std.specs.List.{filter, filter_map, last_or}
-use Rattle.std.proofs.lemmas.List.{append-nil, drop_all, take_all, get_or_default, length-append, length-drop, length-map, length-take, map-id, take_more}
-use Rattle.std.proofs.lemmas.List.Edits.{map_over_more}
-use Rattle.std.proofs.lemmas.List.Elements.{filter_map-append, filter-append}
+use Rattle.std.proofs.{Common.{◌≡◌, ℕ, ◌+◌, ◌<◌, Bool, true, false, cond, List, [], ◌∷◌, ◌++◌, map, length, take, drop, set, get_or, ◌-◌, min, arith, refl, ap, sym, ◌∙◌}, lemmas.List.{append-nil, drop_all, take_all, get_or_default, length-append, length-drop, length-map, length-take, map-id, take_more, Edits.map_over_more, Elements.{filter_map-append, filter-append}}}
+use Rattle.std.specs.{Prelude.{Option, Some, None, fold}, List.{filter, filter_map, last_or}}
 use Rattle.gx_policy.specs.Lists.{last_such}
 use Rattle.gx_history_laws.proofs.Pushing.{last_or-append}
 

@@ -1,25 +1,11 @@
 -- What stands of each account.
-use Rattle.std.specs.Prelude.{ℕ, ◌+◌, ◌-◌, ◌^◌, Bool, true, false, ◌&&◌, min, List, Option, Some, None, nat_lt, length, unwrap_or, if◌then◌else◌}
-use Rattle.std.specs.List.{filter}
-use Rattle.std.specs.Map.{lookup}
+use Rattle.std.specs.{Prelude.{ℕ, ◌+◌, ◌-◌, ◌^◌, Bool, true, false, ◌&&◌, min, List, Option, Some, None, nat_lt, length, unwrap_or, if◌then◌else◌}, List.filter, Map.lookup}
 use Rattle.indexmap.specs.IndexMap.{insert_entry}
-use Rattle.gx_units.specs.Names.{same_account}
-use Rattle.gx_units.specs.declared.names.AccountName.{AccountName}
+use Rattle.gx_units.specs.{Names.same_account, declared.names.AccountName.AccountName}
 use Rattle.gx_ouch.specs.declared.outbound.OrderTerms.{OrderTerms}
-use Rattle.gx_policy.specs.declared.policy.Account.{Account}
-use Rattle.gx_policy.specs.declared.policy.PolicyData.{PolicyData}
-use Rattle.gx_history.specs.declared.live_order.LiveOrder.{LiveOrder}
-use Rattle.gx_history.specs.declared.record.RecordData.{RecordData}
-use Rattle.gx_history.specs.Book.{is_buy, is_on}
-use Rattle.gx_history.specs.Figures.{open_of_chosen}
-use Rattle.gx_history.specs.InForce.{is_killed}
-use Rattle.gx_history.specs.Live.{live}
-use Rattle.gx_history.specs.LiveOrders.{shares_open}
-use Rattle.gx_overview.specs.declared.accounts.AccountRow.{AccountRow}
-use Rattle.gx_overview.specs.declared.accounts.LiveSums.{LiveSums}
-use Rattle.gx_overview.specs.declared.commands.GrantedCommand.{GrantedCommand}
-use Rattle.gx_overview.specs.declared.commands.Subject.TheVariants as subjects
-use Rattle.gx_overview.specs.Commands.{last_about, last_of}
+use Rattle.gx_policy.specs.declared.policy.{Account.Account, PolicyData.PolicyData}
+use Rattle.gx_history.specs.{declared.{live_order.LiveOrder.LiveOrder, «record».RecordData.RecordData}, Book.{is_buy, is_on}, Figures.open_of_chosen, InForce.is_killed, Live.live, LiveOrders.shares_open}
+use Rattle.gx_overview.specs.{declared.{accounts.{AccountRow.AccountRow, LiveSums.LiveSums}, commands.{GrantedCommand.GrantedCommand, Subject.Subject}}, Commands.{last_about, last_of}}
 
 -- the number, or the greatest of 64 or of 128 bits where it is past that, which no day comes near
 abbrev pub capped_count : ℕ → ℕ
@@ -42,7 +28,7 @@ live_sums orders account = record {
 
 -- the last granted Kill of an account that is killed
 abbrev pub kill_of : Bool → List GrantedCommand → AccountName → Option GrantedCommand
-kill_of killed commands account = if killed then last_of commands (subjects.KillOf account) else None
+kill_of killed commands account = if killed then last_of commands (Subject.KillOf account) else None
 
 -- the last granted Lift, where it came behind that Kill
 abbrev pub lift_since : Option GrantedCommand → Option GrantedCommand → Option GrantedCommand
@@ -55,8 +41,8 @@ abbrev pub account_row : PolicyData → List RecordData → Account → AccountR
 account_row policy records a = record {
   account = a.name;
   is_killed = is_killed policy records a.name;
-  kill = if is_killed policy records a.name then last_about records (subjects.KillOf a.name) else None;
-  lift = lift_since (if is_killed policy records a.name then last_about records (subjects.KillOf a.name) else None) (last_about records (subjects.LiftOf a.name));
+  kill = if is_killed policy records a.name then last_about records (Subject.KillOf a.name) else None;
+  lift = lift_since (if is_killed policy records a.name then last_about records (Subject.KillOf a.name) else None) (last_about records (Subject.LiftOf a.name));
   live = live_sums (live policy records) a.name;
 }
 
@@ -86,6 +72,6 @@ row_of policy records commands entries a = record {
   account = a.name;
   is_killed = is_killed policy records a.name;
   kill = kill_of (is_killed policy records a.name) commands a.name;
-  lift = lift_since (kill_of (is_killed policy records a.name) commands a.name) (last_of commands (subjects.LiftOf a.name));
+  lift = lift_since (kill_of (is_killed policy records a.name) commands a.name) (last_of commands (Subject.LiftOf a.name));
   live = sums_in entries a.name;
 }

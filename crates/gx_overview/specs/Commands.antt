@@ -1,16 +1,10 @@
 -- The commands that were granted, and the last of them about an account, a limit or a stock.
-use Rattle.std.specs.Prelude.{Bool, false, ◌&&◌, List, Option, Some, option_and_then, option_map, if◌then◌else◌}
-use Rattle.std.specs.List.{filter_map}
+use Rattle.std.specs.{Prelude.{Bool, false, ◌&&◌, List, Option, Some, option_and_then, option_map, if◌then◌else◌}, List.filter_map}
 use Rattle.gx_units.specs.Names.{same_account, same_rule, same_stock}
 use Rattle.gx_desk.specs.declared.Action.{Action}
-use Rattle.gx_desk.specs.declared.Action.TheVariants as actions
 use Rattle.gx_policy.specs.Lists.{last_such}
-use Rattle.gx_history.specs.declared.record.Asked.{Asked}
-use Rattle.gx_history.specs.declared.record.RecordData.{RecordData}
-use Rattle.gx_history.specs.Requests.{action_of, granted}
-use Rattle.gx_overview.specs.declared.commands.GrantedCommand.{GrantedCommand}
-use Rattle.gx_overview.specs.declared.commands.Subject.{Subject}
-use Rattle.gx_overview.specs.declared.commands.Subject.TheVariants as subjects
+use Rattle.gx_history.specs.{declared.record.{Asked.Asked, RecordData.RecordData}, Requests.{action_of, granted}}
+use Rattle.gx_overview.specs.declared.commands.{GrantedCommand.GrantedCommand, Subject.Subject}
 
 -- the command that the record shows, if this is what it grants
 abbrev pub command_by : RecordData → Asked → Option GrantedCommand
@@ -26,10 +20,10 @@ granted_commands records = filter_map granted_command records
 
 -- a Kill or a Lift of the account, a Set Limit of the rule, or a Restrict of the stock by the rule
 abbrev pub is_about : Subject → Action → Bool
-is_about (subjects.KillOf account) (actions.Kill named) = same_account named account
-is_about (subjects.LiftOf account) (actions.Lift named) = same_account named account
-is_about (subjects.LimitOf rule) (actions.SetLimit named limit) = same_rule named rule
-is_about (subjects.StockOn rule stock) (actions.Restrict named listed) = same_rule named rule && same_stock listed stock
+is_about (Subject.KillOf account) (Action.Kill named) = same_account named account
+is_about (Subject.LiftOf account) (Action.Lift named) = same_account named account
+is_about (Subject.LimitOf rule) (Action.SetLimit named limit) = same_rule named rule
+is_about (Subject.StockOn rule stock) (Action.Restrict named listed) = same_rule named rule && same_stock listed stock
 is_about subject action = false
 
 -- the last of these commands about the subject

@@ -1,28 +1,10 @@
 -- What each account has executed, by side, and whose orders there were.
-use Rattle.std.specs.Prelude.{◌≡◌, ℕ, ◌+◌, Bool, true, false, ◌&&◌, List, ◌++◌, fold, map, Option, option_map, sum_by, nat_eq, if◌then◌else◌}
-use Rattle.std.specs.List.{filter}
-use Rattle.std.specs.Option.{option_map_or}
-use Rattle.std.specs.Map.{lookup}
-use Rattle.gx_units.specs.Money.{value}
-use Rattle.gx_units.specs.Names.{same_account, same_token, same_user}
-use Rattle.gx_units.specs.declared.names.AccountName.{AccountName}
-use Rattle.gx_units.specs.declared.names.Token.{Token}
-use Rattle.gx_units.specs.declared.names.UserName.{UserName}
+use Rattle.std.specs.{Prelude.{◌≡◌, ℕ, ◌+◌, Bool, true, false, ◌&&◌, List, ◌++◌, fold, map, Option, option_map, sum_by, nat_eq, if◌then◌else◌}, List.filter, Option.option_map_or, Map.lookup}
+use Rattle.gx_units.specs.{Money.value, Names.{same_account, same_token, same_user}, declared.names.{AccountName.AccountName, Token.Token, UserName.UserName}}
 use Rattle.gx_ouch.specs.declared.outbound.OrderTerms.{OrderTerms}
-use Rattle.gx_policy.specs.declared.policy.Account.{Account}
-use Rattle.gx_policy.specs.declared.policy.PolicyData.{PolicyData}
-use Rattle.gx_history.specs.declared.live_order.UserToken.{UserToken}
-use Rattle.gx_history.specs.declared.record.Fill.{Fill}
-use Rattle.gx_history.specs.declared.record.RecordData.{RecordData}
-use Rattle.gx_history.specs.Book.{is_buy}
-use Rattle.gx_history.specs.Executions.{Execution, executions, sides_in}
-use Rattle.gx_history.specs.Figures.{done_of_chosen}
-use Rattle.gx_history.specs.Orders.{Order, order_numbered, order_under, orders_added}
-use Rattle.gx_overview.specs.declared.executed.Executed.{Executed}
-use Rattle.gx_overview.specs.declared.executed.ExecutedRow.{ExecutedRow}
-use Rattle.gx_overview.specs.declared.owners.Owner.{Owner}
-use Rattle.gx_overview.specs.declared.owners.Owners.{Owners}
-use Rattle.gx_overview.specs.Accounts.{capped, is_of}
+use Rattle.gx_policy.specs.declared.policy.{Account.Account, PolicyData.PolicyData}
+use Rattle.gx_history.specs.{declared.{live_order.UserToken.UserToken, «record».{Fill.Fill, RecordData.RecordData}}, Book.is_buy, Executions.{Execution, executions, sides_in}, Figures.done_of_chosen, Orders.{Order, order_numbered, order_under, orders_added}}
+use Rattle.gx_overview.specs.{declared.{executed.{Executed.Executed, ExecutedRow.ExecutedRow}, owners.{Owner.Owner, Owners.Owners}}, Accounts.{capped, is_of}}
 
 -- the value, at the prices of the fills, that orders which are chosen executed
 abbrev pub value_of_chosen : List Execution → (AccountName → OrderTerms → Bool) → ℕ

@@ -1,15 +1,8 @@
 -- What is noted of one more order.
-use Rattle.std.specs.Prelude.{◌≡◌, ℕ, ◌&&◌, List, ◌++◌, Some, None, nat_eq, if◌then◌else◌}
-use Rattle.std.specs.Option.{option_or}
-use Rattle.std.specs.Map.{lookup}
-use Rattle.gx_units.specs.Names.{same_token, same_user}
-use Rattle.gx_units.specs.declared.names.Token.{Token}
-use Rattle.gx_units.specs.declared.names.UserName.{UserName}
-use Rattle.gx_history.specs.declared.live_order.UserToken.{UserToken}
-use Rattle.gx_history.specs.Orders.{Order}
-use Rattle.gx_overview.specs.declared.owners.Owner.{Owner}
-use Rattle.gx_overview.specs.declared.owners.Owners.{Owners}
-use Rattle.gx_overview.specs.Executed.{KnowOrders, is_key}
+use Rattle.std.specs.{Prelude.{◌≡◌, ℕ, ◌&&◌, List, ◌++◌, Some, None, nat_eq, if◌then◌else◌}, Option.option_or, Map.lookup}
+use Rattle.gx_units.specs.{Names.{same_token, same_user}, declared.names.{Token.Token, UserName.UserName}}
+use Rattle.gx_history.specs.{declared.live_order.UserToken.UserToken, Orders.Order}
+use Rattle.gx_overview.specs.{declared.owners.{Owner.Owner, Owners.Owners}, Executed.{KnowOrders, is_key}}
 
 -- the number has this owner now, unless it had one
 abbrev pub IsNumbered : ℕ → Owner → List (ℕ × Owner) → List (ℕ × Owner) → Type 0

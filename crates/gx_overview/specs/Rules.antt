@@ -1,25 +1,10 @@
 -- What stands of the policy's rules, and of the day.
+use Rattle.gx_policy.specs.{Kinds.limit_of, declared.policy.{Account.Account, FileRule.FileRule, PolicyData.PolicyData, Stock.Stock, User.User}}
 use Rattle.std.specs.Prelude.{ℕ, ℤ, pos, negsuc, ◌+◌, ◌-◌, true, false, List, Option, None, option_map, option_and_then, length, if◌then◌else◌}
-use Rattle.gx_units.specs.declared.names.AccountName.{AccountName}
-use Rattle.gx_units.specs.declared.names.RuleId.{RuleId}
-use Rattle.gx_policy.specs.declared.policy.Account.{Account}
-use Rattle.gx_policy.specs.declared.policy.FileRule.{FileRule}
-use Rattle.gx_policy.specs.declared.policy.PolicyData.{PolicyData}
-use Rattle.gx_policy.specs.declared.policy.Stock.{Stock}
-use Rattle.gx_policy.specs.declared.policy.User.{User}
-use Rattle.gx_history.specs.declared.record.RecordData.{RecordData}
-use Rattle.gx_history.specs.Asking.{has_stock, rule_in_force}
-use Rattle.gx_history.specs.InForce.{is_closed, limit_of, line_of}
-use Rattle.gx_history.specs.Verdicts.{day_limit, last_moment}
+use Rattle.gx_units.specs.declared.names.{AccountName.AccountName, RuleId.RuleId}
+use Rattle.gx_history.specs.{declared.record.RecordData.RecordData, Asking.{has_stock, rule_in_force}, InForce.{is_closed, line_of}, Verdicts.{day_limit, last_moment}}
 use Rattle.gx_records.specs.State.{gross_used, limit_in_force, net_used}
-use Rattle.gx_overview.specs.declared.day.DayRow.{DayRow}
-use Rattle.gx_overview.specs.declared.day.UserRow.{UserRow}
-use Rattle.gx_overview.specs.declared.rules.GrossRow.{GrossRow}
-use Rattle.gx_overview.specs.declared.rules.LimitRow.{LimitRow}
-use Rattle.gx_overview.specs.declared.rules.ListingRow.{ListingRow}
-use Rattle.gx_overview.specs.declared.rules.NetRow.{NetRow}
-use Rattle.gx_overview.specs.declared.commands.Subject.TheVariants as subjects
-use Rattle.gx_overview.specs.Commands.{last_about}
+use Rattle.gx_overview.specs.{declared.{day.{DayRow.DayRow, UserRow.UserRow}, rules.{GrossRow.GrossRow, LimitRow.LimitRow, ListingRow.ListingRow, NetRow.NetRow}, commands.Subject.Subject}, Commands.last_about}
 
 -- the rule's limit: that in force, that of the file, and the Set Limit that changed it last
 abbrev pub limit_row : PolicyData → List RecordData → FileRule → LimitRow
@@ -27,7 +12,7 @@ limit_row policy records rule = record {
   rule = rule.name;
   limit = limit_in_force policy records rule.name;
   file = limit_of rule.kind;
-  set = last_about records (subjects.LimitOf rule.name);
+  set = last_about records (Subject.LimitOf rule.name);
 }
 
 -- what is left of a limit, none where more is used
@@ -66,7 +51,7 @@ abbrev pub listing_row : PolicyData → List RecordData → RuleId → Stock →
 listing_row policy records rule s = record {
   stock = s.name;
   is_listed = has_stock (rule_in_force policy records rule) s.name;
-  put = if has_stock (rule_in_force policy records rule) s.name then last_about records (subjects.StockOn rule s.name) else None;
+  put = if has_stock (rule_in_force policy records rule) s.name then last_about records (Subject.StockOn rule s.name) else None;
 }
 
 -- the line that the user is logged in on

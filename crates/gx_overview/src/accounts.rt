@@ -1,8 +1,7 @@
 //! What stands of each account: whether it is killed, and by which command; its live orders.
 
 ghost use Rattle.std.specs.Prelude.{◌≡◌, fold, map, IfOk, OnOk};
-ghost use Rattle.gx_overview.specs.Accounts.{account_row, entries_with, kill_of, lift_since, row_of, sums_in, with_order};
-ghost use Rattle.gx_overview.specs.Commands.{granted_commands};
+ghost use Rattle.gx_overview.specs.{Accounts.{account_row, entries_with, kill_of, lift_since, row_of, sums_in, with_order}, Commands.granted_commands};
 
 use crate::commands::{GrantedCommand, Subject, last_about};
 use gx_history::live_order::LiveOrder;

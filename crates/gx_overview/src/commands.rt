@@ -1,8 +1,7 @@
 //! The commands that were granted, and the last of them about an account, a limit or a stock.
 
 ghost use Rattle.std.specs.Prelude.{◌≡◌, [], ◌∷◌, ◌++◌, IfOk, OnOk};
-ghost use Rattle.gx_overview.specs.Commands.{command_by, granted_command, granted_commands, is_about};
-ghost use Rattle.gx_overview.specs.Commands.{last_of, last_with};
+ghost use Rattle.gx_overview.specs.Commands.{command_by, granted_command, granted_commands, is_about, last_of, last_with};
 
 use gx_desk::Action;
 use gx_history::record::{Asked, Record, RecordData, Request, Step, Verdict};

@@ -1,10 +1,8 @@
 //! What each account has executed, by side: one pass over the records.
 
-ghost use Rattle.std.specs.Prelude.{◌≡◌, fold, map, nat_eq, IfOk, OnOk};
-ghost use Rattle.std.specs.Map.{lookup};
+ghost use Rattle.std.specs.{Prelude.{◌≡◌, fold, map, nat_eq, IfOk, OnOk}, Map.lookup};
 ghost use Rattle.gx_history.specs.Executions.{executions};
-ghost use Rattle.gx_overview.specs.Executed.{executed_row, no_executions, row_filled};
-ghost use Rattle.gx_overview.specs.Executed.{rows_after, rows_filled, with_fill, NoteRecord};
+ghost use Rattle.gx_overview.specs.Executed.{executed_row, no_executions, row_filled, rows_after, rows_filled, with_fill, NoteRecord};
 
 use crate::owners::{Owner, Owners};
 use gx_history::record::{Fill, Record, Step, Verdict};

@@ -1,12 +1,10 @@
 //! Whose orders there were: by number, and by token.
 
-ghost use Rattle.std.specs.Prelude.{◌≡◌, [], nat_eq, OnOk};
-ghost use Rattle.std.specs.Map.{lookup};
+ghost use Rattle.std.specs.{Prelude.{◌≡◌, [], nat_eq, OnOk}, Map.lookup};
 ghost use Rattle.gx_history.specs.Orders.{orders_made};
 ghost use Rattle.gx_history.specs.declared.record.Request.TheVariants as requests;
 ghost use Rattle.gx_policy.specs.declared.policy.PolicyData.{PolicyData};
-ghost use Rattle.gx_overview.specs.Executed.{is_key, KnowOrders};
-ghost use Rattle.gx_overview.specs.Owning.{IsNumbered, IsOneMore, Learn};
+ghost use Rattle.gx_overview.specs.{Executed.{is_key, KnowOrders}, Owning.{IsNumbered, IsOneMore, Learn}};
 
 use gx_history::live_order::UserToken;
 use gx_history::record::{Asked, RecordData, Request};

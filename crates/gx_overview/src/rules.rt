@@ -1,13 +1,12 @@
 //! What stands of the policy's rules: limits, what is used of them, and lists of stocks.
 
+ghost use Rattle.gx_policy.specs.Kinds.{limit_of};
 ghost use Rattle.std.specs.Prelude.{◌≡◌, map, IfOk};
-ghost use Rattle.gx_history.specs.InForce.{limit_of};
-ghost use Rattle.gx_overview.specs.Commands.{granted_commands};
-ghost use Rattle.gx_overview.specs.Rules.{gross_row, left_of, limit_row, listing_row, net_left_of, net_row, room_of};
+ghost use Rattle.gx_overview.specs.{Commands.granted_commands, Rules.{gross_row, left_of, limit_row, listing_row, net_left_of, net_row, room_of}};
 
 use crate::commands::{GrantedCommand, Subject, last_about};
 use gx_history::facts::StockSide;
-use gx_policy::{Account, FileRule, RuleKind, Stock};
+use gx_policy::{Account, FileRule, Stock};
 use gx_records::ShowsState;
 use gx_units::{AccountName, OutOfMemory, RuleId, Symbol};
 use std::alloc::Global;
@@ -57,27 +56,6 @@ pub struct ListingRow {
     pub put: Option<GrantedCommand>,
 }
 
-/// The limit that Set Limit may change.
-fn limit_of(kind: &RuleKind) -> Option<u64>
-    ensures { result ≡ limit_of kind.now }
-{
-    match kind {
-        RuleKind::OrderShares(limit)
-        | RuleKind::OrderValue(limit)
-        | RuleKind::Collar(limit)
-        | RuleKind::GrossShares(limit, _)
-        | RuleKind::GrossValue(limit, _)
-        | RuleKind::NetShares(limit, _) => Some(*limit),
-        RuleKind::Halt(_)
-        | RuleKind::Restricted(_)
-        | RuleKind::NoShort
-        | RuleKind::NoIso
-        | RuleKind::OddLot
-        | RuleKind::Rate(_, _)
-        | RuleKind::Repeat(_, _) => None,
-    }
-}
-
 fn limit_row<G: ShowsState>(gate: &G, commands: &[GrantedCommand], rule: &FileRule) -> LimitRow
     requires { commands.now ≡ granted_commands (G.seen gate.now).records }
     ensures { result ≡ limit_row (G.seen gate.now).policy (G.seen gate.now).records rule.now }
@@ -85,7 +63,7 @@ fn limit_row<G: ShowsState>(gate: &G, commands: &[GrantedCommand], rule: &FileRu
     LimitRow {
         rule: rule.name,
         limit: gate.limit(rule.name),
-        file: limit_of(&rule.kind),
+        file: rule.kind.limit(),
         set: last_about(commands, Subject::LimitOf(rule.name)),
     }
 }

@@ -1,13 +1,10 @@
 -- Lines: whose they are, and the records of one.
-use Rattle.std.proofs.Common.{◌≡◌, ◌≢◌, ℕ, eqb, ◌<◌, ◌≤◌, cond, List, [], ◌∷◌, ◌++◌, refl, ap, sym, ◌∙◌, subst, ⊎_elim, arith, eq-eqb, ne_eqb}
+use Rattle.std.proofs.{Common.{◌≡◌, ◌≢◌, ℕ, eqb, ◌<◌, ◌≤◌, cond, List, [], ◌∷◌, ◌++◌, refl, ap, sym, ◌∙◌, subst, ⊎_elim, arith, eq-eqb, ne_eqb}, lemmas.List.{append-nil, Elements.filter-append}}
 use Rattle.std.specs.Prelude.{◌==◌}
-use Rattle.std.proofs.lemmas.List.{append-nil}
-use Rattle.std.proofs.lemmas.List.Elements.{filter-append}
 use Rattle.gx_history.specs.declared.record.RecordData.{RecordData}
 use mathlib.Core.Logic.{dite}
 use native.Mathlib.Decide.{ℕ_discrete}
-use Rattle.gx_pass.specs.Views.{line_in, of_line, without}
-use Rattle.gx_pass.specs.Rules.{IsAbsent, Has, InHand, IsNumbered}
+use Rattle.gx_pass.specs.{Views.{line_in, of_line, without}, Rules.{IsAbsent, Has, InHand, IsNumbered}}
 
 -- the line has the number `to` from now on
 abbrev pub moved : (ℕ → ℕ) → ℕ → ℕ → ℕ → ℕ

@@ -1,21 +1,13 @@
 -- Each step keeps the rule.
-use Rattle.std.proofs.Common.{◌≡◌, ◌≢◌, ◌⊎◌, ℕ, zero, suc, ◌+◌, ◌%◌, ◌^◌, ◌<◌, ◌≤◌, List, [], ◌∷◌, ◌++◌, length, set, refl, ap, sym, ◌∙◌, subst, inl, inr, ⊎_elim, arith, length-append}
+use Rattle.std.proofs.{Common.{◌≡◌, ◌≢◌, ◌⊎◌, ℕ, zero, suc, ◌+◌, ◌%◌, ◌^◌, ◌<◌, ◌≤◌, List, [], ◌∷◌, ◌++◌, length, set, refl, ap, sym, ◌∙◌, subst, inl, inr, ⊎_elim, arith, length-append}, Math.{ListN.length-set, Nat.mod-eq_of_lt}}
 use Rattle.std.specs.Prelude.{slice_index, slice_set}
 use mathlib.Core.Option.{some, some-ne-none, some-injective}
 use lib.ListN.{get_elem?}
-use Rattle.std.proofs.Math.ListN.{length-set}
-use Rattle.std.proofs.Math.Nat.{mod-eq_of_lt}
 use Rattle.atomic_table.specs.Table.{State, Me, Allows, Splits, Joins, keeps as stays}
 use Rattle.atomic_table.proofs.Lists.{at_set}
 use Rattle.gx_history.specs.declared.record.RecordData.{RecordData}
-use Rattle.gx_pass.specs.declared.view.Keeps.{Keeps}
-use Rattle.gx_pass.specs.declared.view.Holds.{Holds}
-use Rattle.gx_pass.specs.declared.view.View.{View}
-use Rattle.gx_pass.specs.declared.view.View.TheVariants.{Keeping, Meeting, Holding, Spent}
-use Rattle.gx_pass.specs.Views.{first_view, line_in, keeps, holds, retold, counted, newcomer, let_go, goes_out, taken_in, without}
-use Rattle.gx_pass.specs.Rules.{IsMet, MayNote, InHand, Fits, IsKeptBy, IsKept, HasTold, HasMet, HasLooked, HasTaken, Has}
-use Rattle.gx_pass.proofs.Fronts.{prefix_self, prefix_more, prefix_length}
-use Rattle.gx_pass.proofs.Lines.{moved, moved_here, moved_else, in_hand, absent, absent_new, hand_else, hand_alone, hand_without, numbered_more, numbered_push, of_line_other}
+use Rattle.gx_pass.specs.{declared.view.{Keeps.Keeps, Holds.Holds, View.{View, TheVariants.{Keeping, Meeting, Holding, Spent}}}, Views.{first_view, line_in, keeps, holds, retold, counted, newcomer, let_go, goes_out, taken_in, without}, Rules.{IsMet, MayNote, InHand, Fits, IsKeptBy, IsKept, HasTold, HasMet, HasLooked, HasTaken, Has}}
+use Rattle.gx_pass.proofs.{Fronts.{prefix_self, prefix_more, prefix_length}, Lines.{moved, moved_here, moved_else, in_hand, absent, absent_new, hand_else, hand_alone, hand_without, numbered_more, numbered_push, of_line_other}}
 
 abbrev Each : Keeps → (ℕ → ℕ) → List View → Type 0
 Each k holder views = (seat : ℕ) (v : View) → get_elem? views seat ≡ some v → Fits k holder seat v

@@ -5,11 +5,7 @@ use mathlib.Core.List.{IsPrefix}
 use lib.ListN.{get_elem?}
 use Rattle.atomic_table.specs.Table.{Me}
 use Rattle.gx_history.specs.declared.record.RecordData.{RecordData}
-use Rattle.gx_pass.specs.declared.view.Keeps.{Keeps}
-use Rattle.gx_pass.specs.declared.view.Holds.{Holds}
-use Rattle.gx_pass.specs.declared.view.View.{View}
-use Rattle.gx_pass.specs.declared.view.View.TheVariants.{Keeping, Meeting, Holding, Spent}
-use Rattle.gx_pass.specs.Views.{line_in, of_line, mine, keeps, kept_of, held_of, retold}
+use Rattle.gx_pass.specs.{declared.view.{Keeps.Keeps, Holds.Holds, View.{View, TheVariants.{Keeping, Meeting, Holding, Spent}}}, Views.{line_in, of_line, mine, keeps, kept_of, held_of, retold}}
 
 -- what a pass knows is so of this history
 pub record IsMet (log : List RecordData) (h : Holds) : Type 0 where

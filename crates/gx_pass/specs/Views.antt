@@ -1,18 +1,9 @@
 -- What seats know, and what splits and joins make of it.
-use Rattle.std.specs.Prelude.{ℕ, ◌+◌, ◌==◌, List, [], ◌∷◌, cond, fold, length, map, max}
-use Rattle.std.specs.List.{filter}
+use Rattle.std.specs.{Prelude.{ℕ, ◌+◌, ◌==◌, List, [], ◌∷◌, cond, fold, length, map, max}, List.filter}
 use Rattle.atomic_table.specs.Seated.{TableId}
-use Rattle.gx_policy.specs.declared.policy.PolicyData.{PolicyData}
-use Rattle.gx_policy.specs.declared.policy.Lifters.TheVariants.{One}
-use Rattle.gx_history.specs.declared.record.RecordData.{RecordData}
-use Rattle.gx_history.specs.declared.record.Step.{Step}
-use Rattle.gx_history.specs.declared.record.Step.TheVariants as steps
-use Rattle.gx_history.specs.declared.record.Verdict.TheVariants as verdicts
-use Rattle.gx_history.specs.Logins.{blank_session}
-use Rattle.gx_pass.specs.declared.view.Keeps.{Keeps}
-use Rattle.gx_pass.specs.declared.view.Holds.{Holds}
-use Rattle.gx_pass.specs.declared.view.View.{View}
-use Rattle.gx_pass.specs.declared.view.View.TheVariants.{Keeping, Meeting, Holding, Spent}
+use Rattle.gx_policy.specs.declared.policy.{PolicyData.PolicyData, Lifters.TheVariants.One}
+use Rattle.gx_history.specs.{declared.record.{RecordData.RecordData, Step.Step, Verdict.Verdict}, Logins.blank_session}
+use Rattle.gx_pass.specs.declared.view.{Keeps.Keeps, Holds.Holds, View.{View, TheVariants.{Keeping, Meeting, Holding, Spent}}}
 
 -- the name of no table
 abbrev pub no_table : TableId
@@ -24,12 +15,12 @@ no_policy = record { session = blank_session; lifters = One; accounts = []; stoc
 
 -- the record of nothing
 abbrev pub no_record : RecordData
-no_record = record { number = 0; moment = 0; step = steps.Matching 0; verdict = verdicts.Granted }
+no_record = record { number = 0; moment = 0; step = Step.Matching 0; verdict = Verdict.Granted }
 
 -- the line of a step, 0 where it is nobody's
 abbrev pub line_asked : Step → ℕ
-line_asked (steps.Asked a) = a.line
-line_asked (steps.Matching handed) = 0
+line_asked (Step.Asked a) = a.line
+line_asked (Step.Matching handed) = 0
 
 -- the line of a record's step
 abbrev pub line_in : RecordData → ℕ

@@ -2,9 +2,7 @@
 
 ghost use Rattle.std.specs.Prelude.{◌≡◌, ◌+◌, ◌<◌, ◌≤◌, ◌^◌, ◌++◌, ◌∷◌, [], length, IfErr, IfOk, OnErr, OnOk, Err};
 ghost use Rattle.gx_pass.specs.declared.pass.PassFault.TheVariants as faults;
-ghost use Rattle.gx_pass.specs.declared.view.View.TheVariants.{Keeping};
-ghost use Rattle.gx_pass.specs.Rules.{IsMet, IsAbsent, Has, MayNote, HasTaken};
-ghost use Rattle.gx_pass.specs.Views.{keeps, holds, kept_of, line_in, mine, without, let_go, goes_out};
+ghost use Rattle.gx_pass.specs.{declared.view.View.TheVariants.Keeping, Rules.{IsMet, IsAbsent, Has, MayNote, HasTaken}, Views.{keeps, holds, kept_of, line_in, mine, without, let_go, goes_out}};
 
 use crate::blank::Blank;
 use crate::name::GateName;

@@ -1,30 +1,15 @@
 -- A day begins with nothing used, and an empty table keeps its peaks; what is asked of a table is the peak that it keeps.
-use Rattle.std.proofs.Common.{◌≡◌, ℕ, pos, ◌+ℤ◌, ◌-ℤ◌, Bool, true, List, [], refl, sym, ap, subst, ◌∙◌, take, arith}
-use Rattle.std.specs.Prelude.{Option, Some, None, IfSome, is_some}
-use Rattle.std.specs.Option.{option_map_or}
-use Rattle.std.specs.Map.{lookup}
-use Rattle.std.proofs.lemmas.List.{take_all}
-use Rattle.gx_units.specs.declared.names.AccountName.{AccountName}
-use Rattle.gx_units.specs.declared.names.RuleId.{RuleId}
+use Rattle.std.proofs.{Common.{◌≡◌, ℕ, pos, ◌+ℤ◌, ◌-ℤ◌, Bool, true, List, [], refl, sym, ap, subst, ◌∙◌, take, arith}, lemmas.List.take_all}
+use Rattle.std.specs.{Prelude.{Option, Some, None, IfSome, is_some}, Option.option_map_or, Map.lookup}
+use Rattle.gx_units.specs.declared.names.{AccountName.AccountName, RuleId.RuleId}
 use Rattle.gx_ouch.specs.declared.outbound.OrderTerms.{OrderTerms}
 use Rattle.gx_policy.specs.declared.policy.PolicyData.{PolicyData}
-use Rattle.gx_history.specs.declared.record.RecordData.{RecordData}
-use Rattle.gx_history.specs.Figures.{Positions, done_of_chosen, done_value, live_value, net_done, on_side, open_of_chosen, other_side, side_live}
+use Rattle.gx_history.specs.{declared.record.RecordData.RecordData, Figures.{Positions, done_of_chosen, done_value, live_value, net_done, on_side, open_of_chosen, other_side, side_live}}
 use Rattle.gx_exposure.proofs.Steps.{shares_held, value_held}
 use Rattle.gx_positions.proofs.GoingOn.{days_begin_empty}
 use Rattle.gx_records.specs.State.{limit_in_force}
-use Rattle.gx_peaks.specs.declared.figure.Figure.{Figure}
-use Rattle.gx_peaks.specs.declared.key.PeakKey.{PeakKey}
-use Rattle.gx_peaks.specs.declared.peak.Peak.{Peak}
-use Rattle.gx_peaks.specs.declared.table.HeldPeak.{HeldPeak}
-use Rattle.gx_peaks.specs.declared.table.PeakTable.{PeakTable}
-use Rattle.gx_peaks.specs.Figures.{above_zero, amount, is_counted}
-use Rattle.gx_peaks.specs.Keys.{key_of, same_key}
-use Rattle.gx_peaks.specs.Noting.{AreHeld, peak_under}
-use Rattle.gx_peaks.specs.Peaks.{IsPeakOf, is_past, limit_behind}
-use Rattle.gx_peaks.specs.Raising.{unmoved}
-use Rattle.gx_peaks.proofs.Holding.{none_is_within}
-use Rattle.gx_peaks.proofs.Sorts.{Net, Shares, Sort, Value, amount_is, has_sort, total_of}
+use Rattle.gx_peaks.specs.{declared.{figure.Figure.Figure, key.PeakKey.PeakKey, peak.Peak.Peak, table.{HeldPeak.HeldPeak, PeakTable.PeakTable}}, Figures.{above_zero, amount, is_counted}, Keys.{key_of, same_key}, Noting.{AreHeld, peak_under}, Peaks.{IsPeakOf, is_past, limit_behind}, Raising.unmoved}
+use Rattle.gx_peaks.proofs.{Holding.none_is_within, Sorts.{Net, Shares, Sort, Value, amount_is, has_sort, total_of}}
 
 none_open : (chosen : AccountName → OrderTerms → Bool) → open_of_chosen [] chosen ≡ 0
 unfolding open_of_chosen

@@ -1,48 +1,22 @@
 -- Behind each record the table keeps the peaks over all records.
-use Rattle.std.proofs.Common.{◌≡◌, ℕ, ◌≤◌, Bool, true, false, cond, inl, inr, List, [], ◌∷◌, ◌++◌, length, refl, sym, ap, subst, ◌∙◌, arith}
-use Rattle.std.specs.Prelude.{Option, Some, None, is_some, option_and_then}
-use Rattle.std.specs.Option.{option_map_or}
-use Rattle.std.proofs.lemmas.Bool.{le-ltb, ltb-false}
-use Rattle.gx_units.specs.Names.{same_rule}
-use Rattle.gx_units.specs.declared.names.AccountName.{AccountName}
-use Rattle.gx_units.specs.declared.names.RuleId.{RuleId}
-use Rattle.gx_policy.specs.declared.policy.PolicyData.{PolicyData}
-use Rattle.gx_policy.specs.People.{account_named}
-use Rattle.gx_policy.specs.Soundness.{is_sound}
-use Rattle.gx_history.specs.declared.live_order.LiveOrder.{LiveOrder}
-use Rattle.gx_history.specs.declared.record.RecordData.{RecordData}
-use Rattle.gx_history.specs.declared.record.Verdict.{Verdict}
-use Rattle.gx_history.specs.declared.record.Verdict.TheVariants as verdicts
-use Rattle.gx_history.specs.Book.{is_buy}
-use Rattle.gx_history.specs.Live.{live, live_numbered}
-use Rattle.gx_history.specs.Verdicts.{Follows, IsLegal}
-use Rattle.gx_history_laws.proofs.NextReports.{legal_before}
-use Rattle.gx_history_laws.proofs.Order.{some_same}
+use Rattle.std.proofs.{Common.{◌≡◌, ℕ, ◌≤◌, Bool, true, false, cond, inl, inr, List, [], ◌∷◌, ◌++◌, length, refl, sym, ap, subst, ◌∙◌, arith}, lemmas.Bool.{le-ltb, ltb-false}}
+use Rattle.std.specs.{Prelude.{Option, Some, None, is_some, option_and_then}, Option.option_map_or}
+use Rattle.gx_units.specs.{Names.same_rule, declared.names.{AccountName.AccountName, RuleId.RuleId}}
+use Rattle.gx_policy.specs.{declared.policy.PolicyData.PolicyData, People.account_named, Soundness.is_sound}
+use Rattle.gx_history.specs.{declared.{live_order.LiveOrder.LiveOrder, «record».{RecordData.RecordData, Verdict.Verdict}}, Book.is_buy, Live.{live, live_numbered}, Verdicts.{Follows, IsLegal}}
+use Rattle.gx_history_laws.proofs.{NextReports.legal_before, Order.some_same}
 use Rattle.gx_records.specs.State.{limit_in_force}
-use Rattle.gx_peaks.specs.declared.figure.Figure.{Figure}
-use Rattle.gx_peaks.specs.declared.table.HeldPeak.{HeldPeak}
-use Rattle.gx_peaks.specs.declared.table.PeakTable.{PeakTable}
-use Rattle.gx_peaks.specs.Figures.{amount, is_counted}
-use Rattle.gx_peaks.specs.Keys.{key_of}
-use Rattle.gx_peaks.specs.Noting.{Advances, AdvancesTo, AreHeld, IsHeld, IsOfOrder, IsOfSeller, IsOfSetting, Lags, held_under, peak_under}
-use Rattle.gx_peaks.specs.Peaks.{IsPeakOf, is_over}
-use Rattle.gx_peaks.specs.Raising.{unmoved}
-use Rattle.gx_peaks.specs.Touching.{gains_by, gains_of, seller, set_in, sets_limit}
-use Rattle.gx_peaks.proofs.Newest.{account_is_known}
-use Rattle.gx_peaks.proofs.Quiet.{counts_gain, counts_order, no_rise}
-use Rattle.gx_peaks.proofs.Rising.{still_is, whole}
-use Rattle.gx_peaks.proofs.Sameness.{counts_it, counts_its_gain}
-use Rattle.gx_peaks.proofs.Settings.{limit_is_kept}
-use Rattle.gx_peaks.proofs.Sorts.{Sort, amount_is, has_sort, sort_of}
+use Rattle.gx_peaks.specs.{declared.{figure.Figure.Figure, table.{HeldPeak.HeldPeak, PeakTable.PeakTable}}, Figures.{amount, is_counted}, Keys.key_of, Noting.{Advances, AdvancesTo, AreHeld, IsHeld, IsOfOrder, IsOfSeller, IsOfSetting, Lags, held_under, peak_under}, Peaks.{IsPeakOf, is_over}, Raising.unmoved, Touching.{gains_by, gains_of, seller, set_in, sets_limit}}
+use Rattle.gx_peaks.proofs.{Newest.account_is_known, Quiet.{counts_gain, counts_order, no_rise}, Rising.{still_is, whole}, Sameness.{counts_it, counts_its_gain}, Settings.limit_is_kept, Sorts.{Sort, amount_is, has_sort, sort_of}}
 
 -- the account of a sell that is filled is one of the policy
 gainer_is_known : (policy : PolicyData) (earlier : List RecordData) (account : AccountName) → is_sound policy ≡ true → IsLegal policy earlier → (v : Verdict) → gains_by (live policy earlier) v ≡ Some account
     → is_some (account_named policy account) ≡ true
-gainer_is_known policy earlier account sound legal verdicts.Granted h = cc
-gainer_is_known policy earlier account sound legal (verdicts.Denied rule) h = cc
-gainer_is_known policy earlier account sound legal (verdicts.Rested number) h = cc
-gainer_is_known policy earlier account sound legal (verdicts.Expired number) h = cc
-gainer_is_known policy earlier account sound legal (verdicts.Filled f) h = at (live_numbered (live policy earlier) f.taker) refl h
+gainer_is_known policy earlier account sound legal Verdict.Granted h = cc
+gainer_is_known policy earlier account sound legal (Verdict.Denied rule) h = cc
+gainer_is_known policy earlier account sound legal (Verdict.Rested number) h = cc
+gainer_is_known policy earlier account sound legal (Verdict.Expired number) h = cc
+gainer_is_known policy earlier account sound legal (Verdict.Filled f) h = at (live_numbered (live policy earlier) f.taker) refl h
   where
     by : (o : LiveOrder) (buys : Bool) → cond buys None (Some o.account) ≡ Some account → o.account ≡ account
     by o true k = cc

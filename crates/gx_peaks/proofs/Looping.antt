@@ -1,33 +1,13 @@
 -- One more rule, or one more place of the table, is noted.
-use Rattle.std.proofs.Common.{◌≡◌, ℕ, ◌+◌, ◌<◌, ◌≤◌, Bool, true, false, cond, not, ◌⊎◌, inl, inr, List, [], ◌∷◌, ◌++◌, length, take, get_or, refl, sym, ap, subst, ◌∙◌}
-use Rattle.std.specs.Prelude.{Option, Some, None, Result, Ok, Err, OnOk, ◌&&◌, ◌||◌, is_some, option_and_then, option_map, slice_get}
-use Rattle.std.specs.List.{find, list_any}
-use Rattle.std.specs.Option.{option_map_or}
-use Rattle.std.specs.Map.{keys_of, lookup}
-use Rattle.std.proofs.lemmas.List.{take_all, take_more}
-use Rattle.std.proofs.lemmas.List.Folds.{list_any-append}
-use Rattle.std.proofs.lemmas.Option.{slice_get-get_or, slice_get-map}
-use Rattle.gx_units.specs.Names.{same_rule}
-use Rattle.gx_units.specs.declared.names.AccountName.{AccountName}
-use Rattle.gx_units.specs.declared.names.RuleId.{RuleId}
-use Rattle.gx_policy.specs.declared.policy.FileRule.{FileRule}
-use Rattle.gx_policy.specs.declared.policy.PolicyData.{PolicyData}
-use Rattle.gx_policy.specs.People.{account_named, rule_in}
-use Rattle.gx_history.specs.declared.facts.StockSide.{StockSide}
-use Rattle.gx_history.specs.declared.record.RecordData.{RecordData}
+use Rattle.std.proofs.{Common.{◌≡◌, ℕ, ◌+◌, ◌<◌, ◌≤◌, Bool, true, false, cond, not, ◌⊎◌, inl, inr, List, [], ◌∷◌, ◌++◌, length, take, get_or, refl, sym, ap, subst, ◌∙◌}, lemmas.{List.{take_all, take_more, Folds.list_any-append}, Option.{slice_get-get_or, slice_get-map}}}
+use Rattle.std.specs.{Prelude.{Option, Some, None, Result, Ok, Err, OnOk, ◌&&◌, ◌||◌, is_some, option_and_then, option_map, slice_get}, List.{find, list_any}, Option.option_map_or, Map.{keys_of, lookup}}
+use Rattle.gx_units.specs.{Names.same_rule, declared.names.{AccountName.AccountName, RuleId.RuleId}}
+use Rattle.gx_policy.specs.{declared.policy.{FileRule.FileRule, PolicyData.PolicyData}, People.{account_named, rule_in}}
+use Rattle.gx_history.specs.declared.{facts.StockSide.StockSide, «record».RecordData.RecordData}
 use Rattle.gx_history_laws.proofs.Order.{some_same}
-use Rattle.gx_effects.proofs.Among.{IsIn, all_are_in}
-use Rattle.gx_effects.proofs.NewOrders.{found_is}
-use Rattle.gx_peaks.specs.declared.figure.Figure.{Figure}
-use Rattle.gx_peaks.specs.declared.key.PeakKey.{PeakKey}
-use Rattle.gx_peaks.specs.declared.table.HeldPeak.{HeldPeak}
-use Rattle.gx_peaks.specs.declared.table.PeakTable.{PeakTable}
-use Rattle.gx_peaks.specs.Figures.{counts, is_counted}
-use Rattle.gx_peaks.specs.Keys.{key_of, same_key}
-use Rattle.gx_peaks.specs.Noting.{AdvancesTo, AreTheirs, IsNoted, IsOfAccount, IsOfPlace, IsOfRule, IsSame, IsKeptUnder, IsUnder, held_under}
-use Rattle.gx_peaks.proofs.Advancing.{and_then, noted_advances, noted_theirs, reached_by, stays_put}
-use Rattle.gx_peaks.specs.Same.{key_is, rule_is, rule_is_itself}
-use Rattle.gx_peaks.proofs.Sorts.{Sort, counted_is, has_sort, sort_under}
+use Rattle.gx_effects.proofs.{Among.{IsIn, all_are_in}, NewOrders.found_is}
+use Rattle.gx_peaks.specs.{declared.{figure.Figure.Figure, key.PeakKey.PeakKey, table.{HeldPeak.HeldPeak, PeakTable.PeakTable}}, Figures.{counts, is_counted}, Keys.{key_of, same_key}, Noting.{AdvancesTo, AreTheirs, IsNoted, IsOfAccount, IsOfPlace, IsOfRule, IsSame, IsKeptUnder, IsUnder, held_under}, Same.{key_is, rule_is, rule_is_itself}}
+use Rattle.gx_peaks.proofs.{Advancing.{and_then, noted_advances, noted_theirs, reached_by, stays_put}, Sorts.{Sort, counted_is, has_sort, sort_under}}
 
 -- what is so of one of them all, or of one more, is so of one of so many and one more
 any_more : {X : Type 0} (test : X → Bool) (xs : List X) (i : ℕ) (d : X) → i < length xs → list_any test (take (i + 1) xs) ≡ true → (list_any test (take i xs) ≡ true) ⊎ (test (get_or xs i d) ≡ true)

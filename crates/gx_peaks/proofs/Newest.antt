@@ -1,66 +1,42 @@
 -- The order that a record adds is the live one of its number, and the account of each live order is one of the policy.
-use Rattle.std.proofs.Common.{◌≡◌, ℕ, Bool, true, false, cond, ◌⊎◌, inl, inr, List, [], ◌∷◌, ◌++◌, refl, sym, ap, subst, ◌∙◌}
-use Rattle.std.specs.Prelude.{Option, Some, None, ◌==◌, is_some}
-use Rattle.std.specs.Option.{option_map_or}
-use Rattle.std.specs.List.{AllByRecursion, cons_option, filter_map}
-use Rattle.std.proofs.lemmas.Bool.{eq-eqb}
+use Rattle.std.proofs.{Common.{◌≡◌, ℕ, Bool, true, false, cond, ◌⊎◌, inl, inr, List, [], ◌∷◌, ◌++◌, refl, sym, ap, subst, ◌∙◌}, lemmas.Bool.eq-eqb}
+use Rattle.std.specs.{Prelude.{Option, Some, None, ◌==◌, is_some}, Option.option_map_or, List.{AllByRecursion, cons_option, filter_map}}
 use Rattle.gx_units.specs.declared.names.AccountName.{AccountName}
-use Rattle.gx_policy.specs.declared.policy.PolicyData.{PolicyData}
-use Rattle.gx_policy.specs.People.{account_named, account_of}
-use Rattle.gx_policy.specs.Soundness.{is_sound}
-use Rattle.gx_history.specs.declared.live_order.LiveOrder.{LiveOrder}
-use Rattle.gx_history.specs.declared.record.Asked.{Asked}
-use Rattle.gx_history.specs.declared.record.RecordData.{RecordData}
-use Rattle.gx_history.specs.declared.record.Request.{Request}
-use Rattle.gx_history.specs.declared.record.Request.TheVariants as requests
-use Rattle.gx_history.specs.declared.record.Step.{Step}
-use Rattle.gx_history.specs.declared.record.Step.TheVariants as steps
-use Rattle.gx_history.specs.declared.record.Verdict.{Verdict}
-use Rattle.gx_history.specs.declared.record.Verdict.TheVariants as verdicts
-use Rattle.gx_history.specs.Figures.{Positions, positions}
-use Rattle.gx_history.specs.Live.{live, live_numbered, live_under}
-use Rattle.gx_history.specs.LiveOrders.{replacement_order}
-use Rattle.gx_history.specs.Orders.{Order}
+use Rattle.gx_policy.specs.{declared.policy.PolicyData.PolicyData, People.{account_named, account_of}, Soundness.is_sound}
+use Rattle.gx_history.specs.{declared.{live_order.LiveOrder.LiveOrder, «record».{Asked.Asked, RecordData.RecordData, Request.Request, Step.Step, Verdict.Verdict}, moves.Move.TheVariants.{Adds, Nothing, Replaces, Sizes}}, Figures.{Positions, positions}, Live.{live, live_numbered, live_under}, LiveOrders.replacement_order, Orders.Order, Turns.{Turn, becomes, new_in, new_order, turned}, Verdicts.{Follows, IsLegal}, World.{World, move_asked, turn_by, turn_in, world}}
 use Rattle.gx_history.specs.Turns as turns
-use Rattle.gx_history.specs.Turns.{Turn, becomes, new_in, new_order, turned}
-use Rattle.gx_history.specs.Verdicts.{Follows, IsLegal}
-use Rattle.gx_history.specs.declared.moves.Move.TheVariants.{Adds, Nothing, Replaces, Sizes}
-use Rattle.gx_history.specs.World.{World, move_asked, turn_by, turn_in, world}
 use Rattle.gx_history_laws.proofs.Owners.{IsHisAccounts, orders_are_their_users}
-use Rattle.gx_effects.proofs.Accounts.{accounts_are_known}
-use Rattle.gx_effects.proofs.NewOrders.{found_is}
-use Rattle.gx_positions.specs.Laws.{granted_after, turn_after}
-use Rattle.gx_positions.specs.Sound.{MayChange}
-use Rattle.gx_positions.proofs.Coming.{of_live, records_may_come}
-use Rattle.gx_positions.proofs.GoingOn.{positions_go_on}
+use Rattle.gx_effects.proofs.{Accounts.accounts_are_known, NewOrders.found_is}
+use Rattle.gx_positions.specs.{Laws.{granted_after, turn_after}, Sound.MayChange}
+use Rattle.gx_positions.proofs.{Coming.{of_live, records_may_come}, GoingOn.positions_go_on}
 
 -- an order that is new has the number of the record
 abbrev HasNumber : ℕ → LiveOrder → Type 0
 HasNumber number o = o.number ≡ number
 
 asked_number : (policy : PolicyData) (w : World) (r : RecordData) (a : Asked) (q : Request) → AllByRecursion (HasNumber r.number) (new_in (turn_in (move_asked policy w r a q)))
-asked_number policy w r a (requests.Login m) = tt
-asked_number policy w r a requests.Logout = tt
-asked_number policy w r a (requests.Unreadable m) = tt
-asked_number policy w r a (requests.Command c) = tt
-asked_number policy w r a (requests.Enter m) =
+asked_number policy w r a (Request.Login m) = tt
+asked_number policy w r a Request.Logout = tt
+asked_number policy w r a (Request.Unreadable m) = tt
+asked_number policy w r a (Request.Command c) = tt
+asked_number policy w r a (Request.Enter m) =
     elim (account_of policy a.user) as (λ (x : Option AccountName). AllByRecursion (HasNumber r.number) (new_in (turn_in (option_map_or (λ (account : AccountName). Adds (new_order policy r a.user account m)) x Nothing))))
     [ None ↦ tt | Some account ↦ (refl, tt) ]
-asked_number policy w r a (requests.Replace m) =
+asked_number policy w r a (Request.Replace m) =
     elim (live_under w.live a.user m.existing_token) as (λ (x : Option LiveOrder). AllByRecursion (HasNumber r.number) (new_in (turn_in (option_map_or (λ (old : LiveOrder). Replaces old (replacement_order r m old)) x Nothing))))
     [ None ↦ tt | Some old ↦ (refl, tt) ]
-asked_number policy w r a (requests.Cancel m) =
+asked_number policy w r a (Request.Cancel m) =
     elim (live_under w.live a.user m.token) as (λ (x : Option LiveOrder). AllByRecursion (HasNumber r.number) (new_in (turn_in (option_map_or (λ (cut : LiveOrder). Sizes cut m.shares) x Nothing))))
     [ None ↦ tt | Some cut ↦ tt ]
 
 new_number : (policy : PolicyData) (w : World) (r : RecordData) (v : Verdict) (s : Step) → AllByRecursion (HasNumber r.number) (new_in (turn_by policy w r v s))
-new_number policy w r verdicts.Granted (steps.Asked a) = asked_number policy w r a a.request
-new_number policy w r verdicts.Granted (steps.Matching handed) = tt
-new_number policy w r (verdicts.Denied rule) (steps.Asked a) = tt
-new_number policy w r (verdicts.Denied rule) (steps.Matching handed) = tt
-new_number policy w r (verdicts.Filled f) s = tt
-new_number policy w r (verdicts.Rested number) s = tt
-new_number policy w r (verdicts.Expired number) s = tt
+new_number policy w r Verdict.Granted (Step.Asked a) = asked_number policy w r a a.request
+new_number policy w r Verdict.Granted (Step.Matching handed) = tt
+new_number policy w r (Verdict.Denied rule) (Step.Asked a) = tt
+new_number policy w r (Verdict.Denied rule) (Step.Matching handed) = tt
+new_number policy w r (Verdict.Filled f) s = tt
+new_number policy w r (Verdict.Rested number) s = tt
+new_number policy w r (Verdict.Expired number) s = tt
 
 -- a live order goes on as it is, or ends
 abbrev StaysOrEnds : (LiveOrder → Option LiveOrder) → LiveOrder → Type 0

@@ -1,47 +1,18 @@
 -- What raises no figure.
-use Rattle.std.proofs.Common.{◌≡◌, ℕ, ℤ, pos, negsuc, ◌+◌, ◌-◌, ◌≤◌, ◌+ℤ◌, ◌-ℤ◌, Bool, true, false, cond, List, [], ◌∷◌, ◌++◌, refl, sym, ap, subst, ◌∙◌, arith}
-use Rattle.std.specs.Prelude.{Option, Some, None, option_and_then}
-use Rattle.std.specs.Option.{option_map_or}
-use Rattle.std.proofs.lemmas.Int.{ints}
-use Rattle.std.proofs.lemmas.List.{append-nil}
-use Rattle.gx_units.specs.Money.{value}
-use Rattle.gx_units.specs.declared.names.AccountName.{AccountName}
+use Rattle.std.proofs.{Common.{◌≡◌, ℕ, ℤ, pos, negsuc, ◌+◌, ◌-◌, ◌≤◌, ◌+ℤ◌, ◌-ℤ◌, Bool, true, false, cond, List, [], ◌∷◌, ◌++◌, refl, sym, ap, subst, ◌∙◌, arith}, lemmas.{Int.ints, List.append-nil}}
+use Rattle.std.specs.{Prelude.{Option, Some, None, option_and_then}, Option.option_map_or}
+use Rattle.gx_units.specs.{Money.value, declared.names.AccountName.AccountName}
 use Rattle.gx_ouch.specs.declared.outbound.OrderTerms.{OrderTerms}
 use Rattle.gx_policy.specs.declared.policy.PolicyData.{PolicyData}
-use Rattle.gx_history.specs.declared.facts.StockSide.{StockSide}
-use Rattle.gx_history.specs.declared.live_order.LiveOrder.{LiveOrder}
-use Rattle.gx_history.specs.declared.record.Fill.{Fill}
-use Rattle.gx_history.specs.declared.record.RecordData.{RecordData}
-use Rattle.gx_history.specs.declared.record.Verdict.{Verdict}
-use Rattle.gx_history.specs.declared.record.Verdict.TheVariants as verdicts
-use Rattle.gx_history.specs.Book.{is_buy}
-use Rattle.gx_history.specs.Executions.{Execution, executions, sides}
-use Rattle.gx_history.specs.Figures.{Positions, done_of_chosen, of_accounts, on_side, open_of_chosen, other_side, positions}
-use Rattle.gx_history.specs.Live.{live, live_numbered}
-use Rattle.gx_history.specs.Orders.{Order, orders, orders_added}
-use Rattle.gx_history.specs.Turns.{Turn, Fills, new_in}
-use Rattle.gx_history.specs.Verdicts.{Follows, IsLegal}
-use Rattle.gx_history.specs.World.{turn_by, world}
-use Rattle.gx_history_laws.proofs.NextOrders.{executions_next}
-use Rattle.gx_history_laws.proofs.NextReports.{legal_next}
-use Rattle.gx_history_laws.proofs.Numbers.{all_weaker}
+use Rattle.gx_history.specs.{declared.{facts.StockSide.StockSide, live_order.LiveOrder.LiveOrder, «record».{Fill.Fill, RecordData.RecordData, Verdict.Verdict}}, Book.is_buy, Executions.{Execution, executions, sides}, Figures.{Positions, done_of_chosen, of_accounts, on_side, open_of_chosen, other_side, positions}, Live.{live, live_numbered}, Orders.{Order, orders, orders_added}, Turns.{Turn, Fills, new_in}, Verdicts.{Follows, IsLegal}, World.{turn_by, world}}
+use Rattle.gx_history_laws.proofs.{NextOrders.executions_next, NextReports.legal_next, Numbers.all_weaker}
 use Rattle.gx_effects.proofs.Fills.{both_sides, maker_side, taker_side}
-use Rattle.gx_positions.specs.Changing.{executed_by}
-use Rattle.gx_positions.specs.Laws.{granted_after, turn_after}
-use Rattle.gx_positions.specs.Sound.{MayChange, MayFill}
-use Rattle.gx_positions.proofs.Coming.{records_may_come}
-use Rattle.gx_positions.proofs.GoingOn.{positions_go_on}
-use Rattle.gx_positions.proofs.Small.{new_ones}
-use Rattle.gx_positions.proofs.Sound.{positions_are_sound}
-use Rattle.gx_positions.proofs.Sums.{is_chosen, sides_are, sum_of_filter}
+use Rattle.gx_positions.specs.{Changing.executed_by, Laws.{granted_after, turn_after}, Sound.{MayChange, MayFill}}
+use Rattle.gx_positions.proofs.{Coming.records_may_come, GoingOn.positions_go_on, Small.new_ones, Sound.positions_are_sound, Sums.{is_chosen, sides_are, sum_of_filter}}
 use Rattle.gx_exposure.specs.Exposure.{gain, gained, gross_value, shares_of_chosen}
-use Rattle.gx_exposure.proofs.After.{GoOn, done_stays}
-use Rattle.gx_exposure.proofs.Steps.{AddsNone, AreWorth, gained-append, no_more_shares, no_more_value, shares_held, value_held}
-use Rattle.gx_exposure.proofs.Worth.{executions_are_worth}
-use Rattle.gx_peaks.specs.Figures.{above_zero}
-use Rattle.gx_peaks.specs.Touching.{gains_by, gains_of, seller}
-use Rattle.gx_peaks.proofs.Newest.{new_is_newest}
-use Rattle.gx_peaks.proofs.Sorts.{Net, Shares, Sort, Value, total_of}
+use Rattle.gx_exposure.proofs.{After.{GoOn, done_stays}, Steps.{AddsNone, AreWorth, gained-append, no_more_shares, no_more_value, shares_held, value_held}, Worth.executions_are_worth}
+use Rattle.gx_peaks.specs.{Figures.above_zero, Touching.{gains_by, gains_of, seller}}
+use Rattle.gx_peaks.proofs.{Newest.new_is_newest, Sorts.{Net, Shares, Sort, Value, total_of}}
 
 laws : GoOn
 laws = record { go_on = positions_go_on; may_come = records_may_come; are_sound = positions_are_sound }
@@ -135,7 +106,7 @@ module _ (policy : PolicyData) (records : List RecordData) (r : RecordData) (leg
         ∙ sum_of_filter (λ (e : Execution). among e.order.account) gain (both_sides f is.taker.grant is.maker.grant)
         ∙ (λ i. cond (among (is.taker.is_of.account i)) (gain (taker_side f is.taker.grant)) 0 + (cond (among (is.maker.is_of.account i)) (gain (maker_side f is.maker.grant)) 0 + 0))
 
-    none_gained : (f : Fill) (is : MayFill held f) → option_map_or among (gains_by (live policy records) (verdicts.Filled f)) false ≡ false → gained (executed_by (Fills f) held.grants) among ≡ 0
+    none_gained : (f : Fill) (is : MayFill held f) → option_map_or among (gains_by (live policy records) (Verdict.Filled f)) false ≡ false → gained (executed_by (Fills f) held.grants) among ≡ 0
     none_gained f is none =
         let taker : cond (among is.taker.order.account) (gain (taker_side f is.taker.grant)) 0 ≡ 0 =
         no_gain (among is.taker.order.account) (is_buy is.taker.order.terms.side) (is_buy is.taker.grant.terms.side) (value f.shares (f.price - is.taker.grant.terms.price)) is.taker.order.account
@@ -160,14 +131,14 @@ module _ (policy : PolicyData) (records : List RecordData) (r : RecordData) (leg
         idle empty = ap (λ (es : List Execution). gained es among) (executions_next policy records r ∙ ap (λ (es : List Execution). executions policy records ++ es) empty ∙ append-nil (executions policy records))
 
         at : (v : Verdict) → r.verdict ≡ v → gained (executions policy (records ++ r ∷ [])) among ≡ gained (executions policy records) among
-        at verdicts.Granted e = idle (ap (sides policy records) e)
-        at (verdicts.Denied rule) e = idle (ap (sides policy records) e)
-        at (verdicts.Rested number) e = idle (ap (sides policy records) e)
-        at (verdicts.Expired number) e = idle (ap (sides policy records) e)
-        at (verdicts.Filled f) e =
+        at Verdict.Granted e = idle (ap (sides policy records) e)
+        at (Verdict.Denied rule) e = idle (ap (sides policy records) e)
+        at (Verdict.Rested number) e = idle (ap (sides policy records) e)
+        at (Verdict.Expired number) e = idle (ap (sides policy records) e)
+        at (Verdict.Filled f) e =
             let is : MayFill held f = subst (λ (t : Turn). MayChange policy held t granted) (ap (λ (v : Verdict). turn_by policy (world policy records) r v r.step) e) may in
-            let none_here : gained (sides policy records (verdicts.Filled f)) among ≡ 0 = none_gained f is (ap (λ (v : Verdict). option_map_or among (gains_by (live policy records) v) false) (sym e) ∙ none) in
-            let parts = gained-append (executions policy records) (sides policy records (verdicts.Filled f)) among in
+            let none_here : gained (sides policy records (Verdict.Filled f)) among ≡ 0 = none_gained f is (ap (λ (v : Verdict). option_map_or among (gains_by (live policy records) v) false) (sym e) ∙ none) in
+            let parts = gained-append (executions policy records) (sides policy records (Verdict.Filled f)) among in
             let all = ap (λ (es : List Execution). gained es among) (executions_next policy records r ∙ ap (λ (v : Verdict). executions policy records ++ sides policy records v) e) in
             omega (arith, none_here, parts, all)
 

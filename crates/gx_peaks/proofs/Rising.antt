@@ -1,17 +1,11 @@
 -- What one more record makes of a peak.
-use Rattle.std.proofs.Common.{◌≡◌, ℕ, ◌+◌, ◌<◌, ◌≤◌, Bool, true, false, cond, not, List, [], ◌∷◌, ◌++◌, length, take, refl, sym, ap, subst, ◌∙◌, arith}
+use Rattle.std.proofs.{Common.{◌≡◌, ℕ, ◌+◌, ◌<◌, ◌≤◌, Bool, true, false, cond, not, List, [], ◌∷◌, ◌++◌, length, take, refl, sym, ap, subst, ◌∙◌, arith}, lemmas.{Bool.{leb-true, leb-false, ltb-true, ltb-false, le-ltb}, List.{length-append, take_all, take-append-le}}}
 use Rattle.std.specs.Prelude.{Option, Some, None, ◌||◌, nat_lt, nat_le, is_some}
-use Rattle.std.proofs.lemmas.Bool.{leb-true, leb-false, ltb-true, ltb-false, le-ltb}
-use Rattle.std.proofs.lemmas.List.{length-append, take_all, take-append-le}
 use Rattle.gx_units.specs.declared.names.RuleId.{RuleId}
 use Rattle.gx_policy.specs.declared.policy.PolicyData.{PolicyData}
-use Rattle.gx_history.specs.declared.record.RecordData.{RecordData}
-use Rattle.gx_history.specs.Verdicts.{last_moment}
+use Rattle.gx_history.specs.{declared.record.RecordData.RecordData, Verdicts.last_moment}
 use Rattle.gx_records.specs.State.{limit_in_force}
-use Rattle.gx_peaks.specs.declared.peak.Peak.{Peak}
-use Rattle.gx_peaks.specs.declared.peak.Reading.{Reading}
-use Rattle.gx_peaks.specs.Peaks.{IsFirstPast, IsPastFrom, IsPeak, IsPeakOf, is_past, limit_behind}
-use Rattle.gx_peaks.specs.Raising.{passed, reading_of, taken_in}
+use Rattle.gx_peaks.specs.{declared.peak.{Peak.Peak, Reading.Reading}, Peaks.{IsFirstPast, IsPastFrom, IsPeak, IsPeakOf, is_past, limit_behind}, Raising.{passed, reading_of, taken_in}}
 
 -- all records but the last, as many as these are, or all of them
 one_more : (records : List RecordData) (r : RecordData) → length (records ++ r ∷ []) ≡ length records + 1

@@ -1,32 +1,13 @@
 -- Figures of one key are one figure.
+use Rattle.gx_policy.specs.{declared.{kinds.{ExposureLimit.ExposureLimit}, policy.{Count.Count, FileRule.FileRule, PolicyData.PolicyData, RuleKind.RuleKind, Scope.Scope}}, People.{account_named, covers, rule_in}}
 use Rattle.std.proofs.Common.{◌≡◌, Bool, true, false, cond, not, ◌⊎◌, inl, inr, List, [], refl, sym, ap, subst, ◌∙◌}
 use Rattle.std.specs.Prelude.{Option, Some, None, ◌&&◌, is_some, option_and_then}
-use Rattle.gx_units.specs.Names.{same_account, same_stock}
-use Rattle.gx_units.specs.declared.names.AccountName.{AccountName}
-use Rattle.gx_policy.specs.declared.policy.Count.{Count}
-use Rattle.gx_policy.specs.declared.policy.Count.TheVariants as counts
-use Rattle.gx_policy.specs.declared.policy.FileRule.{FileRule}
-use Rattle.gx_policy.specs.declared.policy.PolicyData.{PolicyData}
-use Rattle.gx_policy.specs.declared.policy.RuleKind.{RuleKind}
-use Rattle.gx_policy.specs.declared.policy.RuleKind.TheVariants as kinds
-use Rattle.gx_policy.specs.declared.policy.Scope.{Scope}
-use Rattle.gx_policy.specs.People.{account_named, covers, rule_in}
-use Rattle.gx_history.specs.declared.facts.StockSide.{StockSide}
-use Rattle.gx_history.specs.declared.live_order.LiveOrder.{LiveOrder}
-use Rattle.gx_history.specs.declared.record.RecordData.{RecordData}
-use Rattle.gx_history.specs.Book.{is_buy, is_on}
-use Rattle.gx_history.specs.Figures.{counts_account, on_side}
-use Rattle.gx_history_laws.proofs.Judging.{both}
-use Rattle.gx_history_laws.proofs.Names.{account_is, stock_is}
-use Rattle.gx_history_laws.proofs.Order.{some_same}
+use Rattle.gx_units.specs.{Names.{same_account, same_stock}, declared.names.AccountName.AccountName}
+use Rattle.gx_history.specs.{declared.{facts.StockSide.StockSide, live_order.LiveOrder.LiveOrder, «record».RecordData.RecordData}, Book.{is_buy, is_on}, Figures.{counts_account, on_side}}
+use Rattle.gx_history_laws.proofs.{Judging.both, Names.{account_is, stock_is}, Order.some_same}
 use Rattle.gx_records.specs.State.{counted_with, is_for}
-use Rattle.gx_peaks.specs.declared.figure.Figure.{Figure}
-use Rattle.gx_peaks.specs.declared.key.PeakKey.{PeakKey}
-use Rattle.gx_peaks.specs.Figures.{amount, is_counted}
-use Rattle.gx_peaks.specs.Keys.{key_of, whose}
-use Rattle.gx_peaks.specs.Noting.{IsOfAccount, IsSame, side_of}
-use Rattle.gx_peaks.proofs.Quiet.{counts_gain, counts_order}
-use Rattle.gx_peaks.proofs.Sorts.{Net, Shares, Sort, Value, amount_is, has_sort, is_some_always, sort_by, sort_of, sort_under, total_of}
+use Rattle.gx_peaks.specs.{declared.{figure.Figure.Figure, key.PeakKey.PeakKey}, Figures.{amount, is_counted}, Keys.{key_of, whose}, Noting.{IsOfAccount, IsSame, side_of}}
+use Rattle.gx_peaks.proofs.{Quiet.{counts_gain, counts_order}, Sorts.{Net, Shares, Sort, Value, amount_is, has_sort, is_some_always, sort_by, sort_of, sort_under, total_of}}
 
 -- ---- one key, one sort
 
@@ -35,25 +16,20 @@ abbrev SameSort : RuleKind → Scope → Option StockSide → AccountName → Ac
 SameSort kind scope side x y = whose kind x ≡ whose kind y → (s t : Sort) → sort_by kind side (λ (c : Count). counts_account c scope x) ≡ Some s → sort_by kind side (λ (c : Count). counts_account c scope y) ≡ Some t → s ≡ t
 
 same_sort : (kind : RuleKind) (scope : Scope) (side : Option StockSide) (x y : AccountName) → SameSort kind scope side x y
-same_sort (kinds.GrossShares limit counts.Each) scope None x y e s t h k = sym (some_same h) ∙ ap (λ (a : AccountName). Shares (counts_account counts.Each scope a)) (some_same e) ∙ some_same k
-same_sort (kinds.GrossShares limit counts.Together) scope None x y e s t h k = sym (some_same h) ∙ some_same k
-same_sort (kinds.GrossShares limit count) scope (Some side) x y e s t h k = cc
-same_sort (kinds.GrossValue limit counts.Each) scope None x y e s t h k = sym (some_same h) ∙ ap (λ (a : AccountName). Value (counts_account counts.Each scope a)) (some_same e) ∙ some_same k
-same_sort (kinds.GrossValue limit counts.Together) scope None x y e s t h k = sym (some_same h) ∙ some_same k
-same_sort (kinds.GrossValue limit count) scope (Some side) x y e s t h k = cc
-same_sort (kinds.NetShares limit count) scope None x y e s t h k = cc
-same_sort (kinds.NetShares limit counts.Each) scope (Some side) x y e s t h k = sym (some_same h) ∙ ap (λ (a : AccountName). Net (counts_account counts.Each scope a) side) (some_same e) ∙ some_same k
-same_sort (kinds.NetShares limit counts.Together) scope (Some side) x y e s t h k = sym (some_same h) ∙ some_same k
-same_sort (kinds.Rate rate count) scope side x y e s t h k = cc
-same_sort (kinds.Repeat repeat count) scope side x y e s t h k = cc
-same_sort (kinds.Halt stocks) scope side x y e s t h k = cc
-same_sort (kinds.Restricted stocks) scope side x y e s t h k = cc
-same_sort kinds.NoShort scope side x y e s t h k = cc
-same_sort kinds.NoIso scope side x y e s t h k = cc
-same_sort kinds.OddLot scope side x y e s t h k = cc
-same_sort (kinds.OrderShares limit) scope side x y e s t h k = cc
-same_sort (kinds.OrderValue limit) scope side x y e s t h k = cc
-same_sort (kinds.Collar limit) scope side x y e s t h k = cc
+same_sort (RuleKind.Exposure ExposureLimit.GrossShares limit Count.Each) scope None x y e s t h k = sym (some_same h) ∙ ap (λ (a : AccountName). Shares (counts_account Count.Each scope a)) (some_same e) ∙ some_same k
+same_sort (RuleKind.Exposure ExposureLimit.GrossShares limit Count.Together) scope None x y e s t h k = sym (some_same h) ∙ some_same k
+same_sort (RuleKind.Exposure ExposureLimit.GrossShares limit count) scope (Some side) x y e s t h k = cc
+same_sort (RuleKind.Exposure ExposureLimit.GrossValue limit Count.Each) scope None x y e s t h k = sym (some_same h) ∙ ap (λ (a : AccountName). Value (counts_account Count.Each scope a)) (some_same e) ∙ some_same k
+same_sort (RuleKind.Exposure ExposureLimit.GrossValue limit Count.Together) scope None x y e s t h k = sym (some_same h) ∙ some_same k
+same_sort (RuleKind.Exposure ExposureLimit.GrossValue limit count) scope (Some side) x y e s t h k = cc
+same_sort (RuleKind.Exposure ExposureLimit.NetShares limit count) scope None x y e s t h k = cc
+same_sort (RuleKind.Exposure ExposureLimit.NetShares limit Count.Each) scope (Some side) x y e s t h k = sym (some_same h) ∙ ap (λ (a : AccountName). Net (counts_account Count.Each scope a) side) (some_same e) ∙ some_same k
+same_sort (RuleKind.Exposure ExposureLimit.NetShares limit Count.Together) scope (Some side) x y e s t h k = sym (some_same h) ∙ some_same k
+same_sort (RuleKind.Rate rate count) scope side x y e s t h k = cc
+same_sort (RuleKind.Repeat repeat count) scope side x y e s t h k = cc
+same_sort (RuleKind.Listed kind stocks) scope side x y e s t h k = cc
+same_sort (RuleKind.Plain kind) scope side x y e s t h k = cc
+same_sort (RuleKind.Order kind limit) scope side x y e s t h k = cc
 
 same_found : (policy : PolicyData) (side : Option StockSide) (x y : AccountName) (found : Option FileRule)
     → option_and_then (λ (rule : FileRule). whose rule.kind x) found ≡ option_and_then (λ (rule : FileRule). whose rule.kind y) found
@@ -97,22 +73,17 @@ side_in (Value among) = None
 side_in (Net among side) = Some side
 
 sort_side : (kind : RuleKind) (side : Option StockSide) (among : Count → AccountName → Bool) (s : Sort) → sort_by kind side among ≡ Some s → side ≡ side_in s
-sort_side (kinds.GrossShares limit count) None among s h = ap side_in (some_same h)
-sort_side (kinds.GrossShares limit count) (Some side) among s h = cc
-sort_side (kinds.GrossValue limit count) None among s h = ap side_in (some_same h)
-sort_side (kinds.GrossValue limit count) (Some side) among s h = cc
-sort_side (kinds.NetShares limit count) None among s h = cc
-sort_side (kinds.NetShares limit count) (Some side) among s h = ap side_in (some_same h)
-sort_side (kinds.Rate rate count) side among s h = cc
-sort_side (kinds.Repeat repeat count) side among s h = cc
-sort_side (kinds.Halt stocks) side among s h = cc
-sort_side (kinds.Restricted stocks) side among s h = cc
-sort_side kinds.NoShort side among s h = cc
-sort_side kinds.NoIso side among s h = cc
-sort_side kinds.OddLot side among s h = cc
-sort_side (kinds.OrderShares limit) side among s h = cc
-sort_side (kinds.OrderValue limit) side among s h = cc
-sort_side (kinds.Collar limit) side among s h = cc
+sort_side (RuleKind.Exposure ExposureLimit.GrossShares limit count) None among s h = ap side_in (some_same h)
+sort_side (RuleKind.Exposure ExposureLimit.GrossShares limit count) (Some side) among s h = cc
+sort_side (RuleKind.Exposure ExposureLimit.GrossValue limit count) None among s h = ap side_in (some_same h)
+sort_side (RuleKind.Exposure ExposureLimit.GrossValue limit count) (Some side) among s h = cc
+sort_side (RuleKind.Exposure ExposureLimit.NetShares limit count) None among s h = cc
+sort_side (RuleKind.Exposure ExposureLimit.NetShares limit count) (Some side) among s h = ap side_in (some_same h)
+sort_side (RuleKind.Rate rate count) side among s h = cc
+sort_side (RuleKind.Repeat repeat count) side among s h = cc
+sort_side (RuleKind.Listed kind stocks) side among s h = cc
+sort_side (RuleKind.Plain kind) side among s h = cc
+sort_side (RuleKind.Order kind limit) side among s h = cc
 
 -- what is so of an account that a rule of this kind counts with another
 record IsWith (kind : RuleKind) (scope : Scope) (side : Option StockSide) (x y : AccountName) : Type 0 where
@@ -132,31 +103,26 @@ by_itself kind scope side x y same s h =
     }
 
 is_with : (kind : RuleKind) (scope : Scope) (side : Option StockSide) (x y : AccountName) (s : Sort) → sort_by kind side (λ (c : Count). counts_account c scope x) ≡ Some s → among_of s y ≡ true → IsWith kind scope side x y
-is_with (kinds.GrossShares limit counts.Each) scope None x y s h k = by_itself (kinds.GrossShares limit counts.Each) scope None x y (ap (λ (t : Sort). among_of t y) (some_same h) ∙ k) s h
-is_with (kinds.GrossShares limit counts.Together) scope None x y s h k =
+is_with (RuleKind.Exposure ExposureLimit.GrossShares limit Count.Each) scope None x y s h k = by_itself (RuleKind.Exposure ExposureLimit.GrossShares limit Count.Each) scope None x y (ap (λ (t : Sort). among_of t y) (some_same h) ∙ k) s h
+is_with (RuleKind.Exposure ExposureLimit.GrossShares limit Count.Together) scope None x y s h k =
     let inside : covers scope y ≡ true = ap (λ (t : Sort). among_of t y) (some_same h) ∙ k in
-    record { alike = refl; covered = λ _. inside; sort = Shares (counts_account counts.Together scope y); has_sort = refl }
-is_with (kinds.GrossShares limit count) scope (Some side) x y s h k = cc
-is_with (kinds.GrossValue limit counts.Each) scope None x y s h k = by_itself (kinds.GrossValue limit counts.Each) scope None x y (ap (λ (t : Sort). among_of t y) (some_same h) ∙ k) s h
-is_with (kinds.GrossValue limit counts.Together) scope None x y s h k =
+    record { alike = refl; covered = λ _. inside; sort = Shares (counts_account Count.Together scope y); has_sort = refl }
+is_with (RuleKind.Exposure ExposureLimit.GrossShares limit count) scope (Some side) x y s h k = cc
+is_with (RuleKind.Exposure ExposureLimit.GrossValue limit Count.Each) scope None x y s h k = by_itself (RuleKind.Exposure ExposureLimit.GrossValue limit Count.Each) scope None x y (ap (λ (t : Sort). among_of t y) (some_same h) ∙ k) s h
+is_with (RuleKind.Exposure ExposureLimit.GrossValue limit Count.Together) scope None x y s h k =
     let inside : covers scope y ≡ true = ap (λ (t : Sort). among_of t y) (some_same h) ∙ k in
-    record { alike = refl; covered = λ _. inside; sort = Value (counts_account counts.Together scope y); has_sort = refl }
-is_with (kinds.GrossValue limit count) scope (Some side) x y s h k = cc
-is_with (kinds.NetShares limit count) scope None x y s h k = cc
-is_with (kinds.NetShares limit counts.Each) scope (Some side) x y s h k = by_itself (kinds.NetShares limit counts.Each) scope (Some side) x y (ap (λ (t : Sort). among_of t y) (some_same h) ∙ k) s h
-is_with (kinds.NetShares limit counts.Together) scope (Some side) x y s h k =
+    record { alike = refl; covered = λ _. inside; sort = Value (counts_account Count.Together scope y); has_sort = refl }
+is_with (RuleKind.Exposure ExposureLimit.GrossValue limit count) scope (Some side) x y s h k = cc
+is_with (RuleKind.Exposure ExposureLimit.NetShares limit count) scope None x y s h k = cc
+is_with (RuleKind.Exposure ExposureLimit.NetShares limit Count.Each) scope (Some side) x y s h k = by_itself (RuleKind.Exposure ExposureLimit.NetShares limit Count.Each) scope (Some side) x y (ap (λ (t : Sort). among_of t y) (some_same h) ∙ k) s h
+is_with (RuleKind.Exposure ExposureLimit.NetShares limit Count.Together) scope (Some side) x y s h k =
     let inside : covers scope y ≡ true = ap (λ (t : Sort). among_of t y) (some_same h) ∙ k in
-    record { alike = refl; covered = λ _. inside; sort = Net (counts_account counts.Together scope y) side; has_sort = refl }
-is_with (kinds.Rate rate count) scope side x y s h k = cc
-is_with (kinds.Repeat repeat count) scope side x y s h k = cc
-is_with (kinds.Halt stocks) scope side x y s h k = cc
-is_with (kinds.Restricted stocks) scope side x y s h k = cc
-is_with kinds.NoShort scope side x y s h k = cc
-is_with kinds.NoIso scope side x y s h k = cc
-is_with kinds.OddLot scope side x y s h k = cc
-is_with (kinds.OrderShares limit) scope side x y s h k = cc
-is_with (kinds.OrderValue limit) scope side x y s h k = cc
-is_with (kinds.Collar limit) scope side x y s h k = cc
+    record { alike = refl; covered = λ _. inside; sort = Net (counts_account Count.Together scope y) side; has_sort = refl }
+is_with (RuleKind.Rate rate count) scope side x y s h k = cc
+is_with (RuleKind.Repeat repeat count) scope side x y s h k = cc
+is_with (RuleKind.Listed kind stocks) scope side x y s h k = cc
+is_with (RuleKind.Plain kind) scope side x y s h k = cc
+is_with (RuleKind.Order kind limit) scope side x y s h k = cc
 
 -- a figure that counts an account of the policy is that account's
 joined : (policy : PolicyData) (figure : Figure) (s : Sort) (y : AccountName) → sort_of policy figure ≡ Some s → among_of s y ≡ true → is_some (account_named policy y) ≡ true

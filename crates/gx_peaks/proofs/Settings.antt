@@ -1,21 +1,10 @@
 -- A record that sets no limit of a rule leaves its limit as it is.
-use Rattle.std.proofs.Common.{◌≡◌, ℕ, Bool, true, false, cond, List, [], ◌∷◌, ◌++◌, map, refl, sym, ap, ◌∙◌}
-use Rattle.std.specs.Prelude.{Option, Some, None, option_and_then}
-use Rattle.std.specs.Option.{option_map_or}
-use Rattle.std.proofs.lemmas.Cmp.{nat_list_eq_equiv}
-use Rattle.gx_units.specs.Names.{same_rule}
-use Rattle.gx_units.specs.declared.names.RuleId.{RuleId}
-use Rattle.gx_units.specs.declared.names.Symbol.{Symbol}
+use Rattle.gx_policy.specs.{Kinds.{limit_of, with_limit, with_stocks}, declared.policy.{FileRule.FileRule, PolicyData.PolicyData, RuleKind.RuleKind}, People.rule_in}
+use Rattle.std.proofs.{Common.{◌≡◌, ℕ, Bool, true, false, cond, List, [], ◌∷◌, ◌++◌, map, refl, sym, ap, ◌∙◌}, lemmas.Cmp.nat_list_eq_equiv}
+use Rattle.std.specs.{Prelude.{Option, Some, None, option_and_then}, Option.option_map_or}
+use Rattle.gx_units.specs.{Names.same_rule, declared.names.{RuleId.RuleId, Symbol.Symbol}}
 use Rattle.gx_desk.specs.declared.Action.{Action}
-use Rattle.gx_desk.specs.declared.Action.TheVariants as actions
-use Rattle.gx_policy.specs.declared.policy.FileRule.{FileRule}
-use Rattle.gx_policy.specs.declared.policy.PolicyData.{PolicyData}
-use Rattle.gx_policy.specs.declared.policy.RuleKind.{RuleKind}
-use Rattle.gx_policy.specs.declared.policy.RuleKind.TheVariants as kinds
-use Rattle.gx_policy.specs.People.{rule_in}
-use Rattle.gx_history.specs.declared.record.RecordData.{RecordData}
-use Rattle.gx_history.specs.InForce.{change_rule, changed, limit_of, rules_in_force, with_limit, with_stocks}
-use Rattle.gx_history.specs.Requests.{granted_action}
+use Rattle.gx_history.specs.{declared.record.RecordData.RecordData, InForce.{change_rule, changed, rules_in_force}, Requests.granted_action}
 use Rattle.gx_history_laws.proofs.NextInForce.{rules_in_force_next, rules_in_force_none}
 use Rattle.gx_records.specs.State.{limit_in_force}
 use Rattle.gx_peaks.specs.Touching.{set_by, sets_limit}
@@ -29,19 +18,12 @@ pub file_limit_is : (policy : PolicyData) (name : RuleId) → limit_among policy
 file_limit_is policy name = ap (λ (rules : List FileRule). limit_among rules name) (sym (rules_in_force_none policy))
 
 stocks_set_none : (change : List Symbol → List Symbol) (kind : RuleKind) → limit_of (with_stocks change kind) ≡ limit_of kind
-stocks_set_none change (kinds.Halt stocks) = refl
-stocks_set_none change (kinds.Restricted stocks) = refl
-stocks_set_none change kinds.NoShort = refl
-stocks_set_none change kinds.NoIso = refl
-stocks_set_none change kinds.OddLot = refl
-stocks_set_none change (kinds.OrderShares limit) = refl
-stocks_set_none change (kinds.OrderValue limit) = refl
-stocks_set_none change (kinds.Collar limit) = refl
-stocks_set_none change (kinds.GrossShares limit count) = refl
-stocks_set_none change (kinds.GrossValue limit count) = refl
-stocks_set_none change (kinds.NetShares limit count) = refl
-stocks_set_none change (kinds.Rate rate count) = refl
-stocks_set_none change (kinds.Repeat repeat count) = refl
+stocks_set_none change (RuleKind.Listed kind stocks) = refl
+stocks_set_none change (RuleKind.Plain kind) = refl
+stocks_set_none change (RuleKind.Order kind limit) = refl
+stocks_set_none change (RuleKind.Exposure kind limit count) = refl
+stocks_set_none change (RuleKind.Rate rate count) = refl
+stocks_set_none change (RuleKind.Repeat repeat count) = refl
 
 module _ (named : RuleId) (change : RuleKind → RuleKind) (name : RuleId)
     (keeps : (rule : FileRule) → same_rule rule.name name ≡ true → limit_of (cond (same_rule rule.name named) (change rule.kind) rule.kind) ≡ limit_of rule.kind) where
@@ -70,14 +52,14 @@ stocks_anywhere named name change rule e = by (same_rule rule.name named)
     by false = refl
 
 by_action : (name : RuleId) (rules : List FileRule) (action : Action) → option_map_or (λ (named : RuleId). same_rule named name) (set_by action) false ≡ false → limit_among (changed rules action) name ≡ limit_among rules name
-by_action name rules (actions.SetLimit named limit) apart = limit_stays named (with_limit limit) name (limit_elsewhere named name limit apart) rules
-by_action name rules (actions.Restrict named stock) apart = limit_stays named (with_stocks _) name (stocks_anywhere named name _) rules
-by_action name rules (actions.Unrestrict named stock) apart = limit_stays named (with_stocks _) name (stocks_anywhere named name _) rules
-by_action name rules (actions.Kill account) apart = refl
-by_action name rules (actions.Lift account) apart = refl
-by_action name rules (actions.Grant written account) apart = refl
-by_action name rules (actions.Revoke written account) apart = refl
-by_action name rules actions.CloseDay apart = refl
+by_action name rules (Action.SetLimit named limit) apart = limit_stays named (with_limit limit) name (limit_elsewhere named name limit apart) rules
+by_action name rules (Action.Restrict named stock) apart = limit_stays named (with_stocks _) name (stocks_anywhere named name _) rules
+by_action name rules (Action.Unrestrict named stock) apart = limit_stays named (with_stocks _) name (stocks_anywhere named name _) rules
+by_action name rules (Action.Kill account) apart = refl
+by_action name rules (Action.Lift account) apart = refl
+by_action name rules (Action.Grant written account) apart = refl
+by_action name rules (Action.Revoke written account) apart = refl
+by_action name rules Action.CloseDay apart = refl
 
 -- behind a record that does not set it
 pub limit_is_kept : (policy : PolicyData) (records : List RecordData) (r : RecordData) (name : RuleId) → sets_limit r name ≡ false

@@ -1,23 +1,12 @@
 -- Each figure is of one of three sorts, of some accounts.
+use Rattle.gx_policy.specs.{declared.{kinds.{ExposureLimit.ExposureLimit}, policy.{Count.Count, FileRule.FileRule, PolicyData.PolicyData, RuleKind.RuleKind}}, People.{account_named, covers, rule_in}}
 use Rattle.std.proofs.Common.{◌≡◌, ℕ, ◌+ℤ◌, pos, Bool, true, false, cond, List, [], refl, sym, ap, ◌∙◌}
-use Rattle.std.specs.Option.{option_map_or}
-use Rattle.std.specs.Prelude.{Option, Some, None, ◌&&◌, is_some, option_and_then, option_map, unwrap_or}
+use Rattle.std.specs.{Option.option_map_or, Prelude.{Option, Some, None, ◌&&◌, is_some, option_and_then, option_map, unwrap_or}}
 use Rattle.gx_units.specs.declared.names.AccountName.{AccountName}
-use Rattle.gx_policy.specs.declared.policy.Count.{Count}
-use Rattle.gx_policy.specs.declared.policy.FileRule.{FileRule}
-use Rattle.gx_policy.specs.declared.policy.PolicyData.{PolicyData}
-use Rattle.gx_policy.specs.declared.policy.RuleKind.{RuleKind}
-use Rattle.gx_policy.specs.declared.policy.RuleKind.TheVariants as kinds
-use Rattle.gx_policy.specs.People.{account_named, covers, rule_in}
-use Rattle.gx_history.specs.declared.facts.StockSide.{StockSide}
-use Rattle.gx_history.specs.declared.record.RecordData.{RecordData}
-use Rattle.gx_history.specs.Executions.{executions}
-use Rattle.gx_history.specs.Figures.{net_done, side_live}
-use Rattle.gx_history.specs.Live.{live}
+use Rattle.gx_history.specs.{declared.{facts.StockSide.StockSide, «record».RecordData.RecordData}, Executions.executions, Figures.{net_done, side_live}, Live.live}
 use Rattle.gx_exposure.specs.Exposure.{gross_shares, gross_value}
 use Rattle.gx_records.specs.State.{counted_with, gross_of, gross_of_rule, is_for, net_of, net_of_rule}
-use Rattle.gx_peaks.specs.declared.figure.Figure.{Figure}
-use Rattle.gx_peaks.specs.Figures.{above_zero, amount, counts, fits, is_counted, used_of, used_on}
+use Rattle.gx_peaks.specs.{declared.figure.Figure.Figure, Figures.{above_zero, amount, counts, fits, is_counted, used_of, used_on}}
 
 -- gross shares, gross value, or net shares on a side of a stock
 pub data Sort : Type 0 where
@@ -33,9 +22,9 @@ total_of policy (Net among side) records = above_zero (net_done (executions poli
 
 -- of a rule of this kind, over these accounts
 abbrev pub sort_by : RuleKind → Option StockSide → (Count → AccountName → Bool) → Option Sort
-sort_by (kinds.GrossShares limit count) None among = Some (Shares (among count))
-sort_by (kinds.GrossValue limit count) None among = Some (Value (among count))
-sort_by (kinds.NetShares limit count) (Some side) among = Some (Net (among count) side)
+sort_by (RuleKind.Exposure ExposureLimit.GrossShares limit count) None among = Some (Shares (among count))
+sort_by (RuleKind.Exposure ExposureLimit.GrossValue limit count) None among = Some (Value (among count))
+sort_by (RuleKind.Exposure ExposureLimit.NetShares limit count) (Some side) among = Some (Net (among count) side)
 sort_by other side among = None
 
 -- of a rule, for an account
@@ -48,35 +37,25 @@ sort_of policy figure = option_and_then (sort_under policy figure.account figure
 
 gross_is : (policy : PolicyData) (records : List RecordData) (among : Count → AccountName → Bool) (kind : RuleKind)
     → gross_of policy records among kind ≡ option_map (λ (s : Sort). total_of policy s records) (sort_by kind None among)
-gross_is policy records among (kinds.GrossShares limit count) = refl
-gross_is policy records among (kinds.GrossValue limit count) = refl
-gross_is policy records among (kinds.NetShares limit count) = refl
-gross_is policy records among (kinds.Rate rate count) = refl
-gross_is policy records among (kinds.Repeat repeat count) = refl
-gross_is policy records among (kinds.Halt stocks) = refl
-gross_is policy records among (kinds.Restricted stocks) = refl
-gross_is policy records among kinds.NoShort = refl
-gross_is policy records among kinds.NoIso = refl
-gross_is policy records among kinds.OddLot = refl
-gross_is policy records among (kinds.OrderShares limit) = refl
-gross_is policy records among (kinds.OrderValue limit) = refl
-gross_is policy records among (kinds.Collar limit) = refl
+gross_is policy records among (RuleKind.Exposure ExposureLimit.GrossShares limit count) = refl
+gross_is policy records among (RuleKind.Exposure ExposureLimit.GrossValue limit count) = refl
+gross_is policy records among (RuleKind.Exposure ExposureLimit.NetShares limit count) = refl
+gross_is policy records among (RuleKind.Rate rate count) = refl
+gross_is policy records among (RuleKind.Repeat repeat count) = refl
+gross_is policy records among (RuleKind.Listed kind stocks) = refl
+gross_is policy records among (RuleKind.Plain kind) = refl
+gross_is policy records among (RuleKind.Order kind limit) = refl
 
 net_is : (policy : PolicyData) (records : List RecordData) (among : Count → AccountName → Bool) (side : StockSide) (kind : RuleKind)
     → option_map above_zero (net_of policy records among side kind) ≡ option_map (λ (s : Sort). total_of policy s records) (sort_by kind (Some side) among)
-net_is policy records among side (kinds.GrossShares limit count) = refl
-net_is policy records among side (kinds.GrossValue limit count) = refl
-net_is policy records among side (kinds.NetShares limit count) = refl
-net_is policy records among side (kinds.Rate rate count) = refl
-net_is policy records among side (kinds.Repeat repeat count) = refl
-net_is policy records among side (kinds.Halt stocks) = refl
-net_is policy records among side (kinds.Restricted stocks) = refl
-net_is policy records among side kinds.NoShort = refl
-net_is policy records among side kinds.NoIso = refl
-net_is policy records among side kinds.OddLot = refl
-net_is policy records among side (kinds.OrderShares limit) = refl
-net_is policy records among side (kinds.OrderValue limit) = refl
-net_is policy records among side (kinds.Collar limit) = refl
+net_is policy records among side (RuleKind.Exposure ExposureLimit.GrossShares limit count) = refl
+net_is policy records among side (RuleKind.Exposure ExposureLimit.GrossValue limit count) = refl
+net_is policy records among side (RuleKind.Exposure ExposureLimit.NetShares limit count) = refl
+net_is policy records among side (RuleKind.Rate rate count) = refl
+net_is policy records among side (RuleKind.Repeat repeat count) = refl
+net_is policy records among side (RuleKind.Listed kind stocks) = refl
+net_is policy records among side (RuleKind.Plain kind) = refl
+net_is policy records among side (RuleKind.Order kind limit) = refl
 
 -- what the figure comes to, by its sort
 pub used_is : (policy : PolicyData) (figure : Figure) (records : List RecordData) → used_of policy figure records ≡ option_map (λ (s : Sort). total_of policy s records) (sort_of policy figure)
@@ -131,22 +110,17 @@ has_sort policy figure counted = by (sort_of policy figure) (sym (is_some_always
     by (Some s) h = (s, refl)
 
 fits_kind : (kind : RuleKind) (side : Option StockSide) (among : Count → AccountName → Bool) → fits kind side ≡ is_some (sort_by kind side among)
-fits_kind (kinds.GrossShares limit count) None among = refl
-fits_kind (kinds.GrossShares limit count) (Some side) among = refl
-fits_kind (kinds.GrossValue limit count) None among = refl
-fits_kind (kinds.GrossValue limit count) (Some side) among = refl
-fits_kind (kinds.NetShares limit count) None among = refl
-fits_kind (kinds.NetShares limit count) (Some side) among = refl
-fits_kind (kinds.Rate rate count) side among = refl
-fits_kind (kinds.Repeat repeat count) side among = refl
-fits_kind (kinds.Halt stocks) side among = refl
-fits_kind (kinds.Restricted stocks) side among = refl
-fits_kind kinds.NoShort side among = refl
-fits_kind kinds.NoIso side among = refl
-fits_kind kinds.OddLot side among = refl
-fits_kind (kinds.OrderShares limit) side among = refl
-fits_kind (kinds.OrderValue limit) side among = refl
-fits_kind (kinds.Collar limit) side among = refl
+fits_kind (RuleKind.Exposure ExposureLimit.GrossShares limit count) None among = refl
+fits_kind (RuleKind.Exposure ExposureLimit.GrossShares limit count) (Some side) among = refl
+fits_kind (RuleKind.Exposure ExposureLimit.GrossValue limit count) None among = refl
+fits_kind (RuleKind.Exposure ExposureLimit.GrossValue limit count) (Some side) among = refl
+fits_kind (RuleKind.Exposure ExposureLimit.NetShares limit count) None among = refl
+fits_kind (RuleKind.Exposure ExposureLimit.NetShares limit count) (Some side) among = refl
+fits_kind (RuleKind.Rate rate count) side among = refl
+fits_kind (RuleKind.Repeat repeat count) side among = refl
+fits_kind (RuleKind.Listed kind stocks) side among = refl
+fits_kind (RuleKind.Plain kind) side among = refl
+fits_kind (RuleKind.Order kind limit) side among = refl
 
 -- whether the figure is counted, by its rule
 pub counted_is : (policy : PolicyData) (figure : Figure)

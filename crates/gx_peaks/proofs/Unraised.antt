@@ -4,12 +4,8 @@ use Rattle.std.specs.Prelude.{Option, Some, None, option_map, unwrap_or}
 use Rattle.gx_policy.specs.declared.policy.PolicyData.{PolicyData}
 use Rattle.gx_history.specs.declared.record.RecordData.{RecordData}
 use Rattle.gx_history_laws.proofs.NextReports.{legal_before}
-use Rattle.gx_peaks.specs.declared.figure.Figure.{Figure}
-use Rattle.gx_peaks.specs.Figures.{amount}
-use Rattle.gx_peaks.specs.Laws.{LimitsStay, MostRaiseNothing}
-use Rattle.gx_peaks.proofs.Quiet.{none_rises}
-use Rattle.gx_peaks.proofs.Settings.{limit_is_kept}
-use Rattle.gx_peaks.proofs.Sorts.{Sort, amount_is, sort_of, total_of, used_is}
+use Rattle.gx_peaks.specs.{declared.figure.Figure.Figure, Figures.amount, Laws.{LimitsStay, MostRaiseNothing}}
+use Rattle.gx_peaks.proofs.{Quiet.none_rises, Settings.limit_is_kept, Sorts.{Sort, amount_is, sort_of, total_of, used_is}}
 
 -- a figure of no rule is 0
 amount_of_none : (policy : PolicyData) (figure : Figure) → sort_of policy figure ≡ None → (records : List RecordData) → amount policy figure records ≡ 0

@@ -1,13 +1,8 @@
 -- Which figures there are, and what each comes to over the records.
+use Rattle.gx_policy.specs.{declared.{kinds.ExposureLimit.ExposureLimit, policy.{FileRule.FileRule, PolicyData.PolicyData, RuleKind.RuleKind}}, People.covers}
 use Rattle.std.specs.Prelude.{ℕ, ℤ, pos, negsuc, Bool, ◌&&◌, false, is_none, List, [], Option, Some, None, option_map, is_some, unwrap_or}
 use Rattle.gx_units.specs.declared.names.AccountName.{AccountName}
-use Rattle.gx_policy.specs.declared.policy.FileRule.{FileRule}
-use Rattle.gx_policy.specs.declared.policy.PolicyData.{PolicyData}
-use Rattle.gx_policy.specs.declared.policy.RuleKind.{RuleKind}
-use Rattle.gx_policy.specs.declared.policy.RuleKind.TheVariants as kinds
-use Rattle.gx_policy.specs.People.{covers}
-use Rattle.gx_history.specs.declared.facts.StockSide.{StockSide}
-use Rattle.gx_history.specs.declared.record.RecordData.{RecordData}
+use Rattle.gx_history.specs.declared.{facts.StockSide.StockSide, «record».RecordData.RecordData}
 use Rattle.gx_records.specs.State.{gross_used, net_used}
 use Rattle.gx_peaks.specs.declared.figure.Figure.{Figure}
 
@@ -35,9 +30,9 @@ amount policy figure records = unwrap_or (used_of policy figure records) 0
 
 -- a rule of this kind counts figures on a side of a stock, or on none
 abbrev pub fits : RuleKind → Option StockSide → Bool
-fits (kinds.GrossShares limit count) side = is_none side
-fits (kinds.GrossValue limit count) side = is_none side
-fits (kinds.NetShares limit count) side = is_some side
+fits (RuleKind.Exposure ExposureLimit.GrossShares limit count) side = is_none side
+fits (RuleKind.Exposure ExposureLimit.GrossValue limit count) side = is_none side
+fits (RuleKind.Exposure ExposureLimit.NetShares limit count) side = is_some side
 fits other side = false
 
 -- the rule is for the account, and counts figures on this side of a stock, or on none

@@ -1,24 +1,13 @@
 -- Under which key the peak of a figure is kept.
-use Rattle.std.specs.Prelude.{ℕ, Bool, ◌&&◌, List, [], ◌∷◌, replicate, Option, Some, None, option_and_then}
-use Rattle.std.specs.Option.{option_eq}
-use Rattle.std.specs.Bool.{beq}
-use Rattle.gx_units.specs.Names.{same_account, same_rule, same_stock}
-use Rattle.gx_units.specs.declared.names.AccountName.{AccountName}
-use Rattle.gx_policy.specs.declared.policy.Count.TheVariants as counts
-use Rattle.gx_policy.specs.declared.policy.FileRule.{FileRule}
-use Rattle.gx_policy.specs.declared.policy.PolicyData.{PolicyData}
-use Rattle.gx_policy.specs.declared.policy.RuleKind.{RuleKind}
-use Rattle.gx_policy.specs.declared.policy.RuleKind.TheVariants as kinds
-use Rattle.gx_policy.specs.People.{rule_in}
+use Rattle.gx_policy.specs.{declared.{policy.{Count.Count, FileRule.FileRule, PolicyData.PolicyData, RuleKind.RuleKind}}, People.rule_in}
+use Rattle.std.specs.{Prelude.{ℕ, Bool, ◌&&◌, List, [], ◌∷◌, replicate, Option, Some, None, option_and_then}, Option.option_eq, Bool.beq}
+use Rattle.gx_units.specs.{Names.{same_account, same_rule, same_stock}, declared.names.AccountName.AccountName}
 use Rattle.gx_history.specs.declared.facts.StockSide.{StockSide}
-use Rattle.gx_peaks.specs.declared.figure.Figure.{Figure}
-use Rattle.gx_peaks.specs.declared.key.PeakKey.{PeakKey}
+use Rattle.gx_peaks.specs.declared.{figure.Figure.Figure, key.PeakKey.PeakKey}
 
 -- the account, where a rule of this kind counts it by itself
 abbrev pub whose : RuleKind → AccountName → Option AccountName
-whose (kinds.GrossShares limit counts.Each) account = Some account
-whose (kinds.GrossValue limit counts.Each) account = Some account
-whose (kinds.NetShares limit counts.Each) account = Some account
+whose (RuleKind.Exposure kind limit Count.Each) account = Some account
 whose other account = None
 
 -- the key of the figure's peak

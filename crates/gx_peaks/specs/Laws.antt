@@ -2,13 +2,9 @@
 use Rattle.std.specs.Prelude.{◌≡◌, ◌≤◌, IsFalse, List, [], ◌∷◌, ◌++◌, None}
 use Rattle.gx_units.specs.declared.names.RuleId.{RuleId}
 use Rattle.gx_policy.specs.declared.policy.PolicyData.{PolicyData}
-use Rattle.gx_history.specs.declared.record.RecordData.{RecordData}
-use Rattle.gx_history.specs.Orders.{orders, orders_added}
-use Rattle.gx_history.specs.Verdicts.{IsLegal}
+use Rattle.gx_history.specs.{declared.record.RecordData.RecordData, Orders.{orders, orders_added}, Verdicts.IsLegal}
 use Rattle.gx_records.specs.State.{limit_in_force}
-use Rattle.gx_peaks.specs.declared.figure.Figure.{Figure}
-use Rattle.gx_peaks.specs.Figures.{amount}
-use Rattle.gx_peaks.specs.Touching.{gains_of, sets_limit}
+use Rattle.gx_peaks.specs.{declared.figure.Figure.Figure, Figures.amount, Touching.{gains_of, sets_limit}}
 
 -- a record that grants no order, and fills no sell as the order that came in, raises no figure
 abbrev pub MostRaiseNothing : Type 0

@@ -1,29 +1,10 @@
 -- What is kept of the figures behind the records of a day.
-use Rattle.std.specs.Prelude.{◌≡◌, ℕ, ◌⊎◌, IsTrue, List, [], ◌∷◌, ◌++◌, Option, Some, None, is_some, slice_get, if◌then◌else◌}
-use Rattle.std.specs.Option.{option_map_or}
-use Rattle.std.specs.Map.{keys_of, lookup}
-use Rattle.gx_units.specs.declared.names.AccountName.{AccountName}
-use Rattle.gx_units.specs.declared.names.RuleId.{RuleId}
-use Rattle.gx_units.specs.Names.{same_rule}
-use Rattle.gx_policy.specs.declared.policy.FileRule.{FileRule}
-use Rattle.gx_policy.specs.declared.policy.PolicyData.{PolicyData}
-use Rattle.gx_policy.specs.People.{rule_in}
-use Rattle.gx_history.specs.declared.facts.StockSide.{StockSide}
-use Rattle.gx_history.specs.declared.live_order.LiveOrder.{LiveOrder}
-use Rattle.gx_history.specs.declared.record.RecordData.{RecordData}
-use Rattle.gx_history.specs.Book.{is_buy}
+use Rattle.std.specs.{Prelude.{◌≡◌, ℕ, ◌⊎◌, IsTrue, List, [], ◌∷◌, ◌++◌, Option, Some, None, is_some, slice_get, if◌then◌else◌}, Option.option_map_or, Map.{keys_of, lookup}}
+use Rattle.gx_units.specs.{declared.names.{AccountName.AccountName, RuleId.RuleId}, Names.same_rule}
+use Rattle.gx_policy.specs.{declared.policy.{FileRule.FileRule, PolicyData.PolicyData}, People.rule_in}
+use Rattle.gx_history.specs.{declared.{facts.StockSide.StockSide, live_order.LiveOrder.LiveOrder, «record».RecordData.RecordData}, Book.is_buy}
 use Rattle.gx_records.specs.State.{limit_in_force}
-use Rattle.gx_peaks.specs.declared.figure.Figure.{Figure}
-use Rattle.gx_peaks.specs.declared.key.PeakKey.{PeakKey}
-use Rattle.gx_peaks.specs.declared.peak.Peak.{Peak}
-use Rattle.gx_peaks.specs.declared.peaks.Peaks.{Peaks}
-use Rattle.gx_peaks.specs.declared.table.HeldPeak.{HeldPeak}
-use Rattle.gx_peaks.specs.declared.table.PeakTable.{PeakTable}
-use Rattle.gx_peaks.specs.Figures.{amount, is_counted, used_of}
-use Rattle.gx_peaks.specs.Keys.{key_of, same_key}
-use Rattle.gx_peaks.specs.Peaks.{IsPeakOf}
-use Rattle.gx_peaks.specs.Raising.{reading_of, taken_in, unmoved}
-use Rattle.gx_peaks.specs.Touching.{gains_of}
+use Rattle.gx_peaks.specs.{declared.{figure.Figure.Figure, key.PeakKey.PeakKey, peak.Peak.Peak, peaks.Peaks.Peaks, table.{HeldPeak.HeldPeak, PeakTable.PeakTable}}, Figures.{amount, is_counted, used_of}, Keys.{key_of, same_key}, Peaks.IsPeakOf, Raising.{reading_of, taken_in, unmoved}, Touching.gains_of}
 
 -- what is kept under the key
 abbrev pub held_under : PeakTable → PeakKey → Option HeldPeak

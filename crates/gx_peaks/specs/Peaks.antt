@@ -1,10 +1,8 @@
 -- The peak of a figure over the records of a day, and the first record behind which it is past its limit.
-use Rattle.std.specs.Prelude.{◌≡◌, ℕ, ◌≤◌, ◌<◌, nat_lt, Bool, false, IsTrue, IsFalse, List, length, take, Option, Some, None}
-use Rattle.std.specs.Option.{option_map_or}
+use Rattle.std.specs.{Prelude.{◌≡◌, ℕ, ◌≤◌, ◌<◌, nat_lt, Bool, false, IsTrue, IsFalse, List, length, take, Option, Some, None}, Option.option_map_or}
 use Rattle.gx_units.specs.declared.names.RuleId.{RuleId}
 use Rattle.gx_policy.specs.declared.policy.PolicyData.{PolicyData}
-use Rattle.gx_history.specs.declared.record.RecordData.{RecordData}
-use Rattle.gx_history.specs.Verdicts.{last_moment}
+use Rattle.gx_history.specs.{declared.record.RecordData.RecordData, Verdicts.last_moment}
 use Rattle.gx_records.specs.State.{limit_in_force}
 use Rattle.gx_peaks.specs.declared.peak.Peak.{Peak}
 

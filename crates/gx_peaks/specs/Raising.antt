@@ -2,12 +2,9 @@
 use Rattle.std.specs.Prelude.{ℕ, nat_lt, ◌||◌, not, is_some, List, length, Option, Some, None, if◌then◌else◌}
 use Rattle.gx_units.specs.declared.names.RuleId.{RuleId}
 use Rattle.gx_policy.specs.declared.policy.PolicyData.{PolicyData}
-use Rattle.gx_history.specs.declared.record.RecordData.{RecordData}
-use Rattle.gx_history.specs.Verdicts.{last_moment}
+use Rattle.gx_history.specs.{declared.record.RecordData.RecordData, Verdicts.last_moment}
 use Rattle.gx_records.specs.State.{limit_in_force}
-use Rattle.gx_peaks.specs.declared.peak.Peak.{Peak}
-use Rattle.gx_peaks.specs.declared.peak.Reading.{Reading}
-use Rattle.gx_peaks.specs.Peaks.{is_over}
+use Rattle.gx_peaks.specs.{declared.peak.{Peak.Peak, Reading.Reading}, Peaks.is_over}
 
 -- of a figure that was 0 all the time
 abbrev pub unmoved : Option ℕ → Peak

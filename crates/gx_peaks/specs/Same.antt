@@ -1,17 +1,10 @@
 -- Keys that are the same are equal.
-use Rattle.std.proofs.Common.{◌≡◌, ℕ, Bool, true, false, List, refl, ap}
-use Rattle.std.specs.Prelude.{Option, Some, None, ◌&&◌}
-use Rattle.std.specs.Bool.{beq}
-use Rattle.std.specs.Option.{option_eq}
-use Rattle.std.proofs.lemmas.Slice.Eq.{bytes_eq-Decides}
-use Rattle.gx_units.specs.Names.{same_account, same_rule, same_stock}
-use Rattle.gx_units.specs.declared.names.RuleId.{RuleId}
-use Rattle.gx_units.specs.declared.names.Symbol.{Symbol}
+use Rattle.std.proofs.{Common.{◌≡◌, ℕ, Bool, true, false, List, refl, ap}, lemmas.Slice.Eq.bytes_eq-Decides}
+use Rattle.std.specs.{Prelude.{Option, Some, None, ◌&&◌}, Bool.beq, Option.option_eq}
+use Rattle.gx_units.specs.{Names.{same_account, same_rule, same_stock}, declared.names.{RuleId.RuleId, Symbol.Symbol}}
 use Rattle.gx_history.specs.declared.facts.StockSide.{StockSide}
-use Rattle.gx_history_laws.proofs.Judging.{both}
-use Rattle.gx_history_laws.proofs.Names.{account_is, account_is_itself, stock_is}
-use Rattle.gx_peaks.specs.declared.key.PeakKey.{PeakKey}
-use Rattle.gx_peaks.specs.Keys.{key_bytes, same_key, same_side}
+use Rattle.gx_history_laws.proofs.{Judging.both, Names.{account_is, account_is_itself, stock_is}}
+use Rattle.gx_peaks.specs.{declared.key.PeakKey.PeakKey, Keys.{key_bytes, same_key, same_side}}
 
 -- names that are the same are equal
 pub rule_is : (a b : RuleId) → same_rule a b ≡ true → a ≡ b

@@ -8,7 +8,7 @@ ghost use Rattle.gx_peaks.specs.Figures.{counts, fits, is_counted};
 use crate::figure::Figure;
 use crate::key::find_rule;
 use gx_history::facts::StockSide;
-use gx_policy::{Account, FileRule, Policy, RuleKind};
+use gx_policy::{Account, ExposureLimit, FileRule, Policy, RuleKind};
 use gx_units::AccountName;
 
 /// Whether a rule of this kind counts figures on a side of a stock, or on none.
@@ -16,8 +16,10 @@ fn fits(kind: &RuleKind, side: Option<StockSide>) -> bool
     ensures { result ≡ fits kind.now side }
 {
     match kind {
-        RuleKind::GrossShares(_, _) | RuleKind::GrossValue(_, _) => side.is_none(),
-        RuleKind::NetShares(_, _) => side.is_some(),
+        RuleKind::Exposure(ExposureLimit::GrossShares | ExposureLimit::GrossValue, _, _) => {
+            side.is_none()
+        },
+        RuleKind::Exposure(ExposureLimit::NetShares, _, _) => side.is_some(),
         _ => false,
     }
 }

@@ -60,9 +60,7 @@ fn whose(kind: &RuleKind, account: AccountName) -> Option<AccountName>
     ensures { result ≡ whose kind.now account }
 {
     match kind {
-        RuleKind::GrossShares(_, Count::Each)
-        | RuleKind::GrossValue(_, Count::Each)
-        | RuleKind::NetShares(_, Count::Each) => Some(account),
+        RuleKind::Exposure(_, _, Count::Each) => Some(account),
         _ => None,
     }
 }

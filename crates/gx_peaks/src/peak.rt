@@ -1,8 +1,7 @@
 //! The peak of a figure, and what one more record makes of it.
 
 ghost use Rattle.std.specs.Prelude.{◌≡◌};
-ghost use Rattle.gx_peaks.specs.Peaks.{is_over};
-ghost use Rattle.gx_peaks.specs.Raising.{passed, raised, taken_in, unmoved};
+ghost use Rattle.gx_peaks.specs.{Peaks.is_over, Raising.{passed, raised, taken_in, unmoved}};
 
 use gx_units::Moment;
 

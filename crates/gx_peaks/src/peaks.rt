@@ -4,10 +4,7 @@ ghost use Rattle.std.specs.Prelude.{◌≡◌, List, [], IfSome, is_some, option
 ghost use Rattle.gx_history.specs.declared.record.RecordData.{RecordData};
 ghost use Rattle.gx_policy.specs.declared.policy.PolicyData.{PolicyData};
 ghost use Rattle.gx_records.specs.State.{gross_used, net_used};
-ghost use Rattle.gx_peaks.specs.Figures.{above_zero, is_counted};
-ghost use Rattle.gx_peaks.specs.Keys.{key_of};
-ghost use Rattle.gx_peaks.specs.Noting.{peak_under, AreOver};
-ghost use Rattle.gx_peaks.specs.Peaks.{IsPeakOf};
+ghost use Rattle.gx_peaks.specs.{Figures.{above_zero, is_counted}, Keys.key_of, Noting.{peak_under, AreOver}, Peaks.IsPeakOf};
 
 use crate::counting::is_counted;
 use crate::figure::Figure;

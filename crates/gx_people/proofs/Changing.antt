@@ -1,22 +1,10 @@
 -- What a granted command leaves of the users as it was.
 use Rattle.std.proofs.Common.{◌≡◌, true, false, ◌&&◌, cond, List, [], ◌∷◌, map, fold, refl, ap, sym, ◌∙◌, true≢false, if◌then◌else◌}
-use Rattle.std.specs.Prelude.{Option, Some, None, option_map, is_some}
-use Rattle.std.specs.Option.{option_map_or}
-use Rattle.gx_units.specs.Names.{same_user}
-use Rattle.gx_units.specs.declared.names.AccountName.{AccountName}
-use Rattle.gx_units.specs.declared.names.UserName.{UserName}
-use Rattle.gx_desk.specs.Names.{is_written}
-use Rattle.gx_desk.specs.declared.WrittenName.{WrittenName}
-use Rattle.gx_desk.specs.declared.Action.{Action}
-use Rattle.gx_desk.specs.declared.Action.TheVariants as actions
-use Rattle.gx_policy.specs.declared.policy.PolicyData.{PolicyData}
-use Rattle.gx_policy.specs.declared.policy.Role.{Role}
-use Rattle.gx_policy.specs.declared.policy.Role.TheVariants as roles
-use Rattle.gx_policy.specs.declared.policy.User.{User}
-use Rattle.gx_history.specs.declared.record.RecordData.{RecordData}
-use Rattle.gx_policy.specs.People.{is_reader, role_in, user_in}
-use Rattle.gx_history.specs.Readers.{reader_in}
-use Rattle.gx_history.specs.Requests.{granted_actions}
+use Rattle.std.specs.{Prelude.{Option, Some, None, option_map, is_some}, Option.option_map_or}
+use Rattle.gx_units.specs.{Names.same_user, declared.names.{AccountName.AccountName, UserName.UserName}}
+use Rattle.gx_desk.specs.{Names.is_written, declared.{WrittenName.WrittenName, Action.Action}}
+use Rattle.gx_policy.specs.{declared.policy.{PolicyData.PolicyData, Role.Role, User.User}, People.{is_reader, role_in, user_in}}
+use Rattle.gx_history.specs.{declared.record.RecordData.RecordData, Readers.reader_in, Requests.granted_actions}
 use Rattle.gx_people.specs.Entitled.{change_role, with_account, without_account, granted_to, revoked_from, given, people_in_force}
 use Rattle.gx_history_laws.proofs.Order.{some_same}
 
@@ -38,22 +26,22 @@ map_same g h same (Some u) = ap Some (same u)
 
 given_stays : {Y : Type 0} (g : User → Y) → Stays g → (users : List User) (action : Action) (name : UserName)
     → option_map g (user_in (given users action) name) ≡ option_map g (user_in users name)
-given_stays g stays users (actions.Grant written a) name = by (reader_in users written)
+given_stays g stays users (Action.Grant written a) name = by (reader_in users written)
   where
     by : (found : Option User) → option_map g (user_in (option_map_or (λ (u : User). granted_to u.name a users) found users) name) ≡ option_map g (user_in users name)
     by None = refl
     by (Some v) = ap (option_map g) (user_changed v.name (with_account a) users name) ∙ map_same g (change_role v.name (with_account a)) (λ u. (stays v.name a u).0) (user_in users name)
-given_stays g stays users (actions.Revoke written a) name = by (reader_in users written)
+given_stays g stays users (Action.Revoke written a) name = by (reader_in users written)
   where
     by : (found : Option User) → option_map g (user_in (option_map_or (λ (u : User). revoked_from u.name a users) found users) name) ≡ option_map g (user_in users name)
     by None = refl
     by (Some v) = ap (option_map g) (user_changed v.name (without_account a) users name) ∙ map_same g (change_role v.name (without_account a)) (λ u. (stays v.name a u).1) (user_in users name)
-given_stays g stays users (actions.Kill a) name = refl
-given_stays g stays users (actions.Lift a) name = refl
-given_stays g stays users (actions.SetLimit rule limit) name = refl
-given_stays g stays users (actions.Restrict rule stock) name = refl
-given_stays g stays users (actions.Unrestrict rule stock) name = refl
-given_stays g stays users actions.CloseDay name = refl
+given_stays g stays users (Action.Kill a) name = refl
+given_stays g stays users (Action.Lift a) name = refl
+given_stays g stays users (Action.SetLimit rule limit) name = refl
+given_stays g stays users (Action.Restrict rule stock) name = refl
+given_stays g stays users (Action.Unrestrict rule stock) name = refl
+given_stays g stays users Action.CloseDay name = refl
 
 all_stays : {Y : Type 0} (g : User → Y) → Stays g → (done : List Action) (users : List User) (name : UserName)
     → option_map g (user_in (fold given users done) name) ≡ option_map g (user_in users name)
@@ -100,9 +88,9 @@ role_word k stays policy history name =
     (stays_in_force (λ (u : User). k (Some u.role)) (role_stays (λ r. k (Some r)) stays) policy history name)
 
 pub reader_stays : RoleStays (λ r. is_reader (Some r))
-reader_stays a (roles.Trader account) = (refl, refl)
-reader_stays a (roles.Officer his scope) = (refl, refl)
-reader_stays a (roles.Reader names) = (refl, refl)
+reader_stays a (Role.Trader account) = (refl, refl)
+reader_stays a (Role.Officer his scope) = (refl, refl)
+reader_stays a (Role.Reader names) = (refl, refl)
 
 -- the reader that is written so, after a role changed
 reader_changed : (n : UserName) (f : Role → Role) → ((r : Role) → is_reader (Some (f r)) ≡ is_reader (Some r)) → (users : List User) (written : WrittenName)
@@ -118,7 +106,7 @@ reader_changed n f same (u ∷ us) written =
 
 given_reader : (users : List User) (action : Action) (written : WrittenName)
     → option_map (λ (u : User). u.name) (reader_in (given users action) written) ≡ option_map (λ (u : User). u.name) (reader_in users written)
-given_reader users (actions.Grant other a) written = by (reader_in users other)
+given_reader users (Action.Grant other a) written = by (reader_in users other)
   where
     by : (found : Option User)
         → option_map (λ (u : User). u.name) (reader_in (option_map_or (λ (u : User). granted_to u.name a users) found users) written) ≡ option_map (λ (u : User). u.name) (reader_in users written)
@@ -126,7 +114,7 @@ given_reader users (actions.Grant other a) written = by (reader_in users other)
     by (Some v) =
         ap (option_map (λ (u : User). u.name)) (reader_changed v.name (with_account a) (λ r. (reader_stays a r).0) users written)
         ∙ map_same (λ (u : User). u.name) (change_role v.name (with_account a)) (λ u. refl) (reader_in users written)
-given_reader users (actions.Revoke other a) written = by (reader_in users other)
+given_reader users (Action.Revoke other a) written = by (reader_in users other)
   where
     by : (found : Option User)
         → option_map (λ (u : User). u.name) (reader_in (option_map_or (λ (u : User). revoked_from u.name a users) found users) written) ≡ option_map (λ (u : User). u.name) (reader_in users written)
@@ -134,12 +122,12 @@ given_reader users (actions.Revoke other a) written = by (reader_in users other)
     by (Some v) =
         ap (option_map (λ (u : User). u.name)) (reader_changed v.name (without_account a) (λ r. (reader_stays a r).1) users written)
         ∙ map_same (λ (u : User). u.name) (change_role v.name (without_account a)) (λ u. refl) (reader_in users written)
-given_reader users (actions.Kill a) written = refl
-given_reader users (actions.Lift a) written = refl
-given_reader users (actions.SetLimit rule limit) written = refl
-given_reader users (actions.Restrict rule stock) written = refl
-given_reader users (actions.Unrestrict rule stock) written = refl
-given_reader users actions.CloseDay written = refl
+given_reader users (Action.Kill a) written = refl
+given_reader users (Action.Lift a) written = refl
+given_reader users (Action.SetLimit rule limit) written = refl
+given_reader users (Action.Restrict rule stock) written = refl
+given_reader users (Action.Unrestrict rule stock) written = refl
+given_reader users Action.CloseDay written = refl
 
 all_reader : (done : List Action) (users : List User) (written : WrittenName)
     → option_map (λ (u : User). u.name) (reader_in (fold given users done) written) ≡ option_map (λ (u : User). u.name) (reader_in users written)

@@ -1,36 +1,13 @@
 -- Grants and revocations one by one leave what the last of them says.
-use Rattle.std.proofs.Common.{◌≡◌, Bool, true, false, ◌&&◌, ◌||◌, not, cond, List, [], ◌∷◌, ◌++◌, map, fold, refl, ap, sym, ◌∙◌, true≢false, subst, if◌then◌else◌}
-use Rattle.std.specs.Prelude.{Option, Some, None, option_map, option_and_then, is_some, find, unwrap_or, filter, filter_map}
-use Rattle.std.specs.Option.{option_map_or}
-use Rattle.std.specs.List.{last_or, cons_option}
-use Rattle.std.proofs.lemmas.List.Folds.{list_any-append}
-use Rattle.std.proofs.lemmas.Map.Views.{any-filter_same}
-use Rattle.std.proofs.lemmas.Slice.Eq.{bytes_eq-Decides}
-use Rattle.gx_units.specs.Names.{same_user, same_account, has_no_lower_case}
-use Rattle.gx_units.specs.declared.names.AccountName.{AccountName}
-use Rattle.gx_units.specs.declared.names.UserName.{UserName}
-use Rattle.gx_desk.specs.Names.{is_written}
-use Rattle.gx_desk.specs.declared.WrittenName.{WrittenName}
-use Rattle.gx_desk.specs.declared.Action.{Action}
-use Rattle.gx_desk.specs.declared.Action.TheVariants as actions
-use Rattle.gx_policy.specs.declared.policy.PolicyData.{PolicyData}
-use Rattle.gx_policy.specs.declared.policy.Role.{Role}
-use Rattle.gx_policy.specs.declared.policy.Role.TheVariants as roles
-use Rattle.gx_policy.specs.declared.policy.User.{User}
-use Rattle.gx_history.specs.declared.record.Asked.{Asked}
-use Rattle.gx_history.specs.declared.record.RecordData.{RecordData}
-use Rattle.gx_history.specs.InForce.{in_role, is_entitled, grant_or_revoke_of, last_mark}
-use Rattle.gx_policy.specs.Lists.{last_value, where_true}
-use Rattle.gx_policy.specs.People.{is_reader, role_in, names_account, user_in}
-use Rattle.gx_history.specs.Readers.{reader_in}
-use Rattle.gx_history.specs.Requests.{granted, granted_actions, granted_mark, action_of}
-use Rattle.gx_policy.specs.Soundness.{is_sound}
-use Rattle.gx_history_laws.proofs.Adding.{user_is}
-use Rattle.gx_history_laws.proofs.Names.{account_is, same_account_flip}
-use Rattle.gx_history_laws.proofs.Order.{some_same}
+use Rattle.std.proofs.{Common.{◌≡◌, Bool, true, false, ◌&&◌, ◌||◌, not, cond, List, [], ◌∷◌, ◌++◌, map, fold, refl, ap, sym, ◌∙◌, true≢false, subst, if◌then◌else◌}, lemmas.{List.Folds.list_any-append, Map.Views.any-filter_same, Slice.Eq.bytes_eq-Decides}}
+use Rattle.std.specs.{Prelude.{Option, Some, None, option_map, option_and_then, is_some, find, unwrap_or, filter, filter_map}, Option.option_map_or, List.{last_or, cons_option}}
+use Rattle.gx_units.specs.{Names.{same_user, same_account, has_no_lower_case}, declared.names.{AccountName.AccountName, UserName.UserName}}
+use Rattle.gx_desk.specs.{Names.is_written, declared.{WrittenName.WrittenName, Action.Action}}
+use Rattle.gx_policy.specs.{declared.policy.{PolicyData.PolicyData, Role.Role, User.User}, Lists.{last_value, where_true}, People.{is_reader, role_in, names_account, user_in}, Soundness.is_sound}
+use Rattle.gx_history.specs.{declared.record.{Asked.Asked, RecordData.RecordData}, InForce.{in_role, is_entitled, grant_or_revoke_of, last_mark}, Readers.reader_in, Requests.{granted, granted_actions, granted_mark, action_of}}
+use Rattle.gx_history_laws.proofs.{Adding.user_is, Names.{account_is, same_account_flip}, Order.some_same}
 use Rattle.gx_people.specs.Entitled.{change_role, with_account, without_account, granted_to, revoked_from, given, people_in_force, sees}
-use Rattle.gx_people.proofs.Spelling.{AreUpper, same_written, sound_upper}
-use Rattle.gx_people.proofs.Changing.{user_changed, role_word, reader_stays, given_word}
+use Rattle.gx_people.proofs.{Spelling.{AreUpper, same_written, sound_upper}, Changing.{user_changed, role_word, reader_stays, given_word}}
 
 or_false : (b : Bool) → (b || false) ≡ b
 or_false true = refl
@@ -67,15 +44,15 @@ names_without names a x =
 
 -- what a role sees, after a grant and after a revocation
 granted_role : (b : Bool) (r : Role) (a x : AccountName) → is_reader (Some r) ≡ true → in_role (if b then with_account a r else r) x ≡ ((b && same_account x a) || in_role r x)
-granted_role true (roles.Trader account) a x reads = absurd (true≢false (sym reads))
-granted_role true (roles.Officer his scope) a x reads = absurd (true≢false (sym reads))
-granted_role true (roles.Reader names) a x reads = names_with names a x
+granted_role true (Role.Trader account) a x reads = absurd (true≢false (sym reads))
+granted_role true (Role.Officer his scope) a x reads = absurd (true≢false (sym reads))
+granted_role true (Role.Reader names) a x reads = names_with names a x
 granted_role false r a x reads = refl
 
 revoked_role : (b : Bool) (r : Role) (a x : AccountName) → in_role (if b then without_account a r else r) x ≡ (not (b && same_account x a) && in_role r x)
-revoked_role true (roles.Trader account) a x = elim (same_account x a) as (λ b. false ≡ (not b && false)) [ true ↦ refl | false ↦ refl ]
-revoked_role true (roles.Officer his scope) a x = elim (same_account x a) as (λ b. false ≡ (not b && false)) [ true ↦ refl | false ↦ refl ]
-revoked_role true (roles.Reader names) a x = names_without names a x
+revoked_role true (Role.Trader account) a x = elim (same_account x a) as (λ b. false ≡ (not b && false)) [ true ↦ refl | false ↦ refl ]
+revoked_role true (Role.Officer his scope) a x = elim (same_account x a) as (λ b. false ≡ (not b && false)) [ true ↦ refl | false ↦ refl ]
+revoked_role true (Role.Reader names) a x = names_without names a x
 revoked_role false r a x = refl
 
 -- the user found has the name that was looked for
@@ -135,9 +112,9 @@ revoked_pair n a users r x = by (user_in users r) refl
 -- who is no reader sees nothing
 blind : (role : Option Role) (x : AccountName) → is_reader role ≡ false → option_map_or (λ r. in_role r x) role false ≡ false
 blind None x unread = refl
-blind (Some (roles.Trader account)) x unread = refl
-blind (Some (roles.Officer his scope)) x unread = refl
-blind (Some (roles.Reader names)) x unread = absurd (true≢false unread)
+blind (Some (Role.Trader account)) x unread = refl
+blind (Some (Role.Officer his scope)) x unread = refl
+blind (Some (Role.Reader names)) x unread = absurd (true≢false unread)
 
 given_role : (b : Bool) (a : AccountName) (r : Role) → is_reader (Some (if b then with_account a r else r)) ≡ is_reader (Some r)
 given_role true a r = (reader_stays a r).0
@@ -259,14 +236,14 @@ module _ (users : List User) (reader : UserName) (account : AccountName) (office
       ∙ marked_false (is_written written reader) (same_account named account) (sees users reader account)
 
   one_more : (action : Action) → sees (given users action) reader account ≡ unwrap_or (grant_or_revoke_of reader account officer action) (sees users reader account)
-  one_more (actions.Grant written named) = grant_seen written named (reader_in users written) refl
-  one_more (actions.Revoke written named) = revoke_seen written named (reader_in users written) refl
-  one_more (actions.Kill a) = refl
-  one_more (actions.Lift a) = refl
-  one_more (actions.SetLimit rule limit) = refl
-  one_more (actions.Restrict rule stock) = refl
-  one_more (actions.Unrestrict rule stock) = refl
-  one_more actions.CloseDay = refl
+  one_more (Action.Grant written named) = grant_seen written named (reader_in users written) refl
+  one_more (Action.Revoke written named) = revoke_seen written named (reader_in users written) refl
+  one_more (Action.Kill a) = refl
+  one_more (Action.Lift a) = refl
+  one_more (Action.SetLimit rule limit) = refl
+  one_more (Action.Restrict rule stock) = refl
+  one_more (Action.Unrestrict rule stock) = refl
+  one_more Action.CloseDay = refl
 
 changed_upper : (n : UserName) (f : Role → Role) (users : List User) → AreUpper users → AreUpper (map (change_role n f) users)
 changed_upper n f [] upper = tt
@@ -274,22 +251,22 @@ changed_upper n f (u ∷ users) upper = (upper.0, changed_upper n f users upper.
 
 -- what the steps need of the users stays
 pub given_upper : (users : List User) (action : Action) → AreUpper users → AreUpper (given users action)
-given_upper users (actions.Grant written a) upper = by (reader_in users written)
+given_upper users (Action.Grant written a) upper = by (reader_in users written)
   where
     by : (found : Option User) → AreUpper (option_map_or (λ (u : User). granted_to u.name a users) found users)
     by None = upper
     by (Some v) = changed_upper v.name (with_account a) users upper
-given_upper users (actions.Revoke written a) upper = by (reader_in users written)
+given_upper users (Action.Revoke written a) upper = by (reader_in users written)
   where
     by : (found : Option User) → AreUpper (option_map_or (λ (u : User). revoked_from u.name a users) found users)
     by None = upper
     by (Some v) = changed_upper v.name (without_account a) users upper
-given_upper users (actions.Kill a) upper = upper
-given_upper users (actions.Lift a) upper = upper
-given_upper users (actions.SetLimit rule limit) upper = upper
-given_upper users (actions.Restrict rule stock) upper = upper
-given_upper users (actions.Unrestrict rule stock) upper = upper
-given_upper users actions.CloseDay upper = upper
+given_upper users (Action.Kill a) upper = upper
+given_upper users (Action.Lift a) upper = upper
+given_upper users (Action.SetLimit rule limit) upper = upper
+given_upper users (Action.Restrict rule stock) upper = upper
+given_upper users (Action.Unrestrict rule stock) upper = upper
+given_upper users Action.CloseDay upper = upper
 
 at_reader : (users : List User) (reader : UserName) (account : AccountName) (officer : UserName) → AreUpper users → is_reader (role_in users reader) ≡ true
     → (action : Action) → sees (given users action) reader account ≡ unwrap_or (grant_or_revoke_of reader account officer action) (sees users reader account)

@@ -1,31 +1,13 @@
 -- The laws of the users in force.
 use Rattle.std.proofs.Common.{◌≡◌, Bool, true, false, List, [], ◌∷◌, ◌++◌, refl, ap, sym, ◌∙◌, true≢false}
-use Rattle.std.specs.Prelude.{Option, Some, None, option_map, option_and_then, is_some}
-use Rattle.std.specs.Option.{option_map_or}
-use Rattle.gx_units.specs.declared.names.AccountName.{AccountName}
-use Rattle.gx_units.specs.declared.names.Password.{Password}
-use Rattle.gx_units.specs.declared.names.UserName.{UserName}
-use Rattle.gx_desk.specs.declared.WrittenName.{WrittenName}
-use Rattle.gx_desk.specs.declared.Action.{Action}
-use Rattle.gx_desk.specs.declared.Action.TheVariants as actions
-use Rattle.gx_policy.specs.declared.policy.PolicyData.{PolicyData}
-use Rattle.gx_policy.specs.declared.policy.Role.{Role}
-use Rattle.gx_policy.specs.declared.policy.Role.TheVariants as roles
-use Rattle.gx_policy.specs.declared.policy.User.{User}
-use Rattle.gx_history.specs.declared.record.RecordData.{RecordData}
-use Rattle.gx_history.specs.Asking.{has_power, sees_now}
-use Rattle.gx_history.specs.InForce.{is_entitled}
-use Rattle.gx_history.specs.Logins.{password_is, same_password}
-use Rattle.gx_policy.specs.People.{account_of, account_of_role, is_officer, is_trader, role_in, user_in}
-use Rattle.gx_history.specs.Readers.{reader_in}
-use Rattle.gx_history.specs.Requests.{granted_action}
-use Rattle.gx_policy.specs.Soundness.{is_sound}
+use Rattle.std.specs.{Prelude.{Option, Some, None, option_map, option_and_then, is_some}, Option.option_map_or}
+use Rattle.gx_units.specs.declared.names.{AccountName.AccountName, Password.Password, UserName.UserName}
+use Rattle.gx_desk.specs.declared.{WrittenName.WrittenName, Action.Action}
+use Rattle.gx_policy.specs.{declared.policy.{PolicyData.PolicyData, Role.Role, User.User}, People.{account_of, account_of_role, is_officer, is_trader, role_in, user_in}, Soundness.is_sound}
+use Rattle.gx_history.specs.{declared.record.RecordData.RecordData, Asking.{has_power, sees_now}, InForce.is_entitled, Logins.{password_is, same_password}, Readers.reader_in, Requests.granted_action}
 use Rattle.gx_people.specs.Entitled.{given, granted_to, has, has_in_role, holds, holds_in_role, people_in_force, power_of, revoked_from, sees}
-use Rattle.gx_history_laws.proofs.NextInForce.{granted_next}
-use Rattle.gx_history_laws.proofs.Order.{some_same}
-use Rattle.gx_people.proofs.Table.{is_some_map, map_or}
-use Rattle.gx_people.proofs.Changing.{RoleStays, reader_in_force, role_word, stays_in_force}
-use Rattle.gx_people.proofs.Entitling.{kept}
+use Rattle.gx_history_laws.proofs.{NextInForce.granted_next, Order.some_same}
+use Rattle.gx_people.proofs.{Table.{is_some_map, map_or}, Changing.{RoleStays, reader_in_force, role_word, stays_in_force}, Entitling.kept}
 
 map_or_same : {X : Type 0} (f g : X → Bool) → ((x : X) → f x ≡ g x) → (o : Option X) → option_map_or f o false ≡ option_map_or g o false
 map_or_same f g same None = refl
@@ -52,16 +34,16 @@ next_users policy history r = granted_next given policy.users history r
 -- a role has the power that the command asks for exactly where the rules say so
 pub power_for_is : (role : Option Role) (action : Action) → has_in_role role (power_of action) ≡ has_power role action
 power_for_is None action = refl
-power_for_is (Some (roles.Trader account)) action = refl
-power_for_is (Some (roles.Reader names)) action = refl
-power_for_is (Some (roles.Officer his scope)) (actions.Kill account) = refl
-power_for_is (Some (roles.Officer his scope)) (actions.Lift account) = refl
-power_for_is (Some (roles.Officer his scope)) (actions.SetLimit rule limit) = refl
-power_for_is (Some (roles.Officer his scope)) (actions.Restrict rule stock) = refl
-power_for_is (Some (roles.Officer his scope)) (actions.Unrestrict rule stock) = refl
-power_for_is (Some (roles.Officer his scope)) (actions.Grant reader account) = refl
-power_for_is (Some (roles.Officer his scope)) (actions.Revoke reader account) = refl
-power_for_is (Some (roles.Officer his scope)) actions.CloseDay = refl
+power_for_is (Some (Role.Trader account)) action = refl
+power_for_is (Some (Role.Reader names)) action = refl
+power_for_is (Some (Role.Officer his scope)) (Action.Kill account) = refl
+power_for_is (Some (Role.Officer his scope)) (Action.Lift account) = refl
+power_for_is (Some (Role.Officer his scope)) (Action.SetLimit rule limit) = refl
+power_for_is (Some (Role.Officer his scope)) (Action.Restrict rule stock) = refl
+power_for_is (Some (Role.Officer his scope)) (Action.Unrestrict rule stock) = refl
+power_for_is (Some (Role.Officer his scope)) (Action.Grant reader account) = refl
+power_for_is (Some (Role.Officer his scope)) (Action.Revoke reader account) = refl
+power_for_is (Some (Role.Officer his scope)) Action.CloseDay = refl
 
 pub powers_stay : (policy : PolicyData) (history : List RecordData) (user : UserName) (action : Action)
     → has (people_in_force policy history) user (power_of action) ≡ has_power (role_in policy.users user) action
@@ -69,41 +51,41 @@ powers_stay policy history user action =
     role_word (λ (role : Option Role). has_in_role role (power_of action)) stays policy history user ∙ power_for_is (role_in policy.users user) action
   where
     stays : RoleStays (λ r. has_in_role (Some r) (power_of action))
-    stays a (roles.Trader account) = (refl, refl)
-    stays a (roles.Officer his scope) = (refl, refl)
-    stays a (roles.Reader names) = (refl, refl)
+    stays a (Role.Trader account) = (refl, refl)
+    stays a (Role.Officer his scope) = (refl, refl)
+    stays a (Role.Reader names) = (refl, refl)
 
 pub scopes_stay : (policy : PolicyData) (history : List RecordData) (user : UserName) (account : AccountName)
     → holds (people_in_force policy history) user account ≡ holds_in_role (role_in policy.users user) account
 scopes_stay policy history user account = role_word (λ (role : Option Role). holds_in_role role account) stays policy history user
   where
     stays : RoleStays (λ r. holds_in_role (Some r) account)
-    stays a (roles.Trader his) = (refl, refl)
-    stays a (roles.Officer his scope) = (refl, refl)
-    stays a (roles.Reader names) = (refl, refl)
+    stays a (Role.Trader his) = (refl, refl)
+    stays a (Role.Officer his scope) = (refl, refl)
+    stays a (Role.Reader names) = (refl, refl)
 
 trader_stays : RoleStays (λ r. is_trader (Some r))
-trader_stays a (roles.Trader account) = (refl, refl)
-trader_stays a (roles.Officer his scope) = (refl, refl)
-trader_stays a (roles.Reader names) = (refl, refl)
+trader_stays a (Role.Trader account) = (refl, refl)
+trader_stays a (Role.Officer his scope) = (refl, refl)
+trader_stays a (Role.Reader names) = (refl, refl)
 
 pub traders_stay : (policy : PolicyData) (history : List RecordData) (user : UserName)
     → is_trader (role_in (people_in_force policy history) user) ≡ is_trader (role_in policy.users user)
 traders_stay policy history user = role_word (λ (role : Option Role). is_trader role) trader_stays policy history user
 
 officer_stays : RoleStays (λ r. is_officer (Some r))
-officer_stays a (roles.Trader account) = (refl, refl)
-officer_stays a (roles.Officer his scope) = (refl, refl)
-officer_stays a (roles.Reader names) = (refl, refl)
+officer_stays a (Role.Trader account) = (refl, refl)
+officer_stays a (Role.Officer his scope) = (refl, refl)
+officer_stays a (Role.Reader names) = (refl, refl)
 
 pub officers_stay : (policy : PolicyData) (history : List RecordData) (user : UserName)
     → is_officer (role_in (people_in_force policy history) user) ≡ is_officer (role_in policy.users user)
 officers_stay policy history user = role_word (λ (role : Option Role). is_officer role) officer_stays policy history user
 
 account_stays : RoleStays account_of_role
-account_stays a (roles.Trader account) = (refl, refl)
-account_stays a (roles.Officer his scope) = (refl, refl)
-account_stays a (roles.Reader names) = (refl, refl)
+account_stays a (Role.Trader account) = (refl, refl)
+account_stays a (Role.Officer his scope) = (refl, refl)
+account_stays a (Role.Reader names) = (refl, refl)
 
 pub accounts_stay : (policy : PolicyData) (history : List RecordData) (user : UserName)
     → option_and_then account_of_role (role_in (people_in_force policy history) user) ≡ account_of policy user
@@ -125,7 +107,7 @@ users_stay policy history user =
     ∙ is_some_map (λ (u : User). u.password) (user_in policy.users user)
 
 pub grants_go : (users : List User) (written : WrittenName) (account : AccountName) (reader : UserName)
-    → option_map (λ (u : User). u.name) (reader_in users written) ≡ Some reader → given users (actions.Grant written account) ≡ granted_to reader account users
+    → option_map (λ (u : User). u.name) (reader_in users written) ≡ Some reader → given users (Action.Grant written account) ≡ granted_to reader account users
 grants_go users written account reader = by (reader_in users written)
   where
     by : (found : Option User) → option_map (λ (u : User). u.name) found ≡ Some reader → option_map_or (λ (u : User). granted_to u.name account users) found users ≡ granted_to reader account users
@@ -133,7 +115,7 @@ grants_go users written account reader = by (reader_in users written)
     by (Some u) e = ap (λ (name : UserName). granted_to name account users) (some_same e)
 
 pub revocations_go : (users : List User) (written : WrittenName) (account : AccountName) (reader : UserName)
-    → option_map (λ (u : User). u.name) (reader_in users written) ≡ Some reader → given users (actions.Revoke written account) ≡ revoked_from reader account users
+    → option_map (λ (u : User). u.name) (reader_in users written) ≡ Some reader → given users (Action.Revoke written account) ≡ revoked_from reader account users
 revocations_go users written account reader = by (reader_in users written)
   where
     by : (found : Option User) → option_map (λ (u : User). u.name) found ≡ Some reader → option_map_or (λ (u : User). revoked_from u.name account users) found users ≡ revoked_from reader account users

@@ -1,45 +1,14 @@
 -- The users in force of a legal day are sound, so a reader has room for an account that is not his.
-use Rattle.std.proofs.Common.{◌≡◌, ℕ, ◌+◌, ◌≤◌, arith, Bool, true, false, ◌&&◌, ◌||◌, not, nat_lt, cond, List, [], ◌∷◌, ◌++◌, map, length, refl, ap, sym, ◌∙◌, subst, if◌then◌else◌}
-use Rattle.std.specs.Prelude.{Option, Some, None, option_and_then, option_map, is_some, find, filter}
-use Rattle.std.specs.Option.{option_map_or}
-use Rattle.std.specs.Cmp.{IsEquivalence}
-use Rattle.std.specs.List.{AllByRecursion, IsDistinct, list_all, list_any}
-use Rattle.std.proofs.lemmas.Bool.Decides.{nat_tests}
-use Rattle.std.proofs.lemmas.Cmp.{nat_list_eq_equiv}
-use Rattle.std.proofs.lemmas.List.{length-map}
-use Rattle.std.proofs.lemmas.List.Folds.{list_all-append, list_any-append}
-use Rattle.std.proofs.lemmas.Map.Made.{length-le_from_is_member}
-use Rattle.gx_units.specs.Names.{same_account, same_user}
-use Rattle.gx_units.specs.declared.names.AccountName.{AccountName}
-use Rattle.gx_units.specs.declared.names.UserName.{UserName}
+use Rattle.std.proofs.{Common.{◌≡◌, ℕ, ◌+◌, ◌≤◌, arith, Bool, true, false, ◌&&◌, ◌||◌, not, nat_lt, cond, List, [], ◌∷◌, ◌++◌, map, length, refl, ap, sym, ◌∙◌, subst, if◌then◌else◌}, lemmas.{Bool.Decides.nat_tests, Cmp.nat_list_eq_equiv, List.{length-map, Folds.{list_all-append, list_any-append}}, Map.Made.length-le_from_is_member}}
+use Rattle.std.specs.{Prelude.{Option, Some, None, option_and_then, option_map, is_some, find, filter}, Option.option_map_or, Cmp.IsEquivalence, List.{AllByRecursion, IsDistinct, list_all, list_any}}
+use Rattle.gx_units.specs.{Names.{same_account, same_user}, declared.names.{AccountName.AccountName, UserName.UserName}}
 use Rattle.gx_desk.specs.declared.Action.{Action}
-use Rattle.gx_desk.specs.declared.Action.TheVariants as actions
-use Rattle.gx_policy.specs.declared.policy.Account.{Account}
-use Rattle.gx_policy.specs.declared.policy.PolicyData.{PolicyData}
-use Rattle.gx_policy.specs.declared.policy.Role.{Role}
-use Rattle.gx_policy.specs.declared.policy.Role.TheVariants as roles
-use Rattle.gx_policy.specs.declared.policy.User.{User}
-use Rattle.gx_history.specs.declared.record.Asked.{Asked}
-use Rattle.gx_history.specs.declared.record.RecordData.{RecordData}
-use Rattle.gx_history.specs.declared.record.Step.{Step}
-use Rattle.gx_history.specs.declared.record.Step.TheVariants as steps
-use Rattle.gx_history.specs.declared.record.Verdict.{Verdict}
-use Rattle.gx_history.specs.declared.record.Verdict.TheVariants as verdicts
-use Rattle.gx_history.specs.Asking.{knows_names}
-use Rattle.gx_policy.specs.Lists.{are_distinct}
-use Rattle.gx_policy.specs.People.{account_named, names_account, user_in}
-use Rattle.gx_history.specs.Readers.{reader_in}
-use Rattle.gx_history.specs.Requests.{action_of, asked, is_granted}
-use Rattle.gx_policy.specs.Soundness.{are_accounts, is_role_sound, is_sound, is_user_sound}
-use Rattle.gx_history.specs.Verdicts.{Follows, IsLegal, next}
-use Rattle.gx_history_laws.proofs.Granting.{legal_keeps}
-use Rattle.gx_history_laws.proofs.Judging.{both}
-use Rattle.gx_history_laws.proofs.Names.{account_is, accounts_few, same_account_flip}
-use Rattle.gx_effects.proofs.Allowed.{names_are_known}
-use Rattle.gx_effects.proofs.Commanding.{grants_command}
+use Rattle.gx_policy.specs.{declared.policy.{Account.Account, PolicyData.PolicyData, Role.Role, User.User}, Lists.are_distinct, People.{account_named, names_account, user_in}, Soundness.{are_accounts, is_role_sound, is_sound, is_user_sound}}
+use Rattle.gx_history.specs.{declared.record.{Asked.Asked, RecordData.RecordData, Step.Step, Verdict.Verdict}, Asking.knows_names, Readers.reader_in, Requests.{action_of, asked, is_granted}, Verdicts.{Follows, IsLegal, next}}
+use Rattle.gx_history_laws.proofs.{Granting.legal_keeps, Judging.both, Names.{account_is, accounts_few, same_account_flip}}
+use Rattle.gx_effects.proofs.{Allowed.names_are_known, Commanding.grants_command}
 use Rattle.gx_people.specs.Entitled.{account_limit, change_role, given, granted_to, has_room, people_in_force, revoked_from, role_has_room, with_account, without_account}
-use Rattle.gx_people.proofs.Keeping.{first_users, next_users}
-use Rattle.gx_people.proofs.Spelling.{both_hold}
+use Rattle.gx_people.proofs.{Keeping.{first_users, next_users}, Spelling.both_hold}
 
 -- ---- lists of accounts, none of them twice
 
@@ -95,9 +64,9 @@ all_left test keep (n ∷ names) h =
 -- ---- the users in force are sound
 
 with_sound : (policy : PolicyData) (account : AccountName) → is_some (account_named policy account) ≡ true → (role : Role) → is_role_sound policy role ≡ true → is_role_sound policy (with_account account role) ≡ true
-with_sound policy account known (roles.Trader own) sound = sound
-with_sound policy account known (roles.Officer powers scope) sound = sound
-with_sound policy account known (roles.Reader names) sound = by (names_account names account) refl
+with_sound policy account known (Role.Trader own) sound = sound
+with_sound policy account known (Role.Officer powers scope) sound = sound
+with_sound policy account known (Role.Reader names) sound = by (names_account names account) refl
   where
     by : (there : Bool) → names_account names account ≡ there → are_accounts policy (if there then names else names ++ account ∷ []) ≡ true
     by true is = sound
@@ -109,9 +78,9 @@ with_sound policy account known (roles.Reader names) sound = by (names_account n
         (distinct_push names account parts.1 is)
 
 without_sound : (policy : PolicyData) (account : AccountName) (role : Role) → is_role_sound policy role ≡ true → is_role_sound policy (without_account account role) ≡ true
-without_sound policy account (roles.Trader own) sound = sound
-without_sound policy account (roles.Officer powers scope) sound = sound
-without_sound policy account (roles.Reader names) sound =
+without_sound policy account (Role.Trader own) sound = sound
+without_sound policy account (Role.Officer powers scope) sound = sound
+without_sound policy account (Role.Reader names) sound =
     let test : AccountName → Bool = λ (name : AccountName). is_some (account_named policy name) in
     let keep : AccountName → Bool = λ (name : AccountName). not (same_account name account) in
     let parts = both (list_all test names) (are_distinct same_account names) sound in
@@ -131,7 +100,7 @@ changed_sound policy name change stays (u ∷ users) sound =
 -- after a command that names what is known
 given_sound : (policy : PolicyData) (history : List RecordData) (users : List User) (action : Action) → knows_names policy history action ≡ true
     → list_all (is_user_sound policy) users ≡ true → list_all (is_user_sound policy) (given users action) ≡ true
-given_sound policy history users (actions.Grant written account) known sound = by (reader_in users written)
+given_sound policy history users (Action.Grant written account) known sound = by (reader_in users written)
   where
     account_known : is_some (account_named policy account) ≡ true
     account_known = (both (is_some (reader_in policy.users written)) (is_some (account_named policy account)) known).1
@@ -139,17 +108,17 @@ given_sound policy history users (actions.Grant written account) known sound = b
     by : (found : Option User) → list_all (is_user_sound policy) (option_map_or (λ (u : User). granted_to u.name account users) found users) ≡ true
     by None = sound
     by (Some u) = changed_sound policy u.name (with_account account) (with_sound policy account account_known) users sound
-given_sound policy history users (actions.Revoke written account) known sound = by (reader_in users written)
+given_sound policy history users (Action.Revoke written account) known sound = by (reader_in users written)
   where
     by : (found : Option User) → list_all (is_user_sound policy) (option_map_or (λ (u : User). revoked_from u.name account users) found users) ≡ true
     by None = sound
     by (Some u) = changed_sound policy u.name (without_account account) (without_sound policy account) users sound
-given_sound policy history users (actions.Kill account) known sound = sound
-given_sound policy history users (actions.Lift account) known sound = sound
-given_sound policy history users (actions.SetLimit rule limit) known sound = sound
-given_sound policy history users (actions.Restrict rule stock) known sound = sound
-given_sound policy history users (actions.Unrestrict rule stock) known sound = sound
-given_sound policy history users actions.CloseDay known sound = sound
+given_sound policy history users (Action.Kill account) known sound = sound
+given_sound policy history users (Action.Lift account) known sound = sound
+given_sound policy history users (Action.SetLimit rule limit) known sound = sound
+given_sound policy history users (Action.Restrict rule stock) known sound = sound
+given_sound policy history users (Action.Unrestrict rule stock) known sound = sound
+given_sound policy history users Action.CloseDay known sound = sound
 
 abbrev AreSound : PolicyData → List User → Type 0
 AreSound policy users = list_all (is_user_sound policy) users ≡ true
@@ -161,20 +130,20 @@ next_sound policy history r before follows = subst (AreSound policy) (sym (next_
     users : List User
     users = people_in_force policy history
 
-    by_action : (a : Asked) → r.step ≡ steps.Asked a → r.verdict ≡ verdicts.Granted → (action : Option Action) → action_of a.request ≡ action → AreSound policy (option_map_or (given users) action users)
+    by_action : (a : Asked) → r.step ≡ Step.Asked a → r.verdict ≡ Verdict.Granted → (action : Option Action) → action_of a.request ≡ action → AreSound policy (option_map_or (given users) action users)
     by_action a asks granted None is = before
     by_action a asks granted (Some action) is =
-        let left : next policy history (steps.Asked a) ≡ Some r = ap (next policy history) (sym asks) ∙ follows.is_next in
+        let left : next policy history (Step.Asked a) ≡ Some r = ap (next policy history) (sym asks) ∙ follows.is_next in
         given_sound policy history users action (names_are_known policy history a r action (grants_command policy history a r action left is granted) left) before
 
     by : (v : Verdict) → r.verdict ≡ v → (s : Step) → r.step ≡ s
         → AreSound policy (option_map_or (given users) (option_and_then (λ (a : Asked). action_of a.request) (if is_granted v then asked s else None)) users)
-    by verdicts.Granted granted (steps.Asked a) asks = by_action a asks granted (action_of a.request) refl
-    by verdicts.Granted granted (steps.Matching handed) asks = before
-    by (verdicts.Denied rule) denied s is = before
-    by (verdicts.Filled f) filled s is = before
-    by (verdicts.Rested n) rested s is = before
-    by (verdicts.Expired n) expired s is = before
+    by Verdict.Granted granted (Step.Asked a) asks = by_action a asks granted (action_of a.request) refl
+    by Verdict.Granted granted (Step.Matching handed) asks = before
+    by (Verdict.Denied rule) denied s is = before
+    by (Verdict.Filled f) filled s is = before
+    by (Verdict.Rested n) rested s is = before
+    by (Verdict.Expired n) expired s is = before
 
 first_sound : (policy : PolicyData) → is_sound policy ≡ true → AreSound policy policy.users
 unfolding is_sound
@@ -265,9 +234,9 @@ few_enough n most less few = grind (arith, nat_tests)
 
 role_room : (policy : PolicyData) (role : Role) (account : AccountName) → is_sound policy ≡ true → is_some (account_named policy account) ≡ true → is_role_sound policy role ≡ true
     → role_has_room role account ≡ true
-role_room policy (roles.Trader own) account sound known is = refl
-role_room policy (roles.Officer powers scope) account sound known is = refl
-role_room policy (roles.Reader names) account sound known is = by (names_account names account) refl
+role_room policy (Role.Trader own) account sound known is = refl
+role_room policy (Role.Officer powers scope) account sound known is = refl
+role_room policy (Role.Reader names) account sound known is = by (names_account names account) refl
   where
     by : (b : Bool) → names_account names account ≡ b → (b || nat_lt (length names) account_limit) ≡ true
     by true there = refl

@@ -1,33 +1,14 @@
 -- What the table of persons says of the users that it stands for.
-use Rattle.std.proofs.Common.{◌≡◌, Bool, true, false, cond, ◌&&◌, List, [], ◌∷◌, ◌++◌, map, refl, ◌∙◌, sym, ap, subst, true≢false, if◌then◌else◌, ℕ, ◌+◌, ◌<◌, length, take, get_or}
-use Rattle.std.specs.Option.{option_map_or}
-use Rattle.std.specs.Prelude.{Option, Some, None, option_map, is_some}
-use Rattle.std.specs.List.{AllByRecursion, IsDistinct}
-use Rattle.std.specs.Map.{keys_of, lookup, set_value}
-use Rattle.std.proofs.lemmas.List.{map-append, take_more}
-use Rattle.std.proofs.lemmas.Simd.{map-map}
+use Rattle.std.proofs.{Common.{◌≡◌, Bool, true, false, cond, ◌&&◌, List, [], ◌∷◌, ◌++◌, map, refl, ◌∙◌, sym, ap, subst, true≢false, if◌then◌else◌, ℕ, ◌+◌, ◌<◌, length, take, get_or}, lemmas.{List.{map-append, take_more}, Simd.map-map}}
+use Rattle.std.specs.{Option.option_map_or, Prelude.{Option, Some, None, option_map, is_some}, List.{AllByRecursion, IsDistinct}, Map.{keys_of, lookup, set_value}}
 use Rattle.indexmap.specs.IndexMap.{insert_entry}
 use Rattle.indexmap.proofs.MapLemmas.{insert_entry-absent}
-use Rattle.gx_units.specs.Names.{same_user}
-use Rattle.gx_units.specs.declared.names.AccountName.{AccountName}
-use Rattle.gx_units.specs.declared.names.Password.{Password}
-use Rattle.gx_units.specs.declared.names.UserName.{UserName}
-use Rattle.gx_desk.specs.Names.{is_written}
-use Rattle.gx_desk.specs.declared.WrittenName.{WrittenName}
-use Rattle.gx_policy.specs.declared.policy.Role.{Role}
-use Rattle.gx_policy.specs.declared.policy.User.{User}
-use Rattle.gx_policy.specs.Lists.{are_distinct}
-use Rattle.gx_history.specs.Logins.{password_is, same_password}
-use Rattle.gx_policy.specs.People.{is_reader, user_in, role_in}
-use Rattle.gx_history.specs.Readers.{reader_in}
-use Rattle.gx_history_laws.proofs.Adding.{user_is, user_is_itself}
-use Rattle.gx_history_laws.proofs.Judging.{both}
-use Rattle.gx_history_laws.proofs.Names.{same_user_flip}
-use Rattle.gx_history_laws.proofs.Order.{some_same}
-use Rattle.gx_history_laws.proofs.Tables.{changed_in_place, new_next}
-use Rattle.gx_people.specs.Entitled.{change_role, has_room, role_has_room}
-use Rattle.gx_people.specs.View.{role_of_standing, user_of, users_of}
-use Rattle.gx_people.specs.declared.person.Person.{Person}
+use Rattle.gx_units.specs.{Names.same_user, declared.names.{AccountName.AccountName, Password.Password, UserName.UserName}}
+use Rattle.gx_desk.specs.{Names.is_written, declared.WrittenName.WrittenName}
+use Rattle.gx_policy.specs.{declared.policy.{Role.Role, User.User}, Lists.are_distinct, People.{is_reader, user_in, role_in}}
+use Rattle.gx_history.specs.{Logins.{password_is, same_password}, Readers.reader_in}
+use Rattle.gx_history_laws.proofs.{Adding.{user_is, user_is_itself}, Judging.both, Names.same_user_flip, Order.some_same, Tables.{changed_in_place, new_next}}
+use Rattle.gx_people.specs.{Entitled.{change_role, has_room, role_has_room}, View.{role_of_standing, user_of, users_of}, declared.person.Person.Person}
 
 -- what the person found by a name says, the user of that name says
 found_as : {Y : Type 0} (of_user : User → Y) (of_person : Person → Y) → ((e : UserName × Person) → of_user (user_of e) ≡ of_person e.1)

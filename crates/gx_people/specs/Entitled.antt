@@ -1,43 +1,28 @@
 -- Who may do what, and who sees which account, among users as they are now.
-use Rattle.std.specs.Option.{option_map_or}
-use Rattle.std.specs.Prelude.{ℕ, Bool, true, false, not, ◌&&◌, ◌||◌, nat_lt, List, [], ◌∷◌, ◌++◌, length, map, fold, filter, if◌then◌else◌, Option, Some}
-use Rattle.gx_units.specs.Names.{same_user, same_account}
-use Rattle.gx_units.specs.declared.names.AccountName.{AccountName}
-use Rattle.gx_units.specs.declared.names.UserName.{UserName}
+use Rattle.std.specs.{Option.option_map_or, Prelude.{ℕ, Bool, true, false, not, ◌&&◌, ◌||◌, nat_lt, List, [], ◌∷◌, ◌++◌, length, map, fold, filter, if◌then◌else◌, Option, Some}}
+use Rattle.gx_units.specs.{Names.{same_user, same_account}, declared.names.{AccountName.AccountName, UserName.UserName}}
 use Rattle.gx_desk.specs.declared.Action.{Action}
-use Rattle.gx_desk.specs.declared.Action.TheVariants as actions
-use Rattle.gx_policy.specs.declared.policy.PolicyData.{PolicyData}
-use Rattle.gx_policy.specs.declared.policy.Powers.{Powers}
-use Rattle.gx_policy.specs.declared.policy.Role.{Role}
-use Rattle.gx_policy.specs.declared.policy.Role.TheVariants as roles
-use Rattle.gx_policy.specs.declared.policy.User.{User}
-use Rattle.gx_history.specs.declared.record.RecordData.{RecordData}
-use Rattle.gx_history.specs.InForce.{in_role}
-use Rattle.gx_policy.specs.People.{covers, names_account, role_in}
-use Rattle.gx_history.specs.Readers.{reader_in}
-use Rattle.gx_history.specs.Requests.{granted_actions}
-use Rattle.gx_people.specs.declared.people.Change.{Change}
-use Rattle.gx_people.specs.declared.people.Change.TheVariants as changes
-use Rattle.gx_people.specs.declared.power.Power.{Power}
-use Rattle.gx_people.specs.declared.power.Power.TheVariants as powers
+use Rattle.gx_policy.specs.{declared.policy.{PolicyData.PolicyData, Powers.Powers, Role.Role, User.User}, People.{covers, names_account, role_in}}
+use Rattle.gx_history.specs.{declared.record.RecordData.RecordData, InForce.in_role, Readers.reader_in, Requests.granted_actions}
+use Rattle.gx_people.specs.declared.{people.Change.Change, power.Power.Power}
 
 -- one of an officer's powers
 abbrev pub includes : Powers → Power → Bool
-includes his powers.Kill = his.kill
-includes his powers.Lift = his.lift
-includes his powers.Limits = his.limits
-includes his powers.Symbols = his.symbols
-includes his powers.People = his.people
-includes his powers.Close = his.close
+includes his Power.Kill = his.kill
+includes his Power.Lift = his.lift
+includes his Power.Limits = his.limits
+includes his Power.Symbols = his.symbols
+includes his Power.People = his.people
+includes his Power.Close = his.close
 
 -- the role is an officer's, with the power
 abbrev pub has_in_role : Option Role → Power → Bool
-has_in_role (Some (roles.Officer his scope)) power = includes his power
+has_in_role (Some (Role.Officer his scope)) power = includes his power
 has_in_role other power = false
 
 -- the role is an officer's, with the account in its scope
 abbrev pub holds_in_role : Option Role → AccountName → Bool
-holds_in_role (Some (roles.Officer his scope)) account = covers scope account
+holds_in_role (Some (Role.Officer his scope)) account = covers scope account
 holds_in_role other account = false
 
 -- the user is an officer with the power
@@ -66,9 +51,9 @@ sees_without users reader account other = not (same_account other account) && se
 
 -- what he would see after the change
 abbrev pub sees_after : List User → UserName → Change → AccountName → Bool
-sees_after users reader changes.Nothing = sees users reader
-sees_after users reader (changes.Grant account) = sees_with users reader account
-sees_after users reader (changes.Revoke account) = sees_without users reader account
+sees_after users reader Change.Nothing = sees users reader
+sees_after users reader (Change.Grant account) = sees_with users reader account
+sees_after users reader (Change.Revoke account) = sees_without users reader account
 
 -- as many accounts as a policy may have
 abbrev pub account_limit : ℕ
@@ -76,7 +61,7 @@ account_limit = 64
 
 -- the account is the reader's already, or fewer are his than a policy may have
 abbrev pub role_has_room : Role → AccountName → Bool
-role_has_room (roles.Reader names) account = names_account names account || nat_lt (length names) account_limit
+role_has_room (Role.Reader names) account = names_account names account || nat_lt (length names) account_limit
 role_has_room other account = true
 
 -- the reader of this name has the account already, or fewer than a policy may have
@@ -85,12 +70,12 @@ has_room users reader account = option_map_or (λ role. role_has_room role accou
 
 -- a reader's accounts with this one last, unless it is there; any other role as it is
 abbrev pub with_account : AccountName → Role → Role
-with_account account (roles.Reader names) = roles.Reader (if names_account names account then names else names ++ account ∷ [])
+with_account account (Role.Reader names) = Role.Reader (if names_account names account then names else names ++ account ∷ [])
 with_account account other = other
 
 -- a reader's accounts without this one; any other role as it is
 abbrev pub without_account : AccountName → Role → Role
-without_account account (roles.Reader names) = roles.Reader (filter (λ name. not (same_account name account)) names)
+without_account account (Role.Reader names) = Role.Reader (filter (λ name. not (same_account name account)) names)
 without_account account other = other
 
 -- the user, his role changed if he has this name
@@ -107,8 +92,8 @@ revoked_from reader account users = map (change_role reader (without_account acc
 
 -- the users after the command was granted
 abbrev pub given : List User → Action → List User
-given users (actions.Grant written account) = option_map_or (λ (u : User). granted_to u.name account users) (reader_in users written) users
-given users (actions.Revoke written account) = option_map_or (λ (u : User). revoked_from u.name account users) (reader_in users written) users
+given users (Action.Grant written account) = option_map_or (λ (u : User). granted_to u.name account users) (reader_in users written) users
+given users (Action.Revoke written account) = option_map_or (λ (u : User). revoked_from u.name account users) (reader_in users written) users
 given users other = users
 
 -- the policy's users with the granted changes
@@ -117,11 +102,11 @@ people_in_force policy history = fold given policy.users (granted_actions histor
 
 -- the power that the command asks for
 abbrev pub power_of : Action → Power
-power_of (actions.Kill account) = powers.Kill
-power_of (actions.Lift account) = powers.Lift
-power_of (actions.SetLimit rule limit) = powers.Limits
-power_of (actions.Restrict rule stock) = powers.Symbols
-power_of (actions.Unrestrict rule stock) = powers.Symbols
-power_of (actions.Grant reader account) = powers.People
-power_of (actions.Revoke reader account) = powers.People
-power_of actions.CloseDay = powers.Close
+power_of (Action.Kill account) = Power.Kill
+power_of (Action.Lift account) = Power.Lift
+power_of (Action.SetLimit rule limit) = Power.Limits
+power_of (Action.Restrict rule stock) = Power.Symbols
+power_of (Action.Unrestrict rule stock) = Power.Symbols
+power_of (Action.Grant reader account) = Power.People
+power_of (Action.Revoke reader account) = Power.People
+power_of Action.CloseDay = Power.Close

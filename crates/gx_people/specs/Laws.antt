@@ -1,25 +1,9 @@
 -- What the users in force keep of the policy, and what each command changes.
-use Rattle.std.specs.Option.{option_map_or}
-use Rattle.std.specs.List.{list_all}
-use Rattle.std.specs.Prelude.{◌≡◌, false, not, ◌&&◌, ◌||◌, IsTrue, is_some, List, [], ◌∷◌, ◌++◌, Some, option_map, option_and_then}
-use Rattle.gx_units.specs.Names.{same_user, same_account}
-use Rattle.gx_units.specs.declared.names.AccountName.{AccountName}
-use Rattle.gx_units.specs.declared.names.Password.{Password}
-use Rattle.gx_units.specs.declared.names.UserName.{UserName}
-use Rattle.gx_desk.specs.declared.WrittenName.{WrittenName}
-use Rattle.gx_desk.specs.declared.Action.{Action}
-use Rattle.gx_desk.specs.declared.Action.TheVariants as actions
-use Rattle.gx_policy.specs.declared.policy.PolicyData.{PolicyData}
-use Rattle.gx_policy.specs.declared.policy.User.{User}
-use Rattle.gx_history.specs.declared.record.RecordData.{RecordData}
-use Rattle.gx_history.specs.Asking.{has_power, sees_now}
-use Rattle.gx_history.specs.InForce.{is_entitled}
-use Rattle.gx_history.specs.Logins.{password_is}
-use Rattle.gx_policy.specs.People.{account_named, account_of, account_of_role, is_officer, is_reader, is_trader, role_in, user_in}
-use Rattle.gx_history.specs.Readers.{reader_in}
-use Rattle.gx_history.specs.Requests.{granted_action}
-use Rattle.gx_policy.specs.Soundness.{is_sound, is_user_sound}
-use Rattle.gx_history.specs.Verdicts.{IsLegal}
+use Rattle.std.specs.{Option.option_map_or, List.list_all, Prelude.{◌≡◌, false, not, ◌&&◌, ◌||◌, IsTrue, is_some, List, [], ◌∷◌, ◌++◌, Some, option_map, option_and_then}}
+use Rattle.gx_units.specs.{Names.{same_user, same_account}, declared.names.{AccountName.AccountName, Password.Password, UserName.UserName}}
+use Rattle.gx_desk.specs.declared.{WrittenName.WrittenName, Action.Action}
+use Rattle.gx_policy.specs.{declared.policy.{PolicyData.PolicyData, User.User}, People.{account_named, account_of, account_of_role, is_officer, is_reader, is_trader, role_in, user_in}, Soundness.{is_sound, is_user_sound}}
+use Rattle.gx_history.specs.{declared.record.RecordData.RecordData, Asking.{has_power, sees_now}, InForce.is_entitled, Logins.password_is, Readers.reader_in, Requests.granted_action, Verdicts.IsLegal}
 use Rattle.gx_people.specs.Entitled.{given, granted_to, has, has_room, holds, holds_in_role, people_in_force, power_of, revoked_from, sees}
 
 -- who sees which account in force is who is entitled to it
@@ -101,12 +85,12 @@ RevocationsTakeOnePair = (users : List User) (reader : UserName) (account : Acco
 -- a granted Grant is a grant to the reader whom it names
 abbrev pub GrantsGoToTheNamed : Type 0
 GrantsGoToTheNamed = (users : List User) (written : WrittenName) (account : AccountName) (reader : UserName)
-    → option_map (λ (u : User). u.name) (reader_in users written) ≡ Some reader → given users (actions.Grant written account) ≡ granted_to reader account users
+    → option_map (λ (u : User). u.name) (reader_in users written) ≡ Some reader → given users (Action.Grant written account) ≡ granted_to reader account users
 
 -- a granted Revoke is a revocation from the reader whom it names
 abbrev pub RevocationsGoToTheNamed : Type 0
 RevocationsGoToTheNamed = (users : List User) (written : WrittenName) (account : AccountName) (reader : UserName)
-    → option_map (λ (u : User). u.name) (reader_in users written) ≡ Some reader → given users (actions.Revoke written account) ≡ revoked_from reader account users
+    → option_map (λ (u : User). u.name) (reader_in users written) ≡ Some reader → given users (Action.Revoke written account) ≡ revoked_from reader account users
 
 -- in a legal day the users in force are sound, as the policy's are
 abbrev pub UsersStaySound : Type 0

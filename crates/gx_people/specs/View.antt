@@ -1,18 +1,14 @@
 -- The users that the gate's table of persons stands for.
 use Rattle.std.specs.Prelude.{List, map}
 use Rattle.gx_units.specs.declared.names.UserName.{UserName}
-use Rattle.gx_policy.specs.declared.policy.Role.{Role}
-use Rattle.gx_policy.specs.declared.policy.Role.TheVariants as roles
-use Rattle.gx_policy.specs.declared.policy.User.{User}
-use Rattle.gx_people.specs.declared.person.Person.{Person}
-use Rattle.gx_people.specs.declared.person.Standing.{Standing}
-use Rattle.gx_people.specs.declared.person.Standing.TheVariants as standings
+use Rattle.gx_policy.specs.declared.policy.{Role.Role, User.User}
+use Rattle.gx_people.specs.declared.person.{Person.Person, Standing.Standing}
 
 -- the role in the policy's words
 abbrev pub role_of_standing : Standing → Role
-role_of_standing (standings.Trader account) = roles.Trader account
-role_of_standing (standings.Officer his scope) = roles.Officer his scope
-role_of_standing (standings.Reader accounts) = roles.Reader accounts
+role_of_standing (Standing.Trader account) = Role.Trader account
+role_of_standing (Standing.Officer his scope) = Role.Officer his scope
+role_of_standing (Standing.Reader accounts) = Role.Reader accounts
 
 -- the user of an entry
 abbrev pub user_of : UserName × Person → User

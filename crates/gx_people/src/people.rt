@@ -1,17 +1,10 @@
 //! The people of a policy, as they are now.
 
-ghost use Rattle.std.specs.Prelude.{◌≤◌, ◌<◌, ◌^◌, length};
-ghost use Rattle.std.specs.Prelude.{◌≡◌, IsTrue, IfOk, option_map, option_and_then, is_some, IfSome, ◌&&◌, ◌||◌, not};
-ghost use Rattle.gx_units.specs.Names.{same_account, same_user};
-ghost use Rattle.gx_units.specs.declared.names.AccountName.{AccountName};
-ghost use Rattle.gx_units.specs.declared.names.UserName.{UserName};
-ghost use Rattle.gx_history.specs.Masks.{mask_by};
-ghost use Rattle.gx_history.specs.Logins.{password_is};
+ghost use Rattle.std.specs.Prelude.{◌≤◌, ◌<◌, ◌^◌, length, ◌≡◌, IsTrue, IfOk, option_map, option_and_then, is_some, IfSome, ◌&&◌, ◌||◌, not};
+ghost use Rattle.gx_units.specs.{Names.{same_account, same_user}, declared.names.{AccountName.AccountName, UserName.UserName}};
+ghost use Rattle.gx_history.specs.{Masks.mask_by, Logins.password_is, Readers.reader_in};
 ghost use Rattle.gx_policy.specs.People.{account_of_role, is_officer, is_reader, role_in, user_in};
-ghost use Rattle.gx_history.specs.Readers.{reader_in};
-ghost use Rattle.gx_people.specs.Entitled.{granted_to, has, has_room, holds, may, revoked_from};
-ghost use Rattle.gx_people.specs.Entitled.{sees, sees_after, sees_with, sees_without};
-ghost use Rattle.gx_people.specs.View.{role_of_standing};
+ghost use Rattle.gx_people.specs.{Entitled.{granted_to, has, has_room, holds, may, revoked_from, sees, sees_after, sees_with, sees_without}, View.role_of_standing};
 
 use crate::person::{Person, Standing};
 use crate::power::Power;

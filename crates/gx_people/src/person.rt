@@ -3,8 +3,7 @@
 ghost use Rattle.std.specs.Prelude.{◌≡◌, IfOk, IsTrue, Some};
 ghost use Rattle.gx_history.specs.InForce.{in_role};
 ghost use Rattle.gx_policy.specs.People.{is_reader};
-ghost use Rattle.gx_people.specs.Entitled.{role_has_room, with_account, without_account};
-ghost use Rattle.gx_people.specs.View.{role_of_standing};
+ghost use Rattle.gx_people.specs.{Entitled.{role_has_room, with_account, without_account}, View.role_of_standing};
 
 use crate::accounts::ReaderAccounts;
 use gx_policy::{Powers, Role, Scope};

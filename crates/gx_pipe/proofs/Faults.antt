@@ -1,30 +1,15 @@
 -- Where a connection that was cut short stops.
-use Rattle.std.proofs.Common.{◌≡◌, ℕ, ◌+◌, ◌<◌, ◌≤◌, inl, inr, false, cond, List, [], ◌∷◌, ◌++◌, length, take, drop, get_or, refl, sym, ap, ◌∙◌, subst, append_assoc, append-nil, take-append-drop, arith, Option}
-use Rattle.std.specs.Prelude.{fold}
-use Rattle.std.specs.Io.KnownBytes.{Consumes, Keeps}
-use Rattle.std.proofs.KnownBytes.{Appends-nil, Appends-trans, Consumes-trans, Consumes-kept}
-use Rattle.std.proofs.lemmas.List.{take_more}
-use Rattle.gx_soup.specs.declared.packet.ClientPacket.{ClientPacket}
-use Rattle.gx_soup.specs.declared.packet.SoupFault.{SoupFault}
-use Rattle.gx_soup.specs.Packets.{packets_of}
-use Rattle.gx_soup.specs.Feeding.{Held, HasRead, Gives}
+use Rattle.std.proofs.{Common.{◌≡◌, ℕ, ◌+◌, ◌<◌, ◌≤◌, inl, inr, false, cond, List, [], ◌∷◌, ◌++◌, length, take, drop, get_or, refl, sym, ap, ◌∙◌, subst, append_assoc, append-nil, take-append-drop, arith, Option}, KnownBytes.{Appends-nil, Appends-trans, Consumes-trans, Consumes-kept}, lemmas.List.take_more}
+use Rattle.std.specs.{Prelude.fold, Io.KnownBytes.{Consumes, Keeps}}
+use Rattle.gx_soup.specs.{declared.packet.{ClientPacket.ClientPacket, SoupFault.SoupFault}, Packets.packets_of, Feeding.{Held, HasRead, Gives}}
 use Rattle.gx_soup.proofs.PacketLaws.{packets_grow}
 use Rattle.gx_history.specs.declared.record.RecordData.{RecordData}
 use Rattle.gx_answers.specs.Gates.{GateData}
 use Rattle.gx_devices.specs.Stopping.{AreFewer, Mark, MayEnd, Stops, trail}
 use Rattle.gx_devices.proofs.Stopping.{first_behind, first_same, trail_stops}
-use Rattle.gx_pipe.specs.declared.connection.Connection.{Connection}
-use Rattle.gx_pipe.specs.declared.fault.PipeFault.{PipeFault}
-use Rattle.gx_pipe.specs.declared.fault.PipeFault.TheVariants as faults
+use Rattle.gx_pipe.specs.{declared.{connection.Connection.Connection, fault.PipeFault.PipeFault}, Piping.{Standing, mark, cause_of, Refused, logout_of, IsTaken, IsGivenUp, IsMatchedInPart, row_of, matched_of, pull_marks, packet_marks, StopsIn, Follows, Broken, IsCutShort}, Serving.IsOnLine, Transcript.{Run, run_at, with_text, silent, and_then, ticked, answered, matched, pulled, handled, on_packet, run_of}}
 use Rattle.gx_session.specs.Events.{is_over}
-use Rattle.gx_pipe.specs.Piping.{Standing, mark, cause_of, Refused, logout_of, IsTaken, IsGivenUp, IsMatchedInPart, row_of, matched_of, pull_marks, packet_marks, StopsIn, Follows, Broken, IsCutShort}
-use Rattle.gx_pipe.specs.Serving.{IsOnLine}
-use Rattle.gx_pipe.specs.Transcript.{Run, run_at, with_text, silent, and_then, ticked, answered, matched, pulled, handled, on_packet, run_of}
-use Rattle.gx_pipe.proofs.Growing.{match_going}
-use Rattle.gx_pipe.proofs.Marks.{packet_ends}
-use Rattle.gx_pipe.proofs.OnLine.{settling_keeps, row_keeps, match_keeps, packets_keep, run_keeps}
-use Rattle.gx_pipe.proofs.Runs.{Stands, fold_from}
-use Rattle.gx_pipe.proofs.Turning.{of_text, pauses, taken_behind}
+use Rattle.gx_pipe.proofs.{Growing.match_going, Marks.packet_ends, OnLine.{settling_keeps, row_keeps, match_keeps, packets_keep, run_keeps}, Runs.{Stands, fold_from}, Turning.{of_text, pauses, taken_behind}}
 
 -- What stopped a packet.
 
@@ -168,7 +153,7 @@ item_cut gate connection packets i packet within item then state output mid left
 
 -- nothing of the piece was fed
 pub feed_cut : (before : GateData) (first : ℕ) (bytes piece : List ℕ) (gate : GateData) (connection : Connection) (feeder : Held) (output : Option (List ℕ)) → Follows before first bytes gate connection feeder
-    → Broken before first bytes piece faults.OutOfMemory gate connection output output
+    → Broken before first bytes piece PipeFault.OutOfMemory gate connection output output
 feed_cut before first bytes piece gate connection feeder output follows =
     let g = packets_grow bytes piece in
     let run = run_of before first bytes in

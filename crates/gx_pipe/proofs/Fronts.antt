@@ -1,37 +1,19 @@
 -- What a run leaves that a fault stopped is a front of what the whole input leads to.
-use Rattle.std.proofs.Common.{◌≡◌, ℕ, Bool, true, false, cond, List, [], ◌∷◌, ◌++◌, Option, Some, None, IfSome, refl, sym, ap, ◌∙◌, subst, append-nil}
-use Rattle.std.specs.Prelude.{fold}
-use Rattle.std.specs.Option.{option_map_or}
-use Rattle.std.specs.Io.KnownBytes.{Appends}
-use Rattle.std.proofs.KnownBytes.{Appends-trans}
-use Rattle.std.proofs.lemmas.List.Sums.{fold-append}
+use Rattle.std.proofs.{Common.{◌≡◌, ℕ, Bool, true, false, cond, List, [], ◌∷◌, ◌++◌, Option, Some, None, IfSome, refl, sym, ap, ◌∙◌, subst, append-nil}, KnownBytes.Appends-trans, lemmas.List.Sums.fold-append}
+use Rattle.std.specs.{Prelude.fold, Option.option_map_or, Io.KnownBytes.Appends}
 use Rattle.gx_soup.specs.Packets.{packets_of}
 use Rattle.gx_soup.proofs.PacketLaws.{packets_grow}
-use Rattle.gx_history.specs.declared.record.Asked.{Asked}
-use Rattle.gx_history.specs.declared.record.RecordData.{RecordData}
-use Rattle.gx_history.specs.declared.record.Request.TheVariants as requests
-use Rattle.gx_devices.specs.Devices.{IsFront}
+use Rattle.gx_history.specs.declared.record.{Asked.Asked, RecordData.RecordData, Request.Request}
+use Rattle.gx_devices.specs.{Devices.IsFront, Stopping.trail}
 use Rattle.gx_devices.specs.Stopping as First
-use Rattle.gx_devices.specs.Stopping.{trail}
 use Rattle.gx_devices.proofs.Stopping.{Leads, first_same, leads_then, rises_last, trail_ends, trail_leads, trail_rises}
-use Rattle.gx_answers.specs.Gates.{GateData}
-use Rattle.gx_answers.specs.Asking.{asked_by}
-use Rattle.gx_pipe.specs.declared.connection.Connection.{Connection}
-use Rattle.gx_pipe.specs.declared.fault.PipeFault.{PipeFault}
-use Rattle.gx_pipe.specs.Fronts.{AreFirst}
-use Rattle.gx_pipe.specs.Piping.{mark, gate_at, cause_of, Refused, packet_marks, logout_of, IsCutShort, IsAfterFault}
-use Rattle.gx_pipe.specs.Serving.{IsOnLine}
+use Rattle.gx_answers.specs.{Gates.GateData, Asking.asked_by}
+use Rattle.gx_pipe.specs.{declared.{connection.Connection.Connection, fault.PipeFault.PipeFault}, Fronts.AreFirst, Piping.{mark, gate_at, cause_of, Refused, packet_marks, logout_of, IsCutShort, IsAfterFault}, Serving.IsOnLine, Transcript.{Run, after_step, on_packet, opened, run_of, finished, pipe}}
 use Rattle.gx_session.specs.Events.{is_on}
-use Rattle.gx_pipe.specs.Transcript.{Run, after_step, on_packet, opened, run_of, finished, pipe}
-use Rattle.gx_pipe.proofs.Growing.{finish_on}
-use Rattle.gx_pipe.proofs.Leaving.{line_there}
-use Rattle.gx_pipe.proofs.Marks.{packet_ends, packet_rises}
-use Rattle.gx_pipe.proofs.OnLine.{logout_is_granted}
-use Rattle.gx_pipe.proofs.Runs.{finished_text}
-use Rattle.gx_pipe.proofs.Serving.{left_of, left_is}
+use Rattle.gx_pipe.proofs.{Growing.finish_on, Leaving.line_there, Marks.{packet_ends, packet_rises}, OnLine.logout_is_granted, Runs.finished_text, Serving.{left_of, left_is}}
 
 abbrev leaving : Connection → Asked
-leaving c = asked_by c.user requests.Logout c.session.heard
+leaving c = asked_by c.user Request.Logout c.session.heard
 
 -- with the logout of a user who is on behind them
 logged_out_first : (after gate end : GateData) (c : Connection) → IsOnLine gate c → after ≡ after_step gate (logout_of c) → First.AreFirst gate.records end.records → AreFirst after.records end.records

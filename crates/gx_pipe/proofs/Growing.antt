@@ -2,25 +2,15 @@
 use Rattle.std.proofs.Common.{◌≡◌, ℕ, Bool, true, false, cond, [], ◌∷◌, ◌++◌, Option, Some, None, refl, ap}
 use Rattle.std.specs.Option.{option_map_or}
 use Rattle.gx_units.specs.declared.names.UserName.{UserName}
-use Rattle.gx_soup.specs.declared.packet.LoginRequest.{LoginRequest}
-use Rattle.gx_soup.specs.declared.packet.ClientPacket.{ClientPacket}
-use Rattle.gx_history.specs.declared.record.Asked.{Asked}
-use Rattle.gx_history.specs.declared.record.RecordData.{RecordData}
+use Rattle.gx_soup.specs.declared.packet.{LoginRequest.LoginRequest, ClientPacket.ClientPacket}
+use Rattle.gx_history.specs.declared.record.{Asked.Asked, RecordData.RecordData}
 use Rattle.gx_effects.proofs.Settling.{settled_adds}
 use Rattle.gx_devices.specs.Stopping.{AreFewer, AreFirst}
 use Rattle.gx_devices.proofs.Stopping.{first_same, first_then, fewer_then}
-use Rattle.gx_answers.specs.Gates.{GateData}
-use Rattle.gx_answers.specs.Asking.{stepped}
-use Rattle.gx_answers.specs.Matches.{settled_gate}
-use Rattle.gx_pipe.specs.declared.connection.Connection.{Connection}
-use Rattle.gx_session.specs.declared.event.Next.{Next}
-use Rattle.gx_session.specs.declared.event.Next.TheVariants as nexts
-use Rattle.gx_session.specs.Events.{asks_step, is_over, login_in}
-use Rattle.gx_session.specs.Happenings.{Happening}
+use Rattle.gx_answers.specs.{Gates.GateData, Asking.stepped, Matches.settled_gate}
+use Rattle.gx_pipe.specs.{declared.connection.Connection.Connection, Steps.login_asked_at, Transcript.{Run, acted, on_event, logged_in, with_login, answered, matched, finished}}
+use Rattle.gx_session.specs.{declared.event.Next.Next, Events.{asks_step, is_over, login_in}, Happenings.Happening, Table.turn}
 use Rattle.gx_session.specs.Happenings as happens
-use Rattle.gx_pipe.specs.Steps.{login_asked_at}
-use Rattle.gx_session.specs.Table.{turn}
-use Rattle.gx_pipe.specs.Transcript.{Run, acted, on_event, logged_in, with_login, answered, matched, finished}
 use Rattle.gx_pipe.proofs.Serving.{left_of, left_is}
 
 abbrev GoesOn : GateData → GateData → Type 0
@@ -43,18 +33,18 @@ settle_on : (gate : GateData) (moment : ℕ) → GoesOn gate (settled_gate gate 
 settle_on gate moment = let adds = settled_adds gate.policy gate.records moment in record { others = adds.more; whole = adds.goes_on }
 
 act_on : (gate : GateData) (user : UserName) (moment : ℕ) (next : Next) → GoesOn gate (acted gate user moment next)
-act_on gate user moment nexts.Idle = here gate
-act_on gate user moment nexts.Login = here gate
-act_on gate user moment (nexts.Act request) = step_on gate _
-act_on gate user moment nexts.Logout = step_on gate _
-act_on gate user moment nexts.Close = here gate
+act_on gate user moment Next.Idle = here gate
+act_on gate user moment Next.Login = here gate
+act_on gate user moment (Next.Act request) = step_on gate _
+act_on gate user moment Next.Logout = step_on gate _
+act_on gate user moment Next.Close = here gate
 
 act_adds : (gate : GateData) (user : UserName) (moment : ℕ) (next : Next) → asks_step next ≡ true → AreFewer gate.records (acted gate user moment next).records
-act_adds gate user moment nexts.Idle h = cc
-act_adds gate user moment nexts.Login h = cc
-act_adds gate user moment (nexts.Act request) h = step_adds gate _
-act_adds gate user moment nexts.Logout h = step_adds gate _
-act_adds gate user moment nexts.Close h = cc
+act_adds gate user moment Next.Idle h = cc
+act_adds gate user moment Next.Login h = cc
+act_adds gate user moment (Next.Act request) h = step_adds gate _
+act_adds gate user moment Next.Logout h = step_adds gate _
+act_adds gate user moment Next.Close h = cc
 
 pub event_adds : (gate : GateData) (c : Connection) (e : Happening) (moment : ℕ) → asks_step (turn c.session e moment).reply.next ≡ true → AreFewer gate.records (on_event gate c e moment).gate.records
 unfolding on_event

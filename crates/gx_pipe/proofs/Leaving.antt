@@ -1,24 +1,12 @@
 -- How a user who is on is logged out where a run stopped.
 use Rattle.std.proofs.Common.{◌≡◌, ℕ, ◌⊎◌, inl, inr, Bool, true, false, cond, List, refl, sym, ap, ◌∙◌, Option, Some, None, Result, Ok, Err, OnOk, OnErr}
 use Rattle.gx_places.specs.Places.{has_kept_places}
-use Rattle.gx_answers.specs.Gates.{GateData}
-use Rattle.gx_answers.specs.Asking.{asked_by}
-use Rattle.gx_history.specs.declared.record.Request.TheVariants as requests
+use Rattle.gx_answers.specs.{Gates.GateData, Asking.asked_by}
+use Rattle.gx_history.specs.declared.record.Request.{Request}
 use Rattle.gx_units.specs.declared.names.UserName.{UserName}
-use Rattle.gx_pipe.specs.declared.connection.Connection.{Connection}
-use Rattle.gx_session.specs.declared.event.Next.{Next}
-use Rattle.gx_session.specs.declared.event.Next.TheVariants as nexts
-use Rattle.gx_session.specs.declared.event.Reply.{Reply}
-use Rattle.gx_pipe.specs.declared.fault.PipeFault.{PipeFault}
-use Rattle.gx_session.specs.declared.session.Phase.{Phase}
-use Rattle.gx_session.specs.declared.session.Phase.TheVariants.{Fresh, Waiting, On, Abandoned, Done}
-use Rattle.gx_session.specs.Events.{asks_step, is_on}
-use Rattle.gx_session.specs.Happenings.{Happening}
+use Rattle.gx_pipe.specs.{declared.{connection.Connection.Connection, fault.PipeFault.PipeFault}, Piping.{gate_at, is_never_refused, logout_of, IsLeaving, IsCutShort, IsAfterFault}, Serving.IsOnLine, Transcript.{silent, acted, after_step, step_of, on_event, run_of, finished}}
+use Rattle.gx_session.specs.{declared.{event.{Next.Next, Reply.Reply}, session.Phase.{Phase, TheVariants.{Fresh, Waiting, On, Abandoned, Done}}}, Events.{asks_step, is_on}, Happenings.Happening, Table.{SessionData, row_in, turn}}
 use Rattle.gx_session.specs.Happenings as happens
-use Rattle.gx_pipe.specs.Piping.{gate_at, is_never_refused, logout_of, IsLeaving, IsCutShort, IsAfterFault}
-use Rattle.gx_pipe.specs.Serving.{IsOnLine}
-use Rattle.gx_session.specs.Table.{SessionData, row_in, turn}
-use Rattle.gx_pipe.specs.Transcript.{silent, acted, after_step, step_of, on_event, run_of, finished}
 use Rattle.gx_pipe.proofs.OnLine.{logout_is_granted, run_keeps}
 
 row_leaves : (p : Phase) (e : Happening) (silent quiet : Bool) → IsLeaving e → (row_in p e silent quiet).reply.next ≡ (row_in p happens.End silent quiet).reply.next
@@ -48,7 +36,7 @@ leaves_as_at_the_end gate c e reply moment k m r =
 
 -- a user who is on is logged out, and nobody else
 abbrev AsksAtTheEnd : Phase → Next → Type 0
-AsksAtTheEnd p next = ((next ≡ nexts.Logout) × (is_on p ≡ true)) ⊎ ((asks_step next ≡ false) × (is_on p ≡ false))
+AsksAtTheEnd p next = ((next ≡ Next.Logout) × (is_on p ≡ true)) ⊎ ((asks_step next ≡ false) × (is_on p ≡ false))
 
 row_asks : (p : Phase) (silent quiet : Bool) → AsksAtTheEnd p (row_in p happens.End silent quiet).reply.next
 row_asks Fresh silent quiet = inr (refl, refl)
@@ -62,17 +50,17 @@ unfolding turn
 end_asks session moment = row_asks session.phase _ _
 
 no_step : (user : UserName) (moment : ℕ) (next : Next) → asks_step next ≡ false → step_of user moment next ≡ None
-no_step user moment nexts.Idle h = refl
-no_step user moment nexts.Login h = refl
-no_step user moment (nexts.Act request) h = cc
-no_step user moment nexts.Logout h = cc
-no_step user moment nexts.Close h = refl
+no_step user moment Next.Idle h = refl
+no_step user moment Next.Login h = refl
+no_step user moment (Next.Act request) h = cc
+no_step user moment Next.Logout h = cc
+no_step user moment Next.Close h = refl
 
-logout_when_on : (c : Connection) → is_on c.session.phase ≡ true → logout_of c ≡ Some (asked_by c.user requests.Logout c.session.heard)
-logout_when_on c on = ap (λ b. cond b (Some (asked_by c.user requests.Logout c.session.heard)) None) on
+logout_when_on : (c : Connection) → is_on c.session.phase ≡ true → logout_of c ≡ Some (asked_by c.user Request.Logout c.session.heard)
+logout_when_on c on = ap (λ b. cond b (Some (asked_by c.user Request.Logout c.session.heard)) None) on
 
 no_logout : (c : Connection) → is_on c.session.phase ≡ false → logout_of c ≡ None
-no_logout c off = ap (λ b. cond b (Some (asked_by c.user requests.Logout c.session.heard)) None) off
+no_logout c off = ap (λ b. cond b (Some (asked_by c.user Request.Logout c.session.heard)) None) off
 
 -- what the session asks for at the end is that logout
 step_at_the_end : (c : Connection) (next : Next) → AsksAtTheEnd c.session.phase next → step_of c.user c.session.heard next ≡ logout_of c
@@ -93,7 +81,7 @@ refused_as_at_the_end gate c e reply moment k m r not =
 never_refused_when_on : (gate : GateData) (c : Connection) → IsOnLine gate c → is_on c.session.phase ≡ true → is_never_refused gate (logout_of c) ≡ true
 never_refused_when_on gate c line on =
     ap (is_never_refused gate) (logout_when_on c on)
-    ∙ ap (has_kept_places requests.Logout) (logout_is_granted gate.policy gate.records c.user c.session.heard (line on))
+    ∙ ap (has_kept_places Request.Logout) (logout_is_granted gate.policy gate.records c.user c.session.heard (line on))
 
 pub run_may_leave : (gate : GateData) (first : ℕ) (bytes : List ℕ) → (run_of gate first bytes).connection.session.phase ≡ On
     → is_never_refused (run_of gate first bytes).gate (logout_of (run_of gate first bytes).connection) ≡ true
@@ -128,7 +116,7 @@ on_there now state c gate same out line on = by (is_on c.session.phase) refl
     by : (b : Bool) → is_on c.session.phase ≡ b → is_never_refused now (logout_of state) ≡ true
     by true there = ap (λ g. is_never_refused g (logout_of state)) same ∙ ap (is_never_refused gate) out ∙ never_refused_when_on gate c line there
     by false off =
-        let clash : Some (asked_by state.user requests.Logout state.session.heard) ≡ None = sym (logout_when_on state on) ∙ out ∙ no_logout c off in
+        let clash : Some (asked_by state.user Request.Logout state.session.heard) ≡ None = sym (logout_when_on state on) ∙ out ∙ no_logout c off in
         cc
 
 -- the first packets bring nobody on who is not on line 1

@@ -2,10 +2,8 @@
 use Rattle.std.proofs.Common.{◌≡◌, ℕ, Bool, true, false, cond, [], ◌∷◌, length, refl, sym, ap, ◌∙◌, append_assoc, append-nil}
 use Rattle.gx_soup.specs.declared.packet.ClientPacket.{ClientPacket}
 use Rattle.gx_devices.proofs.Stopping.{Rises, first_same, last_of}
-use Rattle.gx_session.specs.Events.{is_on, is_over}
-use Rattle.gx_pipe.specs.Piping.{mark, row_of, matched_of, reported_of, told_of, pull_marks, packet_marks}
-use Rattle.gx_session.specs.Sending.{reports_text}
-use Rattle.gx_pipe.specs.Transcript.{Run, run_at, silent, and_then, ticked, answered, matched, unsent, sent, pulled, handled, on_packet}
+use Rattle.gx_session.specs.{Events.{is_on, is_over}, Sending.reports_text}
+use Rattle.gx_pipe.specs.{Piping.{mark, row_of, matched_of, reported_of, told_of, pull_marks, packet_marks}, Transcript.{Run, run_at, silent, and_then, ticked, answered, matched, unsent, sent, pulled, handled, on_packet}}
 use Rattle.gx_pipe.proofs.Growing.{event_on, row_on, match_on}
 
 abbrev there : Run → Run

@@ -1,34 +1,15 @@
 -- Once a packet is taken and the session goes on, no order waits.
 use Rattle.std.proofs.Common.{◌≡◌, ℕ, ◌<◌, Bool, true, false, cond, List, [], ◌∷◌, ◌++◌, length, Option, None, Some, refl, ap, ◌∙◌, arith}
-use Rattle.std.specs.Prelude.{fold, IsFalse}
-use Rattle.std.specs.Option.{option_map_or}
+use Rattle.std.specs.{Prelude.{fold, IsFalse}, Option.option_map_or}
 use Rattle.gx_units.specs.declared.names.UserName.{UserName}
-use Rattle.gx_soup.specs.declared.packet.LoginRequest.{LoginRequest}
-use Rattle.gx_soup.specs.declared.packet.ClientPacket.{ClientPacket}
-use Rattle.gx_soup.specs.Packets.{packets_of}
-use Rattle.gx_history.specs.declared.record.Asked.{Asked}
-use Rattle.gx_history.specs.declared.record.RecordData.{RecordData}
-use Rattle.gx_history.specs.declared.record.Step.TheVariants as steps
-use Rattle.gx_history.specs.InForce.{is_closed}
-use Rattle.gx_history.specs.Settling.{most_matches, settled}
-use Rattle.gx_history.specs.Verdicts.{next, IsLegal}
+use Rattle.gx_soup.specs.{declared.packet.{LoginRequest.LoginRequest, ClientPacket.ClientPacket}, Packets.packets_of}
+use Rattle.gx_history.specs.{declared.record.{Asked.Asked, RecordData.RecordData, Step.Step}, InForce.is_closed, Settling.{most_matches, settled}, Verdicts.{next, IsLegal}}
 use Rattle.gx_history_laws.proofs.Runs.{step_left}
-use Rattle.gx_effects.proofs.Orderly.{IsOrderly, legal_is_orderly, orderly_next}
-use Rattle.gx_effects.proofs.Settling.{match_is_orderly, settled_keeps, settled_ends}
-use Rattle.gx_answers.specs.Gates.{GateData}
-use Rattle.gx_answers.specs.Matches.{matching_of, settled_gate}
-use Rattle.gx_pipe.specs.declared.connection.Connection.{Connection}
-use Rattle.gx_session.specs.declared.event.Next.{Next}
-use Rattle.gx_session.specs.declared.event.Next.TheVariants as nexts
-use Rattle.gx_session.specs.declared.session.Phase.{Phase}
-use Rattle.gx_session.specs.declared.session.Phase.TheVariants.{Fresh, Waiting, On, Abandoned, Done}
-use Rattle.gx_session.specs.Events.{is_on, is_over, login_in}
-use Rattle.gx_session.specs.Happenings.{Happening}
+use Rattle.gx_effects.proofs.{Orderly.{IsOrderly, legal_is_orderly, orderly_next}, Settling.{match_is_orderly, settled_keeps, settled_ends}}
+use Rattle.gx_answers.specs.{Gates.GateData, Matches.{matching_of, settled_gate}, Asking.stepped}
+use Rattle.gx_pipe.specs.{declared.connection.Connection.Connection, Steps.login_asked_at, Transcript.{Run, opened_at, silent, and_then, acted, on_event, logged_in, with_login, answered, matched, unsent, sent, pulled, ticked, handled, on_packet, run_of}}
+use Rattle.gx_session.specs.{declared.{event.Next.Next, session.Phase.{Phase, TheVariants.{Fresh, Waiting, On, Abandoned, Done}}}, Events.{is_on, is_over, login_in}, Happenings.Happening, Table.turn}
 use Rattle.gx_session.specs.Happenings as happens
-use Rattle.gx_answers.specs.Asking.{stepped}
-use Rattle.gx_pipe.specs.Steps.{login_asked_at}
-use Rattle.gx_session.specs.Table.{turn}
-use Rattle.gx_pipe.specs.Transcript.{Run, opened_at, silent, and_then, acted, on_event, logged_in, with_login, answered, matched, unsent, sent, pulled, ticked, handled, on_packet, run_of}
 
 -- Each step keeps the records orderly.
 
@@ -36,13 +17,13 @@ abbrev HasOrder : GateData → Type 0
 HasOrder gate = IsOrderly gate.policy gate.records
 
 stepped_has_order : (gate : GateData) (a : Asked) → HasOrder gate → HasOrder (stepped gate a)
-stepped_has_order gate a orderly = at (next gate.policy gate.records (steps.Asked a)) refl
+stepped_has_order gate a orderly = at (next gate.policy gate.records (Step.Asked a)) refl
   where
-    at : (found : Option RecordData) → next gate.policy gate.records (steps.Asked a) ≡ found
+    at : (found : Option RecordData) → next gate.policy gate.records (Step.Asked a) ≡ found
         → IsOrderly gate.policy (option_map_or (λ (r : RecordData). gate.records ++ r ∷ []) found gate.records)
     at None e = orderly
     at (Some r) e =
-        orderly_next gate.policy gate.records r orderly (ap (next gate.policy gate.records) (step_left gate.policy gate.records (steps.Asked a) r e) ∙ e)
+        orderly_next gate.policy gate.records r orderly (ap (next gate.policy gate.records) (step_left gate.policy gate.records (Step.Asked a) r e) ∙ e)
 
 settled_has_order : (gate : GateData) (moment : ℕ) → HasOrder gate → HasOrder (settled_gate gate moment)
 unfolding settled
@@ -50,11 +31,11 @@ settled_has_order gate moment orderly =
     settled_keeps gate.policy moment (λ (h : List RecordData). IsOrderly gate.policy h) (λ h r o e. match_is_orderly gate.policy h moment r o e) (most_matches gate.policy gate.records) gate.records orderly
 
 acted_has_order : (gate : GateData) (user : UserName) (moment : ℕ) (next : Next) → HasOrder gate → HasOrder (acted gate user moment next)
-acted_has_order gate user moment nexts.Idle orderly = orderly
-acted_has_order gate user moment nexts.Login orderly = orderly
-acted_has_order gate user moment (nexts.Act request) orderly = stepped_has_order gate _ orderly
-acted_has_order gate user moment nexts.Logout orderly = stepped_has_order gate _ orderly
-acted_has_order gate user moment nexts.Close orderly = orderly
+acted_has_order gate user moment Next.Idle orderly = orderly
+acted_has_order gate user moment Next.Login orderly = orderly
+acted_has_order gate user moment (Next.Act request) orderly = stepped_has_order gate _ orderly
+acted_has_order gate user moment Next.Logout orderly = stepped_has_order gate _ orderly
+acted_has_order gate user moment Next.Close orderly = orderly
 
 event_has_order : (gate : GateData) (c : Connection) (e : Happening) (moment : ℕ) → HasOrder gate → HasOrder (on_event gate c e moment).gate
 unfolding on_event

@@ -1,57 +1,23 @@
 -- A user who is on is logged in on line 1 of the gate, wherever a run stops; so no gate denies his Logout.
 use Rattle.std.proofs.Common.{◌≡◌, ℕ, max, Bool, true, false, cond, List, [], ◌∷◌, ◌++◌, Option, Some, None, refl, sym, ap, ◌∙◌, append_assoc, append-nil}
-use Rattle.std.specs.Prelude.{fold, option_map, option_and_then, unwrap_or}
-use Rattle.std.specs.List.{AllByRecursion}
-use Rattle.std.specs.Option.{option_map_or, option_or}
-use Rattle.gx_units.specs.Spelling.{folded_user}
-use Rattle.gx_units.specs.declared.names.SessionName.{SessionName}
-use Rattle.gx_units.specs.declared.names.UserName.{UserName}
-use Rattle.gx_desk.specs.declared.Command.{Command}
-use Rattle.gx_desk.specs.Reading.{command_of}
-use Rattle.gx_ouch.specs.declared.inbound.Inbound.{Inbound}
-use Rattle.gx_ouch.specs.declared.inbound.Inbound.TheVariants as inbounds
-use Rattle.gx_ouch.specs.Reading.{inbound_of}
-use Rattle.gx_soup.specs.declared.packet.LoginRequest.{LoginRequest}
-use Rattle.gx_soup.specs.declared.packet.ClientPacket.{ClientPacket}
-use Rattle.gx_soup.specs.declared.packet.ClientPacket.TheVariants as client
-use Rattle.gx_soup.specs.Packets.{packets_of}
-use Rattle.gx_policy.specs.declared.policy.PolicyData.{PolicyData}
-use Rattle.gx_history.specs.declared.record.Asked.{Asked}
-use Rattle.gx_history.specs.declared.record.RecordData.{RecordData}
-use Rattle.gx_history.specs.declared.record.Request.TheVariants as requests
-use Rattle.gx_history.specs.declared.record.Step.{Step}
-use Rattle.gx_history.specs.declared.record.Step.TheVariants as steps
-use Rattle.gx_history.specs.declared.record.Verdict.{Verdict}
-use Rattle.gx_history.specs.declared.record.Verdict.TheVariants as verdicts
-use Rattle.gx_history.specs.InForce.{is_closed, line_by, line_of, login_or_logout_of}
-use Rattle.gx_history.specs.Payloads.{asked_by as meant_by, request_of, unreadable}
-use Rattle.gx_history.specs.Requests.{asked, is_granted}
-use Rattle.gx_policy.specs.Lists.{where_true}
-use Rattle.gx_history.specs.Verdicts.{verdict}
-use Rattle.gx_history_laws.proofs.Logouts.{logouts_are_granted}
-use Rattle.gx_history_laws.proofs.NextInForce.{line_of_next}
-use Rattle.gx_history_laws.proofs.Adding.{granted_is, user_is_itself}
+use Rattle.std.specs.{Prelude.{fold, option_map, option_and_then, unwrap_or}, List.AllByRecursion, Option.{option_map_or, option_or}}
+use Rattle.gx_units.specs.{Spelling.folded_user, declared.names.{SessionName.SessionName, UserName.UserName}}
+use Rattle.gx_desk.specs.{declared.Command.Command, Reading.command_of}
+use Rattle.gx_ouch.specs.{declared.inbound.Inbound.Inbound, Reading.inbound_of}
+use Rattle.gx_soup.specs.{declared.packet.{LoginRequest.LoginRequest, ClientPacket.ClientPacket}, Packets.packets_of}
+use Rattle.gx_policy.specs.{declared.policy.PolicyData.PolicyData, Lists.where_true}
+use Rattle.gx_history.specs.{declared.record.{Asked.Asked, RecordData.RecordData, Request.Request, Step.Step, Verdict.Verdict}, InForce.{is_closed, line_by, line_of, login_or_logout_of}, Payloads.{asked_by as meant_by, request_of, unreadable}, Requests.{asked, is_granted}, Verdicts.verdict}
+use Rattle.gx_history_laws.proofs.{Logouts.logouts_are_granted, NextInForce.line_of_next, Adding.{granted_is, user_is_itself}}
 use Rattle.gx_effects.proofs.Settling.{settled_adds}
-use Rattle.gx_answers.specs.Gates.{GateData}
-use Rattle.gx_answers.specs.Asking.{asked_by, stepped}
-use Rattle.gx_answers.specs.Logins.{login_answered}
-use Rattle.gx_answers.specs.Matches.{settled_gate, IsSettling}
-use Rattle.gx_answers.specs.declared.outcome.LoginAnswer.{LoginAnswer}
-use Rattle.gx_answers.specs.declared.outcome.LoginAnswer.TheVariants as answers
-use Rattle.gx_pipe.specs.declared.connection.Connection.{Connection}
-use Rattle.gx_session.specs.declared.session.Phase.{Phase}
-use Rattle.gx_session.specs.declared.session.Phase.TheVariants.{Fresh, Waiting, On, Abandoned, Done}
-use Rattle.gx_session.specs.Events.{is_over}
+use Rattle.gx_answers.specs.{Gates.GateData, Asking.{asked_by, stepped}, Logins.login_answered, Matches.{settled_gate, IsSettling}, declared.outcome.LoginAnswer.LoginAnswer}
+use Rattle.gx_pipe.specs.{declared.connection.Connection.Connection, Serving.IsOnLine, Steps.{login_asked_at, login_told}, Transcript.{Run, silent, and_then, on_event, first_told, logged_in, answered, matched, sent, pulled, ticked, handled, on_packet, opened, run_of}}
+use Rattle.gx_session.specs.{declared.session.Phase.{Phase, TheVariants.{Fresh, Waiting, On, Abandoned, Done}}, Events.is_over, Table.turn}
 use Rattle.gx_session.specs.Happenings as happens
-use Rattle.gx_pipe.specs.Serving.{IsOnLine}
-use Rattle.gx_pipe.specs.Steps.{login_asked_at, login_told}
-use Rattle.gx_session.specs.Table.{turn}
-use Rattle.gx_pipe.specs.Transcript.{Run, silent, and_then, on_event, first_told, logged_in, answered, matched, sent, pulled, ticked, handled, on_packet, opened, run_of}
 use Rattle.gx_pipe.proofs.Serving.{left_of, left_is, rejects, never}
 
 -- No rule forbids the Logout of a user who is on this line.
 pub logout_is_granted : (policy : PolicyData) (history : List RecordData) (user : UserName) (moment : ℕ) → line_of history (folded_user user) ≡ Some 1
-    → verdict policy history (asked_by user requests.Logout moment) ≡ verdicts.Granted
+    → verdict policy history (asked_by user Request.Logout moment) ≡ Verdict.Granted
 logout_is_granted policy history user moment on = logouts_are_granted policy history 1 (folded_user user) moment on
 
 -- What changes no line.
@@ -72,10 +38,10 @@ none_put user false = refl
 
 -- a payload is no Login and no Logout
 means_no_line : (user : UserName) (a : Asked) (payload : List ℕ) (found : Option Inbound) (command : Option Command)
-    → line_by user a (unwrap_or (option_or (option_map meant_by found) (option_map requests.Command command)) (unreadable payload)) ≡ None
-means_no_line user a payload (Some (inbounds.Enter m)) command = refl
-means_no_line user a payload (Some (inbounds.Replace m)) command = refl
-means_no_line user a payload (Some (inbounds.Cancel m)) command = refl
+    → line_by user a (unwrap_or (option_or (option_map meant_by found) (option_map Request.Command command)) (unreadable payload)) ≡ None
+means_no_line user a payload (Some (Inbound.Enter m)) command = refl
+means_no_line user a payload (Some (Inbound.Replace m)) command = refl
+means_no_line user a payload (Some (Inbound.Cancel m)) command = refl
 means_no_line user a payload None (Some c) = refl
 means_no_line user a payload None None = refl
 
@@ -95,11 +61,11 @@ payload_keeps gate user asker payload moment =
     ∙ stays gate.records (left_of gate a) user
     (puts_nowhere user a (is_granted (verdict gate.policy gate.records a)) (payload_puts_nowhere user a payload))
 
-match_puts_nowhere : (user : UserName) (moment : ℕ) (r : RecordData) → r.step ≡ steps.Matching moment → login_or_logout_of user r ≡ None
+match_puts_nowhere : (user : UserName) (moment : ℕ) (r : RecordData) → r.step ≡ Step.Matching moment → login_or_logout_of user r ≡ None
 match_puts_nowhere user moment r e =
     ap (λ (s : Step). put_by user (cond (is_granted r.verdict) (asked s) None)) e ∙ none_put user (is_granted r.verdict)
 
-matches_keep : (user : UserName) (moment : ℕ) (more : List RecordData) (history : List RecordData) → AllByRecursion (λ (r : RecordData). r.step ≡ steps.Matching moment) more
+matches_keep : (user : UserName) (moment : ℕ) (more : List RecordData) (history : List RecordData) → AllByRecursion (λ (r : RecordData). r.step ≡ Step.Matching moment) more
     → line_of (history ++ more) user ≡ line_of history user
 matches_keep user moment [] history h = ap (λ (rs : List RecordData). line_of rs user) (append-nil history)
 matches_keep user moment (r ∷ more) history h =
@@ -119,7 +85,7 @@ settling_keeps gate now c moment s on = λ h.
 
 -- A login that is accepted.
 
-granted_login : (gate : GateData) (moment : ℕ) (login : LoginRequest) → verdict gate.policy gate.records (login_asked_at gate moment login) ≡ verdicts.Granted
+granted_login : (gate : GateData) (moment : ℕ) (login : LoginRequest) → verdict gate.policy gate.records (login_asked_at gate moment login) ≡ Verdict.Granted
     → line_of (stepped gate (login_asked_at gate moment login)).records (folded_user login.user) ≡ Some 1
 unfolding left_of
 granted_login gate moment login granted =
@@ -131,17 +97,17 @@ granted_login gate moment login granted =
 
 accepted_by : (gate : GateData) (moment : ℕ) (login : LoginRequest) (name : SessionName) (from : ℕ) (v : Verdict)
     → verdict gate.policy gate.records (login_asked_at gate moment login) ≡ v
-    → login_answered gate.policy (stepped gate (login_asked_at gate moment login)).records (folded_user login.user) login.wanted v ≡ answers.Accepted name from
+    → login_answered gate.policy (stepped gate (login_asked_at gate moment login)).records (folded_user login.user) login.wanted v ≡ LoginAnswer.Accepted name from
     → line_of (stepped gate (login_asked_at gate moment login)).records (folded_user login.user) ≡ Some 1
-accepted_by gate moment login name from verdicts.Granted granted e = granted_login gate moment login granted
-accepted_by gate moment login name from (verdicts.Denied rule) denied e =
+accepted_by gate moment login name from Verdict.Granted granted e = granted_login gate moment login granted
+accepted_by gate moment login name from (Verdict.Denied rule) denied e =
     let r = rejects gate.policy (stepped gate (login_asked_at gate moment login)).records (folded_user login.user) login.wanted rule in
     never _ r.0 name from r.1 e
-accepted_by gate moment login name from (verdicts.Filled f) other e = cc
-accepted_by gate moment login name from (verdicts.Rested o) other e = cc
-accepted_by gate moment login name from (verdicts.Expired o) other e = cc
+accepted_by gate moment login name from (Verdict.Filled f) other e = cc
+accepted_by gate moment login name from (Verdict.Rested o) other e = cc
+accepted_by gate moment login name from (Verdict.Expired o) other e = cc
 
-accepted_line : (gate : GateData) (moment : ℕ) (login : LoginRequest) (name : SessionName) (from : ℕ) → login_told gate moment login ≡ answers.Accepted name from
+accepted_line : (gate : GateData) (moment : ℕ) (login : LoginRequest) (name : SessionName) (from : ℕ) → login_told gate moment login ≡ LoginAnswer.Accepted name from
     → line_of (stepped gate (login_asked_at gate moment login)).records (folded_user login.user) ≡ Some 1
 unfolding login_told
 accepted_line gate moment login name from e = accepted_by gate moment login name from _ refl e
@@ -154,38 +120,38 @@ RunIsOnLine run = IsOnLine run.gate run.connection
 login_keeps : (gate : GateData) (heard spoke : ℕ) (login : LoginRequest) (coming moment : ℕ) (answer : LoginAnswer) → login_told gate moment login ≡ answer
     → RunIsOnLine (on_event (stepped gate (login_asked_at gate moment login)) (record { session = record { phase = Waiting; heard = heard; sent = spoke }; user = login.user; next = first_told answer; coming = coming }) (happens.Answered answer) moment)
 unfolding on_event turn
-login_keeps gate heard spoke login coming moment (answers.Accepted name from) e = λ h. accepted_line gate moment login name from e
-login_keeps gate heard spoke login coming moment (answers.Rejected reason) e = λ h. cc
+login_keeps gate heard spoke login coming moment (LoginAnswer.Accepted name from) e = λ h. accepted_line gate moment login name from e
+login_keeps gate heard spoke login coming moment (LoginAnswer.Rejected reason) e = λ h. cc
 
 row_keeps_by : (gate : GateData) (phase : Phase) (heard spoke : ℕ) (user : UserName) (number coming moment : ℕ) (packet : ClientPacket)
     → let c : Connection = record { session = record { phase = phase; heard = heard; sent = spoke }; user = user; next = number; coming = coming } in
     IsOnLine gate c → RunIsOnLine (answered gate c packet moment)
 unfolding answered on_event turn logged_in
-row_keeps_by gate Fresh heard spoke user number coming moment (client.Login login) on = login_keeps gate (max heard moment) spoke login coming moment _ refl
-row_keeps_by gate Fresh heard spoke user number coming moment (client.Data payload) on = λ h. cc
-row_keeps_by gate Fresh heard spoke user number coming moment client.Logout on = λ h. cc
-row_keeps_by gate Fresh heard spoke user number coming moment client.Heartbeat on = λ h. cc
-row_keeps_by gate Fresh heard spoke user number coming moment client.Debug on = λ h. cc
-row_keeps_by gate Waiting heard spoke user number coming moment (client.Login login) on = λ h. cc
-row_keeps_by gate Waiting heard spoke user number coming moment (client.Data payload) on = λ h. cc
-row_keeps_by gate Waiting heard spoke user number coming moment client.Logout on = λ h. cc
-row_keeps_by gate Waiting heard spoke user number coming moment client.Heartbeat on = λ h. cc
-row_keeps_by gate Waiting heard spoke user number coming moment client.Debug on = λ h. cc
-row_keeps_by gate On heard spoke user number coming moment (client.Login login) on = λ h. cc
-row_keeps_by gate On heard spoke user number coming moment (client.Data payload) on = λ h. payload_keeps gate (folded_user user) user payload moment ∙ on refl
-row_keeps_by gate On heard spoke user number coming moment client.Logout on = λ h. cc
-row_keeps_by gate On heard spoke user number coming moment client.Heartbeat on = on
-row_keeps_by gate On heard spoke user number coming moment client.Debug on = on
-row_keeps_by gate Abandoned heard spoke user number coming moment (client.Login login) on = λ h. cc
-row_keeps_by gate Abandoned heard spoke user number coming moment (client.Data payload) on = λ h. cc
-row_keeps_by gate Abandoned heard spoke user number coming moment client.Logout on = λ h. cc
-row_keeps_by gate Abandoned heard spoke user number coming moment client.Heartbeat on = λ h. cc
-row_keeps_by gate Abandoned heard spoke user number coming moment client.Debug on = λ h. cc
-row_keeps_by gate Done heard spoke user number coming moment (client.Login login) on = λ h. cc
-row_keeps_by gate Done heard spoke user number coming moment (client.Data payload) on = λ h. cc
-row_keeps_by gate Done heard spoke user number coming moment client.Logout on = λ h. cc
-row_keeps_by gate Done heard spoke user number coming moment client.Heartbeat on = λ h. cc
-row_keeps_by gate Done heard spoke user number coming moment client.Debug on = λ h. cc
+row_keeps_by gate Fresh heard spoke user number coming moment (ClientPacket.Login login) on = login_keeps gate (max heard moment) spoke login coming moment _ refl
+row_keeps_by gate Fresh heard spoke user number coming moment (ClientPacket.Data payload) on = λ h. cc
+row_keeps_by gate Fresh heard spoke user number coming moment ClientPacket.Logout on = λ h. cc
+row_keeps_by gate Fresh heard spoke user number coming moment ClientPacket.Heartbeat on = λ h. cc
+row_keeps_by gate Fresh heard spoke user number coming moment ClientPacket.Debug on = λ h. cc
+row_keeps_by gate Waiting heard spoke user number coming moment (ClientPacket.Login login) on = λ h. cc
+row_keeps_by gate Waiting heard spoke user number coming moment (ClientPacket.Data payload) on = λ h. cc
+row_keeps_by gate Waiting heard spoke user number coming moment ClientPacket.Logout on = λ h. cc
+row_keeps_by gate Waiting heard spoke user number coming moment ClientPacket.Heartbeat on = λ h. cc
+row_keeps_by gate Waiting heard spoke user number coming moment ClientPacket.Debug on = λ h. cc
+row_keeps_by gate On heard spoke user number coming moment (ClientPacket.Login login) on = λ h. cc
+row_keeps_by gate On heard spoke user number coming moment (ClientPacket.Data payload) on = λ h. payload_keeps gate (folded_user user) user payload moment ∙ on refl
+row_keeps_by gate On heard spoke user number coming moment ClientPacket.Logout on = λ h. cc
+row_keeps_by gate On heard spoke user number coming moment ClientPacket.Heartbeat on = on
+row_keeps_by gate On heard spoke user number coming moment ClientPacket.Debug on = on
+row_keeps_by gate Abandoned heard spoke user number coming moment (ClientPacket.Login login) on = λ h. cc
+row_keeps_by gate Abandoned heard spoke user number coming moment (ClientPacket.Data payload) on = λ h. cc
+row_keeps_by gate Abandoned heard spoke user number coming moment ClientPacket.Logout on = λ h. cc
+row_keeps_by gate Abandoned heard spoke user number coming moment ClientPacket.Heartbeat on = λ h. cc
+row_keeps_by gate Abandoned heard spoke user number coming moment ClientPacket.Debug on = λ h. cc
+row_keeps_by gate Done heard spoke user number coming moment (ClientPacket.Login login) on = λ h. cc
+row_keeps_by gate Done heard spoke user number coming moment (ClientPacket.Data payload) on = λ h. cc
+row_keeps_by gate Done heard spoke user number coming moment ClientPacket.Logout on = λ h. cc
+row_keeps_by gate Done heard spoke user number coming moment ClientPacket.Heartbeat on = λ h. cc
+row_keeps_by gate Done heard spoke user number coming moment ClientPacket.Debug on = λ h. cc
 
 pub row_keeps : (gate : GateData) (c : Connection) (packet : ClientPacket) (moment : ℕ) → IsOnLine gate c → RunIsOnLine (answered gate (ticked c) packet moment)
 row_keeps gate c packet moment on = row_keeps_by gate c.session.phase c.session.heard c.session.sent c.user c.next (ticked c).coming moment packet on

@@ -1,24 +1,12 @@
 -- Laws of runs: text that stands before, a piece more, and the end.
-use Rattle.std.proofs.Common.{◌≡◌, ℕ, Bool, true, false, ◌||◌, ◌⊎◌, inl, inr, is_some, List, [], ◌∷◌, ◌++◌, refl, sym, ap, ◌∙◌, subst, append_assoc, append-nil, take, Option, None, Some, IfSome, cond}
-use Rattle.std.specs.Prelude.{fold}
-use Rattle.std.specs.Io.KnownBytes.{Appends, Consumes, IsAtEnd}
-use Rattle.std.proofs.KnownBytes.{Appends-nil, Appends-trans, Consumes-nil, Consumes-trans}
-use Rattle.std.proofs.lemmas.List.Sums.{fold-append}
-use Rattle.gx_soup.specs.declared.packet.ClientPacket.{ClientPacket}
-use Rattle.gx_soup.specs.declared.packet.SoupFault.{SoupFault}
-use Rattle.gx_soup.specs.Packets.{packets_of}
+use Rattle.std.proofs.{Common.{◌≡◌, ℕ, Bool, true, false, ◌||◌, ◌⊎◌, inl, inr, is_some, List, [], ◌∷◌, ◌++◌, refl, sym, ap, ◌∙◌, subst, append_assoc, append-nil, take, Option, None, Some, IfSome, cond}, KnownBytes.{Appends-nil, Appends-trans, Consumes-nil, Consumes-trans}, lemmas.List.Sums.fold-append}
+use Rattle.std.specs.{Prelude.fold, Io.KnownBytes.{Appends, Consumes, IsAtEnd}}
+use Rattle.gx_soup.specs.{declared.packet.{ClientPacket.ClientPacket, SoupFault.SoupFault}, Packets.packets_of, Feeding.{Held, HasRead, Gives}}
 use Rattle.gx_soup.proofs.PacketLaws.{nothing_after_fault, packets_grow}
-use Rattle.gx_soup.specs.Feeding.{Held, HasRead, Gives}
 use Rattle.gx_answers.specs.Gates.{GateData}
-use Rattle.gx_pipe.specs.declared.connection.Connection.{Connection}
-use Rattle.gx_session.specs.Events.{is_over}
+use Rattle.gx_pipe.specs.{declared.connection.Connection.Connection, Transcript.{Run, and_then, on_event, answered, matched, pulled, ticked, with_text, silent, handled, on_packet, opened, opened_at, run_of, finished, pipe, is_ended}, Piping.{IsTaken, Follows, Exchanged, IsTranscript, IsPipe}}
+use Rattle.gx_session.specs.{Events.is_over, Table.{SessionData, row_in, turn}, declared.session.Phase.{Phase, TheVariants.{Fresh, Waiting, On, Abandoned, Done}}, Sending.control_text}
 use Rattle.gx_session.specs.Happenings as happens
-use Rattle.gx_session.specs.Table.{SessionData, row_in, turn}
-use Rattle.gx_session.specs.declared.session.Phase.{Phase}
-use Rattle.gx_session.specs.declared.session.Phase.TheVariants.{Fresh, Waiting, On, Abandoned, Done}
-use Rattle.gx_session.specs.Sending.{control_text}
-use Rattle.gx_pipe.specs.Transcript.{Run, and_then, on_event, answered, matched, pulled, ticked, with_text, silent, handled, on_packet, opened, opened_at, run_of, finished, pipe, is_ended}
-use Rattle.gx_pipe.specs.Piping.{IsTaken, Follows, Exchanged, IsTranscript, IsPipe}
 
 -- text that stands before stays before
 fold_behind : (ps : List ClientPacket) (before : List ℕ) (run : Run) → fold on_packet (with_text before run) ps ≡ with_text before (fold on_packet run ps)

@@ -1,57 +1,16 @@
 -- What a connection was sent: the session table keeps it from packet to packet.
-use Rattle.std.proofs.Common.{◌≡◌, ℕ, ◌+◌, ◌-◌, ◌≤◌, max, Bool, true, false, cond, not, ◌&&◌, ◌==◌, nat_le, List, [], ◌∷◌, ◌++◌, length, drop, Option, None, Some, refl, sym, ap, ◌∙◌, subst, append-nil, append_assoc, arith, length-append, length-drop}
-use Rattle.std.specs.Prelude.{fold}
-use Rattle.std.specs.List.{flat_map, AllByRecursion}
-use Rattle.std.specs.Option.{option_map_or}
-use Rattle.std.proofs.lemmas.Bool.Decides.{nat_tests}
-use Rattle.std.proofs.lemmas.List.{drop-append-le, drop_at}
-use Rattle.gx_units.specs.Spelling.{folded_user}
-use Rattle.gx_units.specs.declared.names.LoginRejection.{LoginRejection}
-use Rattle.gx_units.specs.declared.names.LoginRejection.TheVariants as rejections
-use Rattle.gx_units.specs.declared.names.SessionName.{SessionName}
-use Rattle.gx_units.specs.declared.names.UserName.{UserName}
-use Rattle.gx_soup.specs.declared.packet.LoginRequest.{LoginRequest}
-use Rattle.gx_soup.specs.declared.packet.ClientPacket.{ClientPacket}
-use Rattle.gx_soup.specs.declared.packet.ClientPacket.TheVariants as client
-use Rattle.gx_soup.specs.declared.packet.ServerPacket.TheVariants as server
-use Rattle.gx_soup.specs.Writing.{server_bytes}
-use Rattle.gx_soup.specs.Packets.{packets_of}
-use Rattle.gx_policy.specs.declared.policy.PolicyData.{PolicyData}
-use Rattle.gx_history.specs.declared.record.Asked.{Asked}
-use Rattle.gx_history.specs.declared.record.RecordData.{RecordData}
-use Rattle.gx_policy.specs.declared.rule_name.RuleName.{RuleName}
-use Rattle.gx_policy.specs.declared.rule_name.RuleName.TheVariants.{L1, L2, L3, G1, G2, G3, I1, I2, I3, P1, P2, P3, P4, P5, P6, P7, P8, P9, P10, P11, P12, Q1, Q2, Q3, Q4, File}
-use Rattle.gx_history.specs.declared.record.Step.TheVariants as steps
-use Rattle.gx_history.specs.declared.record.Verdict.{Verdict}
-use Rattle.gx_history.specs.declared.record.Verdict.TheVariants as verdicts
-use Rattle.gx_history.specs.declared.report.Report.{Report}
-use Rattle.gx_history.specs.Asking.{facts}
-use Rattle.gx_history.specs.Logins.{first_wanted}
-use Rattle.gx_history.specs.Payloads.{request_of}
-use Rattle.gx_history.specs.Requests.{asked}
-use Rattle.gx_history.specs.Rules.{forbids}
-use Rattle.gx_history.specs.Streams.{stream, reports_of}
-use Rattle.gx_history.specs.Verdicts.{next, verdict, facts_now, moment_of}
-use Rattle.gx_history_laws.proofs.Granting.{left_by_request, is_no_bar}
-use Rattle.gx_history_laws.proofs.NextReports.{stream_next}
-use Rattle.gx_history_laws.proofs.Owners.{all_both}
+use Rattle.std.proofs.{Common.{◌≡◌, ℕ, ◌+◌, ◌-◌, ◌≤◌, max, Bool, true, false, cond, not, ◌&&◌, ◌==◌, nat_le, List, [], ◌∷◌, ◌++◌, length, drop, Option, None, Some, refl, sym, ap, ◌∙◌, subst, append-nil, append_assoc, arith, length-append, length-drop}, lemmas.{Bool.Decides.nat_tests, List.{drop-append-le, drop_at}}}
+use Rattle.std.specs.{Prelude.fold, List.{flat_map, AllByRecursion}, Option.option_map_or}
+use Rattle.gx_units.specs.{Spelling.folded_user, declared.names.{LoginRejection.LoginRejection, SessionName.SessionName, UserName.UserName}}
+use Rattle.gx_soup.specs.{declared.packet.{LoginRequest.LoginRequest, ClientPacket.ClientPacket, ServerPacket.ServerPacket}, Writing.server_bytes, Packets.packets_of}
+use Rattle.gx_policy.specs.declared.{policy.PolicyData.PolicyData, rule_name.RuleName.{RuleName, TheVariants.{L1, L2, L3, G1, G2, G3, I1, I2, I3, P1, P2, P3, P4, P5, P6, P7, P8, P9, P10, P11, P12, Q1, Q2, Q3, Q4, File}}}
+use Rattle.gx_history.specs.{declared.{«record».{Asked.Asked, RecordData.RecordData, Step.Step, Verdict.Verdict}, report.Report.Report}, Asking.facts, Logins.first_wanted, Payloads.request_of, Requests.asked, Rules.forbids, Streams.{stream, reports_of}, Verdicts.{next, verdict, facts_now, moment_of}, InForce.is_closed}
+use Rattle.gx_history_laws.proofs.{Granting.{left_by_request, is_no_bar}, NextReports.stream_next, Owners.all_both}
 use Rattle.gx_effects.proofs.Settling.{settled_adds}
-use Rattle.gx_answers.specs.Gates.{GateData}
-use Rattle.gx_answers.specs.Matches.{settled_gate}
-use Rattle.gx_answers.specs.Logins.{login_answered}
-use Rattle.gx_answers.specs.declared.outcome.LoginAnswer.{LoginAnswer}
-use Rattle.gx_answers.specs.declared.outcome.LoginAnswer.TheVariants as answers
-use Rattle.gx_history.specs.InForce.{is_closed}
-use Rattle.gx_pipe.specs.declared.connection.Connection.{Connection}
-use Rattle.gx_session.specs.declared.session.Phase.{Phase}
-use Rattle.gx_session.specs.declared.session.Phase.TheVariants.{Fresh, Waiting, On, Abandoned, Done}
+use Rattle.gx_answers.specs.{Gates.GateData, Matches.settled_gate, Logins.login_answered, declared.outcome.LoginAnswer.LoginAnswer, Asking.{asked_by, stepped}}
+use Rattle.gx_pipe.specs.{declared.connection.Connection.Connection, Serving.{owed, IsServed, HasOnlyMatched, Serves}, Steps.{login_asked_at, login_told}, Transcript.{Run, with_text, on_event, first_told, logged_in, answered, sent, matched, pulled, handled, on_packet, opened, run_of, later}}
+use Rattle.gx_session.specs.{declared.session.Phase.{Phase, TheVariants.{Fresh, Waiting, On, Abandoned, Done}}, Table.turn, Sending.{report_packet, reports_text}}
 use Rattle.gx_session.specs.Happenings as happens
-use Rattle.gx_pipe.specs.Serving.{owed, IsServed, HasOnlyMatched, Serves}
-use Rattle.gx_answers.specs.Asking.{asked_by, stepped}
-use Rattle.gx_pipe.specs.Steps.{login_asked_at, login_told}
-use Rattle.gx_session.specs.Table.{turn}
-use Rattle.gx_session.specs.Sending.{report_packet, reports_text}
-use Rattle.gx_pipe.specs.Transcript.{Run, with_text, on_event, first_told, logged_in, answered, sent, matched, pulled, handled, on_packet, opened, run_of, later}
 
 -- reports that come one after the other are spelled one after the other
 spelled_on : (xs ys : List Report) → flat_map report_packet (xs ++ ys) ≡ flat_map report_packet xs ++ flat_map report_packet ys
@@ -63,12 +22,12 @@ spelled_on (x ∷ xs) ys =
 unfoldable pub left_of : GateData → Asked → RecordData
 left_of gate a = record {
   number = length gate.records + 1;
-  moment = moment_of gate.records (steps.Asked a);
-  step = steps.Asked a;
+  moment = moment_of gate.records (Step.Asked a);
+  step = Step.Asked a;
   verdict = verdict gate.policy gate.records a;
 }
 
-pub left_is : (gate : GateData) (a : Asked) → next gate.policy gate.records (steps.Asked a) ≡ Some (left_of gate a)
+pub left_is : (gate : GateData) (a : Asked) → next gate.policy gate.records (Step.Asked a) ≡ Some (left_of gate a)
 unfolding left_of
 left_is gate a = left_by_request gate.policy gate.records a
 
@@ -106,7 +65,7 @@ step_settled_on gate a moment user =
     (one.0 ++ rest.0, rest.1 ∙ (ap (λ s. s ++ rest.0) one.1 ∙ append_assoc (owed gate user) one.0 rest.0))
 
 -- matching steps ask for nothing
-ask_nothing : (moment : ℕ) (rs : List RecordData) → AllByRecursion (λ (r : RecordData). r.step ≡ steps.Matching moment) rs → AllByRecursion (λ (r : RecordData). asked r.step ≡ None) rs
+ask_nothing : (moment : ℕ) (rs : List RecordData) → AllByRecursion (λ (r : RecordData). r.step ≡ Step.Matching moment) rs → AllByRecursion (λ (r : RecordData). asked r.step ≡ None) rs
 ask_nothing moment [] h = tt
 ask_nothing moment (r ∷ rs) h = (ap asked h.0, ask_nothing moment rs h.1)
 
@@ -127,7 +86,7 @@ served_more : (gate gate' : GateData) (text : List ℕ) (user : UserName) (next 
 served_more gate gate' text user next more h p e =
     let old = owed gate user in
     let now = owed gate' user in
-    let front = server_bytes (server.Accepted gate.policy.session h.from) in
+    let front = server_bytes (ServerPacket.Accepted gate.policy.session h.from) in
     let first : length old ≡ next - 1 = omega (arith, h.follows) in
     let reach : h.from - 1 ≤ length old = omega (arith, h.is_available) in
     let news : drop (next - 1) now ≡ more = ap (drop (next - 1)) e ∙ drop_at old more (next - 1) first in
@@ -141,7 +100,7 @@ served_more gate gate' text user next more h p e =
           ∙ (append_assoc front (flat_map report_packet (drop (h.from - 1) old)) (flat_map report_packet more)
           ∙ (ap (λ t. front ++ t) (sym (spelled_on (drop (h.from - 1) old) more))
           ∙ (ap (λ ms. front ++ flat_map report_packet ms) (sym kept)
-          ∙ ap (λ (q : PolicyData). server_bytes (server.Accepted q.session h.from) ++ flat_map report_packet (drop (h.from - 1) now)) (sym p)))));
+          ∙ ap (λ (q : PolicyData). server_bytes (ServerPacket.Accepted q.session h.from) ++ flat_map report_packet (drop (h.from - 1) now)) (sym p)))));
       counts_from_one = h.counts_from_one;
       is_available = omega (arith, longer, h.is_available);
       follows = omega (arith, longer, h.follows, ap length news);
@@ -150,12 +109,12 @@ served_more gate gate' text user next more h p e =
 -- the first reports, behind Login Accepted
 served_first : (gate : GateData) (text : List ℕ) (user : UserName) (name : SessionName) (from : ℕ) → text ≡ [] → name ≡ gate.policy.session → 1 ≤ from
     → from ≤ length (owed gate user) + 1
-    → IsServed gate (text ++ (server_bytes (server.Accepted name from) ++ flat_map report_packet (drop (from - 1) (owed gate user)))) user (max 1 from + length (drop (from - 1) (owed gate user)))
+    → IsServed gate (text ++ (server_bytes (ServerPacket.Accepted name from) ++ flat_map report_packet (drop (from - 1) (owed gate user)))) user (max 1 from + length (drop (from - 1) (owed gate user)))
 served_first gate text user name from none named one there = record {
   from = from;
   sent =
-      ap (λ t. t ++ (server_bytes (server.Accepted name from) ++ flat_map report_packet (drop (from - 1) (owed gate user)))) none
-      ∙ ap (λ n. server_bytes (server.Accepted n from) ++ flat_map report_packet (drop (from - 1) (owed gate user))) named;
+      ap (λ t. t ++ (server_bytes (ServerPacket.Accepted name from) ++ flat_map report_packet (drop (from - 1) (owed gate user)))) none
+      ∙ ap (λ n. server_bytes (ServerPacket.Accepted n from) ++ flat_map report_packet (drop (from - 1) (owed gate user))) named;
   counts_from_one = one;
   is_available = there;
   follows = omega (arith, length-drop (from - 1) (owed gate user));
@@ -169,12 +128,12 @@ second_true : (a b : Bool) → (a && b) ≡ true → b ≡ true
 second_true true b h = h
 second_true false b h = cc
 
-no_bar : (gate : GateData) (a : Asked) → verdict gate.policy gate.records a ≡ verdicts.Granted → forbids L3 (facts_now gate.policy gate.records a) a.request ≡ false
+no_bar : (gate : GateData) (a : Asked) → verdict gate.policy gate.records a ≡ Verdict.Granted → forbids L3 (facts_now gate.policy gate.records a) a.request ≡ false
 unfolding left_of
 no_bar gate a granted = is_no_bar gate.policy gate.records a (left_of gate a) (left_is gate a) granted L3
 
 -- a login that is granted asked for a report that is there, or for the next one
-number_is_there : (gate : GateData) (moment : ℕ) (login : LoginRequest) → verdict gate.policy gate.records (login_asked_at gate moment login) ≡ verdicts.Granted
+number_is_there : (gate : GateData) (moment : ℕ) (login : LoginRequest) → verdict gate.policy gate.records (login_asked_at gate moment login) ≡ Verdict.Granted
     → nat_le login.wanted (length (owed gate login.user) + 1) ≡ true
 unfolding facts
 number_is_there gate moment login granted =
@@ -190,35 +149,35 @@ first_within wanted old now false e w o = (grind (arith, nat_tests), omega arith
 
 -- an answer that accepts comes of a granted login alone
 pub rejects : (policy : PolicyData) (history : List RecordData) (user : UserName) (wanted : ℕ) (rule : RuleName)
-    → (reason : LoginRejection) × (login_answered policy history user wanted (verdicts.Denied rule) ≡ answers.Rejected reason)
-rejects policy history user wanted L1 = (rejections.NotAuthorized, refl)
-rejects policy history user wanted L2 = (rejections.NotAuthorized, refl)
-rejects policy history user wanted L3 = (rejections.SessionNotAvailable, refl)
-rejects policy history user wanted G1 = (rejections.NotAuthorized, refl)
-rejects policy history user wanted G2 = (rejections.NotAuthorized, refl)
-rejects policy history user wanted G3 = (rejections.NotAuthorized, refl)
-rejects policy history user wanted I1 = (rejections.NotAuthorized, refl)
-rejects policy history user wanted I2 = (rejections.NotAuthorized, refl)
-rejects policy history user wanted I3 = (rejections.NotAuthorized, refl)
-rejects policy history user wanted P1 = (rejections.NotAuthorized, refl)
-rejects policy history user wanted P2 = (rejections.NotAuthorized, refl)
-rejects policy history user wanted P3 = (rejections.NotAuthorized, refl)
-rejects policy history user wanted P4 = (rejections.NotAuthorized, refl)
-rejects policy history user wanted P5 = (rejections.NotAuthorized, refl)
-rejects policy history user wanted P6 = (rejections.NotAuthorized, refl)
-rejects policy history user wanted P7 = (rejections.NotAuthorized, refl)
-rejects policy history user wanted P8 = (rejections.NotAuthorized, refl)
-rejects policy history user wanted P9 = (rejections.NotAuthorized, refl)
-rejects policy history user wanted P10 = (rejections.NotAuthorized, refl)
-rejects policy history user wanted P11 = (rejections.NotAuthorized, refl)
-rejects policy history user wanted P12 = (rejections.NotAuthorized, refl)
-rejects policy history user wanted Q1 = (rejections.NotAuthorized, refl)
-rejects policy history user wanted Q2 = (rejections.NotAuthorized, refl)
-rejects policy history user wanted Q3 = (rejections.NotAuthorized, refl)
-rejects policy history user wanted Q4 = (rejections.NotAuthorized, refl)
-rejects policy history user wanted (File rule) = (rejections.NotAuthorized, refl)
+    → (reason : LoginRejection) × (login_answered policy history user wanted (Verdict.Denied rule) ≡ LoginAnswer.Rejected reason)
+rejects policy history user wanted L1 = (LoginRejection.NotAuthorized, refl)
+rejects policy history user wanted L2 = (LoginRejection.NotAuthorized, refl)
+rejects policy history user wanted L3 = (LoginRejection.SessionNotAvailable, refl)
+rejects policy history user wanted G1 = (LoginRejection.NotAuthorized, refl)
+rejects policy history user wanted G2 = (LoginRejection.NotAuthorized, refl)
+rejects policy history user wanted G3 = (LoginRejection.NotAuthorized, refl)
+rejects policy history user wanted I1 = (LoginRejection.NotAuthorized, refl)
+rejects policy history user wanted I2 = (LoginRejection.NotAuthorized, refl)
+rejects policy history user wanted I3 = (LoginRejection.NotAuthorized, refl)
+rejects policy history user wanted P1 = (LoginRejection.NotAuthorized, refl)
+rejects policy history user wanted P2 = (LoginRejection.NotAuthorized, refl)
+rejects policy history user wanted P3 = (LoginRejection.NotAuthorized, refl)
+rejects policy history user wanted P4 = (LoginRejection.NotAuthorized, refl)
+rejects policy history user wanted P5 = (LoginRejection.NotAuthorized, refl)
+rejects policy history user wanted P6 = (LoginRejection.NotAuthorized, refl)
+rejects policy history user wanted P7 = (LoginRejection.NotAuthorized, refl)
+rejects policy history user wanted P8 = (LoginRejection.NotAuthorized, refl)
+rejects policy history user wanted P9 = (LoginRejection.NotAuthorized, refl)
+rejects policy history user wanted P10 = (LoginRejection.NotAuthorized, refl)
+rejects policy history user wanted P11 = (LoginRejection.NotAuthorized, refl)
+rejects policy history user wanted P12 = (LoginRejection.NotAuthorized, refl)
+rejects policy history user wanted Q1 = (LoginRejection.NotAuthorized, refl)
+rejects policy history user wanted Q2 = (LoginRejection.NotAuthorized, refl)
+rejects policy history user wanted Q3 = (LoginRejection.NotAuthorized, refl)
+rejects policy history user wanted Q4 = (LoginRejection.NotAuthorized, refl)
+rejects policy history user wanted (File rule) = (LoginRejection.NotAuthorized, refl)
 
-pub never : {P : Type 0} (answer : LoginAnswer) (reason : LoginRejection) (name : SessionName) (from : ℕ) → answer ≡ answers.Rejected reason → answer ≡ answers.Accepted name from → P
+pub never : {P : Type 0} (answer : LoginAnswer) (reason : LoginRejection) (name : SessionName) (from : ℕ) → answer ≡ LoginAnswer.Rejected reason → answer ≡ LoginAnswer.Accepted name from → P
 never answer reason name from e f = cc
 
 record IsAcceptance (gate : GateData) (moment : ℕ) (login : LoginRequest) (name : SessionName) (from : ℕ) : Type 0 where
@@ -228,9 +187,9 @@ record IsAcceptance (gate : GateData) (moment : ℕ) (login : LoginRequest) (nam
 
 accepted_by : (gate : GateData) (moment : ℕ) (login : LoginRequest) (name : SessionName) (from : ℕ) (v : Verdict)
     → verdict gate.policy gate.records (login_asked_at gate moment login) ≡ v
-    → login_answered gate.policy (stepped gate (login_asked_at gate moment login)).records (folded_user login.user) login.wanted v ≡ answers.Accepted name from
+    → login_answered gate.policy (stepped gate (login_asked_at gate moment login)).records (folded_user login.user) login.wanted v ≡ LoginAnswer.Accepted name from
     → IsAcceptance gate moment login name from
-accepted_by gate moment login name from verdicts.Granted granted e =
+accepted_by gate moment login name from Verdict.Granted granted e =
     let a = login_asked_at gate moment login in
     let now = owed (stepped gate a) login.user in
     let more = stream_on gate a login.user in
@@ -239,14 +198,14 @@ accepted_by gate moment login name from verdicts.Granted granted e =
     let bounds = first_within login.wanted (length (owed gate login.user)) (length now) (login.wanted == 0) refl there (omega (arith, longer)) in
     let same : first_wanted (length now) login.wanted ≡ from = cc in
     record { named = cc; counts_from_one = omega (arith, same, bounds.0); is_there = omega (arith, same, bounds.1) }
-accepted_by gate moment login name from (verdicts.Denied rule) denied e =
+accepted_by gate moment login name from (Verdict.Denied rule) denied e =
     let r = rejects gate.policy (stepped gate (login_asked_at gate moment login)).records (folded_user login.user) login.wanted rule in
     never _ r.0 name from r.1 e
-accepted_by gate moment login name from (verdicts.Filled f) other e = cc
-accepted_by gate moment login name from (verdicts.Rested o) other e = cc
-accepted_by gate moment login name from (verdicts.Expired o) other e = cc
+accepted_by gate moment login name from (Verdict.Filled f) other e = cc
+accepted_by gate moment login name from (Verdict.Rested o) other e = cc
+accepted_by gate moment login name from (Verdict.Expired o) other e = cc
 
-accepted_is : (gate : GateData) (moment : ℕ) (login : LoginRequest) (name : SessionName) (from : ℕ) → login_told gate moment login ≡ answers.Accepted name from
+accepted_is : (gate : GateData) (moment : ℕ) (login : LoginRequest) (name : SessionName) (from : ℕ) → login_told gate moment login ≡ LoginAnswer.Accepted name from
     → IsAcceptance gate moment login name from
 unfolding login_told
 accepted_is gate moment login name from e = accepted_by gate moment login name from _ refl e
@@ -286,38 +245,38 @@ after_login : (before gate : GateData) (text : List ℕ) (heard spoke : ℕ) (lo
     → let run = login_run (stepped gate (login_asked_at gate moment login)) heard spoke login coming moment answer in
     ServesRun before (with_text text (with_text run.text (pulled (matched run.gate run.connection moment).gate run.connection moment)))
 unfolding on_event turn matched pulled
-after_login before gate text heard spoke login coming moment none (answers.Accepted name from) e =
+after_login before gate text heard spoke login coming moment none (LoginAnswer.Accepted name from) e =
     let asks = login_asked_at gate moment login in
     let now = settled_gate (stepped gate asks) moment in
     let k = accepted_is gate moment login name from e in
     let more = settled_on (stepped gate asks) moment login.user in
     let longer : length (owed now login.user) ≡ length (owed (stepped gate asks) login.user) + length more.0 = ap length more.1 ∙ length-append (owed (stepped gate asks) login.user) more.0 in
-    after_pull before now text (server_bytes (server.Accepted name from)) heard (max spoke moment) login.user from coming moment
+    after_pull before now text (server_bytes (ServerPacket.Accepted name from)) heard (max spoke moment) login.user from coming moment
     (served_first now text login.user name from none k.named k.counts_from_one (omega (arith, longer, k.is_there)))
-after_login before gate text heard spoke login coming moment none (answers.Rejected reason) e = tt
+after_login before gate text heard spoke login coming moment none (LoginAnswer.Rejected reason) e = tt
 
 -- what was sent by one packet more
 serves_next : (before gate : GateData) (text : List ℕ) (phase : Phase) (heard spoke : ℕ) (user : UserName) (number coming : ℕ) (packet : ClientPacket) → Serves before gate text user number phase
     → ServesRun before (on_packet (record { gate = gate; connection = record { session = record { phase = phase; heard = heard; sent = spoke }; user = user; next = number; coming = coming }; text = text }) packet)
 unfolding handled answered on_event turn logged_in matched pulled
-serves_next before gate text Fresh heard spoke user number coming (client.Login login) h =
+serves_next before gate text Fresh heard spoke user number coming (ClientPacket.Login login) h =
     after_login before gate text (max heard coming) spoke login (later coming) coming h.1 _ refl
-serves_next before gate text Fresh heard spoke user number coming (client.Data payload) h = tt
-serves_next before gate text Fresh heard spoke user number coming client.Logout h = tt
-serves_next before gate text Fresh heard spoke user number coming client.Heartbeat h = (only_matched before gate coming h.0, append-nil text ∙ h.1)
-serves_next before gate text Fresh heard spoke user number coming client.Debug h = (only_matched before gate coming h.0, append-nil text ∙ h.1)
-serves_next before gate text On heard spoke user number coming (client.Data payload) h =
+serves_next before gate text Fresh heard spoke user number coming (ClientPacket.Data payload) h = tt
+serves_next before gate text Fresh heard spoke user number coming ClientPacket.Logout h = tt
+serves_next before gate text Fresh heard spoke user number coming ClientPacket.Heartbeat h = (only_matched before gate coming h.0, append-nil text ∙ h.1)
+serves_next before gate text Fresh heard spoke user number coming ClientPacket.Debug h = (only_matched before gate coming h.0, append-nil text ∙ h.1)
+serves_next before gate text On heard spoke user number coming (ClientPacket.Data payload) h =
     let a = asked_by user (request_of payload) coming in
     let more = step_settled_on gate a coming user in
     after_pull before (settled_gate (stepped gate a) coming) text [] (max heard coming) spoke user number (later coming) coming
     (served_more gate (settled_gate (stepped gate a) coming) text user number more.0 h refl more.1)
-serves_next before gate text On heard spoke user number coming (client.Login login) h = tt
-serves_next before gate text On heard spoke user number coming client.Logout h = tt
-serves_next before gate text On heard spoke user number coming client.Heartbeat h =
+serves_next before gate text On heard spoke user number coming (ClientPacket.Login login) h = tt
+serves_next before gate text On heard spoke user number coming ClientPacket.Logout h = tt
+serves_next before gate text On heard spoke user number coming ClientPacket.Heartbeat h =
     let more = settled_on gate coming user in
     after_pull before (settled_gate gate coming) text [] (max heard coming) spoke user number (later coming) coming
     (served_more gate (settled_gate gate coming) text user number more.0 h refl more.1)
-serves_next before gate text On heard spoke user number coming client.Debug h =
+serves_next before gate text On heard spoke user number coming ClientPacket.Debug h =
     let more = settled_on gate coming user in
     after_pull before (settled_gate gate coming) text [] (max heard coming) spoke user number (later coming) coming
     (served_more gate (settled_gate gate coming) text user number more.0 h refl more.1)

@@ -1,40 +1,19 @@
 -- What a step, matching steps and a pull make of a gate.
 use Rattle.std.specs.Prelude.{is_ok}
-use Rattle.std.proofs.lemmas.Bool.{cases_lt}
-use Rattle.gx_history.specs.Verdicts.{day_limit}
-use Rattle.gx_answers.specs.Steps.{IsFull}
-use Rattle.gx_answers.specs.declared.outcome.StepFault.{StepFault}
-use Rattle.gx_answers.specs.declared.outcome.StepFault.TheVariants as refusals
-use Rattle.gx_pipe.specs.Faults.{fault_of_step, HasRoom, IsToldFull}
+use Rattle.std.proofs.{lemmas.Bool.cases_lt, Common.{◌≡◌, ℕ, ◌<◌, ◌≤◌, ◌⊎◌, inl, inr, subst, Bool, true, false, Result, Ok, Err, is_some, List, [], ◌∷◌, ◌++◌, length, Option, None, Some, option_map, refl, sym, ap, ◌∙◌, append-nil}}
+use Rattle.gx_history.specs.{Verdicts.{day_limit, next, verdict, IsLegal}, declared.record.{Asked.Asked, RecordData.RecordData, Step.Step, Verdict.Verdict}, Matching.matching, Settling.AddsMatches}
+use Rattle.gx_answers.specs.{Steps.IsFull, declared.outcome.{StepFault.StepFault, LoginAnswer.LoginAnswer, Outcome.Outcome}, Gates.{GateData, left_by, matched_by}, Matches.{matching_of, next_match, with_match, settled_gate, IsSettling}, Logins.login_answered, Asking.stepped}
+use Rattle.gx_pipe.specs.{Faults.{fault_of_step, HasRoom, IsToldFull}, Piping.{cause_of, Refused}, Steps.{login_asked_at, login_told}}
 use Rattle.gx_devices.specs.Stopping.{AreFewer}
-use Rattle.gx_pipe.specs.Piping.{cause_of, Refused}
-use Rattle.std.proofs.Common.{◌≡◌, ℕ, ◌<◌, ◌≤◌, ◌⊎◌, inl, inr, subst, Bool, true, false, Result, Ok, Err, is_some, List, [], ◌∷◌, ◌++◌, length, Option, None, Some, option_map, refl, sym, ap, ◌∙◌, append-nil}
-use Rattle.gx_units.specs.Spelling.{folded_user}
-use Rattle.gx_units.specs.declared.names.UserName.{UserName}
+use Rattle.gx_units.specs.{Spelling.folded_user, declared.names.UserName.UserName}
 use Rattle.gx_soup.specs.declared.packet.LoginRequest.{LoginRequest}
-use Rattle.gx_history.specs.declared.record.Asked.{Asked}
-use Rattle.gx_history.specs.declared.record.RecordData.{RecordData}
-use Rattle.gx_history.specs.declared.record.Step.TheVariants as steps
-use Rattle.gx_history.specs.declared.record.Verdict.{Verdict}
-use Rattle.gx_history.specs.Verdicts.{next, verdict}
 use Rattle.gx_history_laws.proofs.Granting.{verdict_of_next}
-use Rattle.gx_history.specs.Matching.{matching}
-use Rattle.gx_history.specs.Settling.{AddsMatches}
-use Rattle.gx_history.specs.Verdicts.{IsLegal}
-use Rattle.gx_effects.proofs.Orderly.{legal_is_orderly}
-use Rattle.gx_effects.proofs.Settling.{settled_adds, settled_ends, settled_idle}
-use Rattle.gx_answers.specs.Gates.{GateData, left_by, matched_by}
-use Rattle.gx_answers.specs.Matches.{matching_of, next_match, with_match, settled_gate, IsSettling}
-use Rattle.gx_answers.specs.Logins.{login_answered}
-use Rattle.gx_answers.specs.declared.outcome.LoginAnswer.{LoginAnswer}
-use Rattle.gx_answers.specs.declared.outcome.Outcome.{Outcome}
+use Rattle.gx_effects.proofs.{Orderly.legal_is_orderly, Settling.{settled_adds, settled_ends, settled_idle}}
 use Rattle.gx_answers.proofs.Stepped.{stepped_is}
-use Rattle.gx_answers.specs.Asking.{stepped}
-use Rattle.gx_pipe.specs.Steps.{login_asked_at, login_told}
 
 -- what a login is told
 pub told_is : (gate : GateData) (moment : ℕ) (login : LoginRequest) (after : GateData) (a : Asked) (o : Outcome) (user : UserName) (answer : LoginAnswer)
-    → a ≡ login_asked_at gate moment login → after.policy ≡ gate.policy → next gate.policy gate.records (steps.Asked a) ≡ Some (left_by a o)
+    → a ≡ login_asked_at gate moment login → after.policy ≡ gate.policy → next gate.policy gate.records (Step.Asked a) ≡ Some (left_by a o)
     → after.records ≡ gate.records ++ left_by a o ∷ [] → user ≡ folded_user login.user
     → answer ≡ login_answered after.policy after.records user login.wanted o.verdict → answer ≡ login_told gate moment login
 unfolding login_told
@@ -60,26 +39,26 @@ was_refusable false r e never refused = refl
 
 -- want of memory is told only where the day has room, and a full day only where it has none
 pub told_full : {T : Type 0} (gate after : GateData) (sure : Bool) (r : Result T StepFault) (e : StepFault) → after ≡ gate → (sure ≡ true → is_ok r ≡ true)
-    → (day_limit ≤ length gate.records → sure ≡ false → r ≡ Err refusals.DayFull) → (e ≡ refusals.DayFull → day_limit ≤ length gate.records) → r ≡ Err e → IsToldFull after e
-told_full gate after sure r refusals.DayFull same never full day is = subst (λ (g : GateData). day_limit ≤ length g.records) (sym same) (day refl)
-told_full gate after sure r refusals.OutOfMemory same never full day is = subst HasRoom (sym same) (by (cases_lt (length gate.records) day_limit))
+    → (day_limit ≤ length gate.records → sure ≡ false → r ≡ Err StepFault.DayFull) → (e ≡ StepFault.DayFull → day_limit ≤ length gate.records) → r ≡ Err e → IsToldFull after e
+told_full gate after sure r StepFault.DayFull same never full day is = subst (λ (g : GateData). day_limit ≤ length g.records) (sym same) (day refl)
+told_full gate after sure r StepFault.OutOfMemory same never full day is = subst HasRoom (sym same) (by (cases_lt (length gate.records) day_limit))
   where
     not_both : day_limit ≤ length gate.records → (b : Bool) → sure ≡ b → ⊥
     not_both h true is_sure = let clash : false ≡ true = sym (ap is_ok is) ∙ never is_sure in cc
-    not_both h false unsure = let clash : Err refusals.DayFull ≡ Err refusals.OutOfMemory = sym (full h unsure) ∙ is in cc
+    not_both h false unsure = let clash : Err StepFault.DayFull ≡ Err StepFault.OutOfMemory = sym (full h unsure) ∙ is in cc
 
     by : (length gate.records < day_limit) ⊎ (day_limit ≤ length gate.records) → HasRoom gate
     by (inl h) = h
     by (inr h) = absurd (not_both h sure refl)
 
 pub match_told_full : {T F : Type 0} (gate after : GateData) (found : Option F) (none : T) (r : Result T StepFault) (e : StepFault) → after ≡ gate → (found ≡ None → r ≡ Ok none)
-    → (is_some found ≡ true → day_limit ≤ length gate.records → r ≡ Err refusals.DayFull) → (e ≡ refusals.DayFull → day_limit ≤ length gate.records) → r ≡ Err e → IsToldFull after e
-match_told_full gate after found none r refusals.DayFull same idle full day is = subst (λ (g : GateData). day_limit ≤ length g.records) (sym same) (day refl)
-match_told_full {T} {F} gate after found none r refusals.OutOfMemory same idle full day is = subst HasRoom (sym same) (by (cases_lt (length gate.records) day_limit))
+    → (is_some found ≡ true → day_limit ≤ length gate.records → r ≡ Err StepFault.DayFull) → (e ≡ StepFault.DayFull → day_limit ≤ length gate.records) → r ≡ Err e → IsToldFull after e
+match_told_full gate after found none r StepFault.DayFull same idle full day is = subst (λ (g : GateData). day_limit ≤ length g.records) (sym same) (day refl)
+match_told_full {T} {F} gate after found none r StepFault.OutOfMemory same idle full day is = subst HasRoom (sym same) (by (cases_lt (length gate.records) day_limit))
   where
     not_both : day_limit ≤ length gate.records → (x : Option F) → found ≡ x → ⊥
-    not_both h None idles = let clash : Err refusals.OutOfMemory ≡ Ok none = sym is ∙ idle idles in cc
-    not_both h (Some x) waits = let clash : Err refusals.DayFull ≡ Err refusals.OutOfMemory = sym (full (ap is_some waits) h) ∙ is in cc
+    not_both h None idles = let clash : Err StepFault.OutOfMemory ≡ Ok none = sym is ∙ idle idles in cc
+    not_both h (Some x) waits = let clash : Err StepFault.DayFull ≡ Err StepFault.OutOfMemory = sym (full (ap is_some waits) h) ∙ is in cc
 
     by : (length gate.records < day_limit) ⊎ (day_limit ≤ length gate.records) → HasRoom gate
     by (inl h) = h
@@ -87,8 +66,8 @@ match_told_full {T} {F} gate after found none r refusals.OutOfMemory same idle f
 
 -- as a connection tells it
 pub of_step : (gate after : GateData) (e : StepFault) → after ≡ gate → IsToldFull after e → Refused (cause_of (fault_of_step e)) gate.records
-of_step gate after refusals.OutOfMemory same h = subst HasRoom same h
-of_step gate after refusals.DayFull same h = subst IsFull same h
+of_step gate after StepFault.OutOfMemory same h = subst HasRoom same h
+of_step gate after StepFault.DayFull same h = subst IsFull same h
 
 -- where an order waits, one record more is to be made
 pub settling_left : (before now : GateData) (moment : ℕ) → IsSettling before moment now → IsLegal now.policy now.records → is_some (matching_of now) ≡ true → AreFewer now.records (settled_gate before moment).records
@@ -117,5 +96,5 @@ refused_left before now after moment none r e s legal same idle is =
     by (Some v) k = ap is_some k
 
 pub of_matching : (gate : GateData) (e : StepFault) → IsToldFull gate e → Refused (cause_of (fault_of_step e)) gate.records
-of_matching gate refusals.OutOfMemory h = h
-of_matching gate refusals.DayFull h = h
+of_matching gate StepFault.OutOfMemory h = h
+of_matching gate StepFault.DayFull h = h

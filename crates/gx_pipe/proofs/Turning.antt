@@ -1,58 +1,25 @@
 -- What an event, a login, a packet and a pull leave, whole or given up.
-use Rattle.std.proofs.Common.{◌≡◌, ℕ, ◌+◌, ◌-◌, ◌<◌, inl, inr, max, pred, nat_lt, Bool, true, false, ◌&&◌, cond, is_some, List, [], ◌∷◌, ◌++◌, length, take, drop, Option, Some, None, refl, sym, ap, ◌∙◌, subst, append_assoc, append-nil, arith, length-drop}
-use Rattle.std.proofs.lemmas.Bool.Decides.{nat_tests}
+use Rattle.gx_devices.specs.{declared.fault.WriteFault.WriteFault, Devices.IsFront, Stopping.{AreFewer, Cause, Memory, Full, Writing, Reading, IsOfSending, Mark}}
+use Rattle.std.proofs.{Common.{◌≡◌, ℕ, ◌+◌, ◌-◌, ◌<◌, inl, inr, max, pred, nat_lt, Bool, true, false, ◌&&◌, cond, is_some, List, [], ◌∷◌, ◌++◌, length, take, drop, Option, Some, None, refl, sym, ap, ◌∙◌, subst, append_assoc, append-nil, arith, length-drop}, lemmas.Bool.Decides.nat_tests, KnownBytes.{Appends-nil, Appends-trans}}
 use Rattle.std.specs.Io.KnownBytes.{Appends}
-use Rattle.std.proofs.KnownBytes.{Appends-nil, Appends-trans}
-use Rattle.gx_units.specs.Spelling.{folded_user}
-use Rattle.gx_units.specs.declared.names.UserName.{UserName}
-use Rattle.gx_soup.specs.declared.packet.LoginRequest.{LoginRequest}
-use Rattle.gx_soup.specs.declared.packet.ClientPacket.{ClientPacket}
-use Rattle.gx_soup.specs.declared.packet.ClientPacket.TheVariants as client
-use Rattle.gx_history.specs.declared.record.Request.TheVariants as requests
-use Rattle.gx_history.specs.declared.report.Report.{Report}
-use Rattle.gx_history.specs.InForce.{is_closed}
+use Rattle.gx_units.specs.{Spelling.folded_user, declared.names.UserName.UserName}
+use Rattle.gx_soup.specs.declared.packet.{LoginRequest.LoginRequest, ClientPacket.ClientPacket}
+use Rattle.gx_history.specs.{declared.{«record».{Request.Request, RecordData.RecordData}, report.Report.Report}, InForce.is_closed, Streams.stream}
 use Rattle.gx_policy.specs.Lists.{slice}
-use Rattle.gx_history.specs.Streams.{stream}
-use Rattle.gx_answers.specs.Gates.{GateData}
-use Rattle.gx_answers.specs.Told.{ends_before}
-use Rattle.gx_answers.specs.declared.outcome.LoginAnswer.{LoginAnswer}
-use Rattle.gx_answers.specs.declared.outcome.LoginAnswer.TheVariants as answers
-use Rattle.gx_pipe.specs.declared.connection.Connection.{Connection}
-use Rattle.gx_session.specs.declared.event.Control.{Control}
-use Rattle.gx_session.specs.declared.event.Next.{Next}
-use Rattle.gx_session.specs.declared.event.Reply.{Reply}
-use Rattle.gx_session.specs.declared.event.Next.TheVariants as nexts
-use Rattle.gx_pipe.specs.declared.fault.PipeFault.{PipeFault}
-use Rattle.gx_pipe.specs.declared.fault.PipeFault.TheVariants as faults
-use Rattle.gx_session.specs.declared.fault.SendFault.{SendFault}
-use Rattle.gx_session.specs.declared.fault.SendFault.TheVariants as send_faults
-use Rattle.gx_session.specs.declared.session.Phase.{Phase}
-use Rattle.gx_session.specs.declared.session.Phase.TheVariants.{Fresh, Waiting, On, Abandoned, Done}
-use Rattle.gx_devices.specs.Devices.{IsFront}
-use Rattle.gx_devices.specs.Stopping.{AreFewer, Cause, Memory, Full, Writing, Reading, IsOfSending, Mark}
+use Rattle.gx_answers.specs.{Gates.GateData, Told.ends_before, declared.outcome.LoginAnswer.LoginAnswer, Asking.{asked_by, stepped}}
+use Rattle.gx_pipe.specs.{declared.{connection.Connection.Connection, fault.PipeFault.PipeFault}, Serving.IsOnLine, Faults.fault_of_send, Piping.{Standing, mark, cause_of, Refused, logout_of, IsTaken, IsUnwritten, IsGivenUp, IsTurnGivenUp, GivesAll, reported_of, told_of, pull_marks, StopsIn}, Steps.{login_asked_at, login_told}, Transcript.{Run, run_at, and_then, with_text, silent, acted, on_event, first_told, logged_in, with_login, answered, sent, unsent, pulled}}
+use Rattle.gx_session.specs.{declared.{event.{Control.Control, Next.Next, Reply.Reply}, session.Phase.{Phase, TheVariants.{Fresh, Waiting, On, Abandoned, Done}}}, Events.{asks_step, is_on, login_in}, Happenings.Happening, Table.{SessionData, row_in, turn}, Sending.{control_bytes, control_text, reports_text}}
 use Rattle.gx_devices.proofs.Stopping.{fewer_then, first_behind, first_same, stops_here}
-use Rattle.gx_history.specs.declared.record.RecordData.{RecordData}
-use Rattle.gx_pipe.specs.Serving.{IsOnLine}
-use Rattle.gx_pipe.proofs.Growing.{event_adds, answer_on, login_adds}
-use Rattle.gx_pipe.proofs.OnLine.{pull_keeps}
-use Rattle.gx_pipe.specs.Faults.{fault_of_send}
-use Rattle.gx_session.specs.Events.{asks_step, is_on, login_in}
-use Rattle.gx_session.specs.Happenings.{Happening}
+use Rattle.gx_pipe.proofs.{Growing.{event_adds, answer_on, login_adds}, OnLine.pull_keeps}
 use Rattle.gx_session.specs.Happenings as happens
-use Rattle.gx_pipe.specs.Piping.{Standing, mark, cause_of, Refused, logout_of, IsTaken, IsUnwritten, IsGivenUp, IsTurnGivenUp, GivesAll, reported_of, told_of, pull_marks, StopsIn}
-use Rattle.gx_answers.specs.Asking.{asked_by, stepped}
-use Rattle.gx_pipe.specs.Steps.{login_asked_at, login_told}
-use Rattle.gx_session.specs.Table.{SessionData, row_in, turn}
-use Rattle.gx_session.specs.Sending.{control_bytes, control_text, reports_text}
-use Rattle.gx_pipe.specs.Transcript.{Run, run_at, and_then, with_text, silent, acted, on_event, first_told, logged_in, with_login, answered, sent, unsent, pulled}
 use Rattle.gx_answers.proofs.Stepped.{all_taken}
 
 -- Rows of the table.
 
 row_answered : (p : Phase) (a : LoginAnswer) (silent quiet : Bool) → p ≡ Waiting → asks_step (row_in p (happens.Answered a) silent quiet).reply.next ≡ false
 row_answered Fresh a silent quiet h = cc
-row_answered Waiting (answers.Accepted name next) silent quiet h = refl
-row_answered Waiting (answers.Rejected reason) silent quiet h = refl
+row_answered Waiting (LoginAnswer.Accepted name next) silent quiet h = refl
+row_answered Waiting (LoginAnswer.Rejected reason) silent quiet h = refl
 row_answered On a silent quiet h = cc
 row_answered Abandoned a silent quiet h = cc
 row_answered Done a silent quiet h = cc
@@ -62,17 +29,17 @@ unfolding turn
 answer_asks_nothing session a moment h = row_answered session.phase a _ _ h
 
 row_packet : (p : Phase) (packet : ClientPacket) (silent quiet : Bool) → (row_in p (happens.Packet packet) silent quiet).reply.send ≡ None
-row_packet Fresh (client.Login login) silent quiet = refl
-row_packet Fresh (client.Data payload) silent quiet = refl
-row_packet Fresh client.Logout silent quiet = refl
-row_packet Fresh client.Heartbeat silent quiet = refl
-row_packet Fresh client.Debug silent quiet = refl
+row_packet Fresh (ClientPacket.Login login) silent quiet = refl
+row_packet Fresh (ClientPacket.Data payload) silent quiet = refl
+row_packet Fresh ClientPacket.Logout silent quiet = refl
+row_packet Fresh ClientPacket.Heartbeat silent quiet = refl
+row_packet Fresh ClientPacket.Debug silent quiet = refl
 row_packet Waiting packet silent quiet = refl
-row_packet On (client.Login login) silent quiet = refl
-row_packet On (client.Data payload) silent quiet = refl
-row_packet On client.Logout silent quiet = refl
-row_packet On client.Heartbeat silent quiet = refl
-row_packet On client.Debug silent quiet = refl
+row_packet On (ClientPacket.Login login) silent quiet = refl
+row_packet On (ClientPacket.Data payload) silent quiet = refl
+row_packet On ClientPacket.Logout silent quiet = refl
+row_packet On ClientPacket.Heartbeat silent quiet = refl
+row_packet On ClientPacket.Debug silent quiet = refl
 row_packet Abandoned packet silent quiet = refl
 row_packet Done packet silent quiet = refl
 
@@ -85,22 +52,22 @@ record WaitsFor (before after : Phase) : Type 0 where
   fresh : is_on before ≡ false
   waiting : after ≡ Waiting
 
-row_login : (p : Phase) (packet : ClientPacket) (silent quiet : Bool) → (row_in p (happens.Packet packet) silent quiet).reply.next ≡ nexts.Login → WaitsFor p (row_in p (happens.Packet packet) silent quiet).phase
-row_login Fresh (client.Login login) silent quiet h = record { fresh = refl; waiting = refl }
-row_login Fresh (client.Data payload) silent quiet h = cc
-row_login Fresh client.Logout silent quiet h = cc
-row_login Fresh client.Heartbeat silent quiet h = cc
-row_login Fresh client.Debug silent quiet h = cc
+row_login : (p : Phase) (packet : ClientPacket) (silent quiet : Bool) → (row_in p (happens.Packet packet) silent quiet).reply.next ≡ Next.Login → WaitsFor p (row_in p (happens.Packet packet) silent quiet).phase
+row_login Fresh (ClientPacket.Login login) silent quiet h = record { fresh = refl; waiting = refl }
+row_login Fresh (ClientPacket.Data payload) silent quiet h = cc
+row_login Fresh ClientPacket.Logout silent quiet h = cc
+row_login Fresh ClientPacket.Heartbeat silent quiet h = cc
+row_login Fresh ClientPacket.Debug silent quiet h = cc
 row_login Waiting packet silent quiet h = cc
-row_login On (client.Login login) silent quiet h = cc
-row_login On (client.Data payload) silent quiet h = cc
-row_login On client.Logout silent quiet h = cc
-row_login On client.Heartbeat silent quiet h = cc
-row_login On client.Debug silent quiet h = cc
+row_login On (ClientPacket.Login login) silent quiet h = cc
+row_login On (ClientPacket.Data payload) silent quiet h = cc
+row_login On ClientPacket.Logout silent quiet h = cc
+row_login On ClientPacket.Heartbeat silent quiet h = cc
+row_login On ClientPacket.Debug silent quiet h = cc
 row_login Abandoned packet silent quiet h = cc
 row_login Done packet silent quiet h = cc
 
-login_waits : (session : SessionData) (packet : ClientPacket) (moment : ℕ) → (turn session (happens.Packet packet) moment).reply.next ≡ nexts.Login → WaitsFor session.phase (turn session (happens.Packet packet) moment).session.phase
+login_waits : (session : SessionData) (packet : ClientPacket) (moment : ℕ) → (turn session (happens.Packet packet) moment).reply.next ≡ Next.Login → WaitsFor session.phase (turn session (happens.Packet packet) moment).session.phase
 unfolding turn
 login_waits session packet moment h = row_login session.phase packet _ _ h
 
@@ -117,7 +84,7 @@ of_text Writing text front h = tt
 of_text Reading text front h = absurd h
 
 -- a run that a growth stopped where it stood
-pub pauses : (run : Run) (marks : List (Mark RecordData Standing)) (now : GateData) (state : Connection) (output : Option (List ℕ)) → now ≡ run.gate → state ≡ run.connection → StopsIn run marks faults.OutOfMemory now state output output
+pub pauses : (run : Run) (marks : List (Mark RecordData Standing)) (now : GateData) (state : Connection) (output : Option (List ℕ)) → now ≡ run.gate → state ≡ run.connection → StopsIn run marks PipeFault.OutOfMemory now state output output
 pauses run marks now state output same still = record {
   stop = mark run;
   stops = stops_here Refused (mark run) marks;
@@ -130,13 +97,13 @@ pauses run marks now state output same still = record {
 }
 
 -- a packet of the session's own was not sent
-pub unwritten : (run : Run) (fault : SendFault) (now : GateData) (state : Connection) (output left : Option (List ℕ)) → now ≡ run.gate → logout_of state ≡ logout_of run.connection → IsFront output left run.text
-    → (fault ≡ send_faults.OutOfMemory → Appends output left []) → IsUnwritten run (fault_of_send fault) now state output left
-unwritten run send_faults.OutOfMemory now state output left g l f none = record { gate = g; logout = l; text = record { front = []; rest = run.text; written = none refl; whole = refl }; sending = refl }
-unwritten run send_faults.WriteFailed now state output left g l f none = record { gate = g; logout = l; text = f; sending = tt }
+pub unwritten : (run : Run) (fault : WriteFault) (now : GateData) (state : Connection) (output left : Option (List ℕ)) → now ≡ run.gate → logout_of state ≡ logout_of run.connection → IsFront output left run.text
+    → (fault ≡ WriteFault.OutOfMemory → Appends output left []) → IsUnwritten run (fault_of_send fault) now state output left
+unwritten run WriteFault.OutOfMemory now state output left g l f none = record { gate = g; logout = l; text = record { front = []; rest = run.text; written = none refl; whole = refl }; sending = refl }
+unwritten run WriteFault.WriteFailed now state output left g l f none = record { gate = g; logout = l; text = f; sending = tt }
 
-pub turn_unwritten : (gate : GateData) (c : Connection) (event : Happening) (moment : ℕ) (reply : Reply) (session : SessionData) (control : Control) (fault : SendFault) (now : GateData) (output left : Option (List ℕ)) → reply ≡ (turn c.session event moment).reply → session ≡ (turn c.session event moment).session
-    → reply.send ≡ Some control → now ≡ acted gate c.user moment reply.next → IsFront output left (control_bytes control) → (fault ≡ send_faults.OutOfMemory → Appends output left [])
+pub turn_unwritten : (gate : GateData) (c : Connection) (event : Happening) (moment : ℕ) (reply : Reply) (session : SessionData) (control : Control) (fault : WriteFault) (now : GateData) (output left : Option (List ℕ)) → reply ≡ (turn c.session event moment).reply → session ≡ (turn c.session event moment).session
+    → reply.send ≡ Some control → now ≡ acted gate c.user moment reply.next → IsFront output left (control_bytes control) → (fault ≡ WriteFault.OutOfMemory → Appends output left [])
     → IsTurnGivenUp gate c event moment (fault_of_send fault) now (record c { session = session }) output left
 unfolding on_event
 turn_unwritten gate c event moment reply session control fault now output left r s sends acts f none =
@@ -179,14 +146,14 @@ packet_cut gate c packet moment fault now state output left (inr h) =
     let clash : is_some {T = Control} None ≡ true = ap is_some (sym quiet) ∙ sends in
     cc
 
-pub login_is_waiting : (gate : GateData) (c : Connection) (packet : ClientPacket) (moment : ℕ) (next : Next) (now : GateData) (state : Connection) (output left : Option (List ℕ)) → next ≡ (turn c.session (happens.Packet packet) moment).reply.next → next ≡ nexts.Login → IsTaken (on_event gate c (happens.Packet packet) moment) now state output left → state.session.phase ≡ Waiting
+pub login_is_waiting : (gate : GateData) (c : Connection) (packet : ClientPacket) (moment : ℕ) (next : Next) (now : GateData) (state : Connection) (output left : Option (List ℕ)) → next ≡ (turn c.session (happens.Packet packet) moment).reply.next → next ≡ Next.Login → IsTaken (on_event gate c (happens.Packet packet) moment) now state output left → state.session.phase ≡ Waiting
 unfolding on_event
 login_is_waiting gate c packet moment next now state output left n is t =
     ap (λ (x : Connection). x.session.phase) t.connection ∙ (login_waits c.session packet moment (sym n ∙ is)).waiting
 
 -- A packet that asks for a login.
 
-module _ (gate : GateData) (c : Connection) (packet : ClientPacket) (moment : ℕ) (login : LoginRequest) (now : GateData) (state : Connection) (output mid : Option (List ℕ)) (asks : (turn c.session (happens.Packet packet) moment).reply.next ≡ nexts.Login) (is : packet ≡ client.Login login) (told : IsTaken (on_event gate c (happens.Packet packet) moment) now state output mid) where
+module _ (gate : GateData) (c : Connection) (packet : ClientPacket) (moment : ℕ) (login : LoginRequest) (now : GateData) (state : Connection) (output mid : Option (List ℕ)) (asks : (turn c.session (happens.Packet packet) moment).reply.next ≡ Next.Login) (is : packet ≡ ClientPacket.Login login) (told : IsTaken (on_event gate c (happens.Packet packet) moment) now state output mid) where
   same_gate : now ≡ gate
   unfolding on_event
   same_gate = told.gate ∙ ap (λ n. acted_by n) asks
@@ -199,20 +166,20 @@ module _ (gate : GateData) (c : Connection) (packet : ClientPacket) (moment : �
   nothing_sent = subst (λ s. Appends output mid (control_text s)) (packet_is_silent c.session packet moment) told.text
 
   before_is_out : logout_of c ≡ None
-  before_is_out = ap (λ b. cond b (Some (asked_by c.user requests.Logout c.session.heard)) None) (login_waits c.session packet moment asks).fresh
+  before_is_out = ap (λ b. cond b (Some (asked_by c.user Request.Logout c.session.heard)) None) (login_waits c.session packet moment asks).fresh
 
   after_is_out : logout_of state ≡ None
   unfolding on_event
   after_is_out =
       ap logout_of told.connection
-      ∙ ap (λ p. cond (is_on p) (Some (asked_by c.user requests.Logout (turn c.session (happens.Packet packet) moment).session.heard)) None) (login_waits c.session packet moment asks).waiting
+      ∙ ap (λ p. cond (is_on p) (Some (asked_by c.user Request.Logout (turn c.session (happens.Packet packet) moment).session.heard)) None) (login_waits c.session packet moment asks).waiting
 
   answered_is : answered gate c packet moment ≡ logged_in now state login moment
   unfolding answered on_event
   answered_is =
       ap (λ s. with_text (control_text s) (with_login (on_event gate c (happens.Packet packet) moment).gate (on_event gate c (happens.Packet packet) moment).connection moment (login_in packet (turn c.session (happens.Packet packet) moment).reply.next))) (packet_is_silent c.session packet moment)
       ∙ (ap (λ n. with_login (on_event gate c (happens.Packet packet) moment).gate (on_event gate c (happens.Packet packet) moment).connection moment (login_in packet n)) asks
-      ∙ (ap (λ p. with_login (on_event gate c (happens.Packet packet) moment).gate (on_event gate c (happens.Packet packet) moment).connection moment (login_in p nexts.Login)) is
+      ∙ (ap (λ p. with_login (on_event gate c (happens.Packet packet) moment).gate (on_event gate c (happens.Packet packet) moment).connection moment (login_in p Next.Login)) is
       ∙ (ap (λ x. logged_in x (on_event gate c (happens.Packet packet) moment).connection login moment) (sym told.gate)
       ∙ ap (λ x. logged_in now x login moment) (sym told.connection))))
 
@@ -296,7 +263,7 @@ module _ (gate : GateData) (c : Connection) (moment : ℕ) (reports : List Repor
         → StopsIn here (pull_marks here moment ++ more) fault now state output left
     stops_there fault now state output left h = subst (λ ms. StopsIn here (ms ++ more) fault now state output left) (sym marks_are) h
 
-    pub pull_unsent : (fault : SendFault) (output left : Option (List ℕ)) → IsFront output left (reports_text reports) → (fault ≡ send_faults.OutOfMemory → Appends output left [])
+    pub pull_unsent : (fault : WriteFault) (output left : Option (List ℕ)) → IsFront output left (reports_text reports) → (fault ≡ WriteFault.OutOfMemory → Appends output left [])
         → StopsIn here (pull_marks here moment ++ more) (fault_of_send fault) gate c output left
     pull_unsent fault output left f none = stops_there (fault_of_send fault) gate c output left (sends fault f none)
       where
@@ -319,10 +286,10 @@ module _ (gate : GateData) (c : Connection) (moment : ℕ) (reports : List Repor
           written = front.written;
         }
 
-        sends : (e : SendFault) → IsFront output left (reports_text reports) → (e ≡ send_faults.OutOfMemory → Appends output left [])
+        sends : (e : WriteFault) → IsFront output left (reports_text reports) → (e ≡ WriteFault.OutOfMemory → Appends output left [])
             → StopsIn here ((mark behind ∷ mark (and_then behind (λ g k. on_event g k (happens.Pulled count ended) moment)) ∷ []) ++ more) (fault_of_send e) gate c output left
-        sends send_faults.OutOfMemory front n = at faults.OutOfMemory (record { front = []; rest = reports_text reports; written = n refl; whole = refl }) refl
-        sends send_faults.WriteFailed front n = at faults.WriteFailed front tt
+        sends WriteFault.OutOfMemory front n = at PipeFault.OutOfMemory (record { front = []; rest = reports_text reports; written = n refl; whole = refl }) refl
+        sends WriteFault.WriteFailed front n = at PipeFault.WriteFailed front tt
 
     pub pull_unturned : (fault : PipeFault) (now : GateData) (state : Connection) (output mid left : Option (List ℕ)) → Appends output mid (reports_text reports) → IsTurnGivenUp gate (record c { next = next }) (happens.Pulled count ended) moment fault now state mid left
         → StopsIn here (pull_marks here moment ++ more) fault now state output left
@@ -363,5 +330,5 @@ module _ (gate : GateData) (c : Connection) (moment : ℕ) (reports : List Repor
 
 -- a growth that no step asked for
 pub pull_pauses : (gate : GateData) (c : Connection) (moment : ℕ) (output : Option (List ℕ)) (text : List ℕ) (more : List (Mark RecordData Standing))
-    → StopsIn (run_at gate c text) (pull_marks (run_at gate c text) moment ++ more) faults.OutOfMemory gate c output output
+    → StopsIn (run_at gate c text) (pull_marks (run_at gate c text) moment ++ more) PipeFault.OutOfMemory gate c output output
 pull_pauses gate c moment output text more = pauses (run_at gate c text) (pull_marks (run_at gate c text) moment ++ more) gate c output refl refl

@@ -1,17 +1,13 @@
 -- What a run leaves that a fault stopped, beside what it would have left.
 use Rattle.std.specs.Prelude.{◌≡◌, List, [], ◌∷◌, ◌++◌}
-use Rattle.gx_history.specs.declared.record.Asked.{Asked}
-use Rattle.gx_history.specs.declared.record.RecordData.{RecordData}
-use Rattle.gx_history.specs.declared.record.Request.TheVariants as requests
-use Rattle.gx_history.specs.declared.record.Step.TheVariants as steps
-use Rattle.gx_history.specs.declared.record.Verdict.TheVariants as verdicts
+use Rattle.gx_history.specs.declared.record.{Asked.Asked, RecordData.RecordData, Request.Request, Step.Step, Verdict.Verdict}
 
 -- the record of a granted Logout
 pub record IsLogout (r : RecordData) : Type 0 where
   pub asked : Asked
-  pub is_asked : r.step ≡ steps.Asked asked
-  pub is_logout : asked.request ≡ requests.Logout
-  pub is_granted : r.verdict ≡ verdicts.Granted
+  pub is_asked : r.step ≡ Step.Asked asked
+  pub is_logout : asked.request ≡ Request.Logout
+  pub is_granted : r.verdict ≡ Verdict.Granted
 
 -- no record, or that of one granted Logout
 abbrev pub IsLogoutAtMost : List RecordData → Type 0

@@ -1,37 +1,18 @@
 -- What a connection did to a reader, a writer and a gate.
-use Rattle.std.specs.Option.{option_map_or}
-use Rattle.std.specs.Prelude.{◌≡◌, ℕ, ◌+◌, ◌<◌, ◌≤◌, max, Bool, true, false, ◌⊎◌, if◌then◌else◌, IsTrue, IsFalse, is_some, List, [], ◌∷◌, ◌++◌, length, Option, Some, None}
-use Rattle.std.specs.Io.KnownBytes.{Consumes, Appends, IsAtEnd}
-use Rattle.gx_soup.specs.declared.packet.ClientPacket.{ClientPacket}
-use Rattle.gx_soup.specs.Packets.{packets_of}
-use Rattle.gx_soup.specs.Feeding.{Held, HasRead}
-use Rattle.gx_history.specs.InForce.{is_closed}
-use Rattle.gx_history.specs.Verdicts.{day_limit}
+use Rattle.std.specs.{Option.option_map_or, Prelude.{◌≡◌, ℕ, ◌+◌, ◌<◌, ◌≤◌, max, Bool, true, false, ◌⊎◌, if◌then◌else◌, IsTrue, IsFalse, is_some, List, [], ◌∷◌, ◌++◌, length, Option, Some, None}, Io.KnownBytes.{Consumes, Appends, IsAtEnd}}
+use Rattle.gx_soup.specs.{declared.packet.ClientPacket.ClientPacket, Packets.packets_of, Feeding.{Held, HasRead}}
+use Rattle.gx_history.specs.{InForce.is_closed, Verdicts.day_limit, declared.{report.Report.Report, «record».{Asked.Asked, RecordData.RecordData, Request.Request}}}
 use Rattle.gx_policy.specs.declared.policy.PolicyData.{PolicyData}
-use Rattle.gx_history.specs.declared.report.Report.{Report}
-use Rattle.gx_history.specs.declared.record.Asked.{Asked}
-use Rattle.gx_history.specs.declared.record.RecordData.{RecordData}
-use Rattle.gx_history.specs.declared.record.Request.TheVariants as requests
-use Rattle.gx_answers.specs.Gates.{GateData}
-use Rattle.gx_answers.specs.Matches.{settled_gate, IsSettling}
-use Rattle.gx_answers.specs.Steps.{has_its_places}
-use Rattle.gx_answers.specs.Asking.{asked_by}
-use Rattle.gx_devices.specs.Devices.{IsFront}
-use Rattle.gx_devices.specs.Stopping.{AreFewer, Cause, Memory, Full, Writing, Reading, IsOfSending, Mark, Stops, trail}
-use Rattle.gx_pipe.specs.declared.connection.Connection.{Connection}
-use Rattle.gx_pipe.specs.declared.fault.PipeFault.{PipeFault}
-use Rattle.gx_pipe.specs.declared.fault.PipeFault.TheVariants as faults
-use Rattle.gx_session.specs.Events.{asks_step, is_on, is_over}
-use Rattle.gx_session.specs.Happenings.{Happening}
+use Rattle.gx_answers.specs.{Gates.GateData, Matches.{settled_gate, IsSettling}, Steps.has_its_places, Asking.asked_by}
+use Rattle.gx_devices.specs.{Devices.IsFront, Stopping.{AreFewer, Cause, Memory, Full, Writing, Reading, IsOfSending, Mark, Stops, trail}}
+use Rattle.gx_pipe.specs.{declared.{connection.Connection.Connection, fault.PipeFault.PipeFault}, Serving.IsOnLine, Transcript.{Run, after_step, and_then, unsent, ticked, on_event, answered, matched, reported, on_packet, run_of, pipe, is_ended}}
+use Rattle.gx_session.specs.{Events.{asks_step, is_on, is_over}, Happenings.Happening, Table.turn}
 use Rattle.gx_session.specs.Happenings as happens
-use Rattle.gx_pipe.specs.Serving.{IsOnLine}
-use Rattle.gx_session.specs.Table.{turn}
-use Rattle.gx_pipe.specs.Transcript.{Run, after_step, and_then, unsent, ticked, on_event, answered, matched, reported, on_packet, run_of, pipe, is_ended}
 
 -- the logout of the user who is logged in, at the moment of the last packet heard
 abbrev pub logout_of : Connection → Option Asked
 logout_of connection =
-    if is_on connection.session.phase then Some (asked_by connection.user requests.Logout connection.session.heard) else None
+    if is_on connection.session.phase then Some (asked_by connection.user Request.Logout connection.session.heard) else None
 
 -- a granted Kill or Logout, which no gate refuses
 abbrev pub is_never_refused : GateData → Option Asked → Bool
@@ -51,11 +32,11 @@ gate_at m = record { policy = m.known.policy; records = m.records }
 
 -- why a run stops
 abbrev pub cause_of : PipeFault → Cause
-cause_of faults.OutOfMemory = Memory
-cause_of faults.ReadFailed = Reading
-cause_of faults.WriteFailed = Writing
-cause_of faults.DayFull = Full
-cause_of faults.Endless = Reading
+cause_of PipeFault.OutOfMemory = Memory
+cause_of PipeFault.ReadFailed = Reading
+cause_of PipeFault.WriteFailed = Writing
+cause_of PipeFault.DayFull = Full
+cause_of PipeFault.Endless = Reading
 
 -- a step is refused where the day is full, or where it is not and a growth was refused
 abbrev pub Refused : Cause → List RecordData → Type 0

@@ -1,22 +1,11 @@
 -- What a connection was sent, in other words than the session table's.
-use Rattle.std.specs.Prelude.{◌≡◌, ℕ, ◌+◌, ◌-◌, ◌≤◌, None, Some, IsTrue, List, [], ◌++◌, length, drop}
-use Rattle.std.specs.List.{AllByRecursion}
-use Rattle.gx_units.specs.Spelling.{folded_user}
-use Rattle.gx_units.specs.declared.names.UserName.{UserName}
-use Rattle.gx_soup.specs.declared.packet.ServerPacket.TheVariants as server
-use Rattle.gx_soup.specs.Writing.{server_bytes}
-use Rattle.gx_history.specs.declared.record.RecordData.{RecordData}
-use Rattle.gx_history.specs.declared.report.Report.{Report}
-use Rattle.gx_history.specs.InForce.{line_of}
-use Rattle.gx_history.specs.Requests.{asked}
-use Rattle.gx_history.specs.Streams.{stream}
+use Rattle.std.specs.{Prelude.{◌≡◌, ℕ, ◌+◌, ◌-◌, ◌≤◌, None, Some, IsTrue, List, [], ◌++◌, length, drop}, List.AllByRecursion}
+use Rattle.gx_units.specs.{Spelling.folded_user, declared.names.UserName.UserName}
+use Rattle.gx_soup.specs.{declared.packet.ServerPacket.ServerPacket, Writing.server_bytes}
+use Rattle.gx_history.specs.{declared.{«record».RecordData.RecordData, report.Report.Report}, InForce.line_of, Requests.asked, Streams.stream}
 use Rattle.gx_answers.specs.Gates.{GateData}
-use Rattle.gx_pipe.specs.declared.connection.Connection.{Connection}
-use Rattle.gx_session.specs.declared.session.Phase.{Phase}
-use Rattle.gx_session.specs.declared.session.Phase.TheVariants.{Fresh, Waiting, On, Abandoned, Done}
-use Rattle.gx_session.specs.Sending.{reports_text}
-use Rattle.gx_session.specs.Events.{is_on}
-use Rattle.gx_pipe.specs.Transcript.{Run}
+use Rattle.gx_pipe.specs.{declared.connection.Connection.Connection, Transcript.Run}
+use Rattle.gx_session.specs.{declared.session.Phase.{Phase, TheVariants.{Fresh, Waiting, On, Abandoned, Done}}, Sending.reports_text, Events.is_on}
 
 -- the user's stream
 abbrev pub owed : GateData → UserName → List Report
@@ -26,7 +15,7 @@ owed gate user = stream gate.policy gate.records (folded_user user)
 -- none that is there is left out, and the next number is the one after them
 pub record IsServed (gate : GateData) (text : List ℕ) (user : UserName) (next : ℕ) : Type 0 where
   pub from : ℕ
-  pub sent : text ≡ server_bytes (server.Accepted gate.policy.session from) ++ reports_text (drop (from - 1) (owed gate user))
+  pub sent : text ≡ server_bytes (ServerPacket.Accepted gate.policy.session from) ++ reports_text (drop (from - 1) (owed gate user))
   pub counts_from_one : 1 ≤ from
   pub is_available : from ≤ length (owed gate user) + 1
   pub follows : next ≡ length (owed gate user) + 1

@@ -2,14 +2,8 @@
 use Rattle.std.specs.Prelude.{ℕ}
 use Rattle.gx_units.specs.Spelling.{folded_user, folded_password, folded_session}
 use Rattle.gx_soup.specs.declared.packet.LoginRequest.{LoginRequest}
-use Rattle.gx_history.specs.declared.record.Asked.{Asked}
-use Rattle.gx_history.specs.declared.record.Request.{Request}
-use Rattle.gx_history.specs.Logins.{login_asked}
-use Rattle.gx_history.specs.Verdicts.{verdict}
-use Rattle.gx_answers.specs.Asking.{asked_by, stepped}
-use Rattle.gx_answers.specs.Gates.{GateData}
-use Rattle.gx_answers.specs.Logins.{login_answered}
-use Rattle.gx_answers.specs.declared.outcome.LoginAnswer.{LoginAnswer}
+use Rattle.gx_history.specs.{declared.record.{Asked.Asked, Request.Request}, Logins.login_asked, Verdicts.verdict}
+use Rattle.gx_answers.specs.{Asking.{asked_by, stepped}, Gates.GateData, Logins.login_answered, declared.outcome.LoginAnswer.LoginAnswer}
 
 -- the request of a Login Request packet: names are compared as the standard says
 abbrev pub login_of : GateData → LoginRequest → Request

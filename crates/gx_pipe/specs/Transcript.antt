@@ -1,30 +1,12 @@
 -- The transcript of a connection: the gate and the text that all bytes of its input lead to, by the session table.
-use Rattle.std.specs.Prelude.{ℕ, ◌+◌, ◌-◌, ◌^◌, min, max, Bool, ◌||◌, if◌then◌else◌, is_some, Option, Some, None, List, [], ◌∷◌, ◌++◌, length, drop, fold}
-use Rattle.std.specs.Option.{option_map_or}
-use Rattle.gx_units.specs.Spelling.{folded_user}
-use Rattle.gx_units.specs.declared.names.UserName.{UserName}
-use Rattle.gx_soup.specs.declared.packet.LoginRequest.{LoginRequest}
-use Rattle.gx_soup.specs.declared.packet.ClientPacket.{ClientPacket}
-use Rattle.gx_soup.specs.Packets.{packets_of}
-use Rattle.gx_history.specs.declared.record.Asked.{Asked}
-use Rattle.gx_history.specs.declared.record.Request.TheVariants as requests
-use Rattle.gx_history.specs.declared.report.Report.{Report}
-use Rattle.gx_history.specs.InForce.{is_closed}
-use Rattle.gx_history.specs.Streams.{stream}
-use Rattle.gx_answers.specs.Gates.{GateData}
-use Rattle.gx_answers.specs.Matches.{settled_gate}
-use Rattle.gx_answers.specs.declared.outcome.LoginAnswer.{LoginAnswer}
-use Rattle.gx_answers.specs.declared.outcome.LoginAnswer.TheVariants as answers
-use Rattle.gx_pipe.specs.declared.connection.Connection.{Connection}
-use Rattle.gx_session.specs.declared.event.Next.{Next}
-use Rattle.gx_session.specs.declared.event.Next.TheVariants as nexts
-use Rattle.gx_session.specs.Events.{is_on, is_over, login_in}
-use Rattle.gx_session.specs.Happenings.{Happening}
+use Rattle.std.specs.{Prelude.{ℕ, ◌+◌, ◌-◌, ◌^◌, min, max, Bool, ◌||◌, if◌then◌else◌, is_some, Option, Some, None, List, [], ◌∷◌, ◌++◌, length, drop, fold}, Option.option_map_or}
+use Rattle.gx_units.specs.{Spelling.folded_user, declared.names.UserName.UserName}
+use Rattle.gx_soup.specs.{declared.packet.{LoginRequest.LoginRequest, ClientPacket.ClientPacket}, Packets.packets_of}
+use Rattle.gx_history.specs.{declared.{«record».{Asked.Asked, Request.Request}, report.Report.Report}, InForce.is_closed, Streams.stream}
+use Rattle.gx_answers.specs.{Gates.GateData, Matches.settled_gate, declared.outcome.LoginAnswer.LoginAnswer, Asking.{asked_by, stepped}}
+use Rattle.gx_pipe.specs.{declared.connection.Connection.Connection, Steps.{login_asked_at, login_told}}
+use Rattle.gx_session.specs.{declared.event.Next.Next, Events.{is_on, is_over, login_in}, Happenings.Happening, Sending.{control_text, reports_text}, Table.{Turn, turn, new_session}}
 use Rattle.gx_session.specs.Happenings as happens
-use Rattle.gx_answers.specs.Asking.{asked_by, stepped}
-use Rattle.gx_pipe.specs.Steps.{login_asked_at, login_told}
-use Rattle.gx_session.specs.Sending.{control_text, reports_text}
-use Rattle.gx_session.specs.Table.{Turn, turn, new_session}
 
 -- a gate, a connection, and the text written so far
 pub record Run : Type 0 where
@@ -48,8 +30,8 @@ and_then run more = with_text run.text (more run.gate run.connection)
 
 -- the step that the session asks for, if it asks for one
 abbrev pub step_of : UserName → ℕ → Next → Option Asked
-step_of user moment (nexts.Act request) = Some (asked_by user request moment)
-step_of user moment nexts.Logout = Some (asked_by user requests.Logout moment)
+step_of user moment (Next.Act request) = Some (asked_by user request moment)
+step_of user moment Next.Logout = Some (asked_by user Request.Logout moment)
 step_of user moment other = None
 
 -- the gate after this step, if there is one
@@ -73,8 +55,8 @@ on_event gate connection event moment = by_turn gate connection moment (turn con
 
 -- the number of the first report that a login is sent
 abbrev pub first_told : LoginAnswer → ℕ
-first_told (answers.Accepted name next) = next
-first_told (answers.Rejected reason) = 0
+first_told (LoginAnswer.Accepted name next) = next
+first_told (LoginAnswer.Rejected reason) = 0
 
 -- a login's step is made, and the session is told of its answer
 unfoldable pub logged_in : GateData → Connection → LoginRequest → ℕ → Run

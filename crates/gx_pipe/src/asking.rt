@@ -3,8 +3,7 @@
 ghost use Rattle.std.specs.Prelude.{◌≡◌, IsTrue, IfOk, IfErr, OnOk, OnErr};
 ghost use Rattle.gx_history.specs.Showing.{has_its_first};
 ghost use Rattle.gx_answers.specs.Asking.{stepped};
-ghost use Rattle.gx_pipe.specs.Faults.{IsToldFull};
-ghost use Rattle.gx_pipe.specs.Steps.{login_of, login_asked_at, login_told};
+ghost use Rattle.gx_pipe.specs.{Faults.IsToldFull, Steps.{login_of, login_asked_at, login_told}};
 
 use gx_answers::{AccessGate, LoginAnswer, StepFault, asked};
 use gx_history::record::Request;

@@ -4,18 +4,8 @@ ghost use Rattle.std.specs.Prelude.{◌≡◌, ℕ, ◌-◌, ◌^◌, ◌<◌, �
 ghost use Rattle.gx_history.specs.declared.record.RecordData.{RecordData};
 ghost use Rattle.gx_answers.specs.Matches.{settled_gate, IsSettling};
 ghost use Rattle.gx_devices.specs.Stopping.{AreFewer, Mark};
-ghost use Rattle.gx_session.specs.declared.session.Phase.TheVariants.{Waiting};
-ghost use Rattle.gx_pipe.specs.Faults.{IsToldFull, IsToldRightly, IsFinite};
-ghost use Rattle.gx_pipe.specs.Faults.{fault_of_step};
-ghost use Rattle.gx_session.specs.Events.{CanAsk, asks_step, is_on};
-ghost use Rattle.gx_session.specs.Happenings.{happening};
-ghost use Rattle.gx_pipe.specs.Piping.{is_never_refused, logout_of, IsTaken, IsGivenUp};
-ghost use Rattle.gx_pipe.specs.Piping.{IsTurnGivenUp, Standing, pull_marks, packet_marks};
-ghost use Rattle.gx_pipe.specs.Piping.{StopsIn, GivesAll, IsLeaving, IsMatchedInPart};
-ghost use Rattle.gx_session.specs.Table.{turn};
-ghost use Rattle.gx_pipe.specs.Transcript.{acted, silent, step_of, on_event, logged_in, answered};
-ghost use Rattle.gx_pipe.specs.Transcript.{matched, pulled, handled, opened_at};
-ghost use Rattle.gx_pipe.specs.Transcript.{run_at, finished, first_told};
+ghost use Rattle.gx_session.specs.{declared.session.Phase.TheVariants.Waiting, Events.{CanAsk, asks_step, is_on}, Happenings.happening, Table.turn};
+ghost use Rattle.gx_pipe.specs.{Faults.{IsToldFull, IsToldRightly, IsFinite, fault_of_step}, Piping.{is_never_refused, logout_of, IsTaken, IsGivenUp, IsTurnGivenUp, Standing, pull_marks, packet_marks, StopsIn, GivesAll, IsLeaving, IsMatchedInPart}, Transcript.{acted, silent, step_of, on_event, logged_in, answered, matched, pulled, handled, opened_at, run_at, finished, first_told}};
 
 use crate::asking::login_step;
 use crate::fault::PipeFault;

@@ -5,8 +5,7 @@ ghost use Rattle.gx_pipe.specs.declared.fault.PipeFault.TheVariants as faults;
 ghost use Rattle.gx_pipe.specs.Faults.{fault_words};
 
 use gx_answers::StepFault;
-use gx_devices::WriteFailed;
-use gx_session::SendFault;
+use gx_devices::{WriteFailed, WriteFault};
 use gx_units::OutOfMemory;
 use std::error::Error;
 use std::fmt;
@@ -49,15 +48,15 @@ impl fmt::Display for PipeFault {
 
 impl Error for PipeFault {}
 
-impl From<SendFault> for PipeFault {
+impl From<WriteFault> for PipeFault {
     ghost use Rattle.gx_pipe.specs.Faults.{fault_of_send};
 
     ghost from_gives = { λ sent e. e ≡ fault_of_send sent };
 
-    fn from(sent: SendFault) -> PipeFault {
+    fn from(sent: WriteFault) -> PipeFault {
         match sent {
-            SendFault::OutOfMemory => PipeFault::OutOfMemory,
-            SendFault::WriteFailed => PipeFault::WriteFailed,
+            WriteFault::OutOfMemory => PipeFault::OutOfMemory,
+            WriteFault::WriteFailed => PipeFault::WriteFailed,
         }
     }
 }

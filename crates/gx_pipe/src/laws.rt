@@ -3,16 +3,10 @@
 ghost use Rattle.std.specs.Prelude.{◌≡◌, ℕ, ◌<◌, length, List, ◌++◌, Option, IfSome, IsTrue, IsFalse};
 ghost use Rattle.gx_soup.specs.Packets.{packets_of};
 ghost use Rattle.gx_history.specs.Verdicts.{IsLegal};
-ghost use Rattle.gx_answers.specs.Gates.{GateData};
-ghost use Rattle.gx_answers.specs.Matches.{matching_of};
+ghost use Rattle.gx_answers.specs.{Gates.GateData, Matches.matching_of};
 ghost use Rattle.gx_devices.specs.Devices.{IsFront};
-ghost use Rattle.gx_session.specs.declared.session.Phase.TheVariants.{Fresh, On};
-ghost use Rattle.gx_session.specs.Events.{is_over};
-ghost use Rattle.gx_pipe.specs.declared.fault.PipeFault.{PipeFault};
-ghost use Rattle.gx_pipe.specs.Fronts.{AreFirst};
-ghost use Rattle.gx_pipe.specs.Piping.{is_never_refused, logout_of, IsAfterFault};
-ghost use Rattle.gx_pipe.specs.Serving.{WasServed, IsSilent, IsOnLine};
-ghost use Rattle.gx_pipe.specs.Transcript.{run_of, pipe, is_ended};
+ghost use Rattle.gx_session.specs.{declared.session.Phase.TheVariants.{Fresh, On}, Events.is_over};
+ghost use Rattle.gx_pipe.specs.{declared.fault.PipeFault.PipeFault, Fronts.AreFirst, Piping.{is_never_refused, logout_of, IsAfterFault}, Serving.{WasServed, IsSilent, IsOnLine}, Transcript.{run_of, pipe, is_ended}};
 
 /// Before a login is answered nothing is written, and no step is made but matching steps: each record that is there then
 /// and was not before is of one.

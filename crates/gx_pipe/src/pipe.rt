@@ -2,13 +2,9 @@
 
 ghost use Rattle.std.specs.Prelude.{◌≡◌, ℕ, ◌-◌, ◌^◌, ◌<◌, ◌≤◌, List, fold, IfSome, IfOk, IfErr, IsErrOf, OnOk};
 ghost use Rattle.gx_answers.specs.Gates.{GateData};
-ghost use Rattle.gx_devices.specs.Devices.{IsUnfailing, counted_on};
-ghost use Rattle.gx_devices.specs.Stopping.{trail};
-ghost use Rattle.gx_pipe.specs.Faults.{IsToldRightly, IsFinite};
-ghost use Rattle.gx_pipe.specs.Piping.{IsTaken, StopsIn, IsCutShort, Follows, Exchanged, Broken};
+ghost use Rattle.gx_devices.specs.{Devices.{IsUnfailing, counted_on}, Stopping.trail};
+ghost use Rattle.gx_pipe.specs.{Faults.{IsToldRightly, IsFinite}, Piping.{IsTaken, StopsIn, IsCutShort, Follows, Exchanged, Broken, IsAfterFault, IsLeaving, IsTranscript, IsPipe, packet_marks}, Transcript.{run_at, silent, on_packet, opened_at}};
 ghost use Rattle.gx_session.specs.Happenings.{happening};
-ghost use Rattle.gx_pipe.specs.Piping.{IsAfterFault, IsLeaving, IsTranscript, IsPipe, packet_marks};
-ghost use Rattle.gx_pipe.specs.Transcript.{run_at, silent, on_packet, opened_at};
 
 use crate::connection::Connection;
 use crate::fault::PipeFault;

@@ -1,60 +1,17 @@
 -- What a request's record tells, and what is kept for users behind it.
-use Rattle.std.proofs.Common.{◌≡◌, ℕ, ◌+◌, ◌≤◌, arith, true, false, Bool, List, [], ◌∷◌, ◌++◌, length, length-append, refl, ◌∙◌, ap, sym, cond, map, subst}
-use Rattle.std.specs.List.{filter, flat_map}
-use Rattle.std.proofs.lemmas.List.{append-nil, append_cancel_left, length-map}
-use Rattle.gx_units.specs.declared.names.AccountName.{AccountName}
-use Rattle.gx_units.specs.declared.names.UserName.{UserName}
-use Rattle.gx_ouch.specs.declared.inbound.EnterOrder.{EnterOrder}
-use Rattle.gx_ouch.specs.declared.letters.CancelReason.TheVariants as cancels
-use Rattle.gx_desk.specs.declared.Action.{Action}
-use Rattle.gx_desk.specs.declared.Action.TheVariants as actions
-use Rattle.gx_desk.specs.declared.AnswerCode.{AnswerCode}
-use Rattle.gx_desk.specs.declared.Command.{Command}
-use Rattle.gx_policy.specs.declared.policy.PolicyData.{PolicyData}
-use Rattle.gx_policy.specs.declared.policy.User.{User}
-use Rattle.gx_history.specs.declared.record.Asked.{Asked}
-use Rattle.gx_history.specs.declared.record.RecordData.{RecordData}
-use Rattle.gx_history.specs.declared.record.Request.{Request}
-use Rattle.gx_history.specs.declared.record.Request.TheVariants as requests
-use Rattle.gx_policy.specs.declared.rule_name.RuleName.{RuleName}
-use Rattle.gx_history.specs.declared.record.Step.TheVariants as steps
-use Rattle.gx_history.specs.declared.record.Verdict.{Verdict}
-use Rattle.gx_history.specs.declared.record.Verdict.TheVariants as verdicts
-use Rattle.gx_history.specs.declared.report.Message.{Message}
-use Rattle.gx_history.specs.InForce.{line_of}
-use Rattle.gx_history.specs.Reasons.{denial_code}
-use Rattle.gx_history.specs.Verdicts.{IsLegal, next}
-use Rattle.gx_history_laws.proofs.Adding.{found_passes, user_is}
-use Rattle.gx_history_laws.proofs.Granting.{asked_is_judged}
-use Rattle.gx_history_laws.proofs.Judging.{both}
-use Rattle.gx_history_laws.proofs.NextReports.{stream_next}
+use Rattle.std.proofs.{Common.{◌≡◌, ℕ, ◌+◌, ◌≤◌, arith, true, false, Bool, List, [], ◌∷◌, ◌++◌, length, length-append, refl, ◌∙◌, ap, sym, cond, map, subst}, lemmas.List.{append-nil, append_cancel_left, length-map}}
+use Rattle.std.specs.{List.{filter, flat_map}, Prelude.{Option, Some, None, is_some, option_to_list, ◌-◌}, Option.option_map_or}
+use Rattle.gx_units.specs.{declared.names.{AccountName.AccountName, UserName.UserName, Token.Token}, Names.{same_token, same_user}}
+use Rattle.gx_ouch.specs.declared.{inbound.EnterOrder.EnterOrder, letters.CancelReason.CancelReason}
+use Rattle.gx_desk.specs.declared.{Action.Action, AnswerCode.AnswerCode, Command.Command}
+use Rattle.gx_policy.specs.{declared.{policy.{PolicyData.PolicyData, User.User}, rule_name.RuleName.RuleName}, People.{account_of, is_trader, role_in, user_in}}
+use Rattle.gx_history.specs.{declared.{«record».{Asked.Asked, RecordData.RecordData, Request.Request, Verdict.Verdict, Step.Step}, report.Message.Message, live_order.LiveOrder.LiveOrder, moves.Move.{Move, TheVariants.{Nothing, Denies, Adds, Sizes, Replaces}}}, InForce.{line_of, kill_after}, Reasons.denial_code, Verdicts.{IsLegal, next}, Live.live_under, LiveOrders.{is_under, replacement_order, shares_open}, Requests.is_judged, Streams.{answer, canceled_of, day_end, ended_of, lift_code, rejected, replaced_of, reported, reports_of, reports_of_denial, stream, to_user}, Turns.new_order, World.{World, accepted_of, commanded, move_asked, move_by, moved, world}}
+use Rattle.gx_history_laws.proofs.{Adding.{found_passes, user_is, user_is_itself}, Granting.asked_is_judged, Judging.both, NextReports.stream_next, Runs.step_left}
 use Rattle.gx_day.proofs.Answering.{unknown_on_no_line}
-use Rattle.std.specs.Prelude.{Option, Some, None, is_some, option_to_list, ◌-◌}
-use Rattle.std.specs.Option.{option_map_or}
-use Rattle.gx_units.specs.Names.{same_token, same_user}
-use Rattle.gx_units.specs.declared.names.Token.{Token}
-use Rattle.gx_desk.specs.declared.AnswerCode.TheVariants as codes
-use Rattle.gx_history.specs.declared.live_order.LiveOrder.{LiveOrder}
-use Rattle.gx_history.specs.declared.record.Step.{Step}
-use Rattle.gx_history.specs.InForce.{kill_after}
-use Rattle.gx_history.specs.Live.{live_under}
-use Rattle.gx_history.specs.LiveOrders.{is_under, replacement_order, shares_open}
-use Rattle.gx_history.specs.Requests.{is_judged}
-use Rattle.gx_history.specs.Streams.{answer, canceled_of, day_end, ended_of, lift_code, rejected, replaced_of, reported, reports_of, reports_of_denial, stream, to_user}
 use Rattle.gx_history.specs.Turns as turns
-use Rattle.gx_history.specs.Turns.{new_order}
-use Rattle.gx_history.specs.declared.moves.Move.{Move}
-use Rattle.gx_history.specs.declared.moves.Move.TheVariants.{Nothing, Denies, Adds, Sizes, Replaces}
-use Rattle.gx_history.specs.World.{World, accepted_of, commanded, move_asked, move_by, moved, world}
-use Rattle.gx_history_laws.proofs.Adding.{user_is_itself}
-use Rattle.gx_history_laws.proofs.Runs.{step_left}
-use Rattle.gx_effects.proofs.ByKind.{denials_tell_who_asked, granted_world, kills_leave_the_others, logouts_put_off}
-use Rattle.gx_effects.proofs.World.{world_next}
-use Rattle.gx_policy.specs.People.{account_of, is_trader, role_in, user_in}
+use Rattle.gx_effects.proofs.{ByKind.{denials_tell_who_asked, granted_world, kills_leave_the_others, logouts_put_off}, World.world_next}
 use Rattle.gx_places.specs.Places.{concerns_many, enough_places, has_kept_places, is_alive, is_on, kills_left, most_record_places, orders_held, record_places, report_places}
-use Rattle.gx_places.proofs.Counting.{fewer_pass, most_pass, one_less_passes}
-use Rattle.gx_places.proofs.Held.{held_and_ended, held_turned, his_of}
-use Rattle.gx_places.proofs.Kills.{Kills, StayKilled, commands_lift_none, fewer_alive, fewer_kills_left, kill_finds, lifts, no_more_kills, one_kill_less, one_less_alive, was_on}
+use Rattle.gx_places.proofs.{Counting.{fewer_pass, most_pass, one_less_passes}, Held.{held_and_ended, held_turned, his_of}, Kills.{Kills, StayKilled, commands_lift_none, fewer_alive, fewer_kills_left, kill_finds, lifts, no_more_kills, one_kill_less, one_less_alive, was_on}}
 
 -- how many live orders the user has
 abbrev held : World → UserName → ℕ
@@ -89,13 +46,13 @@ rejected_few : (policy : PolicyData) (q : Request) (rule : RuleName) → length 
 rejected_few policy q rule = one_or_none _
 
 denied_few : (policy : PolicyData) (r : RecordData) (rule : RuleName) (q : Request) → length (reports_of_denial policy r rule q) ≤ 1
-denied_few policy r rule (requests.Login m) = rejected_few policy (requests.Login m) rule
-denied_few policy r rule requests.Logout = rejected_few policy requests.Logout rule
-denied_few policy r rule (requests.Unreadable m) = rejected_few policy (requests.Unreadable m) rule
-denied_few policy r rule (requests.Enter m) = rejected_few policy (requests.Enter m) rule
-denied_few policy r rule (requests.Replace m) = rejected_few policy (requests.Replace m) rule
-denied_few policy r rule (requests.Cancel m) = rejected_few policy (requests.Cancel m) rule
-denied_few policy r rule (requests.Command c) = by (denial_code rule)
+denied_few policy r rule (Request.Login m) = rejected_few policy (Request.Login m) rule
+denied_few policy r rule Request.Logout = rejected_few policy Request.Logout rule
+denied_few policy r rule (Request.Unreadable m) = rejected_few policy (Request.Unreadable m) rule
+denied_few policy r rule (Request.Enter m) = rejected_few policy (Request.Enter m) rule
+denied_few policy r rule (Request.Replace m) = rejected_few policy (Request.Replace m) rule
+denied_few policy r rule (Request.Cancel m) = rejected_few policy (Request.Cancel m) rule
+denied_few policy r rule (Request.Command c) = by (denial_code rule)
   where
     by : (found : Option AnswerCode) → length (flat_map (answer r c) (option_to_list found)) ≤ 1
     by None = omega arith
@@ -165,32 +122,32 @@ command policy w r officer c action user = by action
     alone x code is left = answered w (after x) r officer user [] [] (answer r c code) (omega arith) is (omega (arith, left))
 
     by : (x : Action) → Wants w (after x) r user (length (day_end policy x user) + cond (same_user officer user) 1 0)
-    by (actions.Kill account) =
-        let ends : List Message = ended_of w.live (actions.Kill account) user in
-        answered w (after (actions.Kill account)) r officer user ends [] (answer r c codes.Done) (omega arith)
-        (ap (λ (ms : List Message). w.streams user ++ map (reported r) (ms ++ to_user officer user (answer r c codes.Done))) (sym (append-nil ends))) (omega (arith, held_and_ended (actions.Kill account) user w.live))
-    by actions.CloseDay =
-        answered w (after actions.CloseDay) r officer user (ended_of w.live actions.CloseDay user) (day_end policy actions.CloseDay user) (answer r c codes.Done) (omega arith) refl (omega (arith, held_and_ended actions.CloseDay user w.live))
-    by (actions.Lift account) = alone (actions.Lift account) (lift_code (is_some (kill_after policy.lifters (Some (Some officer)) (w.kills account)))) refl (omega arith)
-    by (actions.SetLimit rule limit) = alone (actions.SetLimit rule limit) codes.Done refl (omega arith)
-    by (actions.Restrict rule stock) = alone (actions.Restrict rule stock) codes.Done refl (omega arith)
-    by (actions.Unrestrict rule stock) = alone (actions.Unrestrict rule stock) codes.Done refl (omega arith)
-    by (actions.Grant reader account) = alone (actions.Grant reader account) codes.Done refl (omega arith)
-    by (actions.Revoke reader account) = alone (actions.Revoke reader account) codes.Done refl (omega arith)
+    by (Action.Kill account) =
+        let ends : List Message = ended_of w.live (Action.Kill account) user in
+        answered w (after (Action.Kill account)) r officer user ends [] (answer r c AnswerCode.Done) (omega arith)
+        (ap (λ (ms : List Message). w.streams user ++ map (reported r) (ms ++ to_user officer user (answer r c AnswerCode.Done))) (sym (append-nil ends))) (omega (arith, held_and_ended (Action.Kill account) user w.live))
+    by Action.CloseDay =
+        answered w (after Action.CloseDay) r officer user (ended_of w.live Action.CloseDay user) (day_end policy Action.CloseDay user) (answer r c AnswerCode.Done) (omega arith) refl (omega (arith, held_and_ended Action.CloseDay user w.live))
+    by (Action.Lift account) = alone (Action.Lift account) (lift_code (is_some (kill_after policy.lifters (Some (Some officer)) (w.kills account)))) refl (omega arith)
+    by (Action.SetLimit rule limit) = alone (Action.SetLimit rule limit) AnswerCode.Done refl (omega arith)
+    by (Action.Restrict rule stock) = alone (Action.Restrict rule stock) AnswerCode.Done refl (omega arith)
+    by (Action.Unrestrict rule stock) = alone (Action.Unrestrict rule stock) AnswerCode.Done refl (omega arith)
+    by (Action.Grant reader account) = alone (Action.Grant reader account) AnswerCode.Done refl (omega arith)
+    by (Action.Revoke reader account) = alone (Action.Revoke reader account) AnswerCode.Done refl (omega arith)
 
 one_if : (b : Bool) (message : Message) → length (cond b (message ∷ []) []) ≤ 1
 one_if true message = omega arith
 one_if false message = omega arith
 
 day_end_few : (policy : PolicyData) (action : Action) (user : UserName) → length (day_end policy action user) ≤ 1
-day_end_few policy actions.CloseDay user = one_if (is_trader (role_in policy.users user)) _
-day_end_few policy (actions.Kill account) user = omega arith
-day_end_few policy (actions.Lift account) user = omega arith
-day_end_few policy (actions.SetLimit rule limit) user = omega arith
-day_end_few policy (actions.Restrict rule stock) user = omega arith
-day_end_few policy (actions.Unrestrict rule stock) user = omega arith
-day_end_few policy (actions.Grant reader account) user = omega arith
-day_end_few policy (actions.Revoke reader account) user = omega arith
+day_end_few policy Action.CloseDay user = one_if (is_trader (role_in policy.users user)) _
+day_end_few policy (Action.Kill account) user = omega arith
+day_end_few policy (Action.Lift account) user = omega arith
+day_end_few policy (Action.SetLimit rule limit) user = omega arith
+day_end_few policy (Action.Restrict rule stock) user = omega arith
+day_end_few policy (Action.Unrestrict rule stock) user = omega arith
+day_end_few policy (Action.Grant reader account) user = omega arith
+day_end_few policy (Action.Revoke reader account) user = omega arith
 
 -- a command that neither lifts nor closes
 command_few : (policy : PolicyData) (w : World) (r : RecordData) (officer : UserName) (c : Command) (action : Action) → ((user : UserName) → day_end policy action user ≡ []) → lifts action ≡ false
@@ -207,9 +164,9 @@ command_few policy w r officer c action no_end lifts_none =
     fewer user ends none wants = (wants.0, wants.1, at (length wants.0) (held (commanded policy r officer c action w) user) (held w user) ends (same_user officer user) wants.2 none)
 
 -- any granted request but a Lift or Close Day
-granted_few : (policy : PolicyData) (w : World) (r : RecordData) (a : Asked) (q : Request) → concerns_many q verdicts.Granted ≡ false → WantsFew w (moved policy r (move_asked policy w r a q) w) r a.user
-granted_few policy w r a (requests.Enter m) few = of_entered policy w r a m (account_of policy a.user)
-granted_few policy w r a (requests.Replace m) few =
+granted_few : (policy : PolicyData) (w : World) (r : RecordData) (a : Asked) (q : Request) → concerns_many q Verdict.Granted ≡ false → WantsFew w (moved policy r (move_asked policy w r a q) w) r a.user
+granted_few policy w r a (Request.Enter m) few = of_entered policy w r a m (account_of policy a.user)
+granted_few policy w r a (Request.Replace m) few =
     of_found policy w r a.user m.existing_token (λ (old : LiveOrder). Replaces old (replacement_order r m old))
     (λ old his. (
       λ user.
@@ -218,29 +175,29 @@ granted_few policy w r a (requests.Replace m) few =
           (tells_one w (moved policy r (Replaces old new) w) r old.user user (replaced_of old new) (omega arith) refl (omega (arith, held_turned (turns.Replaces old.number new) user w.live, one_order (same_user old.user user) new))),
       λ account h. h,
     ))
-granted_few policy w r a (requests.Cancel m) few =
+granted_few policy w r a (Request.Cancel m) few =
     of_found policy w r a.user m.token (λ (cut : LiveOrder). Sizes cut m.shares)
     (λ cut his. (
       λ user.
           subst (λ (u : UserName). Wants w (moved policy r (Sizes cut m.shares) w) r user (cond (same_user u user) 2 0)) his
-          (tells_one w (moved policy r (Sizes cut m.shares) w) r cut.user user (canceled_of cancels.UserRequested (shares_open cut - (m.shares - cut.done)) cut) (omega arith) refl
+          (tells_one w (moved policy r (Sizes cut m.shares) w) r cut.user user (canceled_of CancelReason.UserRequested (shares_open cut - (m.shares - cut.done)) cut) (omega arith) refl
           (no_order _ _ (same_user cut.user user) (omega (arith, held_turned (turns.Sizes cut.number m.shares) user w.live)))),
       λ account h. h,
     ))
-granted_few policy w r a (requests.Command c) few = by c.action few
+granted_few policy w r a (Request.Command c) few = by c.action few
   where
-    by : (action : Action) → elim action as (λ x. Bool) [ actions.Lift account ↦ true | actions.CloseDay ↦ true | _ ↦ false ] ≡ false → WantsFew w (commanded policy r a.user c action w) r a.user
-    by (actions.Lift account) h = let clash : true ≡ false = h in cc
-    by actions.CloseDay h = let clash : true ≡ false = h in cc
-    by (actions.Kill account) h = command_few policy w r a.user c (actions.Kill account) (λ user. refl) refl
-    by (actions.SetLimit rule limit) h = command_few policy w r a.user c (actions.SetLimit rule limit) (λ user. refl) refl
-    by (actions.Restrict rule stock) h = command_few policy w r a.user c (actions.Restrict rule stock) (λ user. refl) refl
-    by (actions.Unrestrict rule stock) h = command_few policy w r a.user c (actions.Unrestrict rule stock) (λ user. refl) refl
-    by (actions.Grant reader account) h = command_few policy w r a.user c (actions.Grant reader account) (λ user. refl) refl
-    by (actions.Revoke reader account) h = command_few policy w r a.user c (actions.Revoke reader account) (λ user. refl) refl
+    by : (action : Action) → elim action as (λ x. Bool) [ Action.Lift account ↦ true | Action.CloseDay ↦ true | _ ↦ false ] ≡ false → WantsFew w (commanded policy r a.user c action w) r a.user
+    by (Action.Lift account) h = let clash : true ≡ false = h in cc
+    by Action.CloseDay h = let clash : true ≡ false = h in cc
+    by (Action.Kill account) h = command_few policy w r a.user c (Action.Kill account) (λ user. refl) refl
+    by (Action.SetLimit rule limit) h = command_few policy w r a.user c (Action.SetLimit rule limit) (λ user. refl) refl
+    by (Action.Restrict rule stock) h = command_few policy w r a.user c (Action.Restrict rule stock) (λ user. refl) refl
+    by (Action.Unrestrict rule stock) h = command_few policy w r a.user c (Action.Unrestrict rule stock) (λ user. refl) refl
+    by (Action.Grant reader account) h = command_few policy w r a.user c (Action.Grant reader account) (λ user. refl) refl
+    by (Action.Revoke reader account) h = command_few policy w r a.user c (Action.Revoke reader account) (λ user. refl) refl
 granted_few policy w r a other few = (λ user. nothing w r user (cond (same_user a.user user) 2 0), λ account h. h)
 
-wants_few : (policy : PolicyData) (history : List RecordData) (a : Asked) (r : RecordData) → IsLegal policy history → next policy history (steps.Asked a) ≡ Some r
+wants_few : (policy : PolicyData) (history : List RecordData) (a : Asked) (r : RecordData) → IsLegal policy history → next policy history (Step.Asked a) ≡ Some r
     → concerns_many a.request r.verdict ≡ false → WantsFew (world policy history) (world policy (history ++ r ∷ [])) r a.user
 wants_few policy history a r legal left few = by r.verdict refl
   where
@@ -251,19 +208,19 @@ wants_few policy history a r legal left few = by r.verdict refl
     to_then after is h = subst (λ (x : World). WantsFew w x r a.user) (sym is) h
 
     by : (v : Verdict) → r.verdict ≡ v → WantsFew w (world policy (history ++ r ∷ [])) r a.user
-    by verdicts.Granted is =
+    by Verdict.Granted is =
         to_then _ (granted_world policy history a r a.request legal left refl is) (granted_few policy w r a a.request (sym (ap (concerns_many a.request) is) ∙ few))
-    by (verdicts.Denied rule) is =
+    by (Verdict.Denied rule) is =
         to_then _ (denials_tell_who_asked policy history a r rule left is)
         (λ user. tells_one w (moved policy r (Denies a rule) w) r a.user user (reports_of_denial policy r rule a.request) (denied_few policy r rule a.request) refl (no_order _ _ (same_user a.user user) (omega arith)), λ account h. h)
-    by (verdicts.Filled f) is = let judged : false ≡ true = sym (ap is_judged is) ∙ asked_is_judged policy history a r left in cc
-    by (verdicts.Rested number) is = let judged : false ≡ true = sym (ap is_judged is) ∙ asked_is_judged policy history a r left in cc
-    by (verdicts.Expired number) is = let judged : false ≡ true = sym (ap is_judged is) ∙ asked_is_judged policy history a r left in cc
+    by (Verdict.Filled f) is = let judged : false ≡ true = sym (ap is_judged is) ∙ asked_is_judged policy history a r left in cc
+    by (Verdict.Rested number) is = let judged : false ≡ true = sym (ap is_judged is) ∙ asked_is_judged policy history a r left in cc
+    by (Verdict.Expired number) is = let judged : false ≡ true = sym (ap is_judged is) ∙ asked_is_judged policy history a r left in cc
 
 -- ---- the laws
 
 pub others_want_no_more : (policy : PolicyData) (history : List RecordData) (a : Asked) (r : RecordData) (user : UserName)
-    → IsLegal policy history → next policy history (steps.Asked a) ≡ Some r → concerns_many a.request r.verdict ≡ false → same_user a.user user ≡ false
+    → IsLegal policy history → next policy history (Step.Asked a) ≡ Some r → concerns_many a.request r.verdict ≡ false → same_user a.user user ≡ false
     → length (reports_of policy user (history, r)) + report_places policy (history ++ r ∷ []) user ≤ report_places policy history user
 others_want_no_more policy history a r user legal left few another =
     let is : WantsFew (world policy history) (world policy (history ++ r ∷ [])) r a.user = wants_few policy history a r legal left few in
@@ -272,15 +229,15 @@ others_want_no_more policy history a r user legal left few another =
     omega (arith, told, fewer_kills_left policy history (history ++ r ∷ []) user is.1)
 
 -- what a granted command tells and leaves
-commanded_tells : (policy : PolicyData) (history : List RecordData) (a : Asked) (r : RecordData) (c : Command) (user : UserName) → IsLegal policy history → next policy history (steps.Asked a) ≡ Some r
-    → a.request ≡ requests.Command c → r.verdict ≡ verdicts.Granted → TellsAndLeaves policy history r user (length (day_end policy c.action user) + cond (same_user a.user user) 1 0)
+commanded_tells : (policy : PolicyData) (history : List RecordData) (a : Asked) (r : RecordData) (c : Command) (user : UserName) → IsLegal policy history → next policy history (Step.Asked a) ≡ Some r
+    → a.request ≡ Request.Command c → r.verdict ≡ Verdict.Granted → TellsAndLeaves policy history r user (length (day_end policy c.action user) + cond (same_user a.user user) 1 0)
 commanded_tells policy history a r c user legal left asks granted =
     let more : ℕ = length (day_end policy c.action user) + cond (same_user a.user user) 1 0 in
     tells_and_leaves policy history r user more
-    (subst (λ (after : World). Wants (world policy history) after r user more) (sym (granted_world policy history a r (requests.Command c) legal left asks granted)) (command policy (world policy history) r a.user c c.action user))
+    (subst (λ (after : World). Wants (world policy history) after r user more) (sym (granted_world policy history a r (Request.Command c) legal left asks granted)) (command policy (world policy history) r a.user c c.action user))
 
 -- whatever is granted or denied
-some_told : (policy : PolicyData) (history : List RecordData) (a : Asked) (r : RecordData) (user : UserName) → IsLegal policy history → next policy history (steps.Asked a) ≡ Some r → TellsAndLeaves policy history r user 2
+some_told : (policy : PolicyData) (history : List RecordData) (a : Asked) (r : RecordData) (user : UserName) → IsLegal policy history → next policy history (Step.Asked a) ≡ Some r → TellsAndLeaves policy history r user 2
 some_told policy history a r user legal left = by (concerns_many a.request r.verdict) refl
   where
     two : (reports before : ℕ) (b : Bool) → reports ≤ before + cond b 2 0 → reports ≤ before + 2
@@ -291,40 +248,40 @@ some_told policy history a r user legal left = by (concerns_many a.request r.ver
     one_and_one reports before ends true h few = omega (arith, h, few)
     one_and_one reports before ends false h few = omega (arith, h, few)
 
-    of_command : (c : Command) → a.request ≡ requests.Command c → r.verdict ≡ verdicts.Granted → TellsAndLeaves policy history r user 2
+    of_command : (c : Command) → a.request ≡ Request.Command c → r.verdict ≡ Verdict.Granted → TellsAndLeaves policy history r user 2
     of_command c asks granted =
         one_and_one _ _ (length (day_end policy c.action user)) (same_user a.user user)
         (commanded_tells policy history a r c user legal left asks granted) (day_end_few policy c.action user)
 
-    of_request : (q : Request) → a.request ≡ q → r.verdict ≡ verdicts.Granted → concerns_many q verdicts.Granted ≡ true → TellsAndLeaves policy history r user 2
-    of_request (requests.Command c) asks granted many = of_command c asks granted
-    of_request (requests.Login m) asks granted many = cc
-    of_request requests.Logout asks granted many = cc
-    of_request (requests.Unreadable m) asks granted many = cc
-    of_request (requests.Enter m) asks granted many = cc
-    of_request (requests.Replace m) asks granted many = cc
-    of_request (requests.Cancel m) asks granted many = cc
+    of_request : (q : Request) → a.request ≡ q → r.verdict ≡ Verdict.Granted → concerns_many q Verdict.Granted ≡ true → TellsAndLeaves policy history r user 2
+    of_request (Request.Command c) asks granted many = of_command c asks granted
+    of_request (Request.Login m) asks granted many = cc
+    of_request Request.Logout asks granted many = cc
+    of_request (Request.Unreadable m) asks granted many = cc
+    of_request (Request.Enter m) asks granted many = cc
+    of_request (Request.Replace m) asks granted many = cc
+    of_request (Request.Cancel m) asks granted many = cc
 
     of_verdict : (v : Verdict) → r.verdict ≡ v → concerns_many a.request v ≡ true → TellsAndLeaves policy history r user 2
-    of_verdict verdicts.Granted is many = of_request a.request refl is many
-    of_verdict (verdicts.Denied rule) is many = cc
-    of_verdict (verdicts.Filled f) is many = cc
-    of_verdict (verdicts.Rested number) is many = cc
-    of_verdict (verdicts.Expired number) is many = cc
+    of_verdict Verdict.Granted is many = of_request a.request refl is many
+    of_verdict (Verdict.Denied rule) is many = cc
+    of_verdict (Verdict.Filled f) is many = cc
+    of_verdict (Verdict.Rested number) is many = cc
+    of_verdict (Verdict.Expired number) is many = cc
 
     by : (b : Bool) → concerns_many a.request r.verdict ≡ b → TellsAndLeaves policy history r user 2
     by false is = two _ _ (same_user a.user user) (tells_and_leaves policy history r user (cond (same_user a.user user) 2 0) ((wants_few policy history a r legal left is).0 user))
     by true is = of_verdict r.verdict refl is
 
 pub so_many_are_enough : (policy : PolicyData) (history : List RecordData) (a : Asked) (r : RecordData) (user : UserName)
-    → IsLegal policy history → next policy history (steps.Asked a) ≡ Some r
+    → IsLegal policy history → next policy history (Step.Asked a) ≡ Some r
     → length (reports_of policy user (history, r)) + report_places policy (history ++ r ∷ []) user ≤ enough_places policy history user
 so_many_are_enough policy history a r user legal left =
     omega (arith, some_told policy history a r user legal left, no_more_kills policy (history ++ r ∷ []) user)
 
 -- a granted Kill
 kill_has_places : (policy : PolicyData) (history : List RecordData) (a : Asked) (r : RecordData) (c : Command) (account : AccountName) (user : UserName) → IsLegal policy history
-    → next policy history (steps.Asked a) ≡ Some r → r.verdict ≡ verdicts.Granted → a.request ≡ requests.Command c → c.action ≡ actions.Kill account
+    → next policy history (Step.Asked a) ≡ Some r → r.verdict ≡ Verdict.Granted → a.request ≡ Request.Command c → c.action ≡ Action.Kill account
     → length (reports_of policy user (history, r)) + report_places policy (history ++ r ∷ []) user ≤ report_places policy history user
 kill_has_places policy history a r c account user legal left granted asks is =
     at (same_user a.user user) refl (kill_finds policy history a r c account legal left granted asks is)
@@ -342,7 +299,7 @@ kill_has_places policy history a r c account user legal left granted asks is =
         omega (arith, none, fewer_kills_left policy history (history ++ r ∷ []) user finds.stay)
 
 -- a granted Logout
-logout_has_places : (policy : PolicyData) (history : List RecordData) (a : Asked) (r : RecordData) (user : UserName) → IsLegal policy history → next policy history (steps.Asked a) ≡ Some r → r.verdict ≡ verdicts.Granted → a.request ≡ requests.Logout
+logout_has_places : (policy : PolicyData) (history : List RecordData) (a : Asked) (r : RecordData) (user : UserName) → IsLegal policy history → next policy history (Step.Asked a) ≡ Some r → r.verdict ≡ Verdict.Granted → a.request ≡ Request.Logout
     → length (reports_of policy user (history, r)) + report_places policy (history ++ r ∷ []) user ≤ report_places policy history user
 logout_has_places policy history a r user legal left granted asks =
     let w : World = world policy history in
@@ -355,38 +312,38 @@ logout_has_places policy history a r user legal left granted asks =
 
 -- a granted Kill or Logout, by which it is
 by_kept : (policy : PolicyData) (history : List RecordData) (a : Asked) (r : RecordData) (P : Type 0) → has_kept_places a.request r.verdict ≡ true
-    → (r.verdict ≡ verdicts.Granted → a.request ≡ requests.Logout → P)
-    → (r.verdict ≡ verdicts.Granted → (c : Command) → a.request ≡ requests.Command c → (account : AccountName) → c.action ≡ actions.Kill account → P) → P
+    → (r.verdict ≡ Verdict.Granted → a.request ≡ Request.Logout → P)
+    → (r.verdict ≡ Verdict.Granted → (c : Command) → a.request ≡ Request.Command c → (account : AccountName) → c.action ≡ Action.Kill account → P) → P
 by_kept policy history a r P kept logout kill = by r.verdict refl kept
   where
-    by_action : r.verdict ≡ verdicts.Granted → (c : Command) → a.request ≡ requests.Command c → (action : Action) → c.action ≡ action → elim action as (λ x. Bool) [ actions.Kill account ↦ true | _ ↦ false ] ≡ true → P
-    by_action granted c asks (actions.Kill account) is h = kill granted c asks account is
-    by_action granted c asks (actions.Lift account) is h = let clash : false ≡ true = h in cc
-    by_action granted c asks (actions.SetLimit rule limit) is h = let clash : false ≡ true = h in cc
-    by_action granted c asks (actions.Restrict rule stock) is h = let clash : false ≡ true = h in cc
-    by_action granted c asks (actions.Unrestrict rule stock) is h = let clash : false ≡ true = h in cc
-    by_action granted c asks (actions.Grant reader account) is h = let clash : false ≡ true = h in cc
-    by_action granted c asks (actions.Revoke reader account) is h = let clash : false ≡ true = h in cc
-    by_action granted c asks actions.CloseDay is h = let clash : false ≡ true = h in cc
+    by_action : r.verdict ≡ Verdict.Granted → (c : Command) → a.request ≡ Request.Command c → (action : Action) → c.action ≡ action → elim action as (λ x. Bool) [ Action.Kill account ↦ true | _ ↦ false ] ≡ true → P
+    by_action granted c asks (Action.Kill account) is h = kill granted c asks account is
+    by_action granted c asks (Action.Lift account) is h = let clash : false ≡ true = h in cc
+    by_action granted c asks (Action.SetLimit rule limit) is h = let clash : false ≡ true = h in cc
+    by_action granted c asks (Action.Restrict rule stock) is h = let clash : false ≡ true = h in cc
+    by_action granted c asks (Action.Unrestrict rule stock) is h = let clash : false ≡ true = h in cc
+    by_action granted c asks (Action.Grant reader account) is h = let clash : false ≡ true = h in cc
+    by_action granted c asks (Action.Revoke reader account) is h = let clash : false ≡ true = h in cc
+    by_action granted c asks Action.CloseDay is h = let clash : false ≡ true = h in cc
 
-    by_request : r.verdict ≡ verdicts.Granted → (q : Request) → a.request ≡ q → has_kept_places q verdicts.Granted ≡ true → P
-    by_request granted requests.Logout asks h = logout granted asks
-    by_request granted (requests.Command c) asks h = by_action granted c asks c.action refl h
-    by_request granted (requests.Login m) asks h = cc
-    by_request granted (requests.Unreadable m) asks h = cc
-    by_request granted (requests.Enter m) asks h = cc
-    by_request granted (requests.Replace m) asks h = cc
-    by_request granted (requests.Cancel m) asks h = cc
+    by_request : r.verdict ≡ Verdict.Granted → (q : Request) → a.request ≡ q → has_kept_places q Verdict.Granted ≡ true → P
+    by_request granted Request.Logout asks h = logout granted asks
+    by_request granted (Request.Command c) asks h = by_action granted c asks c.action refl h
+    by_request granted (Request.Login m) asks h = cc
+    by_request granted (Request.Unreadable m) asks h = cc
+    by_request granted (Request.Enter m) asks h = cc
+    by_request granted (Request.Replace m) asks h = cc
+    by_request granted (Request.Cancel m) asks h = cc
 
     by : (v : Verdict) → r.verdict ≡ v → has_kept_places a.request v ≡ true → P
-    by verdicts.Granted is h = by_request is a.request refl h
-    by (verdicts.Denied rule) is h = cc
-    by (verdicts.Filled f) is h = cc
-    by (verdicts.Rested number) is h = cc
-    by (verdicts.Expired number) is h = cc
+    by Verdict.Granted is h = by_request is a.request refl h
+    by (Verdict.Denied rule) is h = cc
+    by (Verdict.Filled f) is h = cc
+    by (Verdict.Rested number) is h = cc
+    by (Verdict.Expired number) is h = cc
 
 pub kept_places_are_enough : (policy : PolicyData) (history : List RecordData) (a : Asked) (r : RecordData) (user : UserName)
-    → IsLegal policy history → next policy history (steps.Asked a) ≡ Some r → has_kept_places a.request r.verdict ≡ true
+    → IsLegal policy history → next policy history (Step.Asked a) ≡ Some r → has_kept_places a.request r.verdict ≡ true
     → length (reports_of policy user (history, r)) + report_places policy (history ++ r ∷ []) user ≤ report_places policy history user
 kept_places_are_enough policy history a r user legal left kept =
     by_kept policy history a r _ kept
@@ -406,8 +363,8 @@ known_if_on policy history user legal on = by (is_some (user_in policy.users use
     by true is = refl
     by false is = sym (ap is_some (unknown_on_no_line policy history legal user is)) ∙ on
 
-logout_takes_a_place : (policy : PolicyData) (history : List RecordData) (a : Asked) (r : RecordData) → IsLegal policy history → next policy history (steps.Asked a) ≡ Some r → r.verdict ≡ verdicts.Granted
-    → a.request ≡ requests.Logout → record_places policy (history ++ r ∷ []) + 1 ≤ record_places policy history
+logout_takes_a_place : (policy : PolicyData) (history : List RecordData) (a : Asked) (r : RecordData) → IsLegal policy history → next policy history (Step.Asked a) ≡ Some r → r.verdict ≡ Verdict.Granted
+    → a.request ≡ Request.Logout → record_places policy (history ++ r ∷ []) + 1 ≤ record_places policy history
 logout_takes_a_place policy history a r legal left granted asks =
     let w : World = world policy history in
     let now : world policy (history ++ r ∷ []) ≡ _ = logouts_put_off policy history a r left asks granted in
@@ -427,8 +384,8 @@ logout_takes_a_place policy history a r legal left granted asks =
     still line true on = cc
     still line false on = on
 
-kill_takes_a_place : (policy : PolicyData) (history : List RecordData) (a : Asked) (r : RecordData) (c : Command) (account : AccountName) → IsLegal policy history → next policy history (steps.Asked a) ≡ Some r → r.verdict ≡ verdicts.Granted
-    → a.request ≡ requests.Command c → c.action ≡ actions.Kill account → record_places policy (history ++ r ∷ []) + 1 ≤ record_places policy history
+kill_takes_a_place : (policy : PolicyData) (history : List RecordData) (a : Asked) (r : RecordData) (c : Command) (account : AccountName) → IsLegal policy history → next policy history (Step.Asked a) ≡ Some r → r.verdict ≡ Verdict.Granted
+    → a.request ≡ Request.Command c → c.action ≡ Action.Kill account → record_places policy (history ++ r ∷ []) + 1 ≤ record_places policy history
 kill_takes_a_place policy history a r c account legal left granted asks is =
     let now : world policy (history ++ r ∷ []) ≡ _ = kills_leave_the_others c account is policy history a r legal left asks granted in
     let lines : length (filter (is_on (history ++ r ∷ [])) policy.users) ≤ length (filter (is_on history) policy.users) =
@@ -436,7 +393,7 @@ kill_takes_a_place policy history a r c account legal left granted asks is =
     omega (arith, one_less_alive policy history r a account (kill_finds policy history a r c account legal left granted asks is), lines)
 
 pub kept_records_take_places : (policy : PolicyData) (history : List RecordData) (a : Asked) (r : RecordData)
-    → IsLegal policy history → next policy history (steps.Asked a) ≡ Some r → has_kept_places a.request r.verdict ≡ true
+    → IsLegal policy history → next policy history (Step.Asked a) ≡ Some r → has_kept_places a.request r.verdict ≡ true
     → record_places policy (history ++ r ∷ []) + 1 ≤ record_places policy history
 kept_records_take_places policy history a r legal left kept =
     by_kept policy history a r _ kept
@@ -454,19 +411,19 @@ enough_is_more policy history user = omega (arith, no_more_kills policy history 
 abbrev WantsNoMore : World → World → Type 0
 WantsNoMore before after = ((user : UserName) → held after user ≤ held before user) × StayKilled before after
 
-match_wants_no_more : (policy : PolicyData) (w : World) (r : RecordData) (handed : ℕ) (v : Verdict) → WantsNoMore w (moved policy r (move_by policy w r v (steps.Matching handed)) w)
-match_wants_no_more policy w r handed verdicts.Granted = (λ user. omega arith, λ account h. h)
-match_wants_no_more policy w r handed (verdicts.Denied rule) = (λ user. omega arith, λ account h. h)
-match_wants_no_more policy w r handed (verdicts.Filled f) = (λ user. omega (arith, held_turned (turns.Fills f) user w.live), λ account h. h)
-match_wants_no_more policy w r handed (verdicts.Rested number) = (λ user. omega (arith, held_turned (turns.Rests number) user w.live), λ account h. h)
-match_wants_no_more policy w r handed (verdicts.Expired number) = (λ user. omega (arith, held_turned (turns.Ends number) user w.live), λ account h. h)
+match_wants_no_more : (policy : PolicyData) (w : World) (r : RecordData) (handed : ℕ) (v : Verdict) → WantsNoMore w (moved policy r (move_by policy w r v (Step.Matching handed)) w)
+match_wants_no_more policy w r handed Verdict.Granted = (λ user. omega arith, λ account h. h)
+match_wants_no_more policy w r handed (Verdict.Denied rule) = (λ user. omega arith, λ account h. h)
+match_wants_no_more policy w r handed (Verdict.Filled f) = (λ user. omega (arith, held_turned (turns.Fills f) user w.live), λ account h. h)
+match_wants_no_more policy w r handed (Verdict.Rested number) = (λ user. omega (arith, held_turned (turns.Rests number) user w.live), λ account h. h)
+match_wants_no_more policy w r handed (Verdict.Expired number) = (λ user. omega (arith, held_turned (turns.Ends number) user w.live), λ account h. h)
 
 pub matches_want_no_more : (policy : PolicyData) (history : List RecordData) (handed : ℕ) (r : RecordData) (user : UserName)
-    → IsLegal policy history → next policy history (steps.Matching handed) ≡ Some r
+    → IsLegal policy history → next policy history (Step.Matching handed) ≡ Some r
     → report_places policy (history ++ r ∷ []) user ≤ report_places policy history user
 matches_want_no_more policy history handed r user legal left =
     let w : World = world policy history in
     let matches : WantsNoMore w (moved policy r (move_by policy w r r.verdict r.step) w) =
-    subst (λ (s : Step). WantsNoMore w (moved policy r (move_by policy w r r.verdict s) w)) (sym (step_left policy history (steps.Matching handed) r left)) (match_wants_no_more policy w r handed r.verdict) in
-    let is : WantsNoMore w (world policy (history ++ r ∷ [])) = subst (WantsNoMore w) (sym (world_next policy history (steps.Matching handed) r legal left)) matches in
+    subst (λ (s : Step). WantsNoMore w (moved policy r (move_by policy w r r.verdict s) w)) (sym (step_left policy history (Step.Matching handed) r left)) (match_wants_no_more policy w r handed r.verdict) in
+    let is : WantsNoMore w (world policy (history ++ r ∷ [])) = subst (WantsNoMore w) (sym (world_next policy history (Step.Matching handed) r legal left)) matches in
     omega (arith, is.0 user, fewer_kills_left policy history (history ++ r ∷ []) user is.1)

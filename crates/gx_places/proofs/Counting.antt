@@ -1,7 +1,6 @@
 -- How many of a list pass a test.
 use Rattle.std.proofs.Common.{◌≡◌, ◌+◌, ◌≤◌, arith, true, false, Bool, List, [], ◌∷◌, ◌++◌, length, refl, ◌∙◌, sym, cond}
-use Rattle.std.specs.Prelude.{Some, find}
-use Rattle.std.specs.List.{filter}
+use Rattle.std.specs.{Prelude.{Some, find}, List.filter}
 
 -- of two lists
 pub together : {X : Type 0} (p : X → Bool) (xs ys : List X) → length (filter p (xs ++ ys)) ≡ length (filter p xs) + length (filter p ys)

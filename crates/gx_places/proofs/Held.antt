@@ -1,17 +1,10 @@
 -- How many live orders a user has once a record has turned them.
 use Rattle.std.proofs.Common.{◌≡◌, ◌+◌, ◌≤◌, arith, true, false, Bool, List, [], ◌∷◌, length, refl, ◌∙◌, ap, sym, cond, subst}
-use Rattle.std.specs.Prelude.{ℕ, Option, Some, None, ◌||◌, ◌&&◌, ◌==◌, nat_lt}
-use Rattle.std.specs.List.{cons_option, filter, filter_map, flat_map}
-use Rattle.gx_units.specs.Names.{same_user}
-use Rattle.gx_units.specs.declared.names.UserName.{UserName}
-use Rattle.gx_ouch.specs.declared.letters.CancelReason.TheVariants as cancels
+use Rattle.std.specs.{Prelude.{ℕ, Option, Some, None, ◌||◌, ◌&&◌, ◌==◌, nat_lt}, List.{cons_option, filter, filter_map, flat_map}}
+use Rattle.gx_units.specs.{Names.same_user, declared.names.UserName.UserName}
+use Rattle.gx_ouch.specs.declared.letters.CancelReason.{CancelReason}
 use Rattle.gx_desk.specs.declared.Action.{Action}
-use Rattle.gx_history.specs.declared.live_order.LiveOrder.{LiveOrder}
-use Rattle.gx_history.specs.declared.report.Message.{Message}
-use Rattle.gx_history.specs.LiveOrders.{shares_open}
-use Rattle.gx_history.specs.Orders.{ends_account}
-use Rattle.gx_history.specs.Streams.{canceled_of, ended_of}
-use Rattle.gx_history.specs.Turns.{Turn, Keeps, Adds, Sizes, Replaces, EndsAll, Fills, Rests, Ends, becomes, new_in, turned, while_open}
+use Rattle.gx_history.specs.{declared.{live_order.LiveOrder.LiveOrder, report.Message.Message}, LiveOrders.shares_open, Orders.ends_account, Streams.{canceled_of, ended_of}, Turns.{Turn, Keeps, Adds, Sizes, Replaces, EndsAll, Fills, Rests, Ends, becomes, new_in, turned, while_open}}
 use Rattle.gx_places.specs.Places.{is_of_user}
 use Rattle.gx_places.proofs.Counting.{together}
 
@@ -84,7 +77,7 @@ ended_and_left action user (o ∷ os) = by (ends_account o.account action) (ende
     ends x = is_of_user user x && ends_account x.account action
 
     told : List LiveOrder → List Message
-    told xs = flat_map (λ (x : LiveOrder). canceled_of cancels.Supervisory (shares_open x) x) xs
+    told xs = flat_map (λ (x : LiveOrder). canceled_of CancelReason.Supervisory (shares_open x) x) xs
 
     left : List LiveOrder
     left = filter_map (becomes (EndsAll action)) os

@@ -1,35 +1,12 @@
 -- Which accounts may still be killed, and who is logged in, after one more record.
-use Rattle.std.proofs.Common.{◌≡◌, ℕ, ◌+◌, ◌≤◌, arith, true, false, not, Bool, List, [], ◌∷◌, ◌++◌, length, refl, ◌∙◌, ap, sym, cond, subst, if◌then◌else◌}
-use Rattle.std.specs.Prelude.{Option, Some, None, is_some, ◌&&◌}
-use Rattle.std.proofs.lemmas.Bool.{not-false}
-use Rattle.std.specs.List.{filter}
-use Rattle.gx_units.specs.Names.{same_account}
-use Rattle.gx_units.specs.declared.names.AccountName.{AccountName}
-use Rattle.gx_units.specs.declared.names.UserName.{UserName}
-use Rattle.gx_desk.specs.declared.Action.{Action}
-use Rattle.gx_desk.specs.declared.Action.TheVariants as actions
-use Rattle.gx_policy.specs.declared.policy.Account.{Account}
-use Rattle.gx_policy.specs.declared.policy.PolicyData.{PolicyData}
-use Rattle.gx_policy.specs.declared.policy.Role.{Role}
-use Rattle.gx_policy.specs.declared.policy.Role.TheVariants as roles
-use Rattle.gx_history.specs.declared.record.Asked.{Asked}
-use Rattle.gx_history.specs.declared.record.RecordData.{RecordData}
-use Rattle.gx_history.specs.declared.record.Request.TheVariants as requests
-use Rattle.gx_policy.specs.declared.rule_name.RuleName.TheVariants.{G1}
-use Rattle.gx_history.specs.declared.record.Step.TheVariants as steps
-use Rattle.gx_history.specs.declared.record.Verdict.TheVariants as verdicts
-use Rattle.gx_history.specs.Asking.{are_his, facts, has_power, is_on_line}
-use Rattle.gx_history.specs.InForce.{is_untouched, line_of}
-use Rattle.gx_policy.specs.People.{account_named, covers, is_officer, role_in}
-use Rattle.gx_history.specs.Rules.{forbids}
-use Rattle.gx_history.specs.Verdicts.{IsLegal, facts_now, next}
-use Rattle.gx_history_laws.proofs.Names.{account_is, account_is_itself}
-use Rattle.gx_history_laws.proofs.Granting.{is_no_bar}
-use Rattle.gx_effects.proofs.Allowed.{changes_something, has_the_accounts, has_the_power, names_are_known}
-use Rattle.gx_effects.proofs.ByKind.{kills_leave_the_others}
-use Rattle.gx_effects.proofs.Commanding.{GrantsCommand, grants_the_command}
-use Rattle.gx_desk.specs.declared.Command.{Command}
-use Rattle.gx_history.specs.World.{World, commanded, world}
+use Rattle.std.proofs.{Common.{◌≡◌, ℕ, ◌+◌, ◌≤◌, arith, true, false, not, Bool, List, [], ◌∷◌, ◌++◌, length, refl, ◌∙◌, ap, sym, cond, subst, if◌then◌else◌}, lemmas.Bool.not-false}
+use Rattle.std.specs.{Prelude.{Option, Some, None, is_some, ◌&&◌}, List.filter}
+use Rattle.gx_units.specs.{Names.same_account, declared.names.{AccountName.AccountName, UserName.UserName}}
+use Rattle.gx_desk.specs.declared.{Action.Action, Command.Command}
+use Rattle.gx_policy.specs.{declared.{policy.{Account.Account, PolicyData.PolicyData, Role.Role}, rule_name.RuleName.TheVariants.G1}, People.{account_named, covers, is_officer, role_in}}
+use Rattle.gx_history.specs.{declared.record.{Asked.Asked, RecordData.RecordData, Request.Request, Step.Step, Verdict.Verdict}, Asking.{are_his, facts, has_power, is_on_line}, InForce.{is_untouched, line_of}, Rules.forbids, Verdicts.{IsLegal, facts_now, next}, World.{World, commanded, world}}
+use Rattle.gx_history_laws.proofs.{Names.{account_is, account_is_itself}, Granting.is_no_bar}
+use Rattle.gx_effects.proofs.{Allowed.{changes_something, has_the_accounts, has_the_power, names_are_known}, ByKind.kills_leave_the_others, Commanding.{GrantsCommand, grants_the_command}}
 use Rattle.gx_places.specs.Places.{is_alive, is_whole, is_left_to, kills_left, may_kill, most_kills}
 use Rattle.gx_places.proofs.Counting.{fewer_pass, most_pass, one_less_passes}
 
@@ -39,23 +16,23 @@ StayKilled before after = (account : AccountName) → is_untouched (before.kills
 
 -- a Lift
 abbrev pub lifts : Action → Bool
-lifts (actions.Lift account) = true
+lifts (Action.Lift account) = true
 lifts other = false
 
 -- any other command lifts none
 pub commands_lift_none : (policy : PolicyData) (r : RecordData) (officer : UserName) (c : Command) (w : World) (action : Action) → lifts action ≡ false → StayKilled w (commanded policy r officer c action w)
-commands_lift_none policy r officer c w (actions.Kill named) none account h = at (same_account named account)
+commands_lift_none policy r officer c w (Action.Kill named) none account h = at (same_account named account)
   where
     at : (b : Bool) → is_untouched (if b then Some [] else w.kills account) ≡ true
     at true = refl
     at false = h
-commands_lift_none policy r officer c w (actions.Lift named) none account h = cc
-commands_lift_none policy r officer c w (actions.SetLimit rule limit) none account h = h
-commands_lift_none policy r officer c w (actions.Restrict rule stock) none account h = h
-commands_lift_none policy r officer c w (actions.Unrestrict rule stock) none account h = h
-commands_lift_none policy r officer c w (actions.Grant reader named) none account h = h
-commands_lift_none policy r officer c w (actions.Revoke reader named) none account h = h
-commands_lift_none policy r officer c w actions.CloseDay none account h = h
+commands_lift_none policy r officer c w (Action.Lift named) none account h = cc
+commands_lift_none policy r officer c w (Action.SetLimit rule limit) none account h = h
+commands_lift_none policy r officer c w (Action.Restrict rule stock) none account h = h
+commands_lift_none policy r officer c w (Action.Unrestrict rule stock) none account h = h
+commands_lift_none policy r officer c w (Action.Grant reader named) none account h = h
+commands_lift_none policy r officer c w (Action.Revoke reader named) none account h = h
+commands_lift_none policy r officer c w Action.CloseDay none account h = h
 
 -- what was not passed before is not passed after
 left_before : (m k l : Bool) → (k ≡ true → l ≡ true) → (m && not l) ≡ true → (m && not k) ≡ true
@@ -78,10 +55,10 @@ fewer_alive policy before after stay =
 
 -- an officer who has the power and the account may kill it
 may : (policy : PolicyData) (history : List RecordData) (role : Option Role) (account : AccountName)
-    → has_power role (actions.Kill account) ≡ true → are_his policy history role (actions.Kill account) ≡ true → may_kill role account ≡ true
-may policy history (Some (roles.Officer powers scope)) account power his = ap (λ b. b && covers scope account) power ∙ his
-may policy history (Some (roles.Trader other)) account power his = cc
-may policy history (Some (roles.Reader names)) account power his = cc
+    → has_power role (Action.Kill account) ≡ true → are_his policy history role (Action.Kill account) ≡ true → may_kill role account ≡ true
+may policy history (Some (Role.Officer powers scope)) account power his = ap (λ b. b && covers scope account) power ∙ his
+may policy history (Some (Role.Trader other)) account power his = cc
+may policy history (Some (Role.Reader names)) account power his = cc
 may policy history None account power his = cc
 
 -- what a granted Kill finds
@@ -96,18 +73,18 @@ not_true : (b : Bool) → not b ≡ true → b ≡ false
 not_true true h = cc
 not_true false h = refl
 
-pub kill_finds : (policy : PolicyData) (history : List RecordData) (a : Asked) (r : RecordData) (c : Command) (account : AccountName) → IsLegal policy history → next policy history (steps.Asked a) ≡ Some r
-    → r.verdict ≡ verdicts.Granted → a.request ≡ requests.Command c → c.action ≡ actions.Kill account → Kills policy history r a account
+pub kill_finds : (policy : PolicyData) (history : List RecordData) (a : Asked) (r : RecordData) (c : Command) (account : AccountName) → IsLegal policy history → next policy history (Step.Asked a) ≡ Some r
+    → r.verdict ≡ Verdict.Granted → a.request ≡ Request.Command c → c.action ≡ Action.Kill account → Kills policy history r a account
 kill_finds policy history a r c account legal left granted asks is =
-    let g : GrantsCommand r a (actions.Kill account) = grants_the_command policy history a r c (actions.Kill account) left asks is granted in
+    let g : GrantsCommand r a (Action.Kill account) = grants_the_command policy history a r c (Action.Kill account) left asks is granted in
     let w : World = world policy history in
     let now : world policy (history ++ r ∷ []) ≡ _ = kills_leave_the_others c account is policy history a r legal left asks granted in
     record {
-      is_known = names_are_known policy history a r (actions.Kill account) g left;
-      may = may policy history (role_in policy.users a.user) account (has_the_power policy history a r (actions.Kill account) g left) (has_the_accounts policy history a r (actions.Kill account) g left);
-      was_alive = not_true (is_whole policy history account) (changes_something policy history a r (actions.Kill account) g left);
+      is_known = names_are_known policy history a r (Action.Kill account) g left;
+      may = may policy history (role_in policy.users a.user) account (has_the_power policy history a r (Action.Kill account) g left) (has_the_accounts policy history a r (Action.Kill account) g left);
+      was_alive = not_true (is_whole policy history account) (changes_something policy history a r (Action.Kill account) g left);
       is_whole_now = ap (λ (after : World). is_untouched (after.kills account)) now ∙ ap (λ b. is_untouched (if b then Some [] else w.kills account)) (account_is_itself account);
-      stay = subst (StayKilled w) (sym now) (commands_lift_none policy r a.user c w (actions.Kill account) refl);
+      stay = subst (StayKilled w) (sym now) (commands_lift_none policy r a.user c w (Action.Kill account) refl);
     }
 
 there : {X : Type 0} (found : Option X) → is_some found ≡ true → (x : X) × (found ≡ Some x)
@@ -151,11 +128,11 @@ pub no_more_kills : (policy : PolicyData) (history : List RecordData) (user : Us
 no_more_kills policy history user = by (is_officer (role_in policy.users user)) refl
   where
     none : (role : Option Role) → is_officer role ≡ false → (accounts : List Account) → length (filter (λ (a : Account). may_kill role a.name && not (is_whole policy history a.name)) accounts) ≤ 0
-    none (Some (roles.Officer powers scope)) h accounts = cc
-    none (Some (roles.Trader other)) h [] = omega arith
-    none (Some (roles.Trader other)) h (a ∷ accounts) = none (Some (roles.Trader other)) h accounts
-    none (Some (roles.Reader names)) h [] = omega arith
-    none (Some (roles.Reader names)) h (a ∷ accounts) = none (Some (roles.Reader names)) h accounts
+    none (Some (Role.Officer powers scope)) h accounts = cc
+    none (Some (Role.Trader other)) h [] = omega arith
+    none (Some (Role.Trader other)) h (a ∷ accounts) = none (Some (Role.Trader other)) h accounts
+    none (Some (Role.Reader names)) h [] = omega arith
+    none (Some (Role.Reader names)) h (a ∷ accounts) = none (Some (Role.Reader names)) h accounts
     none None h [] = omega arith
     none None h (a ∷ accounts) = none None h accounts
 
@@ -171,7 +148,7 @@ on_this_line policy history a = refl
 
 -- who is granted a Logout is on a line
 pub was_on : (policy : PolicyData) (history : List RecordData) (a : Asked) (r : RecordData)
-    → next policy history (steps.Asked a) ≡ Some r → r.verdict ≡ verdicts.Granted → a.request ≡ requests.Logout → is_some (line_of history a.user) ≡ true
+    → next policy history (Step.Asked a) ≡ Some r → r.verdict ≡ Verdict.Granted → a.request ≡ Request.Logout → is_some (line_of history a.user) ≡ true
 was_on policy history a r left granted asks =
     on (line_of history a.user)
     (sym (on_this_line policy history a)

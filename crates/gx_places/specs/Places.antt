@@ -1,24 +1,9 @@
 -- The places that are kept beforehand, so that each Kill and each Logout that may be granted can be recorded and told.
-use Rattle.std.specs.Prelude.{ℕ, ◌+◌, Bool, true, false, ◌&&◌, not, is_some, length, List, Option, Some, if◌then◌else◌}
-use Rattle.std.specs.List.{filter}
-use Rattle.gx_units.specs.Names.{same_user}
-use Rattle.gx_units.specs.declared.names.AccountName.{AccountName}
-use Rattle.gx_units.specs.declared.names.UserName.{UserName}
-use Rattle.gx_desk.specs.declared.Action.TheVariants as actions
-use Rattle.gx_policy.specs.declared.policy.Account.{Account}
-use Rattle.gx_policy.specs.declared.policy.PolicyData.{PolicyData}
-use Rattle.gx_policy.specs.declared.policy.Role.{Role}
-use Rattle.gx_policy.specs.declared.policy.Role.TheVariants as roles
-use Rattle.gx_policy.specs.declared.policy.User.{User}
-use Rattle.gx_history.specs.declared.record.RecordData.{RecordData}
-use Rattle.gx_history.specs.declared.record.Request.{Request}
-use Rattle.gx_history.specs.declared.record.Request.TheVariants as requests
-use Rattle.gx_history.specs.declared.record.Verdict.{Verdict}
-use Rattle.gx_history.specs.declared.record.Verdict.TheVariants as verdicts
-use Rattle.gx_history.specs.declared.live_order.LiveOrder.{LiveOrder}
-use Rattle.gx_history.specs.Live.{live}
-use Rattle.gx_history.specs.InForce.{is_untouched, kill_in_force, line_of}
-use Rattle.gx_policy.specs.People.{covers, is_officer, role_in}
+use Rattle.std.specs.{Prelude.{ℕ, ◌+◌, Bool, true, false, ◌&&◌, not, is_some, length, List, Option, Some, if◌then◌else◌}, List.filter}
+use Rattle.gx_units.specs.{Names.same_user, declared.names.{AccountName.AccountName, UserName.UserName}}
+use Rattle.gx_desk.specs.declared.Action.{Action}
+use Rattle.gx_policy.specs.{declared.policy.{Account.Account, PolicyData.PolicyData, Role.Role, User.User}, People.{covers, is_officer, role_in}}
+use Rattle.gx_history.specs.{declared.{«record».{RecordData.RecordData, Request.Request, Verdict.Verdict}, live_order.LiveOrder.LiveOrder}, Live.live, InForce.{is_untouched, kill_in_force, line_of}}
 
 -- the order is the user's
 abbrev pub is_of_user : UserName → LiveOrder → Bool
@@ -30,7 +15,7 @@ orders_held policy history user = length (filter (is_of_user user) (live policy 
 
 -- an officer who may kill the account
 abbrev pub may_kill : Option Role → AccountName → Bool
-may_kill (Some (roles.Officer powers scope)) account = powers.kill && covers scope account
+may_kill (Some (Role.Officer powers scope)) account = powers.kill && covers scope account
 may_kill other account = false
 
 -- the account is killed, and nobody has lifted it since: a Kill would change nothing
@@ -76,21 +61,21 @@ most_record_places policy = length policy.accounts + length policy.users
 
 -- a Kill or a Logout
 abbrev pub is_kill_or_logout : Request → Bool
-is_kill_or_logout requests.Logout = true
-is_kill_or_logout (requests.Command c) = elim c.action [ actions.Kill account ↦ true | _ ↦ false ]
+is_kill_or_logout Request.Logout = true
+is_kill_or_logout (Request.Command c) = elim c.action [ Action.Kill account ↦ true | _ ↦ false ]
 is_kill_or_logout other = false
 
 -- a granted Kill or Logout: its record, and what it tells, have their places
 abbrev pub has_kept_places : Request → Verdict → Bool
-has_kept_places q verdicts.Granted = is_kill_or_logout q
+has_kept_places q Verdict.Granted = is_kill_or_logout q
 has_kept_places q other = false
 
 -- a Lift or a Close Day, after which many a user may want more places, or is told
 abbrev pub is_lift_or_close : Request → Bool
-is_lift_or_close (requests.Command c) = elim c.action [ actions.Lift account ↦ true | actions.CloseDay ↦ true | _ ↦ false ]
+is_lift_or_close (Request.Command c) = elim c.action [ Action.Lift account ↦ true | Action.CloseDay ↦ true | _ ↦ false ]
 is_lift_or_close other = false
 
 -- a granted Lift or Close Day
 abbrev pub concerns_many : Request → Verdict → Bool
-concerns_many q verdicts.Granted = is_lift_or_close q
+concerns_many q Verdict.Granted = is_lift_or_close q
 concerns_many q other = false

@@ -1,8 +1,6 @@
 //! Laws of the places that are kept, each as what a function without a body ensures.
 
-ghost use Rattle.gx_places.specs.Laws.{EnoughIsMore, KeptPlacesAreEnough};
-ghost use Rattle.gx_places.specs.Laws.{KeptRecordsTakePlaces, MatchesWantNoMore, OthersWantNoMore};
-ghost use Rattle.gx_places.specs.Laws.{SoManyAreEnough, SoManyRecordPlacesAreEnough};
+ghost use Rattle.gx_places.specs.Laws.{EnoughIsMore, KeptPlacesAreEnough, KeptRecordsTakePlaces, MatchesWantNoMore, OthersWantNoMore, SoManyAreEnough, SoManyRecordPlacesAreEnough};
 
 /// A granted Kill or Logout finds the places for its record and for all that it tells, and leaves
 /// those that are still wanted.

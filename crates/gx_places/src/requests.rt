@@ -1,8 +1,7 @@
 //! Which requests find their places kept, and which may make more wanted.
 
 ghost use Rattle.std.specs.Prelude.{◌≡◌};
-ghost use Rattle.gx_places.specs.Places.{concerns_many, has_kept_places, is_kill_or_logout};
-ghost use Rattle.gx_places.specs.Places.{is_lift_or_close};
+ghost use Rattle.gx_places.specs.Places.{concerns_many, has_kept_places, is_kill_or_logout, is_lift_or_close};
 
 use gx_desk::Action;
 use gx_history::record::{Request, Verdict};

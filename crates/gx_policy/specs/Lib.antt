@@ -2,3 +2,4 @@ pub mod Lists
 pub mod RuleNames
 pub mod People
 pub mod Soundness
+pub mod Kinds

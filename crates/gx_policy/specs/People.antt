@@ -1,20 +1,7 @@
 -- What the policy says of users, accounts and stocks.
-use Rattle.std.specs.Prelude.{Bool, true, false, ◌&&◌, List, Option, Some, None, option_and_then, option_map}
-use Rattle.std.specs.List.{find, list_any, list_all}
-use Rattle.gx_units.specs.Names.{same_account, same_stock, same_user, same_rule}
-use Rattle.gx_units.specs.declared.names.AccountName.{AccountName}
-use Rattle.gx_units.specs.declared.names.UserName.{UserName}
-use Rattle.gx_units.specs.declared.names.Symbol.{Symbol}
-use Rattle.gx_units.specs.declared.names.RuleId.{RuleId}
-use Rattle.gx_policy.specs.declared.policy.PolicyData.{PolicyData}
-use Rattle.gx_policy.specs.declared.policy.Account.{Account}
-use Rattle.gx_policy.specs.declared.policy.Stock.{Stock}
-use Rattle.gx_policy.specs.declared.policy.User.{User}
-use Rattle.gx_policy.specs.declared.policy.Role.{Role}
-use Rattle.gx_policy.specs.declared.policy.Role.TheVariants as roles
-use Rattle.gx_policy.specs.declared.policy.Scope.{Scope}
-use Rattle.gx_policy.specs.declared.policy.Scope.TheVariants as scopes
-use Rattle.gx_policy.specs.declared.policy.FileRule.{FileRule}
+use Rattle.std.specs.{Prelude.{Bool, true, false, ◌&&◌, List, Option, Some, None, option_and_then, option_map}, List.{find, list_any, list_all}}
+use Rattle.gx_units.specs.{Names.{same_account, same_stock, same_user, same_rule}, declared.names.{AccountName.AccountName, UserName.UserName, Symbol.Symbol, RuleId.RuleId}}
+use Rattle.gx_policy.specs.declared.policy.{PolicyData.PolicyData, Account.Account, Stock.Stock, User.User, Role.Role, Scope.Scope, FileRule.FileRule}
 
 -- the user of this name
 abbrev pub user_in : List User → UserName → Option User
@@ -38,22 +25,22 @@ role_in users name = option_map (λ (u : User). u.role) (user_in users name)
 
 -- a known user who trades for an account
 abbrev pub is_trader : Option Role → Bool
-is_trader (Some (roles.Trader account)) = true
+is_trader (Some (Role.Trader account)) = true
 is_trader other = false
 
 -- a known user who gives commands
 abbrev pub is_officer : Option Role → Bool
-is_officer (Some (roles.Officer powers scope)) = true
+is_officer (Some (Role.Officer powers scope)) = true
 is_officer other = false
 
 -- a known user who is shown fills of others
 abbrev pub is_reader : Option Role → Bool
-is_reader (Some (roles.Reader names)) = true
+is_reader (Some (Role.Reader names)) = true
 is_reader other = false
 
 -- the account that a trader trades for
 abbrev pub account_of_role : Role → Option AccountName
-account_of_role (roles.Trader account) = Some account
+account_of_role (Role.Trader account) = Some account
 account_of_role other = None
 
 -- the account that a trader trades for
@@ -66,8 +53,8 @@ names_account names account = list_any (λ name. same_account name account) name
 
 -- the account is in the scope
 abbrev pub covers : Scope → AccountName → Bool
-covers scopes.All account = true
-covers (scopes.Only names) account = names_account names account
+covers Scope.All account = true
+covers (Scope.Only names) account = names_account names account
 
 -- each account of the policy that the first scope covers is covered by the second
 abbrev pub is_within : PolicyData → Scope → Scope → Bool

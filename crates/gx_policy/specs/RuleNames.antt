@@ -1,10 +1,7 @@
 -- The names of the rules.
-use Rattle.std.specs.Prelude.{ℕ, Bool, true, false, List, [], ◌∷◌, ◌++◌, take, codes}
-use Rattle.std.specs.List.{list_any}
-use Rattle.gx_units.specs.Names.{same_rule}
-use Rattle.gx_units.specs.declared.names.RuleId.{RuleId}
-use Rattle.gx_policy.specs.declared.rule_name.RuleName.{RuleName}
-use Rattle.gx_policy.specs.declared.rule_name.RuleName.TheVariants.{L1, L2, L3, G1, G2, G3, I1, I2, I3, P1, P2, P3, P4, P5, P6, P7, P8, P9, P10, P11, P12, Q1, Q2, Q3, Q4, File}
+use Rattle.std.specs.{Prelude.{◌≡◌, ℕ, Bool, true, false, List, [], ◌∷◌, ◌++◌, take, codes, length}, List.list_any}
+use Rattle.gx_units.specs.{Names.same_rule, declared.names.RuleId.RuleId}
+use Rattle.gx_policy.specs.declared.rule_name.RuleName.{RuleName, TheVariants.{L1, L2, L3, G1, G2, G3, I1, I2, I3, P1, P2, P3, P4, P5, P6, P7, P8, P9, P10, P11, P12, Q1, Q2, Q3, Q4, File}}
 
 -- the built-in rules that stand before the file's
 unfoldable pub rules_before : List RuleName
@@ -67,3 +64,8 @@ rule_id name = record { bytes = take 8 (written_rule name ++ codes "        ") }
 -- a name that no rule of the file may have
 abbrev pub is_built_in : RuleId → Bool
 is_built_in name = list_any (λ rule. same_rule (rule_id rule) name) (rules_before ++ rules_behind)
+
+-- the name of a rule of the file is of eight bytes
+abbrev pub NameFits : RuleName → Type 0
+NameFits (File name) = length name.bytes ≡ 8
+NameFits other = Unit {0}

@@ -1,24 +1,7 @@
 -- What each policy keeps: limits, ranges, spelling, names that differ and are known.
-use Rattle.std.specs.Prelude.{ℕ, Bool, true, ◌&&◌, ◌||◌, not, ◌==◌, nat_le, is_some, length, List, [], ◌∷◌}
-use Rattle.std.specs.List.{list_all}
-use Rattle.gx_units.specs.Spelling.{is_blank}
-use Rattle.gx_units.specs.Names.{same_account, same_stock, same_user, same_rule, is_lower_case}
-use Rattle.gx_units.specs.declared.names.AccountName.{AccountName}
-use Rattle.gx_units.specs.declared.names.Symbol.{Symbol}
-use Rattle.gx_policy.specs.declared.policy.PolicyData.{PolicyData}
-use Rattle.gx_policy.specs.declared.policy.Account.{Account}
-use Rattle.gx_policy.specs.declared.policy.Stock.{Stock}
-use Rattle.gx_policy.specs.declared.policy.User.{User}
-use Rattle.gx_policy.specs.declared.policy.Role.{Role}
-use Rattle.gx_policy.specs.declared.policy.Role.TheVariants as roles
-use Rattle.gx_policy.specs.declared.policy.Scope.{Scope}
-use Rattle.gx_policy.specs.declared.policy.Scope.TheVariants as scopes
-use Rattle.gx_policy.specs.declared.policy.FileRule.{FileRule}
-use Rattle.gx_policy.specs.declared.policy.RuleKind.{RuleKind}
-use Rattle.gx_policy.specs.declared.policy.RuleKind.TheVariants as kinds
-use Rattle.gx_policy.specs.Lists.{are_distinct}
-use Rattle.gx_policy.specs.People.{account_named, stock_named}
-use Rattle.gx_policy.specs.RuleNames.{is_built_in}
+use Rattle.gx_policy.specs.{declared.{policy.{PolicyData.PolicyData, Account.Account, Stock.Stock, User.User, Role.Role, Scope.Scope, FileRule.FileRule, RuleKind.RuleKind}}, Lists.are_distinct, People.{account_named, stock_named}, RuleNames.is_built_in}
+use Rattle.std.specs.{Prelude.{ℕ, Bool, true, ◌&&◌, ◌||◌, not, ◌==◌, nat_le, is_some, length, List, [], ◌∷◌}, List.list_all}
+use Rattle.gx_units.specs.{Spelling.is_blank, Names.{same_account, same_stock, same_user, same_rule, is_lower_case}, declared.names.{AccountName.AccountName, Symbol.Symbol}}
 
 -- between the two, both included
 abbrev pub is_among : ℕ → ℕ → ℕ → Bool
@@ -55,8 +38,8 @@ are_stocks policy names = list_all (λ name. is_some (stock_named policy name)) 
 
 -- all accounts, or some of the policy
 abbrev pub is_scope : PolicyData → Scope → Bool
-is_scope policy scopes.All = true
-is_scope policy (scopes.Only names) = are_accounts policy names
+is_scope policy Scope.All = true
+is_scope policy (Scope.Only names) = are_accounts policy names
 
 -- its name and its firm are spelled as they may be
 abbrev pub is_account_sound : Account → Bool
@@ -68,9 +51,9 @@ is_stock_sound s = is_spelled is_visible s.name.bytes && is_among 1 1999999900 s
 
 -- the accounts that the role names are in the policy
 abbrev pub is_role_sound : PolicyData → Role → Bool
-is_role_sound policy (roles.Trader account) = is_some (account_named policy account)
-is_role_sound policy (roles.Officer powers scope) = is_scope policy scope
-is_role_sound policy (roles.Reader names) = are_accounts policy names
+is_role_sound policy (Role.Trader account) = is_some (account_named policy account)
+is_role_sound policy (Role.Officer powers scope) = is_scope policy scope
+is_role_sound policy (Role.Reader names) = are_accounts policy names
 
 -- name and password are spelled in upper case, and the role is sound
 abbrev pub is_user_sound : PolicyData → User → Bool
@@ -82,19 +65,12 @@ greatest = 9223372036854775807
 
 -- its numbers are in range, and its stocks are in the policy
 abbrev pub is_kind_sound : PolicyData → RuleKind → Bool
-is_kind_sound policy (kinds.Halt stocks) = are_stocks policy stocks
-is_kind_sound policy (kinds.Restricted stocks) = are_stocks policy stocks
-is_kind_sound policy (kinds.OrderShares limit) = nat_le limit greatest
-is_kind_sound policy (kinds.OrderValue limit) = nat_le limit greatest
-is_kind_sound policy (kinds.Collar limit) = nat_le limit greatest
-is_kind_sound policy (kinds.GrossShares limit count) = nat_le limit greatest
-is_kind_sound policy (kinds.GrossValue limit count) = nat_le limit greatest
-is_kind_sound policy (kinds.NetShares limit count) = nat_le limit greatest
-is_kind_sound policy (kinds.Rate rate count) = is_among 1 4096 rate.limit && is_among 1 greatest rate.window
-is_kind_sound policy (kinds.Repeat repeat count) = is_among 1 4096 repeat.limit && is_among repeat.limit 4096 repeat.span
-is_kind_sound policy kinds.NoShort = true
-is_kind_sound policy kinds.NoIso = true
-is_kind_sound policy kinds.OddLot = true
+is_kind_sound policy (RuleKind.Listed kind stocks) = are_stocks policy stocks
+is_kind_sound policy (RuleKind.Plain kind) = true
+is_kind_sound policy (RuleKind.Order kind limit) = nat_le limit greatest
+is_kind_sound policy (RuleKind.Exposure kind limit count) = nat_le limit greatest
+is_kind_sound policy (RuleKind.Rate rate count) = is_among 1 4096 rate.limit && is_among 1 greatest rate.window
+is_kind_sound policy (RuleKind.Repeat repeat count) = is_among 1 4096 repeat.limit && is_among repeat.limit 4096 repeat.span
 
 -- its name is spelled as it may be, and no built-in one; its kind and its scope are sound
 abbrev pub is_rule_sound : PolicyData → FileRule → Bool

@@ -28,17 +28,13 @@ fn copied_kind(alloc: Global, kind: &RuleKind) -> Result<RuleKind, OutOfMemory>
     ensures { IfOk result (λ r. r ≡ kind.now) }
 {
     match kind {
-        RuleKind::Halt(stocks) => Ok(RuleKind::Halt(copied_symbols(alloc, stocks)?)),
-        RuleKind::Restricted(stocks) => Ok(RuleKind::Restricted(copied_symbols(alloc, stocks)?)),
-        RuleKind::NoShort => Ok(RuleKind::NoShort),
-        RuleKind::NoIso => Ok(RuleKind::NoIso),
-        RuleKind::OddLot => Ok(RuleKind::OddLot),
-        RuleKind::OrderShares(limit) => Ok(RuleKind::OrderShares(*limit)),
-        RuleKind::OrderValue(limit) => Ok(RuleKind::OrderValue(*limit)),
-        RuleKind::Collar(limit) => Ok(RuleKind::Collar(*limit)),
-        RuleKind::GrossShares(limit, count) => Ok(RuleKind::GrossShares(*limit, *count)),
-        RuleKind::GrossValue(limit, count) => Ok(RuleKind::GrossValue(*limit, *count)),
-        RuleKind::NetShares(limit, count) => Ok(RuleKind::NetShares(*limit, *count)),
+        RuleKind::Listed(kind, stocks) => Ok(RuleKind::Listed(
+            *kind,
+            copied_symbols(alloc, stocks)?,
+        )),
+        RuleKind::Plain(kind) => Ok(RuleKind::Plain(*kind)),
+        RuleKind::Order(kind, limit) => Ok(RuleKind::Order(*kind, *limit)),
+        RuleKind::Exposure(kind, limit, count) => Ok(RuleKind::Exposure(*kind, *limit, *count)),
         RuleKind::Rate(rate, count) => Ok(RuleKind::Rate(*rate, *count)),
         RuleKind::Repeat(repeat, count) => Ok(RuleKind::Repeat(*repeat, *count)),
     }

@@ -2,11 +2,16 @@
 #![tactic(auto)]
 
 mod copies;
+mod kinds;
 mod policy;
 mod rule_name;
 
+pub use kinds::{
+    ExposureLimit, FIRST_KINDS, FIRST_KINDS_TOLD, KIND_WORDS, KINDS_TOLD, KindName, ListKind,
+    OrderLimit, PlainKind,
+};
 pub use policy::{
     Account, AccountNames, Accounts, Count, FileRule, FileRules, Lifters, Policy, PolicyData,
     Powers, Rate, Repeat, Role, RuleKind, Scope, Stock, Stocks, Symbols, User, Users,
 };
-pub use rule_name::RuleName;
+pub use rule_name::{BUILT_IN, RuleName, is_built_in};

@@ -2,6 +2,7 @@
 
 ghost use Rattle.std.specs.Prelude.{◌≡◌, List, IfOk};
 
+use crate::kinds::{ExposureLimit, ListKind, OrderLimit, PlainKind};
 use gx_units::{AccountName, Firm, OutOfMemory, Password, RuleId, SessionName, Symbol, UserName};
 use std::alloc::Global;
 use std::marker::Model;
@@ -116,29 +117,14 @@ pub struct Repeat {
 /// What a rule of the file forbids an Enter or a Replace.
 #[derive(Drop)]
 pub enum RuleKind {
-    /// These stocks, as halted.
-    Halt(Symbols),
-    /// These stocks, as restricted.
-    Restricted(Symbols),
-    /// Short sales.
-    NoShort,
-    /// Intermarket sweep orders.
-    NoIso,
-    /// Shares that are no multiple of 100.
-    OddLot,
-    /// More shares than this in one order.
-    OrderShares(u64),
-    /// A value above this in one order, in ten-thousandths of a dollar.
-    OrderValue(u64),
-    /// A price further than this from the reference, in ten-thousandths of it.
-    Collar(u64),
-    /// More open and executed shares than this.
-    GrossShares(u64, Count),
-    /// A value of open and executed shares above this, in ten-thousandths of a dollar.
-    GrossValue(u64, Count),
-    /// More shares than this on one side of a stock, open and executed, less those executed on the
-    /// other.
-    NetShares(u64, Count),
+    /// Orders in these stocks.
+    Listed(ListKind, Symbols),
+    /// Orders that are so.
+    Plain(PlainKind),
+    /// More than this in one order.
+    Order(OrderLimit, u64),
+    /// More than this, open and executed.
+    Exposure(ExposureLimit, u64, Count),
     /// More orders than this in a window of time.
     Rate(Rate, Count),
     /// More like orders than this among the last, an Enter alone.

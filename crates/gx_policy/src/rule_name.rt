@@ -1,5 +1,8 @@
 //! The names of the rules.
 
+ghost use Rattle.std.specs.Prelude.{◌≡◌, ◌++◌, ◌≤◌, codes, length, take};
+ghost use Rattle.gx_policy.specs.RuleNames.{NameFits, is_built_in, rule_id, written_rule};
+
 use gx_units::RuleId;
 
 /// The rule that a denial names, in the order in which the rules are asked: the file's stand between `P12` and `Q1`.
@@ -57,4 +60,122 @@ pub enum RuleName {
     Q4,
     /// Enter, Replace: a rule of the policy file.
     File(RuleId),
+}
+
+/// The built-in rules, in the order in which they are asked: the file's stand between the first 21 and the last 4, which are
+/// for commands.
+pub const BUILT_IN: [RuleName; 25] = [
+    RuleName::L1,
+    RuleName::L2,
+    RuleName::L3,
+    RuleName::G1,
+    RuleName::G2,
+    RuleName::G3,
+    RuleName::I1,
+    RuleName::I2,
+    RuleName::I3,
+    RuleName::P1,
+    RuleName::P2,
+    RuleName::P3,
+    RuleName::P4,
+    RuleName::P5,
+    RuleName::P6,
+    RuleName::P7,
+    RuleName::P8,
+    RuleName::P9,
+    RuleName::P10,
+    RuleName::P11,
+    RuleName::P12,
+    RuleName::Q1,
+    RuleName::Q2,
+    RuleName::Q3,
+    RuleName::Q4,
+];
+
+/// Whether a built-in rule has this name, so that no rule of the file may have it.
+#[tactic(auto, unfolding(crate::specs::RuleNames::rules_before, crate::specs::RuleNames::rules_behind))]
+pub fn is_built_in(name: RuleId) -> bool
+    ensures { result ≡ is_built_in name }
+{
+    BUILT_IN.iter().any(|rule| rule.id() == name)
+}
+
+#[tactic(auto, using(crate::proofs::Names::take_whole))]
+fn padded(name: RuleId) -> RuleId
+    ensures { result.bytes ≡ take 8 (name.bytes ++ codes "        ") }
+{
+    name
+}
+
+impl RuleName {
+    /// The name as the audit and the policy file write it. That of a rule of the file keeps the spaces of its field.
+    pub fn written(&self) -> &[u8]
+        ensures name { result.now ≡ written_rule self.now }
+        ensures short { length result.now ≤ 8 }
+    {
+        match self {
+            RuleName::L1 => b"L1",
+            RuleName::L2 => b"L2",
+            RuleName::L3 => b"L3",
+            RuleName::G1 => b"G1",
+            RuleName::G2 => b"G2",
+            RuleName::G3 => b"G3",
+            RuleName::I1 => b"I1",
+            RuleName::I2 => b"I2",
+            RuleName::I3 => b"I3",
+            RuleName::P1 => b"P1",
+            RuleName::P2 => b"P2",
+            RuleName::P3 => b"P3",
+            RuleName::P4 => b"P4",
+            RuleName::P5 => b"P5",
+            RuleName::P6 => b"P6",
+            RuleName::P7 => b"P7",
+            RuleName::P8 => b"P8",
+            RuleName::P9 => b"P9",
+            RuleName::P10 => b"P10",
+            RuleName::P11 => b"P11",
+            RuleName::P12 => b"P12",
+            RuleName::Q1 => b"Q1",
+            RuleName::Q2 => b"Q2",
+            RuleName::Q3 => b"Q3",
+            RuleName::Q4 => b"Q4",
+            RuleName::File(name) => &name.bytes,
+        }
+    }
+
+    /// The name in its field of eight bytes, with the spaces that fill it.
+    pub fn id(self) -> RuleId
+        ensures is { result ≡ rule_id self }
+        ensures fits { NameFits self }
+    {
+        let bytes = match self {
+            RuleName::L1 => *b"L1      ",
+            RuleName::L2 => *b"L2      ",
+            RuleName::L3 => *b"L3      ",
+            RuleName::G1 => *b"G1      ",
+            RuleName::G2 => *b"G2      ",
+            RuleName::G3 => *b"G3      ",
+            RuleName::I1 => *b"I1      ",
+            RuleName::I2 => *b"I2      ",
+            RuleName::I3 => *b"I3      ",
+            RuleName::P1 => *b"P1      ",
+            RuleName::P2 => *b"P2      ",
+            RuleName::P3 => *b"P3      ",
+            RuleName::P4 => *b"P4      ",
+            RuleName::P5 => *b"P5      ",
+            RuleName::P6 => *b"P6      ",
+            RuleName::P7 => *b"P7      ",
+            RuleName::P8 => *b"P8      ",
+            RuleName::P9 => *b"P9      ",
+            RuleName::P10 => *b"P10     ",
+            RuleName::P11 => *b"P11     ",
+            RuleName::P12 => *b"P12     ",
+            RuleName::Q1 => *b"Q1      ",
+            RuleName::Q2 => *b"Q2      ",
+            RuleName::Q3 => *b"Q3      ",
+            RuleName::Q4 => *b"Q4      ",
+            RuleName::File(name) => padded(name).bytes,
+        };
+        RuleId { bytes }
+    }
 }

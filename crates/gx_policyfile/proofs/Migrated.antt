@@ -3,29 +3,9 @@ use Rattle.std.proofs.Common.{◌≡◌, ℕ, Bool, true, false, cond, nat_lt, L
 use Rattle.std.specs.Option.{ok_or, option_and_then, option_map_or}
 use Rattle.toml.specs.Data.{Data, Members, as_array, as_str, get_member}
 use Rattle.gx_units.specs.Names.{same_rule}
-use Rattle.gx_policy.specs.declared.policy.PolicyData.{PolicyData}
-use Rattle.gx_policy.specs.declared.policy.Lifters.{Lifters}
-use Rattle.gx_policy.specs.declared.policy.Account.{Account}
-use Rattle.gx_policy.specs.declared.policy.Stock.{Stock}
-use Rattle.gx_policy.specs.declared.policy.User.{User}
-use Rattle.gx_policy.specs.declared.policy.FileRule.{FileRule}
-use Rattle.gx_policyfile.specs.declared.fault.FaultKind.{FaultKind}
-use Rattle.gx_policyfile.specs.declared.fault.FaultKind.TheVariants.{BadValue, DuplicateName, MissingKey, TooMany}
-use Rattle.gx_policyfile.specs.declared.fault.Letters.TheVariants.{Visible}
-use Rattle.gx_policyfile.specs.declared.rule.KindWord.{KindWord}
-use Rattle.gx_policyfile.specs.declared.rule.KindWord.TheVariants.{NetShares}
-use Rattle.gx_policyfile.specs.declared.version.FileVersion.{FileVersion}
-use Rattle.gx_policyfile.specs.declared.version.FileVersion.TheVariants.{One, Two}
-use Rattle.gx_policyfile.specs.Field.{◌>>=◌, choice, choice_at, field, field_at, only_keys, value_at, word_at, word_in}
-use Rattle.gx_policyfile.specs.Known.{scope}
-use Rattle.gx_policyfile.specs.Place.{each, is_taken, next}
-use Rattle.gx_policyfile.specs.Rules.{first_kind_words, keys_of_rule, kind, kind_words, rule, rule_keys, rule_name}
-use Rattle.gx_policyfile.specs.Version.{version}
-use Rattle.gx_policyfile.proofs.Parts.{bind_ok}
-use Rattle.gx_policyfile.specs.Policies.{accounts, stocks, users, rules, policy}
-use Rattle.gx_policyfile.specs.Reads.{tables_in, entries_at}
-use Rattle.gx_policyfile.specs.Migrating.{say_the_same, lift_alike}
-use Rattle.gx_policyfile.proofs.WasRead.{WasRead, was_read, ok_of}
+use Rattle.gx_policy.specs.{Kinds.{first_kind_words, later_kind_words}, declared.{kinds.KindName.KindName, policy.{PolicyData.PolicyData, Lifters.Lifters, Account.Account, Stock.Stock, User.User, FileRule.FileRule}}}
+use Rattle.gx_policyfile.specs.{declared.{fault.{FaultKind.{FaultKind, TheVariants.{BadValue, DuplicateName, MissingKey, TooMany}}, Letters.TheVariants.Visible}, version.FileVersion.{FileVersion, TheVariants.{One, Two}}}, Field.{◌>>=◌, choice, choice_at, field, field_at, only_keys, value_at, word_at, word_in}, Known.scope, Place.{each, is_taken, next}, Rules.{keys_of_rule, kind, kind_words, rule, rule_keys, rule_name}, Version.version, Policies.{accounts, stocks, users, rules, policy}, Reads.{tables_in, entries_at}, Migrating.{say_the_same, lift_alike}}
+use Rattle.gx_policyfile.proofs.{Parts.bind_ok, WasRead.{WasRead, was_read, ok_of}}
 
 -- what two equal results hold
 both_ok : {X : Type 0} (r s : Result X FaultKind) (x y : X) → r ≡ s → r ≡ Ok x → s ≡ Ok y → x ≡ y
@@ -85,9 +65,9 @@ rule_later xs ss entry r h =
     let (known, known_is, h1) = bind_ok (only_keys (keys_of_rule One entry) entry) _ r h in
     let (name, name_is, h2) = bind_ok (value_at (codes "name") entry >>= rule_name) _ r h1 in
     let (word, word_is, h3) = bind_ok (choice_at (codes "kind") first_kind_words entry) _ r h2 in
-    let later = chosen_later (codes "kind") first_kind_words ((codes "net_shares", NetShares) ∷ []) entry word word_is in
+    let later = chosen_later (codes "kind") first_kind_words later_kind_words entry word word_is in
     let keys : only_keys (keys_of_rule Two entry) entry ≡ only_keys (keys_of_rule One entry) entry = ap (λ w. only_keys (rule_keys w) entry) (later.1.1 ∙ sym later.1.0) in
-    let after : KindWord → Result FileRule FaultKind = λ w. kind ss w entry >>= λ k. scope xs entry >>= λ for_accounts. Ok (record { name = name; kind = k; scope = for_accounts }) in
+    let after : KindName → Result FileRule FaultKind = λ w. kind ss w entry >>= λ k. scope xs entry >>= λ for_accounts. Ok (record { name = name; kind = k; scope = for_accounts }) in
     ap (λ k. k >>= λ _. (value_at (codes "name") entry >>= rule_name) >>= λ n. choice_at (codes "kind") (kind_words Two) entry >>= λ w. kind ss w entry >>= λ k. scope xs entry >>= λ for_accounts. Ok (record { name = n; kind = k; scope = for_accounts }))
     (keys ∙ known_is)
     ∙ ap (λ n. n >>= λ n. choice_at (codes "kind") (kind_words Two) entry >>= λ w. kind ss w entry >>= λ k. scope xs entry >>= λ for_accounts. Ok (record { name = n; kind = k; scope = for_accounts })) name_is

@@ -1,14 +1,9 @@
 -- The entries of a place that was read.
-use Rattle.std.proofs.Common.{◌≡◌, ℕ, Bool, true, false, not, ◌&&◌, ◌||◌, ◌+◌, nat_lt, nat_le, List, [], ◌∷◌, ◌++◌, length, map, Result, Ok, refl, sym, ap, ◌∙◌, arith, length-append, le-leb, append-nil, append_assoc}
-use Rattle.std.proofs.lemmas.Bool.{and_parts, false≢true, ltb-false}
-use Rattle.std.proofs.lemmas.List.{map-append}
+use Rattle.std.proofs.{Common.{◌≡◌, ℕ, Bool, true, false, not, ◌&&◌, ◌||◌, ◌+◌, nat_lt, nat_le, List, [], ◌∷◌, ◌++◌, length, map, Result, Ok, refl, sym, ap, ◌∙◌, arith, length-append, le-leb, append-nil, append_assoc}, lemmas.{Bool.{and_parts, false≢true, ltb-false}, List.{map-append, Folds.list_any-append}}}
 use Rattle.std.specs.List.{list_all, list_any}
-use Rattle.std.proofs.lemmas.List.Folds.{list_any-append}
 use Rattle.toml.specs.Data.{Members}
 use Rattle.gx_policy.specs.Lists.{are_distinct}
-use Rattle.gx_policyfile.specs.declared.fault.FaultKind.{FaultKind}
-use Rattle.gx_policyfile.specs.declared.fault.FaultKind.TheVariants.{DuplicateName, TooMany}
-use Rattle.gx_policyfile.specs.Place.{is_taken, next, each, place_of}
+use Rattle.gx_policyfile.specs.{declared.fault.FaultKind.{FaultKind, TheVariants.{DuplicateName, TooMany}}, Place.{is_taken, next, each, place_of}}
 use Rattle.gx_policyfile.proofs.Parts.{bind_ok, failed, by_ok, and_both}
 
 or_false : (a b : Bool) → (a || b) ≡ false → (a ≡ false) × (b ≡ false)

@@ -2,23 +2,9 @@
 use Rattle.std.proofs.Common.{◌≡◌, true, [], codes, Ok, refl}
 use Rattle.toml.specs.Data.{Members, get_member}
 use Rattle.gx_units.specs.Names.{same_account}
-use Rattle.gx_policy.specs.declared.policy.PolicyData.{PolicyData}
-use Rattle.gx_policy.specs.declared.policy.Account.{Account}
-use Rattle.gx_policy.specs.declared.policy.Stock.{Stock}
-use Rattle.gx_policy.specs.declared.policy.User.{User}
-use Rattle.gx_policy.specs.declared.policy.Role.{Role}
-use Rattle.gx_policy.specs.declared.policy.Role.TheVariants as roles
-use Rattle.gx_policy.specs.Soundness.{is_account_sound, is_stock_sound, is_role_sound, is_user_sound, are_accounts}
-use Rattle.gx_policyfile.specs.declared.fault.Letters.TheVariants.{Plain, Visible}
-use Rattle.gx_policyfile.specs.declared.user.RoleWord.{RoleWord}
-use Rattle.gx_policyfile.specs.declared.user.RoleWord.TheVariants.{Trader, Officer, Reader}
-use Rattle.gx_policyfile.specs.Field.{◌>>=◌, value_at, number_at, field_at, only_keys, choice_at, optional}
-use Rattle.gx_policyfile.specs.Known.{known_account, known_accounts, scope}
-use Rattle.gx_policyfile.specs.Users.{role_words, keys_of_user, powers, role, user}
-use Rattle.gx_policyfile.specs.Policies.{account_keys, stock_keys, account, stock}
-use Rattle.gx_policyfile.proofs.Parts.{bind_ok, by_ok, and_both}
-use Rattle.gx_policyfile.proofs.Spelled.{field_at_spelled, folded_at_spelled, number_ok}
-use Rattle.gx_policyfile.proofs.SoundNames.{find_some, known_account_ok, accounts_sound, scope_sound, optional_ok}
+use Rattle.gx_policy.specs.{declared.policy.{PolicyData.PolicyData, Account.Account, Stock.Stock, User.User, Role.Role}, Soundness.{is_account_sound, is_stock_sound, is_role_sound, is_user_sound, are_accounts}}
+use Rattle.gx_policyfile.specs.{declared.{fault.Letters.TheVariants.{Plain, Visible}, user.RoleWord.{RoleWord, TheVariants.{Trader, Officer, Reader}}}, Field.{◌>>=◌, value_at, number_at, field_at, only_keys, choice_at, optional}, Known.{known_account, known_accounts, scope}, Users.{role_words, keys_of_user, powers, role, user}, Policies.{account_keys, stock_keys, account, stock}}
+use Rattle.gx_policyfile.proofs.{Parts.{bind_ok, by_ok, and_both}, Spelled.{field_at_spelled, folded_at_spelled, number_ok}, SoundNames.{find_some, known_account_ok, accounts_sound, scope_sound, optional_ok}}
 
 pub account_sound : (entry : Members) (a : Account) → account entry ≡ Ok a → is_account_sound a ≡ true
 unfolding account
@@ -43,15 +29,15 @@ unfolding role
 role_sound p Trader entry r h =
     let (account, account_is, same) = bind_ok (value_at (codes "account") entry >>= known_account p.accounts) _ r h in
     let (value, value_is, known) = bind_ok (value_at (codes "account") entry) (known_account p.accounts) account account_is in
-    by_ok (λ r. is_role_sound p r ≡ true) (roles.Trader account) r same
+    by_ok (λ r. is_role_sound p r ≡ true) (Role.Trader account) r same
     (find_some (λ (a : Account). same_account a.name account) p.accounts (known_account_ok p.accounts value account known))
 role_sound p Officer entry r h =
     let (given, given_is, h1) = bind_ok (value_at (codes "powers") entry >>= powers) _ r h in
     let (for_accounts, for_is, same) = bind_ok (scope p.accounts entry) _ r h1 in
-    by_ok (λ r. is_role_sound p r ≡ true) (roles.Officer given for_accounts) r same (scope_sound p entry for_accounts for_is)
+    by_ok (λ r. is_role_sound p r ≡ true) (Role.Officer given for_accounts) r same (scope_sound p entry for_accounts for_is)
 role_sound p Reader entry r h =
     let (names, names_are, same) = bind_ok (optional (codes "accounts") (known_accounts p.accounts) [] entry) _ r h in
-    by_ok (λ r. is_role_sound p r ≡ true) (roles.Reader names) r same
+    by_ok (λ r. is_role_sound p r ≡ true) (Role.Reader names) r same
     (optional_ok (λ ns. are_accounts p ns ≡ true) (known_accounts p.accounts) [] names (get_member (codes "accounts") entry) refl (accounts_sound p) names_are)
 
 pub user_sound : (p : PolicyData) (entry : Members) (u : User) → user p.accounts entry ≡ Ok u → is_user_sound p u ≡ true

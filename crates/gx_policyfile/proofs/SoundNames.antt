@@ -1,26 +1,11 @@
 -- Names of accounts and stocks that were read are in the policy, each once.
-use Rattle.std.proofs.Common.{◌≡◌, Bool, true, List, [], ◌∷◌, Option, Some, None, Result, Ok, refl, inl, inr, codes}
-use Rattle.std.specs.Option.{is_some, ok_or, option_map_or}
-use Rattle.std.specs.List.{find, list_all, list_any}
-use Rattle.std.proofs.lemmas.Bool.{cases_Bool, and_parts, false≢true}
+use Rattle.std.proofs.{Common.{◌≡◌, Bool, true, List, [], ◌∷◌, Option, Some, None, Result, Ok, refl, inl, inr, codes}, lemmas.Bool.{cases_Bool, and_parts, false≢true}}
+use Rattle.std.specs.{Option.{is_some, ok_or, option_map_or}, List.{find, list_all, list_any}}
 use Rattle.toml.specs.Data.{Data, Items, no_items, item, Members, get_member, as_array}
-use Rattle.gx_units.specs.Names.{same_account, same_stock}
-use Rattle.gx_units.specs.declared.names.AccountName.{AccountName}
-use Rattle.gx_units.specs.declared.names.Symbol.{Symbol}
-use Rattle.gx_policy.specs.Lists.{are_distinct}
-use Rattle.gx_policy.specs.declared.policy.PolicyData.{PolicyData}
-use Rattle.gx_policy.specs.declared.policy.Account.{Account}
-use Rattle.gx_policy.specs.declared.policy.Stock.{Stock}
-use Rattle.gx_policy.specs.declared.policy.Scope.{Scope}
-use Rattle.gx_policy.specs.declared.policy.Scope.TheVariants as scopes
-use Rattle.gx_policy.specs.Soundness.{are_accounts, are_stocks, is_scope}
-use Rattle.gx_policyfile.specs.declared.fault.FaultKind.{FaultKind}
-use Rattle.gx_policyfile.specs.declared.fault.FaultKind.TheVariants.{BadValue, UnknownName}
-use Rattle.gx_policyfile.specs.Field.{◌>>=◌, each_item}
-use Rattle.gx_policyfile.specs.Known.{is_account, is_stock, account_name, stock_name, with_account, with_stock, with_known_account, with_known_stock, listed_accounts, listed_stocks, known_account, known_accounts, known_stocks, scope}
-use Rattle.gx_policyfile.proofs.Parts.{bind_ok, passed, by_ok, and_both}
-use Rattle.gx_policy.specs.People.{account_named, stock_named}
-use Rattle.gx_policyfile.proofs.Placed.{all_push, distinct_push}
+use Rattle.gx_units.specs.{Names.{same_account, same_stock}, declared.names.{AccountName.AccountName, Symbol.Symbol}}
+use Rattle.gx_policy.specs.{Lists.are_distinct, declared.policy.{PolicyData.PolicyData, Account.Account, Stock.Stock, Scope.Scope}, Soundness.{are_accounts, are_stocks, is_scope}, People.{account_named, stock_named}}
+use Rattle.gx_policyfile.specs.{declared.fault.FaultKind.{FaultKind, TheVariants.{BadValue, UnknownName}}, Field.{◌>>=◌, each_item}, Known.{is_account, is_stock, account_name, stock_name, with_account, with_stock, with_known_account, with_known_stock, listed_accounts, listed_stocks, known_account, known_accounts, known_stocks, scope}}
+use Rattle.gx_policyfile.proofs.{Parts.{bind_ok, passed, by_ok, and_both}, Placed.{all_push, distinct_push}}
 
 pub find_some : {X : Type 0} (p : X → Bool) (xs : List X) → list_any p xs ≡ true → is_some (find p xs) ≡ true
 find_some p [] h = absurd (false≢true h)
@@ -103,12 +88,12 @@ stocks_sound p value names h =
     by_ok (λ ns. are_stocks p ns ≡ true) found.0 names same
     (each_kept (λ (f : List Symbol × Bool). are_stocks p f.0 ≡ true) stock_name (with_known_stock p.stocks) (stock_kept p) ([], true) items found refl found_are)
 
-only_sound : (p : PolicyData) (value : Data) (s : Scope) → (known_accounts p.accounts value >>= λ names. Ok (scopes.Only names)) ≡ Ok s → is_scope p s ≡ true
+only_sound : (p : PolicyData) (value : Data) (s : Scope) → (known_accounts p.accounts value >>= λ names. Ok (Scope.Only names)) ≡ Ok s → is_scope p s ≡ true
 only_sound p value s h =
     let (names, are, same) = bind_ok (known_accounts p.accounts value) _ s h in
-    by_ok (λ s. is_scope p s ≡ true) (scopes.Only names) s same (accounts_sound p value names are)
+    by_ok (λ s. is_scope p s ≡ true) (Scope.Only names) s same (accounts_sound p value names are)
 
 pub scope_sound : (p : PolicyData) (entry : Members) (s : Scope) → scope p.accounts entry ≡ Ok s → is_scope p s ≡ true
 unfolding scope
 scope_sound p entry s h =
-    optional_ok (λ s. is_scope p s ≡ true) _ scopes.All s (get_member (codes "accounts") entry) refl (only_sound p) h
+    optional_ok (λ s. is_scope p s ≡ true) _ Scope.All s (get_member (codes "accounts") entry) refl (only_sound p) h

@@ -2,22 +2,9 @@
 use Rattle.std.proofs.Common.{◌≡◌, Bool, true, ◌&&◌, codes, Ok, refl}
 use Rattle.toml.specs.Data.{Members}
 use Rattle.gx_units.specs.Names.{same_account, same_stock, same_user, same_rule}
-use Rattle.gx_policy.specs.declared.policy.PolicyData.{PolicyData}
-use Rattle.gx_policy.specs.declared.policy.Account.{Account}
-use Rattle.gx_policy.specs.declared.policy.Stock.{Stock}
-use Rattle.gx_policy.specs.declared.policy.User.{User}
-use Rattle.gx_policy.specs.declared.policy.FileRule.{FileRule}
-use Rattle.gx_policy.specs.Soundness.{is_sound, is_account_sound, is_stock_sound, is_user_sound, is_rule_sound}
-use Rattle.gx_policyfile.specs.declared.fault.Letters.TheVariants.{Visible}
-use Rattle.gx_policyfile.specs.Users.{user}
-use Rattle.gx_policyfile.specs.Rules.{rule}
-use Rattle.gx_policyfile.specs.Version.{version}
-use Rattle.gx_policyfile.specs.Policies.{account, stock, accounts, stocks, users, rules, policy}
-use Rattle.gx_policyfile.proofs.Placed.{place_placed}
-use Rattle.gx_policyfile.proofs.Spelled.{field_at_spelled}
-use Rattle.gx_policyfile.proofs.WasRead.{was_read}
-use Rattle.gx_policyfile.proofs.SoundEntries.{account_sound, stock_sound, user_sound}
-use Rattle.gx_policyfile.proofs.SoundRules.{rule_sound}
+use Rattle.gx_policy.specs.{declared.policy.{PolicyData.PolicyData, Account.Account, Stock.Stock, User.User, FileRule.FileRule}, Soundness.{is_sound, is_account_sound, is_stock_sound, is_user_sound, is_rule_sound}}
+use Rattle.gx_policyfile.specs.{declared.fault.Letters.TheVariants.Visible, Users.user, Rules.rule, Version.version, Policies.{account, stock, accounts, stocks, users, rules, policy}}
+use Rattle.gx_policyfile.proofs.{Placed.place_placed, Spelled.field_at_spelled, WasRead.was_read, SoundEntries.{account_sound, stock_sound, user_sound}, SoundRules.rule_sound}
 
 all_four : (a b c d : Bool) → a ≡ true → b ≡ true → c ≡ true → d ≡ true → (((a && b) && c) && d) ≡ true
 all_four a b c d p q r s = rw (p, q, r, s)

@@ -1,20 +1,10 @@
 -- Names and numbers that were read are spelled and in range.
-use Rattle.std.proofs.Common.{◌≡◌, ℕ, ℤ, pos, negsuc, zero, suc, ◌-◌, Bool, true, false, not, ◌&&◌, ◌||◌, nat_eq, List, [], ◌∷◌, ◌++◌, length, replicate, Ok, refl, sym, ap, ◌∙◌, inl, inr, subst, arith}
-use Rattle.std.specs.Option.{ok_or}
-use Rattle.std.specs.List.{list_all}
-use Rattle.std.specs.Char.{to_ascii_uppercase}
-use Rattle.std.specs.Str.{str_to_ascii_uppercase}
-use Rattle.std.proofs.lemmas.Bool.{cases_Bool, and_parts, false≢true, eqb-true}
-use Rattle.std.proofs.lemmas.Bool.Decides.{nat_tests}
-use Rattle.std.proofs.lemmas.List.{map-append, length-map}
-use Rattle.std.proofs.lemmas.List.Folds.{list_all-map}
+use Rattle.std.proofs.{Common.{◌≡◌, ℕ, ℤ, pos, negsuc, zero, suc, ◌-◌, Bool, true, false, not, ◌&&◌, ◌||◌, nat_eq, List, [], ◌∷◌, ◌++◌, length, replicate, Ok, refl, sym, ap, ◌∙◌, inl, inr, subst, arith}, lemmas.{Bool.{cases_Bool, and_parts, false≢true, eqb-true, Decides.nat_tests}, List.{map-append, length-map, Folds.list_all-map}}}
+use Rattle.std.specs.{Option.ok_or, List.list_all, Char.to_ascii_uppercase, Str.str_to_ascii_uppercase}
 use Rattle.toml.specs.Data.{Data, Members, as_str, as_integer}
 use Rattle.gx_units.specs.Spelling.{is_blank, padded}
 use Rattle.gx_policy.specs.Soundness.{is_among, is_padded, is_spelled, is_visible, is_folded}
-use Rattle.gx_policyfile.specs.declared.fault.FaultKind.TheVariants.{BadValue}
-use Rattle.gx_policyfile.specs.declared.fault.Letters.{Letters}
-use Rattle.gx_policyfile.specs.declared.fault.Letters.TheVariants.{Visible}
-use Rattle.gx_policyfile.specs.Field.{is_letter, value_at, whole, number, number_at, text, spelled, field, field_at}
+use Rattle.gx_policyfile.specs.{declared.fault.{FaultKind.TheVariants.BadValue, Letters.{Letters, TheVariants.Visible}}, Field.{is_letter, value_at, whole, number, number_at, text, spelled, field, field_at}}
 use Rattle.gx_policyfile.proofs.Parts.{bind_ok, passed, by_ok, and_both}
 
 blank_spaces : (n : ℕ) → is_blank (replicate n 32) ≡ true

@@ -1,12 +1,8 @@
 -- The tree of the bytes, from what the crate toml says.
-use Rattle.std.proofs.Common.{◌≡◌, ℕ, List, Some, None, Ok, Err, inl, inr}
-use Rattle.std.proofs.lemmas.Bool.{cases_Bool}
-use Rattle.std.proofs.lemmas.Str.{IsUtf8-from_is_utf8, is_utf8-from_IsUtf8}
+use Rattle.std.proofs.{Common.{◌≡◌, ℕ, List, Some, None, Ok, Err, inl, inr}, lemmas.{Bool.cases_Bool, Str.{IsUtf8-from_is_utf8, is_utf8-from_IsUtf8}}}
 use Rattle.std.specs.Str.{IsUtf8, is_utf8}
-use Rattle.toml.specs.Data.{Members}
-use Rattle.toml.specs.Parse.{parse_document}
-use Rattle.gx_policyfile.specs.declared.fault.FaultKind.TheVariants.{NotToml}
-use Rattle.gx_policyfile.specs.Policies.{tree}
+use Rattle.toml.specs.{Data.Members, Parse.parse_document}
+use Rattle.gx_policyfile.specs.{declared.fault.FaultKind.TheVariants.NotToml, Policies.tree}
 
 pub tree_some : (bytes : List ℕ) (top : Members) → IsUtf8 bytes × (parse_document bytes ≡ Some top) → tree bytes ≡ Ok top
 unfolding tree

@@ -1,35 +1,11 @@
 -- What holds of each policy that is read.
-use Rattle.std.proofs.Common.{◌≡◌, ℕ, Bool, true, List, [], length, map, nat_le, codes, Result, Ok, refl, ap, subst}
-use Rattle.std.specs.List.{list_all}
-use Rattle.std.specs.Option.{ok_or}
-use Rattle.std.proofs.lemmas.Bool.{and_parts}
+use Rattle.std.proofs.{Common.{◌≡◌, ℕ, Bool, true, List, [], length, map, nat_le, codes, Result, Ok, refl, ap, subst}, lemmas.Bool.and_parts}
+use Rattle.std.specs.{List.list_all, Option.ok_or}
 use Rattle.toml.specs.Data.{Data, Members, get_member, as_str}
-use Rattle.gx_units.specs.Names.{same_account, same_stock, same_user, same_rule}
-use Rattle.gx_units.specs.Spelling.{padded, folded_user}
-use Rattle.gx_policy.specs.declared.policy.PolicyData.{PolicyData}
-use Rattle.gx_policy.specs.declared.policy.Account.{Account}
-use Rattle.gx_policy.specs.declared.policy.Stock.{Stock}
-use Rattle.gx_policy.specs.declared.policy.User.{User}
-use Rattle.gx_policy.specs.declared.policy.FileRule.{FileRule}
-use Rattle.gx_policy.specs.RuleNames.{is_built_in}
-use Rattle.gx_policy.specs.Soundness.{is_sound, names_differ, is_within_limits}
-use Rattle.gx_policyfile.specs.declared.fault.FaultKind.{FaultKind}
-use Rattle.gx_policyfile.specs.declared.fault.FaultKind.TheVariants.{MissingKey, BadValue}
-use Rattle.gx_policyfile.specs.declared.fault.Letters.{Letters}
-use Rattle.gx_policyfile.specs.declared.fault.Letters.TheVariants.{Plain, Visible}
-use Rattle.gx_policyfile.specs.Field.{◌>>=◌, has_only, only_keys, value_at, text, spelled, field, field_at, number_at, choice_at}
-use Rattle.gx_policyfile.specs.Place.{place_of}
-use Rattle.gx_policyfile.specs.Users.{keys_of_user, role_words, role, user}
-use Rattle.gx_policyfile.specs.declared.version.FileVersion.{FileVersion}
-use Rattle.gx_policyfile.specs.Rules.{kind_words, keys_of_rule, rule_name, kind, rule}
-use Rattle.gx_policyfile.specs.Known.{scope}
-use Rattle.gx_policyfile.specs.Version.{version}
-use Rattle.gx_policyfile.specs.Policies.{account_keys, stock_keys, account, stock, accounts, stocks, users, rules, policy, tree, means}
-use Rattle.gx_policyfile.specs.Reads.{entries_at, written_name, are_keys_known, are_places_short, IsInFileOrder}
-use Rattle.gx_policyfile.proofs.Parts.{bind_ok, passed, failed, by_ok, and_both}
-use Rattle.gx_policyfile.proofs.Placed.{each_map, each_asked, place_ok}
-use Rattle.gx_policyfile.proofs.WasRead.{some_of, only_ok, WasRead, was_read}
-use Rattle.gx_policyfile.proofs.SoundPolicy.{policy_sound}
+use Rattle.gx_units.specs.{Names.{same_account, same_stock, same_user, same_rule}, Spelling.{padded, folded_user}}
+use Rattle.gx_policy.specs.{declared.policy.{PolicyData.PolicyData, Account.Account, Stock.Stock, User.User, FileRule.FileRule}, RuleNames.is_built_in, Soundness.{is_sound, names_differ, is_within_limits}}
+use Rattle.gx_policyfile.specs.{declared.{fault.{FaultKind.{FaultKind, TheVariants.{MissingKey, BadValue}}, Letters.{Letters, TheVariants.{Plain, Visible}}}, version.FileVersion.FileVersion}, Field.{◌>>=◌, has_only, only_keys, value_at, text, spelled, field, field_at, number_at, choice_at}, Place.place_of, Users.{keys_of_user, role_words, role, user}, Rules.{kind_words, keys_of_rule, rule_name, kind, rule}, Known.scope, Version.version, Policies.{account_keys, stock_keys, account, stock, accounts, stocks, users, rules, policy, tree, means}, Reads.{entries_at, written_name, are_keys_known, are_places_short, IsInFileOrder}}
+use Rattle.gx_policyfile.proofs.{Parts.{bind_ok, passed, failed, by_ok, and_both}, Placed.{each_map, each_asked, place_ok}, WasRead.{some_of, only_ok, WasRead, was_read}, SoundPolicy.policy_sound}
 
 meant_by_tree : (bytes : List ℕ) (top : Members) (p : PolicyData) → tree bytes ≡ Ok top → means bytes ≡ Ok p → policy top ≡ Ok p
 unfolding means

@@ -1,15 +1,9 @@
 -- A key of a table: whether it is there, and what its value has to be.
-use Rattle.std.specs.Prelude.{ℕ, ℤ, pos, negsuc, Bool, true, false, ◌&&◌, List, [], ◌∷◌, length, Option, Some, None, Result, Ok, Err, if◌then◌else◌, ◌≡◌, bytes_eq}
-use Rattle.std.specs.List.{list_all, list_any}
-use Rattle.std.specs.Option.{ok_or, option_map_or, option_and_then}
+use Rattle.std.specs.{Prelude.{ℕ, ℤ, pos, negsuc, Bool, true, false, ◌&&◌, List, [], ◌∷◌, length, Option, Some, None, Result, Ok, Err, if◌then◌else◌, ◌≡◌, bytes_eq}, List.{list_all, list_any}, Option.{ok_or, option_map_or, option_and_then}}
 use Rattle.toml.specs.Data.{Data, Items, no_items, item, Members, no_members, member, get_member, as_integer, as_str}
 use Rattle.gx_units.specs.Spelling.{padded}
 use Rattle.gx_policy.specs.Soundness.{is_among, is_name_letter, is_visible}
-use Rattle.gx_policyfile.specs.declared.fault.FaultKind.{FaultKind}
-use Rattle.gx_policyfile.specs.declared.fault.FaultKind.TheVariants.{MissingKey, UnknownKey, BadValue, OutOfMemory}
-use Rattle.gx_policyfile.specs.declared.fault.PolicyFault.{PolicyFault}
-use Rattle.gx_policyfile.specs.declared.fault.Letters.{Letters}
-use Rattle.gx_policyfile.specs.declared.fault.Letters.TheVariants.{Plain, Visible}
+use Rattle.gx_policyfile.specs.declared.fault.{FaultKind.{FaultKind, TheVariants.{MissingKey, UnknownKey, BadValue, OutOfMemory}}, PolicyFault.PolicyFault, Letters.{Letters, TheVariants.{Plain, Visible}}}
 
 -- the first fault, or what follows
 infixl 10 ◌>>=◌

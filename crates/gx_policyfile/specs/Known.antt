@@ -1,19 +1,9 @@
 -- Names of accounts and stocks that the file has.
-use Rattle.std.specs.Prelude.{Bool, true, false, List, [], ◌∷◌, ◌++◌, codes, Result, Ok, Err, if◌then◌else◌}
-use Rattle.std.specs.List.{list_any}
-use Rattle.std.specs.Option.{ok_or}
+use Rattle.std.specs.{Prelude.{Bool, true, false, List, [], ◌∷◌, ◌++◌, codes, Result, Ok, Err, if◌then◌else◌}, List.list_any, Option.ok_or}
 use Rattle.toml.specs.Data.{Data, Items, Members, as_array}
-use Rattle.gx_units.specs.Names.{same_account, same_stock}
-use Rattle.gx_units.specs.declared.names.AccountName.{AccountName}
-use Rattle.gx_units.specs.declared.names.Symbol.{Symbol}
-use Rattle.gx_policy.specs.declared.policy.Account.{Account}
-use Rattle.gx_policy.specs.declared.policy.Stock.{Stock}
-use Rattle.gx_policy.specs.declared.policy.Scope.{Scope}
-use Rattle.gx_policy.specs.declared.policy.Scope.TheVariants as scopes
-use Rattle.gx_policyfile.specs.declared.fault.FaultKind.{FaultKind}
-use Rattle.gx_policyfile.specs.declared.fault.FaultKind.TheVariants.{BadValue, UnknownName}
-use Rattle.gx_policyfile.specs.declared.fault.Letters.TheVariants.{Plain, Visible}
-use Rattle.gx_policyfile.specs.Field.{◌>>=◌, field, optional, each_item}
+use Rattle.gx_units.specs.{Names.{same_account, same_stock}, declared.names.{AccountName.AccountName, Symbol.Symbol}}
+use Rattle.gx_policy.specs.declared.policy.{Account.Account, Stock.Stock, Scope.Scope}
+use Rattle.gx_policyfile.specs.{declared.fault.{FaultKind.{FaultKind, TheVariants.{BadValue, UnknownName}}, Letters.TheVariants.{Plain, Visible}}, Field.{◌>>=◌, field, optional, each_item}}
 
 -- an account of the file has this name
 abbrev pub is_account : List Account → AccountName → Bool
@@ -69,8 +59,8 @@ known_stocks stocks value = ok_or (as_array value) BadValue >>= listed_stocks st
 
 -- these accounts alone
 abbrev pub only_accounts : List Account → Data → Result Scope FaultKind
-only_accounts accounts value = known_accounts accounts value >>= λ names. Ok (scopes.Only names)
+only_accounts accounts value = known_accounts accounts value >>= λ names. Ok (Scope.Only names)
 
 -- the accounts that an entry is for, all where it names none
 unfoldable pub scope : List Account → Members → Result Scope FaultKind
-scope accounts entry = optional (codes "accounts") (only_accounts accounts) scopes.All entry
+scope accounts entry = optional (codes "accounts") (only_accounts accounts) Scope.All entry

@@ -1,11 +1,7 @@
 -- A place of several entries: an array of tables.
-use Rattle.std.specs.Prelude.{ℕ, Bool, nat_lt, List, [], ◌∷◌, ◌++◌, length, Result, Ok, Err, if◌then◌else◌}
-use Rattle.std.specs.List.{list_any}
-use Rattle.std.specs.Option.{ok_or}
+use Rattle.std.specs.{Prelude.{ℕ, Bool, nat_lt, List, [], ◌∷◌, ◌++◌, length, Result, Ok, Err, if◌then◌else◌}, List.list_any, Option.ok_or}
 use Rattle.toml.specs.Data.{Data, Members, as_array, as_table}
-use Rattle.gx_policyfile.specs.declared.fault.FaultKind.{FaultKind}
-use Rattle.gx_policyfile.specs.declared.fault.FaultKind.TheVariants.{BadValue, DuplicateName, TooMany}
-use Rattle.gx_policyfile.specs.Field.{◌>>=◌, optional, each_item}
+use Rattle.gx_policyfile.specs.{declared.fault.FaultKind.{FaultKind, TheVariants.{BadValue, DuplicateName, TooMany}}, Field.{◌>>=◌, optional, each_item}}
 
 -- a table
 abbrev pub table : Data → Result Members FaultKind

@@ -1,25 +1,9 @@
 -- What a policy file says: in each place the keys in the order in which they are checked.
-use Rattle.std.specs.Prelude.{ℕ, List, [], ◌∷◌, codes, Result, Ok, Err, if◌then◌else◌}
-use Rattle.std.specs.Option.{ok_or}
-use Rattle.std.specs.Str.{is_utf8}
-use Rattle.toml.specs.Data.{Members}
-use Rattle.toml.specs.Parse.{parse_document}
+use Rattle.std.specs.{Prelude.{ℕ, List, [], ◌∷◌, codes, Result, Ok, Err, if◌then◌else◌}, Option.ok_or, Str.is_utf8}
+use Rattle.toml.specs.{Data.Members, Parse.parse_document}
 use Rattle.gx_units.specs.Names.{same_account, same_stock, same_user, same_rule}
-use Rattle.gx_policy.specs.declared.policy.Lifters.{Lifters}
-use Rattle.gx_policy.specs.declared.policy.PolicyData.{PolicyData}
-use Rattle.gx_policy.specs.declared.policy.Account.{Account}
-use Rattle.gx_policy.specs.declared.policy.Stock.{Stock}
-use Rattle.gx_policy.specs.declared.policy.User.{User}
-use Rattle.gx_policy.specs.declared.policy.FileRule.{FileRule}
-use Rattle.gx_policyfile.specs.Version.{number, version, top_keys, lifters}
-use Rattle.gx_policyfile.specs.Users.{user}
-use Rattle.gx_policyfile.specs.Rules.{rule}
-use Rattle.gx_policyfile.specs.declared.fault.FaultKind.{FaultKind}
-use Rattle.gx_policyfile.specs.declared.fault.FaultKind.TheVariants.{NotToml}
-use Rattle.gx_policyfile.specs.declared.fault.Letters.TheVariants.{Plain, Visible}
-use Rattle.gx_policyfile.specs.declared.version.FileVersion.{FileVersion}
-use Rattle.gx_policyfile.specs.Field.{◌>>=◌, number_at, field_at, only_keys}
-use Rattle.gx_policyfile.specs.Place.{tables_at, place_of}
+use Rattle.gx_policy.specs.declared.policy.{Lifters.Lifters, PolicyData.PolicyData, Account.Account, Stock.Stock, User.User, FileRule.FileRule}
+use Rattle.gx_policyfile.specs.{Version.{number, version, top_keys, lifters}, Users.user, Rules.rule, declared.{fault.{FaultKind.{FaultKind, TheVariants.NotToml}, Letters.TheVariants.{Plain, Visible}}, version.FileVersion.FileVersion}, Field.{◌>>=◌, number_at, field_at, only_keys}, Place.{tables_at, place_of}}
 
 -- the keys of an account
 abbrev pub account_keys : List (List ℕ)

@@ -1,19 +1,9 @@
 -- What holds of each policy that is read, in words of the tree and not of the reading.
-use Rattle.std.specs.Prelude.{ℕ, Bool, ◌&&◌, nat_le, ◌≡◌, List, [], ◌∷◌, codes, length, map, Option, Some, None, unwrap_or}
-use Rattle.std.specs.List.{list_all}
-use Rattle.std.specs.Option.{option_and_then, option_map_or}
+use Rattle.std.specs.{Prelude.{ℕ, Bool, ◌&&◌, nat_le, ◌≡◌, List, [], ◌∷◌, codes, length, map, Option, Some, None, unwrap_or}, List.list_all, Option.{option_and_then, option_map_or}}
 use Rattle.toml.specs.Data.{Items, no_items, item, Members, get_member, as_array, as_table, as_str}
 use Rattle.gx_units.specs.Spelling.{padded, folded_user}
-use Rattle.gx_policy.specs.declared.policy.PolicyData.{PolicyData}
-use Rattle.gx_policy.specs.declared.policy.Account.{Account}
-use Rattle.gx_policy.specs.declared.policy.Stock.{Stock}
-use Rattle.gx_policy.specs.declared.policy.User.{User}
-use Rattle.gx_policy.specs.declared.policy.FileRule.{FileRule}
-use Rattle.gx_policyfile.specs.Field.{has_only}
-use Rattle.gx_policyfile.specs.Users.{keys_of_user}
-use Rattle.gx_policyfile.specs.Rules.{keys_of_rule}
-use Rattle.gx_policyfile.specs.Version.{version, top_keys}
-use Rattle.gx_policyfile.specs.Policies.{account_keys, stock_keys}
+use Rattle.gx_policy.specs.declared.policy.{PolicyData.PolicyData, Account.Account, Stock.Stock, User.User, FileRule.FileRule}
+use Rattle.gx_policyfile.specs.{Field.has_only, Users.keys_of_user, Rules.keys_of_rule, Version.{version, top_keys}, Policies.{account_keys, stock_keys}}
 
 -- the table, if it is one, and the others
 abbrev pub with_table : Option Members → List Members → List Members

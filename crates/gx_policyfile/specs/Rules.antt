@@ -1,54 +1,23 @@
 -- What an entry of the place `rule` says.
+use Rattle.gx_policy.specs.{declared.{kinds.KindName.KindName, policy.{Account.Account, Stock.Stock, Count.{Count, TheVariants.{Each, Together}}, RuleKind.RuleKind, FileRule.FileRule}}, Kinds.{first_kind_words, later_kind_words}, RuleNames.is_built_in, Soundness.greatest}
 use Rattle.std.specs.Prelude.{ℕ, List, [], ◌∷◌, ◌++◌, codes, Option, Some, None, Result, Ok, Err, if◌then◌else◌}
 use Rattle.toml.specs.Data.{Data, Members}
-use Rattle.gx_units.specs.declared.names.RuleId.{RuleId}
-use Rattle.gx_units.specs.declared.names.Symbol.{Symbol}
-use Rattle.gx_policy.specs.RuleNames.{is_built_in}
-use Rattle.gx_policy.specs.Soundness.{greatest}
-use Rattle.gx_policy.specs.declared.policy.Account.{Account}
-use Rattle.gx_policy.specs.declared.policy.Stock.{Stock}
-use Rattle.gx_policy.specs.declared.policy.Count.{Count}
-use Rattle.gx_policy.specs.declared.policy.Count.TheVariants.{Each, Together}
-use Rattle.gx_policy.specs.declared.policy.RuleKind.{RuleKind}
-use Rattle.gx_policy.specs.declared.policy.RuleKind.TheVariants as kinds
-use Rattle.gx_policy.specs.declared.policy.FileRule.{FileRule}
-use Rattle.gx_policyfile.specs.declared.fault.FaultKind.{FaultKind}
-use Rattle.gx_policyfile.specs.declared.fault.FaultKind.TheVariants.{BadValue}
-use Rattle.gx_policyfile.specs.declared.fault.Letters.TheVariants.{Plain}
-use Rattle.gx_policyfile.specs.declared.rule.KindWord.{KindWord}
-use Rattle.gx_policyfile.specs.declared.rule.KindWord.TheVariants.{Halt, Restricted, NoShort, NoIso, OddLot, OrderShares, OrderValue, Collar, GrossShares, GrossValue, Rate, Repeat, NetShares}
-use Rattle.gx_policyfile.specs.declared.version.FileVersion.{FileVersion}
-use Rattle.gx_policyfile.specs.declared.version.FileVersion.TheVariants.{One, Two}
-use Rattle.gx_policyfile.specs.Field.{◌>>=◌, value_at, number_at, field, choice_at, word_at, only_keys}
-use Rattle.gx_policyfile.specs.Known.{known_stocks, scope}
-
--- the words of the key `kind` in a file of version 1
-abbrev pub first_kind_words : List (List ℕ × KindWord)
-first_kind_words =
-    (codes "halt", Halt) ∷ (codes "restricted", Restricted) ∷ (codes "no_short", NoShort) ∷ (codes "no_iso", NoIso)
-    ∷ (codes "odd_lot", OddLot) ∷ (codes "order_shares", OrderShares) ∷ (codes "order_value", OrderValue) ∷ (codes "collar", Collar)
-    ∷ (codes "gross_shares", GrossShares) ∷ (codes "gross_value", GrossValue) ∷ (codes "rate", Rate) ∷ (codes "repeat", Repeat) ∷ []
+use Rattle.gx_units.specs.declared.names.{RuleId.RuleId, Symbol.Symbol}
+use Rattle.gx_policyfile.specs.{declared.{fault.{FaultKind.{FaultKind, TheVariants.BadValue}, Letters.TheVariants.Plain}, version.FileVersion.{FileVersion, TheVariants.{One, Two}}}, Field.{◌>>=◌, value_at, number_at, field, choice_at, word_at, only_keys}, Known.{known_stocks, scope}}
 
 -- the words of the key `kind` in a file of this version
-unfoldable pub kind_words : FileVersion → List (List ℕ × KindWord)
+unfoldable pub kind_words : FileVersion → List (List ℕ × KindName)
 kind_words One = first_kind_words
-kind_words Two = first_kind_words ++ (codes "net_shares", NetShares) ∷ []
+kind_words Two = first_kind_words ++ later_kind_words
 
 -- the keys of a rule of this kind, and those of all kinds where it is none
-abbrev pub rule_keys : Option KindWord → List (List ℕ)
-rule_keys (Some Halt) = codes "name" ∷ codes "kind" ∷ codes "stocks" ∷ codes "accounts" ∷ []
-rule_keys (Some Restricted) = codes "name" ∷ codes "kind" ∷ codes "stocks" ∷ codes "accounts" ∷ []
-rule_keys (Some NoShort) = codes "name" ∷ codes "kind" ∷ codes "accounts" ∷ []
-rule_keys (Some NoIso) = codes "name" ∷ codes "kind" ∷ codes "accounts" ∷ []
-rule_keys (Some OddLot) = codes "name" ∷ codes "kind" ∷ codes "accounts" ∷ []
-rule_keys (Some OrderShares) = codes "name" ∷ codes "kind" ∷ codes "limit" ∷ codes "accounts" ∷ []
-rule_keys (Some OrderValue) = codes "name" ∷ codes "kind" ∷ codes "limit" ∷ codes "accounts" ∷ []
-rule_keys (Some Collar) = codes "name" ∷ codes "kind" ∷ codes "limit" ∷ codes "accounts" ∷ []
-rule_keys (Some GrossShares) = codes "name" ∷ codes "kind" ∷ codes "limit" ∷ codes "count" ∷ codes "accounts" ∷ []
-rule_keys (Some GrossValue) = codes "name" ∷ codes "kind" ∷ codes "limit" ∷ codes "count" ∷ codes "accounts" ∷ []
-rule_keys (Some NetShares) = codes "name" ∷ codes "kind" ∷ codes "limit" ∷ codes "count" ∷ codes "accounts" ∷ []
-rule_keys (Some Rate) = codes "name" ∷ codes "kind" ∷ codes "limit" ∷ codes "window" ∷ codes "count" ∷ codes "accounts" ∷ []
-rule_keys (Some Repeat) = codes "name" ∷ codes "kind" ∷ codes "limit" ∷ codes "span" ∷ codes "count" ∷ codes "accounts" ∷ []
+abbrev pub rule_keys : Option KindName → List (List ℕ)
+rule_keys (Some (KindName.Listed kind)) = codes "name" ∷ codes "kind" ∷ codes "stocks" ∷ codes "accounts" ∷ []
+rule_keys (Some (KindName.Plain kind)) = codes "name" ∷ codes "kind" ∷ codes "accounts" ∷ []
+rule_keys (Some (KindName.Order kind)) = codes "name" ∷ codes "kind" ∷ codes "limit" ∷ codes "accounts" ∷ []
+rule_keys (Some (KindName.Exposure kind)) = codes "name" ∷ codes "kind" ∷ codes "limit" ∷ codes "count" ∷ codes "accounts" ∷ []
+rule_keys (Some KindName.Rate) = codes "name" ∷ codes "kind" ∷ codes "limit" ∷ codes "window" ∷ codes "count" ∷ codes "accounts" ∷ []
+rule_keys (Some KindName.Repeat) = codes "name" ∷ codes "kind" ∷ codes "limit" ∷ codes "span" ∷ codes "count" ∷ codes "accounts" ∷ []
 rule_keys None = codes "name" ∷ codes "kind" ∷ codes "stocks" ∷ codes "limit" ∷ codes "window" ∷ codes "span" ∷ codes "count" ∷ codes "accounts" ∷ []
 
 -- the keys that this rule may have in a file of this version
@@ -78,47 +47,28 @@ abbrev pub listed : List Stock → Members → Result (List Symbol) FaultKind
 listed stocks entry = value_at (codes "stocks") entry >>= known_stocks stocks
 
 -- the kind of this word, with its own keys
-unfoldable pub kind : List Stock → KindWord → Members → Result RuleKind FaultKind
-kind stocks Halt entry = do
+unfoldable pub kind : List Stock → KindName → Members → Result RuleKind FaultKind
+kind stocks (KindName.Listed why) entry = do
   names ← listed stocks entry
-  Ok (kinds.Halt names)
-kind stocks Restricted entry = do
-  names ← listed stocks entry
-  Ok (kinds.Restricted names)
-kind stocks NoShort entry = Ok kinds.NoShort
-kind stocks NoIso entry = Ok kinds.NoIso
-kind stocks OddLot entry = Ok kinds.OddLot
-kind stocks OrderShares entry = do
+  Ok (RuleKind.Listed why names)
+kind stocks (KindName.Plain what) entry = Ok (RuleKind.Plain what)
+kind stocks (KindName.Order what) entry = do
   most ← limit entry
-  Ok (kinds.OrderShares most)
-kind stocks OrderValue entry = do
-  most ← limit entry
-  Ok (kinds.OrderValue most)
-kind stocks Collar entry = do
-  most ← limit entry
-  Ok (kinds.Collar most)
-kind stocks GrossShares entry = do
+  Ok (RuleKind.Order what most)
+kind stocks (KindName.Exposure what) entry = do
   most ← limit entry
   each ← count entry
-  Ok (kinds.GrossShares most each)
-kind stocks GrossValue entry = do
-  most ← limit entry
-  each ← count entry
-  Ok (kinds.GrossValue most each)
-kind stocks NetShares entry = do
-  most ← limit entry
-  each ← count entry
-  Ok (kinds.NetShares most each)
-kind stocks Rate entry = do
+  Ok (RuleKind.Exposure what most each)
+kind stocks KindName.Rate entry = do
   most ← number_at (codes "limit") 1 4096 entry
   window ← number_at (codes "window") 1 greatest entry
   each ← count entry
-  Ok (kinds.Rate (record { limit = most; window = window }) each)
-kind stocks Repeat entry = do
+  Ok (RuleKind.Rate (record { limit = most; window = window }) each)
+kind stocks KindName.Repeat entry = do
   most ← number_at (codes "limit") 1 4096 entry
   span ← number_at (codes "span") most 4096 entry
   each ← count entry
-  Ok (kinds.Repeat (record { limit = most; span = span }) each)
+  Ok (RuleKind.Repeat (record { limit = most; span = span }) each)
 
 -- what the entry says in a file of this version, beside the file's accounts and stocks
 unfoldable pub rule : FileVersion → List Account → List Stock → Members → Result FileRule FaultKind

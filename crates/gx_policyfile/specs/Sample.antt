@@ -1,14 +1,7 @@
 -- The sample policy.
+use Rattle.gx_policy.specs.declared.{kinds.{ExposureLimit.ExposureLimit, OrderLimit.OrderLimit}, policy.{PolicyData.PolicyData, Lifters.Lifters, User.User, Role.Role, Scope.Scope, Count.Count, RuleKind.RuleKind}}
 use Rattle.std.specs.Prelude.{ℕ, true, false, List, [], ◌∷◌, codes}
 use Rattle.gx_units.specs.declared.names.AccountName.{AccountName}
-use Rattle.gx_policy.specs.declared.policy.PolicyData.{PolicyData}
-use Rattle.gx_policy.specs.declared.policy.Lifters.TheVariants as lifting
-use Rattle.gx_policy.specs.declared.policy.User.{User}
-use Rattle.gx_policy.specs.declared.policy.Role.{Role}
-use Rattle.gx_policy.specs.declared.policy.Role.TheVariants as roles
-use Rattle.gx_policy.specs.declared.policy.Scope.TheVariants as scopes
-use Rattle.gx_policy.specs.declared.policy.Count.TheVariants as counts
-use Rattle.gx_policy.specs.declared.policy.RuleKind.TheVariants as kinds
 
 -- the first account
 abbrev pub alfa : AccountName
@@ -26,18 +19,18 @@ user_of name password role = record { name = record { bytes = name }; password =
 unfoldable pub sample : PolicyData
 sample = record {
   session = record { bytes = codes "GATE01    " };
-  lifters = lifting.One;
+  lifters = Lifters.One;
   accounts =
       record { name = alfa; firm = record { bytes = codes "ALF " } }
       ∷ record { name = beta; firm = record { bytes = codes "BET " } } ∷ [];
   stocks = record { name = record { bytes = codes "TEST    " }; reference = 100000 } ∷ [];
   users =
-      user_of (codes "ALICE ") (codes "APPLE     ") (roles.Trader alfa)
-      ∷ user_of (codes "BOB   ") (codes "BANANA    ") (roles.Trader beta)
-      ∷ user_of (codes "OLGA  ") (codes "ORANGE    ") (roles.Officer (record { kill = true; lift = true; limits = true; symbols = true; people = true; close = true }) scopes.All)
-      ∷ user_of (codes "OTTO  ") (codes "OLIVE     ") (roles.Officer (record { kill = true; lift = false; limits = false; symbols = false; people = false; close = false }) scopes.All)
-      ∷ user_of (codes "RITA  ") (codes "RAISIN    ") (roles.Reader []) ∷ [];
+      user_of (codes "ALICE ") (codes "APPLE     ") (Role.Trader alfa)
+      ∷ user_of (codes "BOB   ") (codes "BANANA    ") (Role.Trader beta)
+      ∷ user_of (codes "OLGA  ") (codes "ORANGE    ") (Role.Officer (record { kill = true; lift = true; limits = true; symbols = true; people = true; close = true }) Scope.All)
+      ∷ user_of (codes "OTTO  ") (codes "OLIVE     ") (Role.Officer (record { kill = true; lift = false; limits = false; symbols = false; people = false; close = false }) Scope.All)
+      ∷ user_of (codes "RITA  ") (codes "RAISIN    ") (Role.Reader []) ∷ [];
   rules =
-      record { name = record { bytes = codes "SIZE    " }; kind = kinds.OrderShares 500000; scope = scopes.All }
-      ∷ record { name = record { bytes = codes "GROSS   " }; kind = kinds.GrossValue 10000000 counts.Each; scope = scopes.All } ∷ [];
+      record { name = record { bytes = codes "SIZE    " }; kind = RuleKind.Order OrderLimit.Shares 500000; scope = Scope.All }
+      ∷ record { name = record { bytes = codes "GROSS   " }; kind = RuleKind.Exposure ExposureLimit.GrossValue 10000000 Count.Each; scope = Scope.All } ∷ [];
 }

@@ -1,7 +1,6 @@
 -- How a fault of a policy file is told.
 use Rattle.std.specs.Prelude.{ℕ, List, codes}
-use Rattle.gx_policyfile.specs.declared.fault.FaultKind.{FaultKind}
-use Rattle.gx_policyfile.specs.declared.fault.FaultKind.TheVariants.{NotToml, MissingKey, UnknownKey, BadValue, UnknownName, DuplicateName, TooMany, OutOfMemory}
+use Rattle.gx_policyfile.specs.declared.fault.FaultKind.{FaultKind, TheVariants.{NotToml, MissingKey, UnknownKey, BadValue, UnknownName, DuplicateName, TooMany, OutOfMemory}}
 
 -- the number and the name of each kind
 abbrev pub kind_words : FaultKind → List ℕ

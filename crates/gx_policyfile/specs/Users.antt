@@ -1,22 +1,9 @@
 -- What an entry of the place `user` says.
-use Rattle.std.specs.Prelude.{ℕ, true, false, List, [], ◌∷◌, codes, Option, Some, None, Result, Ok}
-use Rattle.std.specs.Option.{ok_or}
+use Rattle.std.specs.{Prelude.{ℕ, true, false, List, [], ◌∷◌, codes, Option, Some, None, Result, Ok}, Option.ok_or}
 use Rattle.toml.specs.Data.{Data, Members, as_array}
 use Rattle.gx_units.specs.Spelling.{folded_user, folded_password}
-use Rattle.gx_policy.specs.declared.policy.Account.{Account}
-use Rattle.gx_policy.specs.declared.policy.Powers.{Powers}
-use Rattle.gx_policy.specs.declared.policy.Role.{Role}
-use Rattle.gx_policy.specs.declared.policy.Role.TheVariants as roles
-use Rattle.gx_policy.specs.declared.policy.User.{User}
-use Rattle.gx_policyfile.specs.declared.fault.FaultKind.{FaultKind}
-use Rattle.gx_policyfile.specs.declared.fault.FaultKind.TheVariants.{BadValue}
-use Rattle.gx_policyfile.specs.declared.fault.Letters.TheVariants.{Visible}
-use Rattle.gx_policyfile.specs.declared.user.RoleWord.{RoleWord}
-use Rattle.gx_policyfile.specs.declared.user.RoleWord.TheVariants.{Trader, Officer, Reader}
-use Rattle.gx_policyfile.specs.declared.user.Power.{Power}
-use Rattle.gx_policyfile.specs.declared.user.Power.TheVariants.{Kill, Lift, Limits, Symbols, People, Close}
-use Rattle.gx_policyfile.specs.Field.{◌>>=◌, value_at, field_at, choice, choice_at, word_at, optional, each_item, only_keys}
-use Rattle.gx_policyfile.specs.Known.{known_account, known_accounts, scope}
+use Rattle.gx_policy.specs.declared.policy.{Account.Account, Powers.Powers, Role.Role, User.User}
+use Rattle.gx_policyfile.specs.{declared.{fault.{FaultKind.{FaultKind, TheVariants.BadValue}, Letters.TheVariants.Visible}, user.{RoleWord.{RoleWord, TheVariants.{Trader, Officer, Reader}}, Power.{Power, TheVariants.{Kill, Lift, Limits, Symbols, People, Close}}}}, Field.{◌>>=◌, value_at, field_at, choice, choice_at, word_at, optional, each_item, only_keys}, Known.{known_account, known_accounts, scope}}
 
 -- the words of the key `role`
 abbrev pub role_words : List (List ℕ × RoleWord)
@@ -58,14 +45,14 @@ powers value = ok_or (as_array value) BadValue >>= each_item (choice power_words
 unfoldable pub role : List Account → RoleWord → Members → Result Role FaultKind
 role accounts Trader entry = do
   account ← value_at (codes "account") entry >>= known_account accounts
-  Ok (roles.Trader account)
+  Ok (Role.Trader account)
 role accounts Officer entry = do
   given ← value_at (codes "powers") entry >>= powers
   for_accounts ← scope accounts entry
-  Ok (roles.Officer given for_accounts)
+  Ok (Role.Officer given for_accounts)
 role accounts Reader entry = do
   names ← optional (codes "accounts") (known_accounts accounts) [] entry
-  Ok (roles.Reader names)
+  Ok (Role.Reader names)
 
 -- what the entry says, beside the file's accounts
 unfoldable pub user : List Account → Members → Result User FaultKind

@@ -2,11 +2,7 @@
 use Rattle.std.specs.Prelude.{ℕ, List, [], ◌∷◌, ◌==◌, codes, Result, Ok, Err, if◌then◌else◌}
 use Rattle.toml.specs.Data.{Members}
 use Rattle.gx_policy.specs.declared.policy.Lifters.{Lifters}
-use Rattle.gx_policy.specs.declared.policy.Lifters.TheVariants as lifting
-use Rattle.gx_policyfile.specs.declared.fault.FaultKind.{FaultKind}
-use Rattle.gx_policyfile.specs.declared.version.FileVersion.{FileVersion}
-use Rattle.gx_policyfile.specs.declared.version.FileVersion.TheVariants.{One, Two}
-use Rattle.gx_policyfile.specs.Field.{◌>>=◌, number_at}
+use Rattle.gx_policyfile.specs.{declared.{fault.FaultKind.FaultKind, version.FileVersion.{FileVersion, TheVariants.{One, Two}}}, Field.{◌>>=◌, number_at}}
 
 -- the number that the file gives itself
 abbrev pub number : Members → Result ℕ FaultKind
@@ -28,9 +24,9 @@ top_keys Two = codes "version" ∷ codes "session" ∷ codes "lifters" ∷ codes
 
 -- 1 for one officer and 2 for two
 abbrev pub lifters_of : ℕ → Lifters
-lifters_of n = if n == 1 then lifting.One else lifting.Two
+lifters_of n = if n == 1 then Lifters.One else Lifters.Two
 
 -- how many officers have to lift: one in version 1, and in version 2 what the key `lifters` says
 abbrev pub lifters : FileVersion → Members → Result Lifters FaultKind
-lifters One top = Ok lifting.One
+lifters One top = Ok Lifters.One
 lifters Two top = number_at (codes "lifters") 1 2 top >>= λ n. Ok (lifters_of n)

@@ -3,8 +3,7 @@
 ghost use Rattle.std.specs.Prelude.{map};
 ghost use Rattle.toml.specs.View.{table_view};
 ghost use Rattle.gx_units.specs.Names.{same_account};
-ghost use Rattle.gx_policyfile.specs.Policies.{account, accounts};
-ghost use Rattle.gx_policyfile.specs.Field.{Gives};
+ghost use Rattle.gx_policyfile.specs.{Policies.{account, accounts}, Field.Gives};
 
 use crate::fault::{Letters, PolicyFault};
 use crate::field;

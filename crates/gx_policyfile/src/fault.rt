@@ -1,8 +1,7 @@
 //! Why a policy file is refused, and where.
 
 ghost use Rattle.gx_policyfile.specs.declared.fault.FaultKind.TheVariants as kinds;
-ghost use Rattle.gx_policyfile.specs.Field.{is_memory};
-ghost use Rattle.gx_policyfile.specs.Telling.{kind_words};
+ghost use Rattle.gx_policyfile.specs.{Field.is_memory, Telling.kind_words};
 ghost use Rattle.std.specs.Prelude.{◌≡◌, false};
 
 use gx_policytext::line_at;

@@ -1,12 +1,9 @@
 //! A key of a table: whether it is there, and what its value has to be.
 
-ghost use Rattle.std.specs.Prelude.{◌≡◌, ◌≤◌, false, IfOk, IfSome, length, map, option_map, ok_or, bytes_eq, string_bytes};
+ghost use Rattle.std.specs.{Prelude.{◌≡◌, ◌≤◌, false, IfOk, IfSome, length, map, option_map, ok_or, bytes_eq, string_bytes}, List.{list_all, list_any}};
 ghost use Rattle.std.specs.BTreeMap as tree;
-ghost use Rattle.std.specs.List.{list_all, list_any};
-ghost use Rattle.toml.specs.Data.{get_member};
-ghost use Rattle.toml.specs.View.{view, table_view};
-ghost use Rattle.gx_policyfile.specs.declared.fault.FaultKind.TheVariants.{UnknownKey, BadValue};
-ghost use Rattle.gx_policyfile.specs.Field.{Gives, is_memory, is_letter, seen, value_at, number, number_at, text, field, field_at, has_only, only_keys, word_in, choice, choice_at, word_at};
+ghost use Rattle.toml.specs.{Data.get_member, View.{view, table_view}};
+ghost use Rattle.gx_policyfile.specs.{declared.fault.FaultKind.TheVariants.{UnknownKey, BadValue}, Field.{Gives, is_memory, is_letter, seen, value_at, number, number_at, text, field, field_at, has_only, only_keys, word_in, choice, choice_at, word_at}};
 
 use crate::fault::{Allowed, Cause, FaultKind, Letters, PolicyFault};
 use gx_units::padded;

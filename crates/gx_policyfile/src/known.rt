@@ -1,12 +1,9 @@
 //! Names of accounts and stocks that the file has.
 
-ghost use Rattle.std.specs.Prelude.{◌≡◌, OnOk, IfErr, ok_or};
-ghost use Rattle.std.specs.List.{list_any};
+ghost use Rattle.std.specs.{Prelude.{◌≡◌, OnOk, IfErr, ok_or}, List.list_any};
 ghost use Rattle.toml.specs.View.{view, table_view, items_view};
 ghost use Rattle.gx_units.specs.Names.{same_account, same_stock};
-ghost use Rattle.gx_policyfile.specs.declared.fault.FaultKind.TheVariants.{BadValue, OutOfMemory};
-ghost use Rattle.gx_policyfile.specs.Field.{Gives, seen};
-ghost use Rattle.gx_policyfile.specs.Known.{is_account, is_stock, account_name, stock_name, with_account, with_stock, listed_accounts, listed_stocks, known_account, known_accounts, known_stocks, scope};
+ghost use Rattle.gx_policyfile.specs.{declared.fault.FaultKind.TheVariants.{BadValue, OutOfMemory}, Field.{Gives, seen}, Known.{is_account, is_stock, account_name, stock_name, with_account, with_stock, listed_accounts, listed_stocks, known_account, known_accounts, known_stocks, scope}};
 
 use crate::fault::{Allowed, FaultKind, Letters, PolicyFault};
 use crate::field;

@@ -2,10 +2,7 @@
 
 ghost use Rattle.std.specs.Prelude.{codes, ◌≡◌, ◌≢◌, Ok, Err, OnOk, IfOk, IfErr, IsOk, IsTrue};
 ghost use Rattle.toml.specs.View.{table_view};
-ghost use Rattle.gx_policyfile.specs.declared.fault.FaultKind.TheVariants.{OutOfMemory};
-ghost use Rattle.gx_policyfile.specs.Version.{number, version, lifters};
-ghost use Rattle.gx_policyfile.specs.Policies.{policy, means, version_of};
-ghost use Rattle.gx_policyfile.specs.Migrating.{say_the_same, lift_alike};
+ghost use Rattle.gx_policyfile.specs.{declared.fault.FaultKind.TheVariants.OutOfMemory, Version.{number, version, lifters}, Policies.{policy, means, version_of}, Migrating.{say_the_same, lift_alike}};
 
 use crate::fault::PolicyFault;
 use crate::reading::{accepted, tree};

@@ -2,8 +2,7 @@
 
 ghost use Rattle.std.specs.Prelude.{◌≡◌, [], ◌∷◌, ◌++◌, map, false};
 ghost use Rattle.toml.specs.View.{table_view, items_view};
-ghost use Rattle.gx_policyfile.specs.Field.{Gives, is_memory, each_item};
-ghost use Rattle.gx_policyfile.specs.Place.{tables_at, table, is_taken, next, each, place_of};
+ghost use Rattle.gx_policyfile.specs.{Field.{Gives, is_memory, each_item}, Place.{tables_at, table, is_taken, next, each, place_of}};
 
 use crate::fault::{Allowed, EntryPlace, FaultKind, PolicyFault};
 use crate::field;

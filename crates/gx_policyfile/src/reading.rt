@@ -3,9 +3,7 @@
 ghost use Rattle.std.specs.Prelude.{◌≡◌, ◌≢◌, false, Ok, Err, OnOk, IfOk, IfErr, IsOk, IsTrue, map};
 ghost use Rattle.toml.specs.View.{table_view};
 ghost use Rattle.gx_policy.specs.Soundness.{is_sound};
-ghost use Rattle.gx_policyfile.specs.declared.fault.FaultKind.TheVariants.{NotToml, OutOfMemory};
-ghost use Rattle.gx_policyfile.specs.Field.{Gives, is_memory};
-ghost use Rattle.gx_policyfile.specs.Policies.{of_entries, of_places, policy, tree, means, version_of};
+ghost use Rattle.gx_policyfile.specs.{declared.fault.FaultKind.TheVariants.{NotToml, OutOfMemory}, Field.{Gives, is_memory}, Policies.{of_entries, of_places, policy, tree, means, version_of}};
 
 use crate::account::accounts;
 use crate::fault::{Cause, FaultKind, Letters, PolicyFault};

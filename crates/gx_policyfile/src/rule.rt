@@ -1,72 +1,25 @@
 //! The file's rules.
 
-ghost use Rattle.std.specs.Prelude.{◌≡◌, map, codes, ok_or, bytes_eq};
-ghost use Rattle.std.specs.List.{list_any};
+ghost use Rattle.std.specs.Prelude.{◌≡◌, map, codes, ok_or};
 ghost use Rattle.toml.specs.View.{view, table_view};
 ghost use Rattle.gx_units.specs.Names.{same_rule};
-ghost use Rattle.gx_policy.specs.RuleNames.{is_built_in};
-ghost use Rattle.gx_policyfile.specs.declared.fault.FaultKind.TheVariants.{BadValue};
-ghost use Rattle.gx_policyfile.specs.Field.{Gives, seen, choice_at, word_at};
-ghost use Rattle.gx_policyfile.specs.Rules.{kind_words, rule_keys, rule_name, limit, count, listed, kind, rule};
-ghost use Rattle.gx_policyfile.specs.Policies.{rules};
+ghost use Rattle.gx_policyfile.specs.{declared.fault.FaultKind.TheVariants.BadValue, Field.{Gives, seen, choice_at, word_at}, Rules.{kind_words, rule_keys, rule_name, limit, count, listed, kind, rule}, Policies.rules};
 
 use crate::fault::{Allowed, FaultKind, Letters, PolicyFault};
 use crate::field;
 use crate::known::{STOCKS, known_stocks, scope};
 use crate::place::{Entry, entries};
 use crate::version::FileVersion;
-use gx_policy::{Account, Count, FileRule, Rate, Repeat, RuleKind, Stock, Symbols};
+use gx_policy::{
+    Account, Count, FIRST_KINDS, FIRST_KINDS_TOLD, FileRule, KIND_WORDS, KINDS_TOLD, KindName,
+    Rate, Repeat, RuleKind, Stock, Symbols, is_built_in,
+};
 use gx_units::RuleId;
 use std::alloc::Global;
 use toml::{Table, Value};
 
-/// What a rule is.
-#[derive(Clone, Copy)]
-pub enum KindWord {
-    Halt,
-    Restricted,
-    NoShort,
-    NoIso,
-    OddLot,
-    OrderShares,
-    OrderValue,
-    Collar,
-    GrossShares,
-    GrossValue,
-    Rate,
-    Repeat,
-    NetShares,
-}
-
 /// The greatest limit, as TOML's integers go.
 const GREATEST: u64 = 9_223_372_036_854_775_807;
-
-/// The words of the key `kind`; the last one is of files of version 2 alone.
-const KIND_WORDS: [(&str, KindWord); 13] = [
-    ("halt", KindWord::Halt),
-    ("restricted", KindWord::Restricted),
-    ("no_short", KindWord::NoShort),
-    ("no_iso", KindWord::NoIso),
-    ("odd_lot", KindWord::OddLot),
-    ("order_shares", KindWord::OrderShares),
-    ("order_value", KindWord::OrderValue),
-    ("collar", KindWord::Collar),
-    ("gross_shares", KindWord::GrossShares),
-    ("gross_value", KindWord::GrossValue),
-    ("rate", KindWord::Rate),
-    ("repeat", KindWord::Repeat),
-    ("net_shares", KindWord::NetShares),
-];
-
-/// What the key `kind` allows in version 1.
-const FIRST_KINDS: Allowed = Allowed::Words(
-    "one of \"halt\", \"restricted\", \"no_short\", \"no_iso\", \"odd_lot\", \"order_shares\", \"order_value\", \"collar\", \"gross_shares\", \"gross_value\", \"rate\" and \"repeat\"",
-);
-
-/// What the key `kind` allows in version 2.
-const KINDS: Allowed = Allowed::Words(
-    "one of \"halt\", \"restricted\", \"no_short\", \"no_iso\", \"odd_lot\", \"order_shares\", \"order_value\", \"collar\", \"gross_shares\", \"gross_value\", \"rate\", \"repeat\" and \"net_shares\"",
-);
 
 /// What the key `name` of a rule allows.
 const RULE_NAME: Allowed = Allowed::Words(
@@ -76,47 +29,18 @@ const RULE_NAME: Allowed = Allowed::Words(
 /// What the key `count` allows.
 const COUNTS: Allowed = Allowed::Words("\"each\" or \"together\"");
 
-/// The names of the built-in rules.
-const BUILT_IN: [[u8; 8]; 25] = [
-    *b"L1      ",
-    *b"L2      ",
-    *b"L3      ",
-    *b"G1      ",
-    *b"G2      ",
-    *b"G3      ",
-    *b"I1      ",
-    *b"I2      ",
-    *b"I3      ",
-    *b"P1      ",
-    *b"P2      ",
-    *b"P3      ",
-    *b"P4      ",
-    *b"P5      ",
-    *b"P6      ",
-    *b"P7      ",
-    *b"P8      ",
-    *b"P9      ",
-    *b"P10     ",
-    *b"P11     ",
-    *b"P12     ",
-    *b"Q1      ",
-    *b"Q2      ",
-    *b"Q3      ",
-    *b"Q4      ",
-];
-
 /// The words of the key `kind` in a file of the version.
 #[tactic(auto, unfolding(crate::specs::Rules::kind_words))]
-fn kind_words(version: FileVersion) -> &'static [(&'static str, KindWord)]
+fn kind_words(version: FileVersion) -> &'static [(&'static str, KindName)]
     ensures { map (λ w. (w.0.now, w.1)) result.now ≡ kind_words version }
 {
     match version {
-        FileVersion::One => &KIND_WORDS[..12],
+        FileVersion::One => &KIND_WORDS[..FIRST_KINDS],
         FileVersion::Two => &KIND_WORDS,
     }
 }
 
-fn kind_word(version: FileVersion, entry: &Table) -> Option<KindWord>
+fn kind_word(version: FileVersion, entry: &Table) -> Option<KindName>
     ensures { result ≡ word_at (codes "kind") (kind_words version) (table_view entry.now) }
 {
     field::word_at(entry, "kind", kind_words(version))
@@ -124,12 +48,12 @@ fn kind_word(version: FileVersion, entry: &Table) -> Option<KindWord>
 
 fn allowed_kinds(version: FileVersion) -> Allowed {
     match version {
-        FileVersion::One => FIRST_KINDS,
-        FileVersion::Two => KINDS,
+        FileVersion::One => Allowed::Words(FIRST_KINDS_TOLD),
+        FileVersion::Two => Allowed::Words(KINDS_TOLD),
     }
 }
 
-fn known_kind(version: FileVersion, entry: &Table) -> Result<KindWord, PolicyFault>
+fn known_kind(version: FileVersion, entry: &Table) -> Result<KindName, PolicyFault>
     ensures { seen (λ k. k) result
         ≡ choice_at (codes "kind") (kind_words version) (table_view entry.now) }
 {
@@ -137,41 +61,20 @@ fn known_kind(version: FileVersion, entry: &Table) -> Result<KindWord, PolicyFau
 }
 
 /// The keys of a rule of this kind.
-fn keys_of(word: Option<KindWord>) -> &'static [&'static str]
+fn keys_of(word: Option<KindName>) -> &'static [&'static str]
     ensures { map (λ k. k.now) result.now ≡ rule_keys word }
 {
     match word {
-        Some(KindWord::Halt) | Some(KindWord::Restricted) => {
-            &["name", "kind", "stocks", "accounts"]
-        }
-        Some(KindWord::NoShort) | Some(KindWord::NoIso) | Some(KindWord::OddLot) => {
-            &["name", "kind", "accounts"]
-        }
-        Some(KindWord::OrderShares) | Some(KindWord::OrderValue) | Some(KindWord::Collar) => {
-            &["name", "kind", "limit", "accounts"]
-        }
-        Some(KindWord::GrossShares) | Some(KindWord::GrossValue) | Some(KindWord::NetShares) => {
-            &["name", "kind", "limit", "count", "accounts"]
-        }
-        Some(KindWord::Rate) => &["name", "kind", "limit", "window", "count", "accounts"],
-        Some(KindWord::Repeat) => &["name", "kind", "limit", "span", "count", "accounts"],
+        Some(KindName::Listed(_)) => &["name", "kind", "stocks", "accounts"],
+        Some(KindName::Plain(_)) => &["name", "kind", "accounts"],
+        Some(KindName::Order(_)) => &["name", "kind", "limit", "accounts"],
+        Some(KindName::Exposure(_)) => &["name", "kind", "limit", "count", "accounts"],
+        Some(KindName::Rate) => &["name", "kind", "limit", "window", "count", "accounts"],
+        Some(KindName::Repeat) => &["name", "kind", "limit", "span", "count", "accounts"],
         None => &[
             "name", "kind", "stocks", "limit", "window", "span", "count", "accounts",
         ],
     }
-}
-
-fn is_listed(names: &[[u8; 8]], name: [u8; 8]) -> bool
-    ensures { result ≡ list_any (λ rule. bytes_eq rule name) names.now }
-{
-    names.iter().any(|rule| *rule == name)
-}
-
-#[tactic(auto, unfolding(gx_policy::specs::RuleNames::rules_before, gx_policy::specs::RuleNames::rules_behind))]
-fn is_built_in(name: &RuleId) -> bool
-    ensures { result ≡ is_built_in name.now }
-{
-    is_listed(&BUILT_IN, name.bytes)
 }
 
 #[tactic(auto, unfolding(crate::specs::Rules::rule_name))]
@@ -182,7 +85,7 @@ fn rule_name(value: &Value) -> Result<RuleId, PolicyFault>
     match field::field(value, Letters::Plain) {
         Some(bytes) => {
             let name = RuleId { bytes };
-            if is_built_in(&name) { bad } else { Ok(name) }
+            if is_built_in(name) { bad } else { Ok(name) }
         }
         None => bad,
     }
@@ -212,38 +115,25 @@ fn listed(alloc: Global, stocks: &[Stock], entry: &Table) -> Result<Symbols, Pol
 fn kind(
     alloc: Global,
     stocks: &[Stock],
-    word: KindWord,
+    word: KindName,
     entry: &Table,
 ) -> Result<RuleKind, PolicyFault>
     ensures { Gives (λ k. k) result (kind stocks.now word (table_view entry.now)) }
 {
     match word {
-        KindWord::Halt => Ok(RuleKind::Halt(listed(alloc, stocks, entry)?)),
-        KindWord::Restricted => Ok(RuleKind::Restricted(listed(alloc, stocks, entry)?)),
-        KindWord::NoShort => Ok(RuleKind::NoShort),
-        KindWord::NoIso => Ok(RuleKind::NoIso),
-        KindWord::OddLot => Ok(RuleKind::OddLot),
-        KindWord::OrderShares => Ok(RuleKind::OrderShares(limit(entry)?)),
-        KindWord::OrderValue => Ok(RuleKind::OrderValue(limit(entry)?)),
-        KindWord::Collar => Ok(RuleKind::Collar(limit(entry)?)),
-        KindWord::GrossShares => {
+        KindName::Listed(kind) => Ok(RuleKind::Listed(kind, listed(alloc, stocks, entry)?)),
+        KindName::Plain(kind) => Ok(RuleKind::Plain(kind)),
+        KindName::Order(kind) => Ok(RuleKind::Order(kind, limit(entry)?)),
+        KindName::Exposure(kind) => {
             let limit = limit(entry)?;
-            Ok(RuleKind::GrossShares(limit, count(entry)?))
+            Ok(RuleKind::Exposure(kind, limit, count(entry)?))
         }
-        KindWord::GrossValue => {
-            let limit = limit(entry)?;
-            Ok(RuleKind::GrossValue(limit, count(entry)?))
-        }
-        KindWord::NetShares => {
-            let limit = limit(entry)?;
-            Ok(RuleKind::NetShares(limit, count(entry)?))
-        }
-        KindWord::Rate => {
+        KindName::Rate => {
             let limit = field::number_at(entry, "limit", 1, 4096)?;
             let window = field::number_at(entry, "window", 1, GREATEST)?;
             Ok(RuleKind::Rate(Rate { limit, window }, count(entry)?))
         }
-        KindWord::Repeat => {
+        KindName::Repeat => {
             let limit = field::number_at(entry, "limit", 1, 4096)?;
             let span = field::number_at(entry, "span", limit, 4096)?;
             Ok(RuleKind::Repeat(Repeat { limit, span }, count(entry)?))

@@ -1,8 +1,7 @@
 //! The sample policy.
 
 ghost use Rattle.std.specs.Prelude.{◌≡◌, Ok, IfOk, IfErr};
-ghost use Rattle.gx_policyfile.specs.declared.fault.FaultKind.TheVariants.{OutOfMemory};
-ghost use Rattle.gx_policyfile.specs.Policies.{means};
+ghost use Rattle.gx_policyfile.specs.{declared.fault.FaultKind.TheVariants.OutOfMemory, Policies.means};
 ghost use Rattle.gx_policyfile.specs.Sample as specs;
 
 use crate::fault::PolicyFault;

@@ -3,11 +3,7 @@
 ghost use Rattle.std.specs.Prelude.{◌≡◌, [], map, codes, ok_or};
 ghost use Rattle.toml.specs.View.{view, table_view, items_view};
 ghost use Rattle.gx_units.specs.Names.{same_user};
-ghost use Rattle.gx_policyfile.specs.declared.fault.FaultKind.TheVariants.{BadValue};
-ghost use Rattle.gx_policyfile.specs.Field.{Gives, seen, choice, word_at, optional, each_item};
-ghost use Rattle.gx_policyfile.specs.Known.{known_accounts};
-ghost use Rattle.gx_policyfile.specs.Users.{role_words, user_keys, power_words, no_powers, with_power, powers, role, user};
-ghost use Rattle.gx_policyfile.specs.Policies.{users};
+ghost use Rattle.gx_policyfile.specs.{declared.fault.FaultKind.TheVariants.BadValue, Field.{Gives, seen, choice, word_at, optional, each_item}, Known.known_accounts, Users.{role_words, user_keys, power_words, no_powers, with_power, powers, role, user}, Policies.users};
 
 use crate::fault::{Allowed, FaultKind, Letters, PolicyFault};
 use crate::field;

@@ -2,8 +2,7 @@
 
 ghost use Rattle.std.specs.Prelude.{◌≡◌, map};
 ghost use Rattle.toml.specs.View.{table_view};
-ghost use Rattle.gx_policyfile.specs.Field.{seen};
-ghost use Rattle.gx_policyfile.specs.Version.{number, version, top_keys, lifters_of, lifters};
+ghost use Rattle.gx_policyfile.specs.{Field.seen, Version.{number, version, top_keys, lifters_of, lifters}};
 
 use crate::fault::PolicyFault;
 use crate::field;

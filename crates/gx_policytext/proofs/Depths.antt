@@ -1,13 +1,8 @@
 -- How deep the values of a policy file are.
-use Rattle.std.proofs.Common.{◌≡◌, ◌≤◌, ℕ, max, Bool, true, ◌&&◌, List, [], ◌∷◌, Some, refl, ap, sym, ◌∙◌, arith}
-use Rattle.std.proofs.lemmas.Bool.{and_parts, false≢true}
-use Rattle.std.specs.List.{list_all}
-use Rattle.std.specs.Map.{values_of}
-use Rattle.toml.specs.Data.{Data, string, integer, float, boolean, datetime, array, table, Items, no_items, item, Members, no_members, member, depth, items_depth, members_depth}
-use Rattle.toml.specs.View.{view, items_view, members_view}
-use Rattle.toml.specs.declared.value.Value.{Value}
+use Rattle.std.proofs.{Common.{◌≡◌, ◌≤◌, ℕ, max, Bool, true, ◌&&◌, List, [], ◌∷◌, Some, refl, ap, sym, ◌∙◌, arith}, lemmas.Bool.{and_parts, false≢true}}
+use Rattle.std.specs.{List.list_all, Map.values_of}
+use Rattle.toml.specs.{Data.{Data, string, integer, float, boolean, datetime, array, table, Items, no_items, item, Members, no_members, member, depth, items_depth, members_depth}, View.{view, items_view, members_view}, declared.value.Value.Value, Parse.parse_document}
 use Rattle.toml.proofs.Views.{Entry}
-use Rattle.toml.specs.Parse.{parse_document}
 use Rattle.gx_policytext.specs.Shallow.{all_items, all_members, is_plain, is_field, is_entry, is_shallow}
 
 pub all_items_view : (p : Data → Bool) (values : List Value) → list_all (λ v. p (view v)) values ≡ all_items p (items_view values)

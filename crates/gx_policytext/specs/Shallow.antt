@@ -1,6 +1,5 @@
 -- What may stand in a policy file.
-use Rattle.std.specs.Prelude.{Bool, true, ◌&&◌, ◌||◌, is_some}
-use Rattle.std.specs.Option.{option_map_or}
+use Rattle.std.specs.{Prelude.{Bool, true, ◌&&◌, ◌||◌, is_some}, Option.option_map_or}
 use Rattle.toml.specs.Data.{Data, Items, no_items, item, Members, no_members, member, as_str, as_integer, as_array, as_table}
 
 -- each item of an array

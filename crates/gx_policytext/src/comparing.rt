@@ -1,9 +1,7 @@
 //! Whether two files say the same under a key.
 
 ghost use Rattle.std.specs.Prelude.{◌≡◌, ◌≤◌, Some, IfOk, IsTrue, option_map, string_bytes};
-ghost use Rattle.toml.specs.Data.{depth, member, no_members, get_member};
-ghost use Rattle.toml.specs.View.{view, table_view};
-ghost use Rattle.toml.specs.Parse.{parse_document};
+ghost use Rattle.toml.specs.{Data.{depth, member, no_members, get_member}, View.{view, table_view}, Parse.parse_document};
 
 use crate::shallow::is_shallow;
 use gx_units::OutOfMemory;

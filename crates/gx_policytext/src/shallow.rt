@@ -1,8 +1,7 @@
 //! What may stand in a policy file: strings and integers, arrays of them, and arrays of tables that have these.
 
-ghost use Rattle.std.specs.Prelude.{◌≡◌};
+ghost use Rattle.std.specs.{Prelude.◌≡◌, List.list_all};
 ghost use Rattle.std.specs.BTreeMap as tree;
-ghost use Rattle.std.specs.List.{list_all};
 ghost use Rattle.toml.specs.View.{view};
 ghost use Rattle.gx_policytext.specs.Shallow.{is_plain, is_field, is_entry, is_shallow};
 

@@ -1,61 +1,14 @@
 -- What one more record does to the live orders may be done.
-use Rattle.std.proofs.Common.{◌≡◌, ℕ, ◌+◌, ◌<◌, ◌≤◌, ◌^◌, true, false, List, [], ◌∷◌, refl, ◌∙◌, ap, sym, Bool, cond, length, arith}
-use Rattle.std.proofs.Math.Path.{subst}
-use Rattle.std.specs.Prelude.{Option, Some, None, ◌==◌, is_some, nat_eq, not, IsTrue}
-use Rattle.std.specs.Option.{option_map_or}
-use Rattle.std.specs.List.{AllByRecursion, IsDistinct}
-use Rattle.std.proofs.lemmas.Bool.{eqb-true, lt-ltb, ne_eqb}
-use Rattle.gx_units.specs.Names.{same_stock}
-use Rattle.gx_units.specs.declared.names.AccountName.{AccountName}
-use Rattle.gx_ouch.specs.declared.inbound.CancelOrder.{CancelOrder}
-use Rattle.gx_ouch.specs.declared.inbound.EnterOrder.{EnterOrder}
-use Rattle.gx_ouch.specs.declared.inbound.ReplaceOrder.{ReplaceOrder}
-use Rattle.gx_policy.specs.declared.policy.PolicyData.{PolicyData}
-use Rattle.gx_policy.specs.People.{account_of, stock_named}
-use Rattle.gx_history.specs.declared.live_order.LiveOrder.{LiveOrder}
-use Rattle.gx_history.specs.declared.record.Asked.{Asked}
-use Rattle.gx_history.specs.declared.record.Fill.{Fill}
-use Rattle.gx_history.specs.declared.record.RecordData.{RecordData}
-use Rattle.gx_history.specs.declared.record.Request.{Request}
-use Rattle.gx_history.specs.declared.record.Request.TheVariants as requests
-use Rattle.gx_history.specs.declared.record.Step.{Step}
-use Rattle.gx_history.specs.declared.record.Step.TheVariants as steps
-use Rattle.gx_history.specs.declared.record.Verdict.{Verdict}
-use Rattle.gx_history.specs.declared.record.Verdict.TheVariants as verdicts
-use Rattle.gx_history.specs.Book.{is_on}
-use Rattle.gx_history.specs.Figures.{Positions, positions}
-use Rattle.gx_history.specs.Live.{is_buy_order, live, live_numbered, live_under}
-use Rattle.gx_history.specs.LiveOrders.{is_under, replacement_order, terms_then}
-use Rattle.gx_history.specs.Matched.{IsFair}
-use Rattle.gx_history.specs.MayMove.{MayExpire, MayMove}
-use Rattle.gx_history.specs.Orders.{Order, entered, order_numbered, orders, orders_added, replacing}
-use Rattle.gx_history.specs.Requests.{is_judged}
-use Rattle.gx_history.specs.Turns.{new_order}
-use Rattle.gx_history.specs.Verdicts.{IsLegal, next}
-use Rattle.gx_history.specs.declared.moves.Move.{Move}
-use Rattle.gx_history.specs.declared.moves.Move.TheVariants.{Adds, Expires, Fills, Nothing, Replaces, Sizes}
-use Rattle.gx_history.specs.World.{move_asked, move_by, turn_by, turn_in, world}
-use Rattle.gx_history_laws.proofs.Entering.{entered_has_shares}
-use Rattle.gx_history_laws.proofs.Granting.{asked_is_judged}
-use Rattle.gx_history_laws.proofs.Judging.{both}
-use Rattle.gx_history_laws.proofs.Listed.{entered_is_listed, orders_are_listed}
-use Rattle.gx_history_laws.proofs.Numbers.{all_weaker, number_left, numbers_are_within}
-use Rattle.gx_history_laws.proofs.Owners.{last_such_is}
-use Rattle.gx_history_laws.proofs.Runs.{step_left}
-use Rattle.gx_effects.proofs.Among.{of_all}
-use Rattle.gx_effects.proofs.Apart.{AreApart, IsApartFrom}
-use Rattle.gx_effects.proofs.FairFills.{fills_are_fair}
-use Rattle.gx_effects.proofs.Entered.{all_mapped}
-use Rattle.gx_effects.proofs.Known.{IsKnown, IsWaiting, all_waiting, live_apart, live_known, number_found, number_in}
-use Rattle.gx_effects.proofs.Moving.{may_by}
-use Rattle.gx_effects.proofs.Naming.{FindsOne, finds_one}
-use Rattle.gx_effects.proofs.NewOrders.{found_is}
-use Rattle.gx_effects.proofs.Orderly.{legal_is_orderly}
-use Rattle.gx_effects.proofs.OrderRequests.{adds_by, it_grants}
-use Rattle.gx_positions.specs.Laws.{RecordsMayCome}
-use Rattle.gx_positions.specs.Sound.{IsListed, IsLive, IsNoLater, IsOf, IsThere, MayChange, MayCome, numbers_of}
-use Rattle.gx_positions.proofs.Granted.{entered_price, entered_shares, replaced_price, replaced_shares}
-use Rattle.gx_positions.proofs.Moments.{granted_last}
+use Rattle.std.proofs.{Common.{◌≡◌, ℕ, ◌+◌, ◌<◌, ◌≤◌, ◌^◌, true, false, List, [], ◌∷◌, refl, ◌∙◌, ap, sym, Bool, cond, length, arith}, Math.Path.subst, lemmas.Bool.{eqb-true, lt-ltb, ne_eqb}}
+use Rattle.std.specs.{Prelude.{Option, Some, None, ◌==◌, is_some, nat_eq, not, IsTrue}, Option.option_map_or, List.{AllByRecursion, IsDistinct}}
+use Rattle.gx_units.specs.{Names.same_stock, declared.names.AccountName.AccountName}
+use Rattle.gx_ouch.specs.declared.inbound.{CancelOrder.CancelOrder, EnterOrder.EnterOrder, ReplaceOrder.ReplaceOrder}
+use Rattle.gx_policy.specs.{declared.policy.PolicyData.PolicyData, People.{account_of, stock_named}}
+use Rattle.gx_history.specs.{declared.{live_order.LiveOrder.LiveOrder, «record».{Asked.Asked, Fill.Fill, RecordData.RecordData, Request.Request, Step.Step, Verdict.Verdict}, moves.Move.{Move, TheVariants.{Adds, Expires, Fills, Nothing, Replaces, Sizes}}}, Book.is_on, Figures.{Positions, positions}, Live.{is_buy_order, live, live_numbered, live_under}, LiveOrders.{is_under, replacement_order, terms_then}, Matched.IsFair, MayMove.{MayExpire, MayMove}, Orders.{Order, entered, order_numbered, orders, orders_added, replacing}, Requests.is_judged, Turns.new_order, Verdicts.{IsLegal, next}, World.{move_asked, move_by, turn_by, turn_in, world}}
+use Rattle.gx_history_laws.proofs.{Entering.entered_has_shares, Granting.asked_is_judged, Judging.both, Listed.{entered_is_listed, orders_are_listed}, Numbers.{all_weaker, number_left, numbers_are_within}, Owners.last_such_is, Runs.step_left}
+use Rattle.gx_effects.proofs.{Among.of_all, Apart.{AreApart, IsApartFrom}, FairFills.fills_are_fair, Entered.all_mapped, Known.{IsKnown, IsWaiting, all_waiting, live_apart, live_known, number_found, number_in}, Moving.may_by, Naming.{FindsOne, finds_one}, NewOrders.found_is, Orderly.legal_is_orderly, OrderRequests.{adds_by, it_grants}}
+use Rattle.gx_positions.specs.{Laws.RecordsMayCome, Sound.{IsListed, IsLive, IsNoLater, IsOf, IsThere, MayChange, MayCome, numbers_of}}
+use Rattle.gx_positions.proofs.{Granted.{entered_price, entered_shares, replaced_price, replaced_shares}, Moments.granted_last}
 
 -- what is known of a live order says of which grant it is
 is_of_known : (policy : PolicyData) (history : List RecordData) (o : LiveOrder) (known : IsKnown policy history o) → IsOf o known.of.order
@@ -126,18 +79,18 @@ module _ (policy : PolicyData) (history : List RecordData) (r : RecordData) (leg
       }
 
   -- a granted request
-  module _ (a : Asked) (left : next policy history (steps.Asked a) ≡ Some r) (grants : r.verdict ≡ verdicts.Granted) where
+  module _ (a : Asked) (left : next policy history (Step.Asked a) ≡ Some r) (grants : r.verdict ≡ Verdict.Granted) where
     may : (q : Request) → a.request ≡ q → MayMove policy (world policy history) r (move_asked policy (world policy history) r a q)
     may q asks =
         subst (λ (x : Request). MayMove policy (world policy history) r (move_asked policy (world policy history) r a x)) asks
-        (subst (λ (s : Step). MayMove policy (world policy history) r (move_by policy (world policy history) r verdicts.Granted s)) (step_left policy history (steps.Asked a) r left)
-        (may_by policy history (steps.Asked a) r verdicts.Granted legal left grants))
+        (subst (λ (s : Step). MayMove policy (world policy history) r (move_by policy (world policy history) r Verdict.Granted s)) (step_left policy history (Step.Asked a) r left)
+        (may_by policy history (Step.Asked a) r Verdict.Granted legal left grants))
 
     -- an order of this record
     new_comes : (new : LiveOrder) (grant : Order) → granted ≡ grant ∷ [] → IsOf new grant → new.number ≡ r.number → IsListed policy new → IsLive new → new.total < 2 ^ 32 → new.terms.price < 2 ^ 32
         → MayCome policy held new granted
     new_comes new grant adds of numbered listed lives small cheap =
-        let place : r.number ≡ length history + 1 = number_left policy history (steps.Asked a) r left in
+        let place : r.number ≡ length history + 1 = number_left policy history (Step.Asked a) r left in
         record {
           grant = grant;
           is_granted = adds;
@@ -147,7 +100,7 @@ module _ (policy : PolicyData) (history : List RecordData) (r : RecordData) (leg
               (of_live policy history (λ (x : Order). x.number ≤ length history) (λ (o : LiveOrder). o.number ≤ length history) (λ x o is most. subst (λ (n : ℕ). n ≤ length history) is.number most) legal (numbers_are_within policy history legal))
               (omega (arith, numbered, place));
           is_listed = listed;
-          is_last = (subst (AllByRecursion (λ (o : Order). AllByRecursion (IsNoLater o) (orders policy history))) adds (granted_last policy history (steps.Asked a) r legal left)).0;
+          is_last = (subst (AllByRecursion (λ (o : Order). AllByRecursion (IsNoLater o) (orders policy history))) adds (granted_last policy history (Step.Asked a) r legal left)).0;
           is_open = lives;
           is_small = small;
           is_cheap = cheap;
@@ -157,18 +110,18 @@ module _ (policy : PolicyData) (history : List RecordData) (r : RecordData) (leg
     known_under : (token : _) (o : LiveOrder) → live_under (live policy history) a.user token ≡ Some o → IsKnown policy history o
     known_under token o named = last_such_is (IsKnown policy history) (is_under a.user token) (live policy history) o (all_known policy history legal) named
 
-    by_enter : (m : EnterOrder) → a.request ≡ requests.Enter m → (found : Option AccountName) → account_of policy a.user ≡ found
+    by_enter : (m : EnterOrder) → a.request ≡ Request.Enter m → (found : Option AccountName) → account_of policy a.user ≡ found
         → MayMove policy (world policy history) r (option_map_or (λ (account : AccountName). Adds (new_order policy r a.user account m)) found Nothing)
         → Comes (option_map_or (λ (account : AccountName). Adds (new_order policy r a.user account m)) found Nothing)
     by_enter m asks None his moves = tt
     by_enter m asks (Some account) his moves =
         new_comes (new_order policy r a.user account m) (entered policy r a.user account m)
-        (adds_by policy (orders policy history) r a (requests.Enter m) (it_grants policy history a r (requests.Enter m) left asks grants)
+        (adds_by policy (orders policy history) r a (Request.Enter m) (it_grants policy history a r (Request.Enter m) left asks grants)
         ∙ ap (λ (found : Option AccountName). option_map_or (λ account. entered policy r a.user account m ∷ []) found []) his)
         (record { number = refl; account = refl; terms = refl }) refl (entered_is_listed policy history a r m left grants asks) (entered_has_shares policy history a r m left grants asks)
         (entered_shares policy history a r m left grants asks) (entered_price policy history a r m left grants asks)
 
-    by_replace : (m : ReplaceOrder) → a.request ≡ requests.Replace m → (found : Option LiveOrder) → live_under (live policy history) a.user m.existing_token ≡ found
+    by_replace : (m : ReplaceOrder) → a.request ≡ Request.Replace m → (found : Option LiveOrder) → live_under (live policy history) a.user m.existing_token ≡ found
         → MayMove policy (world policy history) r (option_map_or (λ (old : LiveOrder). Replaces old (replacement_order r m old)) found Nothing)
         → Comes (option_map_or (λ (old : LiveOrder). Replaces old (replacement_order r m old)) found Nothing)
     by_replace m asks None named moves = tt
@@ -179,7 +132,7 @@ module _ (policy : PolicyData) (history : List RecordData) (r : RecordData) (leg
           is_his = refl;
           may_come =
               new_comes (replacement_order r m old) (replacing r m one.known.order)
-              (adds_by policy (orders policy history) r a (requests.Replace m) (it_grants policy history a r (requests.Replace m) left asks grants)
+              (adds_by policy (orders policy history) r a (Request.Replace m) (it_grants policy history a r (Request.Replace m) left asks grants)
               ∙ ap (λ (found : Option Order). option_map_or (λ o. replacing r m o ∷ []) found []) one.is_last)
               (record { number = refl; account = ap (λ (x : LiveOrder). x.account) one.known.is_it; terms = ap (λ (x : LiveOrder). terms_then m x.terms) one.known.is_it }) refl
               (last_such_is (IsListed policy) (is_under a.user m.existing_token) (live policy history) old (live_are_listed policy history legal) named) (lt-ltb old.done m.shares moves.some_open)
@@ -193,21 +146,21 @@ module _ (policy : PolicyData) (history : List RecordData) (r : RecordData) (leg
     by_cancel m (Some cut) named moves = record { is_there = there cut.number cut (known_under m.token cut named).is_found; is_less = moves.is_less }
 
     by_grant : (q : Request) → a.request ≡ q → Comes (move_asked policy (world policy history) r a q)
-    by_grant (requests.Login m) asks = tt
-    by_grant requests.Logout asks = tt
-    by_grant (requests.Unreadable m) asks = tt
-    by_grant (requests.Enter m) asks = by_enter m asks (account_of policy a.user) refl (may (requests.Enter m) asks)
-    by_grant (requests.Replace m) asks = by_replace m asks (live_under (live policy history) a.user m.existing_token) refl (may (requests.Replace m) asks)
-    by_grant (requests.Cancel m) asks = by_cancel m (live_under (live policy history) a.user m.token) refl (may (requests.Cancel m) asks)
-    by_grant (requests.Command c) asks = tt
+    by_grant (Request.Login m) asks = tt
+    by_grant Request.Logout asks = tt
+    by_grant (Request.Unreadable m) asks = tt
+    by_grant (Request.Enter m) asks = by_enter m asks (account_of policy a.user) refl (may (Request.Enter m) asks)
+    by_grant (Request.Replace m) asks = by_replace m asks (live_under (live policy history) a.user m.existing_token) refl (may (Request.Replace m) asks)
+    by_grant (Request.Cancel m) asks = by_cancel m (live_under (live policy history) a.user m.token) refl (may (Request.Cancel m) asks)
+    by_grant (Request.Command c) asks = tt
 
   -- a request
-  by_asked : (a : Asked) → next policy history (steps.Asked a) ≡ Some r → (v : Verdict) → r.verdict ≡ v → Comes (move_by policy (world policy history) r v (steps.Asked a))
-  by_asked a left verdicts.Granted e = by_grant a left e a.request refl
-  by_asked a left (verdicts.Denied rule) e = tt
-  by_asked a left (verdicts.Filled f) e = let judged : false ≡ true = ap is_judged (sym e) ∙ asked_is_judged policy history a r left in cc
-  by_asked a left (verdicts.Rested number) e = tt
-  by_asked a left (verdicts.Expired number) e = let judged : false ≡ true = ap is_judged (sym e) ∙ asked_is_judged policy history a r left in cc
+  by_asked : (a : Asked) → next policy history (Step.Asked a) ≡ Some r → (v : Verdict) → r.verdict ≡ v → Comes (move_by policy (world policy history) r v (Step.Asked a))
+  by_asked a left Verdict.Granted e = by_grant a left e a.request refl
+  by_asked a left (Verdict.Denied rule) e = tt
+  by_asked a left (Verdict.Filled f) e = let judged : false ≡ true = ap is_judged (sym e) ∙ asked_is_judged policy history a r left in cc
+  by_asked a left (Verdict.Rested number) e = tt
+  by_asked a left (Verdict.Expired number) e = let judged : false ≡ true = ap is_judged (sym e) ∙ asked_is_judged policy history a r left in cc
 
   by_fill : (f : Fill) → IsFair policy history f → Comes (Fills f)
   by_fill f fair = record {
@@ -226,16 +179,16 @@ module _ (policy : PolicyData) (history : List RecordData) (r : RecordData) (leg
       there number is.first (ap (live_numbered (live policy history)) is.has_number ∙ first_waits.known.is_found)
 
   -- a matching step
-  by_match : (handed : ℕ) → next policy history (steps.Matching handed) ≡ Some r → (v : Verdict) → r.verdict ≡ v → Comes (move_by policy (world policy history) r v (steps.Matching handed))
-  by_match handed left verdicts.Granted e = tt
-  by_match handed left (verdicts.Denied rule) e = tt
-  by_match handed left (verdicts.Filled f) e = by_fill f (fills_are_fair policy history handed r f legal left e)
-  by_match handed left (verdicts.Rested number) e = tt
-  by_match handed left (verdicts.Expired number) e = by_end number (may_by policy history (steps.Matching handed) r (verdicts.Expired number) legal left e)
+  by_match : (handed : ℕ) → next policy history (Step.Matching handed) ≡ Some r → (v : Verdict) → r.verdict ≡ v → Comes (move_by policy (world policy history) r v (Step.Matching handed))
+  by_match handed left Verdict.Granted e = tt
+  by_match handed left (Verdict.Denied rule) e = tt
+  by_match handed left (Verdict.Filled f) e = by_fill f (fills_are_fair policy history handed r f legal left e)
+  by_match handed left (Verdict.Rested number) e = tt
+  by_match handed left (Verdict.Expired number) e = by_end number (may_by policy history (Step.Matching handed) r (Verdict.Expired number) legal left e)
 
   by_step : (step : Step) → next policy history step ≡ Some r → Comes (move_by policy (world policy history) r r.verdict step)
-  by_step (steps.Asked a) left = by_asked a left r.verdict refl
-  by_step (steps.Matching handed) left = by_match handed left r.verdict refl
+  by_step (Step.Asked a) left = by_asked a left r.verdict refl
+  by_step (Step.Matching handed) left = by_match handed left r.verdict refl
 
 -- any step
 pub records_may_come : RecordsMayCome

@@ -1,23 +1,10 @@
 -- The shares and the price of a granted order are within bounds.
-use Rattle.std.proofs.Common.{◌≡◌, ℕ, ◌<◌, ◌≤◌, ◌^◌, Bool, true, false, List, refl, ◌∙◌, ap, sym, arith}
-use Rattle.std.specs.Prelude.{Option, Some, ◌%◌, ◌&&◌, ◌||◌, ◌==◌, not, nat_lt, nat_le, option_map}
-use Rattle.std.specs.Option.{option_map_or}
-use Rattle.std.proofs.lemmas.Bool.{leb-false, ltb-false}
+use Rattle.std.proofs.{Common.{◌≡◌, ℕ, ◌<◌, ◌≤◌, ◌^◌, Bool, true, false, List, refl, ◌∙◌, ap, sym, arith}, lemmas.Bool.{leb-false, ltb-false}}
+use Rattle.std.specs.{Prelude.{Option, Some, ◌%◌, ◌&&◌, ◌||◌, ◌==◌, not, nat_lt, nat_le, option_map}, Option.option_map_or}
 use Rattle.gx_units.specs.Money.{is_bad_price}
-use Rattle.gx_ouch.specs.declared.inbound.EnterOrder.{EnterOrder}
-use Rattle.gx_ouch.specs.declared.inbound.ReplaceOrder.{ReplaceOrder}
-use Rattle.gx_history.specs.declared.live_order.LiveOrder.{LiveOrder}
-use Rattle.gx_history.specs.declared.facts.ProposedOrder.{ProposedOrder}
-use Rattle.gx_policy.specs.declared.policy.PolicyData.{PolicyData}
-use Rattle.gx_history.specs.declared.record.Asked.{Asked}
-use Rattle.gx_history.specs.declared.record.RecordData.{RecordData}
-use Rattle.gx_history.specs.declared.record.Request.TheVariants as requests
-use Rattle.gx_policy.specs.declared.rule_name.RuleName.TheVariants.{P5, P6}
-use Rattle.gx_history.specs.declared.record.Step.TheVariants as steps
-use Rattle.gx_history.specs.declared.record.Verdict.TheVariants as verdicts
-use Rattle.gx_history.specs.Live.{live, live_under}
-use Rattle.gx_history.specs.Rules.{forbids}
-use Rattle.gx_history.specs.Verdicts.{facts_now, next}
+use Rattle.gx_ouch.specs.declared.inbound.{EnterOrder.EnterOrder, ReplaceOrder.ReplaceOrder}
+use Rattle.gx_history.specs.{declared.{live_order.LiveOrder.LiveOrder, facts.ProposedOrder.ProposedOrder, «record».{Asked.Asked, RecordData.RecordData, Request.Request, Step.Step, Verdict.Verdict}}, Live.{live, live_under}, Rules.forbids, Verdicts.{facts_now, next}}
+use Rattle.gx_policy.specs.declared.{policy.PolicyData.PolicyData, rule_name.RuleName.TheVariants.{P5, P6}}
 use Rattle.gx_history_laws.proofs.Granting.{is_no_bar}
 use Rattle.gx_effects.proofs.NamedOrders.{named_is}
 
@@ -38,13 +25,13 @@ low n h = by (n == 0) (nat_lt 1999999900 n) (nat_le 10000 n && not (n % 100 == 0
 
 -- an Enter's shares
 pub entered_shares : (policy : PolicyData) (history : List RecordData) (a : Asked) (r : RecordData) (m : EnterOrder)
-    → next policy history (steps.Asked a) ≡ Some r → r.verdict ≡ verdicts.Granted → a.request ≡ requests.Enter m → m.shares < 2 ^ 32
+    → next policy history (Step.Asked a) ≡ Some r → r.verdict ≡ Verdict.Granted → a.request ≡ Request.Enter m → m.shares < 2 ^ 32
 entered_shares policy history a r m left granted asks =
     few m.shares (sym (ap (forbids P5 (facts_now policy history a)) asks) ∙ is_no_bar policy history a r left granted P5)
 
 -- an Enter's price
 pub entered_price : (policy : PolicyData) (history : List RecordData) (a : Asked) (r : RecordData) (m : EnterOrder)
-    → next policy history (steps.Asked a) ≡ Some r → r.verdict ≡ verdicts.Granted → a.request ≡ requests.Enter m → m.price < 2 ^ 32
+    → next policy history (Step.Asked a) ≡ Some r → r.verdict ≡ Verdict.Granted → a.request ≡ Request.Enter m → m.price < 2 ^ 32
 entered_price policy history a r m left granted asks =
     low m.price (sym (ap (forbids P6 (facts_now policy history a)) asks) ∙ is_no_bar policy history a r left granted P6)
 
@@ -70,10 +57,10 @@ abbrev has_bad_price : ProposedOrder → Bool
 has_bad_price w = is_bad_price w.price
 
 -- a granted Replace of the order
-module _ (policy : PolicyData) (history : List RecordData) (a : Asked) (r : RecordData) (m : ReplaceOrder) (o : LiveOrder) (left : next policy history (steps.Asked a) ≡ Some r) (granted : r.verdict ≡ verdicts.Granted)
-    (asks : a.request ≡ requests.Replace m) (found : live_under (live policy history) a.user m.existing_token ≡ Some o) where
+module _ (policy : PolicyData) (history : List RecordData) (a : Asked) (r : RecordData) (m : ReplaceOrder) (o : LiveOrder) (left : next policy history (Step.Asked a) ≡ Some r) (granted : r.verdict ≡ Verdict.Granted)
+    (asks : a.request ≡ Request.Replace m) (found : live_under (live policy history) a.user m.existing_token ≡ Some o) where
   proposes : (test : ProposedOrder → Bool) → option_map_or test (option_map (proposed_by m) (facts_now policy history a).named) false ≡ test (proposed_by m o)
-  proposes test = ap (λ (named : Option LiveOrder). option_map_or test (option_map (proposed_by m) named) false) (named_is policy history a (requests.Replace m) m.existing_token asks refl ∙ found)
+  proposes test = ap (λ (named : Option LiveOrder). option_map_or test (option_map (proposed_by m) named) false) (named_is policy history a (Request.Replace m) m.existing_token asks refl ∙ found)
 
   -- its shares
   pub replaced_shares : m.shares < 2 ^ 32

@@ -1,30 +1,11 @@
 -- No order is granted later than the last record.
-use Rattle.std.proofs.Common.{◌≡◌, ℕ, ◌≤◌, List, [], ◌∷◌, ◌++◌, refl, sym, arith}
-use Rattle.std.proofs.Math.Path.{subst}
-use Rattle.std.proofs.Math.Nat.{le-max_right}
-use Rattle.std.specs.Prelude.{Option, Some, None}
-use Rattle.std.specs.Option.{option_map_or}
-use Rattle.std.specs.List.{AllByRecursion}
-use Rattle.gx_units.specs.declared.names.AccountName.{AccountName}
-use Rattle.gx_units.specs.declared.names.UserName.{UserName}
-use Rattle.gx_ouch.specs.declared.inbound.EnterOrder.{EnterOrder}
-use Rattle.gx_ouch.specs.declared.inbound.ReplaceOrder.{ReplaceOrder}
-use Rattle.gx_policy.specs.declared.policy.PolicyData.{PolicyData}
-use Rattle.gx_history.specs.declared.record.Asked.{Asked}
-use Rattle.gx_history.specs.declared.record.RecordData.{RecordData}
-use Rattle.gx_history.specs.declared.record.Request.{Request}
-use Rattle.gx_history.specs.declared.record.Request.TheVariants as requests
-use Rattle.gx_history.specs.declared.record.Step.{Step}
-use Rattle.gx_history.specs.Orders.{Order, orders, orders_added, orders_made, order_under, entered, replacing}
-use Rattle.gx_policy.specs.People.{account_of}
-use Rattle.gx_history.specs.Requests.{granted, handed_moment}
-use Rattle.gx_history.specs.Verdicts.{IsLegal, last_moment, next, Follows}
-use Rattle.gx_history_laws.proofs.Granting.{legal_keeps}
-use Rattle.gx_history_laws.proofs.NextInForce.{last_moment_next}
-use Rattle.gx_history_laws.proofs.NextOrders.{orders_none, orders_next}
-use Rattle.gx_history_laws.proofs.Numbers.{all_weaker}
-use Rattle.gx_history_laws.proofs.Owners.{all_both}
-use Rattle.gx_history_laws.proofs.Runs.{moment_left}
+use Rattle.std.proofs.{Common.{◌≡◌, ℕ, ◌≤◌, List, [], ◌∷◌, ◌++◌, refl, sym, arith}, Math.{Path.subst, Nat.le-max_right}}
+use Rattle.std.specs.{Prelude.{Option, Some, None}, Option.option_map_or, List.AllByRecursion}
+use Rattle.gx_units.specs.declared.names.{AccountName.AccountName, UserName.UserName}
+use Rattle.gx_ouch.specs.declared.inbound.{EnterOrder.EnterOrder, ReplaceOrder.ReplaceOrder}
+use Rattle.gx_policy.specs.{declared.policy.PolicyData.PolicyData, People.account_of}
+use Rattle.gx_history.specs.{declared.record.{Asked.Asked, RecordData.RecordData, Request.Request, Step.Step}, Orders.{Order, orders, orders_added, orders_made, order_under, entered, replacing}, Requests.{granted, handed_moment}, Verdicts.{IsLegal, last_moment, next, Follows}}
+use Rattle.gx_history_laws.proofs.{Granting.legal_keeps, NextInForce.last_moment_next, NextOrders.{orders_none, orders_next}, Numbers.all_weaker, Owners.all_both, Runs.moment_left}
 use Rattle.gx_positions.specs.Sound.{IsNoLater}
 
 -- granted at this moment
@@ -43,13 +24,13 @@ replace_at r m (Some o) = (refl, tt)
 
 made_at : (policy : PolicyData) (known : List Order) (r : RecordData) (user : UserName) (q : Request)
     → AllByRecursion (IsAt r) (orders_made policy known r user q)
-made_at policy known r user (requests.Login m) = tt
-made_at policy known r user requests.Logout = tt
-made_at policy known r user (requests.Unreadable m) = tt
-made_at policy known r user (requests.Enter m) = enter_at policy r user m (account_of policy user)
-made_at policy known r user (requests.Replace m) = replace_at r m (order_under known user m.existing_token)
-made_at policy known r user (requests.Cancel m) = tt
-made_at policy known r user (requests.Command c) = tt
+made_at policy known r user (Request.Login m) = tt
+made_at policy known r user Request.Logout = tt
+made_at policy known r user (Request.Unreadable m) = tt
+made_at policy known r user (Request.Enter m) = enter_at policy r user m (account_of policy user)
+made_at policy known r user (Request.Replace m) = replace_at r m (order_under known user m.existing_token)
+made_at policy known r user (Request.Cancel m) = tt
+made_at policy known r user (Request.Command c) = tt
 
 added_at : (policy : PolicyData) (known : List Order) (r : RecordData) (found : Option Asked)
     → AllByRecursion (IsAt r) (option_map_or (λ (a : Asked). orders_made policy known r a.user a.request) found [])

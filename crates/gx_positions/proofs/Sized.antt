@@ -1,36 +1,11 @@
 -- In every legal history orders and fills are few and small, and moments do not fall from grant to grant.
-use Rattle.std.proofs.Common.{◌≡◌, ℕ, ◌+◌, ◌≤◌, true, List, [], ◌∷◌, ◌++◌, ap, sym, length, arith, inl, inr, ◌⊎◌, refl}
-use Rattle.std.proofs.Math.Path.{subst}
+use Rattle.std.proofs.{Common.{◌≡◌, ℕ, ◌+◌, ◌≤◌, true, List, [], ◌∷◌, ◌++◌, ap, sym, length, arith, inl, inr, ◌⊎◌, refl}, Math.Path.subst, lemmas.List.{append-nil, length-append}}
 use Rattle.std.specs.List.{AllByRecursion}
-use Rattle.std.proofs.lemmas.List.{append-nil, length-append}
 use Rattle.gx_policy.specs.declared.policy.PolicyData.{PolicyData}
-use Rattle.gx_history.specs.declared.record.Fill.{Fill}
-use Rattle.gx_history.specs.declared.record.RecordData.{RecordData}
-use Rattle.gx_history.specs.declared.record.Request.{Request}
-use Rattle.gx_history.specs.declared.record.Request.TheVariants as requests
-use Rattle.gx_history.specs.declared.record.Step.{Step}
-use Rattle.gx_history.specs.declared.record.Verdict.{Verdict}
-use Rattle.gx_history.specs.declared.record.Verdict.TheVariants as verdicts
-use Rattle.gx_history.specs.Executions.{Execution, executions, sides_in}
-use Rattle.gx_history.specs.Figures.{Positions, positions}
-use Rattle.gx_history.specs.Live.{live}
-use Rattle.gx_history.specs.Orders.{Order, orders}
-use Rattle.gx_history.specs.Requests.{is_order}
-use Rattle.gx_history.specs.Verdicts.{day_limit, Follows, IsGrantedKillOrLogout, IsKillOrLogout, IsLegal}
-use Rattle.gx_history_laws.proofs.Adding.{AddsNone, AddsOne, what_is_added}
-use Rattle.gx_history_laws.proofs.Granting.{legal_keeps}
-use Rattle.gx_history_laws.proofs.NextOrders.{executions_next, executions_none, orders_next, orders_none}
-use Rattle.gx_history_laws.proofs.NextReports.{legal_next, legal_none}
-use Rattle.gx_history_laws.proofs.Numbers.{next_number}
-use Rattle.gx_history_laws.proofs.Owners.{all_both}
-use Rattle.gx_history.specs.World.{turn_by, world}
-use Rattle.gx_positions.specs.Laws.{granted_after, turn_after}
-use Rattle.gx_positions.specs.Sound.{IsNoLater, MayChange, MayFill, NeverFall}
-use Rattle.gx_positions.proofs.Coming.{numbers_apart, records_may_come}
-use Rattle.gx_positions.proofs.GoingOn.{live_none, positions_go_on}
-use Rattle.gx_positions.proofs.Moments.{granted_last}
-use Rattle.gx_positions.proofs.Small.{AreFew, HasRoom, IsSmall, IsSmallSide, few_then, fill_small, live_then, never_fall_next}
-use Rattle.gx_positions.proofs.Sums.{sides_are}
+use Rattle.gx_history.specs.{declared.record.{Fill.Fill, RecordData.RecordData, Request.Request, Step.Step, Verdict.Verdict}, Executions.{Execution, executions, sides_in}, Figures.{Positions, positions}, Live.live, Orders.{Order, orders}, Requests.is_order, Verdicts.{day_limit, Follows, IsGrantedKillOrLogout, IsKillOrLogout, IsLegal}, World.{turn_by, world}}
+use Rattle.gx_history_laws.proofs.{Adding.{AddsNone, AddsOne, what_is_added}, Granting.legal_keeps, NextOrders.{executions_next, executions_none, orders_next, orders_none}, NextReports.{legal_next, legal_none}, Numbers.next_number, Owners.all_both}
+use Rattle.gx_positions.specs.{Laws.{granted_after, turn_after}, Sound.{IsNoLater, MayChange, MayFill, NeverFall}}
+use Rattle.gx_positions.proofs.{Coming.{numbers_apart, records_may_come}, GoingOn.{live_none, positions_go_on}, Moments.granted_last, Small.{AreFew, HasRoom, IsSmall, IsSmallSide, few_then, fill_small, live_then, never_fall_next}, Sums.sides_are}
 
 -- at most as many orders as records, twice as many sides of fills, and both as few as a day has
 pub record IsSized (policy : PolicyData) (history : List RecordData) : Type 0 where
@@ -61,16 +36,16 @@ module _ (policy : PolicyData) (history : List RecordData) (r : RecordData) (leg
   grants_no_kill : AddsOne policy history r → IsGrantedKillOrLogout r.verdict r.step → ⊥
   grants_no_kill one kills =
       of_request one.a.request one.is_for_order
-      (subst (λ (s : Step). IsGrantedKillOrLogout verdicts.Granted s) one.asks (subst (λ (v : Verdict). IsGrantedKillOrLogout v r.step) one.grants kills))
+      (subst (λ (s : Step). IsGrantedKillOrLogout Verdict.Granted s) one.asks (subst (λ (v : Verdict). IsGrantedKillOrLogout v r.step) one.grants kills))
     where
       of_request : (q : Request) → is_order q ≡ true → IsKillOrLogout q → ⊥
-      of_request (requests.Enter m) is k = k
-      of_request (requests.Replace m) is k = k
-      of_request (requests.Cancel m) is k = k
-      of_request (requests.Login m) is k = k
-      of_request (requests.Unreadable m) is k = k
-      of_request requests.Logout is k = cc
-      of_request (requests.Command c) is k = cc
+      of_request (Request.Enter m) is k = k
+      of_request (Request.Replace m) is k = k
+      of_request (Request.Cancel m) is k = k
+      of_request (Request.Login m) is k = k
+      of_request (Request.Unreadable m) is k = k
+      of_request Request.Logout is k = cc
+      of_request (Request.Command c) is k = cc
 
   added : AddsNone policy history r ⊎ AddsOne policy history r
   added = what_is_added policy history r follows
@@ -102,18 +77,18 @@ module _ (policy : PolicyData) (history : List RecordData) (r : RecordData) (leg
   sides_made : AreTwo (sides_in (orders policy history) r.verdict)
   sides_made = by r.verdict refl
     where
-      of_fill : (f : Fill) → r.verdict ≡ verdicts.Filled f → MayFill (positions policy history) f → AreTwo (sides_in (orders policy history) (verdicts.Filled f))
+      of_fill : (f : Fill) → r.verdict ≡ Verdict.Filled f → MayFill (positions policy history) f → AreTwo (sides_in (orders policy history) (Verdict.Filled f))
       of_fill f e fills =
           let is = fill_small (positions policy history) f fills sized.small_live in
           let space = room (λ kills. subst (λ (v : Verdict). IsGrantedKillOrLogout v r.step) e kills) in
           subst AreTwo (sym (sides_are (positions policy history) f fills)) (inr (omega arith, omega (arith, space)), (is, (is, tt)))
 
       by : (v : Verdict) → r.verdict ≡ v → AreTwo (sides_in (orders policy history) v)
-      by verdicts.Granted e = (inl refl, tt)
-      by (verdicts.Denied rule) e = (inl refl, tt)
-      by (verdicts.Rested number) e = (inl refl, tt)
-      by (verdicts.Expired number) e = (inl refl, tt)
-      by (verdicts.Filled f) e =
+      by Verdict.Granted e = (inl refl, tt)
+      by (Verdict.Denied rule) e = (inl refl, tt)
+      by (Verdict.Rested number) e = (inl refl, tt)
+      by (Verdict.Expired number) e = (inl refl, tt)
+      by (Verdict.Filled f) e =
           of_fill f e (subst (λ (v : Verdict). MayChange policy (positions policy history) (turn_by policy (world policy history) r v r.step) (granted_after policy history r)) e may)
 
   one_more_sized : IsSized policy (history ++ r ∷ [])

@@ -1,26 +1,11 @@
 -- A turn of a small day leaves a small day: few orders and fills, each with few shares and a low price.
-use Rattle.std.proofs.Common.{◌≡◌, ℕ, ◌+◌, ◌*◌, ◌<◌, ◌≤◌, ◌^◌, Bool, true, false, List, [], ◌∷◌, ◌++◌, sym, ap, ◌∙◌, cond, length, arith, sum_by, inl, inr, ◌⊎◌}
-use Rattle.std.proofs.Math.Path.{subst}
-use Rattle.std.proofs.Math.Nat.{mul-le-mul_left}
-use Rattle.std.specs.Prelude.{Some, nat_eq}
-use Rattle.std.specs.Option.{option_map_or}
-use Rattle.std.specs.List.{AllByRecursion, IsDistinct, filter, filter_map}
-use Rattle.std.proofs.lemmas.List.{append-nil, length-append}
-use Rattle.std.proofs.lemmas.List.Sums.{sum_by-cons}
+use Rattle.std.proofs.{Common.{◌≡◌, ℕ, ◌+◌, ◌*◌, ◌<◌, ◌≤◌, ◌^◌, Bool, true, false, List, [], ◌∷◌, ◌++◌, sym, ap, ◌∙◌, cond, length, arith, sum_by, inl, inr, ◌⊎◌}, Math.{Path.subst, Nat.mul-le-mul_left}, lemmas.List.{append-nil, length-append, Sums.sum_by-cons}}
+use Rattle.std.specs.{Prelude.{Some, nat_eq}, Option.option_map_or, List.{AllByRecursion, IsDistinct, filter, filter_map}}
 use Rattle.gx_units.specs.Money.{value}
 use Rattle.gx_policy.specs.declared.policy.PolicyData.{PolicyData}
-use Rattle.gx_history.specs.declared.live_order.LiveOrder.{LiveOrder}
-use Rattle.gx_history.specs.declared.record.Fill.{Fill}
-use Rattle.gx_history.specs.Executions.{Execution}
-use Rattle.gx_history.specs.Figures.{Positions}
-use Rattle.gx_history.specs.LiveOrders.{shares_open}
-use Rattle.gx_history.specs.Orders.{Order}
-use Rattle.gx_history.specs.Turns.{Turn, Adds, EndsAll, Ends, Fills, Keeps, Replaces, Rests, Sizes, becomes, new_in, turned}
+use Rattle.gx_history.specs.{declared.{live_order.LiveOrder.LiveOrder, «record».Fill.Fill}, Executions.Execution, Figures.Positions, LiveOrders.shares_open, Orders.Order, Turns.{Turn, Adds, EndsAll, Ends, Fills, Keeps, Replaces, Rests, Sizes, becomes, new_in, turned}}
 use Rattle.gx_history_laws.proofs.Owners.{all_both}
-use Rattle.gx_effects.proofs.Among.{all_and}
-use Rattle.gx_effects.proofs.Entered.{all_found_of}
-use Rattle.gx_effects.proofs.NewOrders.{found_is}
-use Rattle.gx_effects.proofs.Sides.{becomes_same}
+use Rattle.gx_effects.proofs.{Among.all_and, Entered.all_found_of, NewOrders.found_is, Sides.becomes_same}
 use Rattle.gx_positions.specs.Sound.{IsNoLater, IsThere, MayChange, MayCome, MayFill, NeverFall, numbers_of}
 use Rattle.gx_positions.proofs.Sums.{IsNoMore, none_gains}
 

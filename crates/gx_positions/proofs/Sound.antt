@@ -1,25 +1,13 @@
 -- Live orders, executions and grants of a legal history are sound.
-use Rattle.std.proofs.Common.{ℕ, ◌+◌, ◌*◌, ◌<◌, ◌≤◌, ◌^◌, List, [], ◌∷◌, length, arith}
-use Rattle.std.specs.Prelude.{Option, Some, None}
-use Rattle.std.specs.List.{AllByRecursion, cons_option, filter_map}
+use Rattle.std.proofs.{Common.{ℕ, ◌+◌, ◌*◌, ◌<◌, ◌≤◌, ◌^◌, List, [], ◌∷◌, length, arith}, Math.Path.subst}
+use Rattle.std.specs.{Prelude.{Option, Some, None}, List.{AllByRecursion, cons_option, filter_map}}
 use Rattle.gx_units.specs.Money.{value}
 use Rattle.gx_policy.specs.declared.policy.PolicyData.{PolicyData}
-use Rattle.gx_history.specs.declared.live_order.LiveOrder.{LiveOrder}
-use Rattle.gx_history.specs.declared.record.RecordData.{RecordData}
-use Rattle.gx_history.specs.Executions.{Execution, executions}
-use Rattle.gx_history.specs.Figures.{done_of_chosen, done_value, live_value, open_of_chosen, open_value, positions}
-use Rattle.gx_history.specs.Live.{live, open_now}
-use Rattle.gx_history.specs.LiveOrders.{shares_open}
-use Rattle.gx_history.specs.Orders.{orders}
-use Rattle.gx_history.specs.Verdicts.{day_limit}
+use Rattle.gx_history.specs.{declared.{live_order.LiveOrder.LiveOrder, «record».RecordData.RecordData}, Executions.{Execution, executions}, Figures.{done_of_chosen, done_value, live_value, open_of_chosen, open_value, positions}, Live.{live, open_now}, LiveOrders.shares_open, Orders.orders, Verdicts.day_limit}
 use Rattle.gx_history_laws.proofs.Numbers.{all_weaker}
 use Rattle.gx_effects.proofs.Naming.{IsOfKnown, live_of_known}
-use Rattle.gx_positions.specs.Laws.{LiveOrdersAreFew, PositionsAreSound}
-use Rattle.gx_positions.specs.Sound.{IsLive, SumsFit, anyone}
-use Rattle.gx_positions.proofs.Coming.{live_are_listed, numbers_apart}
-use Rattle.gx_positions.proofs.Sized.{IsSized, legal_is_sized}
-use Rattle.gx_positions.proofs.Small.{IsSmall, IsSmallSide, below, product, sum_within}
-use Rattle.std.proofs.Math.Path.{subst}
+use Rattle.gx_positions.specs.{Laws.{LiveOrdersAreFew, PositionsAreSound}, Sound.{IsLive, SumsFit, anyone}}
+use Rattle.gx_positions.proofs.{Coming.{live_are_listed, numbers_apart}, Sized.{IsSized, legal_is_sized}, Small.{IsSmall, IsSmallSide, below, product, sum_within}}
 
 live_are_live : (policy : PolicyData) (history : List RecordData) → AllByRecursion IsLive (live policy history)
 live_are_live policy history = all_weaker (IsOfKnown policy history) IsLive (λ o known. subst IsLive known.is_it known.has_some) (live policy history) (live_of_known policy history)

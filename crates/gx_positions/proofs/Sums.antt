@@ -1,33 +1,13 @@
 -- What a turn of the live orders makes of the sums over the live orders and the fills of accounts.
-use Rattle.std.proofs.Common.{◌≡◌, ℕ, ◌+◌, ◌-◌, ◌<◌, ◌≤◌, Bool, true, false, cond, List, [], ◌∷◌, ◌++◌, map, refl, sym, ap, ◌∙◌, arith, sum_by, zero-add, true≢false}
-use Rattle.std.specs.Prelude.{Option, Some, None, nat_eq, nat_lt, ◌==◌, ◌||◌, option_to_list}
-use Rattle.std.specs.Option.{option_map_or}
-use Rattle.std.specs.List.{filter, filter_map, cons_option, AllByRecursion, IsDistinct}
-use Rattle.std.specs.Cmp.{nat_eq_equiv}
-use Rattle.std.proofs.lemmas.Bool.{eqb-true, ltb-false, eq-eqb}
-use Rattle.std.proofs.lemmas.List.Sums.{sum_by-cons}
-use Rattle.gx_units.specs.Money.{value}
-use Rattle.gx_units.specs.declared.names.AccountName.{AccountName}
-use Rattle.gx_ouch.specs.declared.letters.Liquidity.{Liquidity}
-use Rattle.gx_ouch.specs.declared.letters.Liquidity.TheVariants as liquidities
-use Rattle.gx_ouch.specs.declared.outbound.OrderTerms.{OrderTerms}
+use Rattle.std.proofs.{Common.{◌≡◌, ℕ, ◌+◌, ◌-◌, ◌<◌, ◌≤◌, Bool, true, false, cond, List, [], ◌∷◌, ◌++◌, map, refl, sym, ap, ◌∙◌, arith, sum_by, zero-add, true≢false}, lemmas.{Bool.{eqb-true, ltb-false, eq-eqb}, List.Sums.sum_by-cons}}
+use Rattle.std.specs.{Prelude.{Option, Some, None, nat_eq, nat_lt, ◌==◌, ◌||◌, option_to_list}, Option.option_map_or, List.{filter, filter_map, cons_option, AllByRecursion, IsDistinct}, Cmp.nat_eq_equiv}
+use Rattle.gx_units.specs.{Money.value, declared.names.AccountName.AccountName}
+use Rattle.gx_ouch.specs.declared.{letters.Liquidity.Liquidity, outbound.OrderTerms.OrderTerms}
 use Rattle.gx_policy.specs.declared.policy.PolicyData.{PolicyData}
-use Rattle.gx_history.specs.declared.live_order.LiveOrder.{LiveOrder}
-use Rattle.gx_history.specs.declared.record.Fill.{Fill}
-use Rattle.gx_history.specs.Executions.{Execution, side_of}
-use Rattle.gx_history.specs.Figures.{Positions, live_value, of_accounts, open_of_chosen, done_of_chosen, done_value}
-use Rattle.gx_history.specs.Live.{live_numbered}
-use Rattle.gx_history.specs.LiveOrders.{shares_open}
-use Rattle.gx_history.specs.Orders.{Order, ends_account, order_numbered}
-use Rattle.gx_history.specs.Turns.{Turn, Keeps, Adds, Sizes, Replaces, EndsAll, Fills, Rests, Ends, becomes, while_open}
-use Rattle.gx_history_laws.proofs.NextFigures.{done_more, done_value_more}
-use Rattle.gx_history_laws.proofs.Numbers.{all_weaker}
-use Rattle.gx_history_laws.proofs.Order.{some_same}
-use Rattle.gx_effects.proofs.Fills.{both_sides}
-use Rattle.gx_effects.proofs.Known.{number_found}
-use Rattle.gx_effects.proofs.Sides.{becomes_same}
-use Rattle.gx_positions.specs.Changing.{executed_by}
-use Rattle.gx_positions.specs.Sound.{MayChange, MayFill, numbers_of}
+use Rattle.gx_history.specs.{declared.{live_order.LiveOrder.LiveOrder, «record».Fill.Fill}, Executions.{Execution, side_of}, Figures.{Positions, live_value, of_accounts, open_of_chosen, done_of_chosen, done_value}, Live.live_numbered, LiveOrders.shares_open, Orders.{Order, ends_account, order_numbered}, Turns.{Turn, Keeps, Adds, Sizes, Replaces, EndsAll, Fills, Rests, Ends, becomes, while_open}}
+use Rattle.gx_history_laws.proofs.{NextFigures.{done_more, done_value_more}, Numbers.all_weaker, Order.some_same}
+use Rattle.gx_effects.proofs.{Fills.both_sides, Known.number_found, Sides.becomes_same}
+use Rattle.gx_positions.specs.{Changing.executed_by, Sound.{MayChange, MayFill, numbers_of}}
 
 -- the sum over those that pass
 abbrev pub sum_where : {X : Type 0} → (X → Bool) → (X → ℕ) → List X → ℕ
@@ -408,7 +388,7 @@ side_is grants f liquidity number grant found = ap (λ found. map (λ (o : Order
 -- Fills: one side for the taker, one for the maker
 pub sides_are : (held : Positions) (f : Fill) (may : MayFill held f) → executed_by (Fills f) held.grants ≡ both_sides f may.taker.grant may.maker.grant
 sides_are held f may =
-    λ i. side_is held.grants f liquidities.Removed f.taker may.taker.grant may.taker.is_granted i ++ side_is held.grants f liquidities.Added f.maker may.maker.grant may.maker.is_granted i
+    λ i. side_is held.grants f Liquidity.Removed f.taker may.taker.grant may.taker.is_granted i ++ side_is held.grants f Liquidity.Added f.maker may.maker.grant may.maker.is_granted i
 
 -- Fills: what is executed rises on each side
 pub done_shares_filled : (chosen : AccountName → OrderTerms → Bool) (held : Positions) (f : Fill) (may : MayFill held f)

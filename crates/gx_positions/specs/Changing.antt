@@ -1,10 +1,6 @@
 -- What one more record makes of what the figures are taken from.
 use Rattle.std.specs.Prelude.{List, [], ◌++◌}
-use Rattle.gx_history.specs.declared.record.Verdict.TheVariants as verdicts
-use Rattle.gx_history.specs.Executions.{Execution, sides_in}
-use Rattle.gx_history.specs.Figures.{Positions}
-use Rattle.gx_history.specs.Orders.{Order}
-use Rattle.gx_history.specs.Turns.{Turn, Fills, turned}
+use Rattle.gx_history.specs.{declared.record.Verdict.Verdict, Executions.{Execution, sides_in}, Figures.Positions, Orders.Order, Turns.{Turn, Fills, turned}}
 
 -- no live order, no fill and no grant
 abbrev pub nothing : Positions
@@ -12,7 +8,7 @@ nothing = record { live = []; executions = []; grants = [] }
 
 -- the sides of the fill, where two orders are filled
 abbrev pub executed_by : Turn → List Order → List Execution
-executed_by (Fills f) grants = sides_in grants (verdicts.Filled f)
+executed_by (Fills f) grants = sides_in grants (Verdict.Filled f)
 executed_by other grants = []
 
 -- live orders, executions and grants, once the live orders were turned so and these orders granted

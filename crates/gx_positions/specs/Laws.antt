@@ -1,16 +1,8 @@
 -- What the figures are taken from, in every legal history.
 use Rattle.std.specs.Prelude.{◌≡◌, ◌≤◌, length, List, [], ◌∷◌, ◌++◌, Some}
 use Rattle.gx_policy.specs.declared.policy.PolicyData.{PolicyData}
-use Rattle.gx_history.specs.declared.record.RecordData.{RecordData}
-use Rattle.gx_history.specs.declared.record.Step.{Step}
-use Rattle.gx_history.specs.Figures.{positions}
-use Rattle.gx_history.specs.Live.{live}
-use Rattle.gx_history.specs.Orders.{Order, orders, orders_added}
-use Rattle.gx_history.specs.Turns.{Turn}
-use Rattle.gx_history.specs.Verdicts.{IsLegal, day_limit, next}
-use Rattle.gx_history.specs.World.{turn_of, world}
-use Rattle.gx_positions.specs.Changing.{nothing, positions_with}
-use Rattle.gx_positions.specs.Sound.{AreSound, MayChange}
+use Rattle.gx_history.specs.{declared.record.{RecordData.RecordData, Step.Step}, Figures.positions, Live.live, Orders.{Order, orders, orders_added}, Turns.Turn, Verdicts.{IsLegal, day_limit, next}, World.{turn_of, world}}
+use Rattle.gx_positions.specs.{Changing.{nothing, positions_with}, Sound.{AreSound, MayChange}}
 
 -- no record, no order
 abbrev pub DaysBeginEmpty : Type 0

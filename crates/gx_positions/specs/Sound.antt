@@ -1,17 +1,8 @@
 -- What holds of live orders, fills and grants at any time of a day, and which changes may come.
-use Rattle.std.specs.Prelude.{ℕ, ◌≡◌, ◌-◌, ◌≤◌, ◌<◌, ◌^◌, Bool, true, IsTrue, IsFalse, ◌==◌, nat_eq, nat_lt, List, [], ◌∷◌, map, Some, None, is_some}
-use Rattle.std.specs.List.{AllByRecursion, IsDistinct}
-use Rattle.gx_units.specs.Names.{same_stock}
-use Rattle.gx_units.specs.declared.names.AccountName.{AccountName}
-use Rattle.gx_policy.specs.declared.policy.PolicyData.{PolicyData}
-use Rattle.gx_policy.specs.People.{stock_named}
-use Rattle.gx_history.specs.declared.live_order.LiveOrder.{LiveOrder}
-use Rattle.gx_history.specs.declared.record.Fill.{Fill}
-use Rattle.gx_history.specs.Figures.{Positions, live_shares, live_value, done_shares, done_value}
-use Rattle.gx_history.specs.Live.{live_numbered}
-use Rattle.gx_history.specs.LiveOrders.{shares_open}
-use Rattle.gx_history.specs.Orders.{Order, order_numbered}
-use Rattle.gx_history.specs.Turns.{Turn, Adds, Ends, Fills, Replaces, Sizes}
+use Rattle.std.specs.{Prelude.{ℕ, ◌≡◌, ◌-◌, ◌≤◌, ◌<◌, ◌^◌, Bool, true, IsTrue, IsFalse, ◌==◌, nat_eq, nat_lt, List, [], ◌∷◌, map, Some, None, is_some}, List.{AllByRecursion, IsDistinct}}
+use Rattle.gx_units.specs.{Names.same_stock, declared.names.AccountName.AccountName}
+use Rattle.gx_policy.specs.{declared.policy.PolicyData.PolicyData, People.stock_named}
+use Rattle.gx_history.specs.{declared.{live_order.LiveOrder.LiveOrder, «record».Fill.Fill}, Figures.{Positions, live_shares, live_value, done_shares, done_value}, Live.live_numbered, LiveOrders.shares_open, Orders.{Order, order_numbered}, Turns.{Turn, Adds, Ends, Fills, Replaces, Sizes}}
 
 -- any account
 abbrev pub anyone : AccountName → Bool

@@ -1,7 +1,6 @@
 //! Laws of what the figures are taken from, each as what a function without a body ensures.
 
-ghost use Rattle.gx_positions.specs.Laws.{DaysBeginEmpty, LiveOrdersAreFew, PositionsAreSound};
-ghost use Rattle.gx_positions.specs.Laws.{PositionsGoOn, RecordsMayCome};
+ghost use Rattle.gx_positions.specs.Laws.{DaysBeginEmpty, LiveOrdersAreFew, PositionsAreSound, PositionsGoOn, RecordsMayCome};
 
 /// A day begins without an order.
 pub fn days_begin_empty()

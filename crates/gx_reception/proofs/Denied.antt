@@ -1,47 +1,21 @@
 -- The login of somebody who has no user's password.
 use Rattle.std.proofs.Common.{◌≡◌, ℕ, ◌+◌, Bool, true, false, List, [], ◌∷◌, ◌++◌, length, length-append, Option, Some, None, if◌then◌else◌, refl, sym, ap, subst, ◌∙◌}
-use Rattle.std.specs.Prelude.{◌&&◌, is_some, option_map}
-use Rattle.std.specs.Option.{option_map_or}
-use Rattle.gx_units.specs.declared.names.LoginRejection.TheVariants as rejections
-use Rattle.gx_units.specs.declared.names.Password.{Password}
-use Rattle.gx_units.specs.declared.names.SessionName.{SessionName}
-use Rattle.gx_units.specs.declared.names.UserName.{UserName}
-use Rattle.gx_units.specs.Spelling.{folded_password, folded_session, folded_user}
-use Rattle.gx_policy.specs.declared.policy.PolicyData.{PolicyData}
-use Rattle.gx_policy.specs.declared.rule_name.RuleName.TheVariants as rules
-use Rattle.gx_policy.specs.RuleNames.{rules_before}
-use Rattle.gx_history.specs.declared.record.Asked.{Asked}
-use Rattle.gx_history.specs.declared.record.Login.{Login}
-use Rattle.gx_history.specs.declared.record.RecordData.{RecordData}
-use Rattle.gx_history.specs.declared.record.Request.TheVariants as requests
-use Rattle.gx_history.specs.declared.record.Step.TheVariants as steps
-use Rattle.gx_history.specs.declared.record.Verdict.{Verdict}
-use Rattle.gx_history.specs.declared.record.Verdict.TheVariants as verdicts
-use Rattle.gx_history.specs.Asking.{facts}
-use Rattle.gx_history.specs.Logins.{password_is, session_is}
-use Rattle.gx_history.specs.Rules.{first_forbidding, written_order}
-use Rattle.gx_history.specs.Verdicts.{IsLegal, next, step_verdict, verdict}
-use Rattle.gx_history_laws.proofs.NextReports.{legal_before}
-use Rattle.gx_answers.specs.declared.outcome.LoginAnswer.{LoginAnswer}
-use Rattle.gx_answers.specs.declared.outcome.LoginAnswer.TheVariants as answers
-use Rattle.gx_answers.specs.declared.outcome.Outcome.{Outcome}
-use Rattle.gx_answers.specs.Gates.{left_by}
-use Rattle.gx_answers.specs.Logins.{login_answered}
-use Rattle.gx_pass.specs.declared.view.Holds.{Holds}
-use Rattle.gx_pass.specs.Views.{mine}
-use Rattle.gx_door.specs.Acts.{AddsOwn, IsLater, login_on, LogsIn}
-use Rattle.gx_door.specs.Callers.{caller_of}
-use Rattle.gx_door.specs.declared.caller.Caller.{Caller}
-use Rattle.gx_door.specs.declared.caller.Caller.TheVariants as callers
-use Rattle.gx_history_laws.proofs.Judging.{both}
+use Rattle.std.specs.{Prelude.{◌&&◌, is_some, option_map}, Option.option_map_or}
+use Rattle.gx_units.specs.{declared.names.{LoginRejection.LoginRejection, Password.Password, SessionName.SessionName, UserName.UserName}, Spelling.{folded_password, folded_session, folded_user}}
+use Rattle.gx_policy.specs.{declared.{policy.PolicyData.PolicyData, rule_name.RuleName.RuleName}, RuleNames.rules_before}
+use Rattle.gx_history.specs.{declared.record.{Asked.Asked, Login.Login, RecordData.RecordData, Request.Request, Step.Step, Verdict.Verdict}, Asking.facts, Logins.{password_is, session_is}, Rules.{first_forbidding, written_order}, Verdicts.{IsLegal, next, step_verdict, verdict}}
+use Rattle.gx_history_laws.proofs.{NextReports.legal_before, Judging.both}
+use Rattle.gx_answers.specs.{declared.outcome.{LoginAnswer.LoginAnswer, Outcome.Outcome}, Gates.left_by, Logins.login_answered}
+use Rattle.gx_pass.specs.{declared.view.Holds.Holds, Views.mine}
+use Rattle.gx_door.specs.{Acts.{AddsOwn, IsLater, login_on, LogsIn}, Callers.caller_of, declared.caller.Caller.Caller}
 use Rattle.gx_reception.specs.Denials.{are_denied, is_denied, is_denied_by_password}
 
 IsStranger : Caller → Type 0
-IsStranger callers.Trader = ⊥
-IsStranger callers.Staff = ⊥
-IsStranger callers.Stranger = Unit {0}
+IsStranger Caller.Trader = ⊥
+IsStranger Caller.Staff = ⊥
+IsStranger Caller.Stranger = Unit {0}
 
-has_none : (right trader : Bool) → (if right then (if trader then callers.Trader else callers.Staff) else callers.Stranger) ≡ callers.Stranger → right ≡ false
+has_none : (right trader : Bool) → (if right then (if trader then Caller.Trader else Caller.Staff) else Caller.Stranger) ≡ Caller.Stranger → right ≡ false
 unfolding IsStranger
 has_none false trader is = refl
 has_none true true is = absurd (subst IsStranger (sym is) tt)
@@ -49,12 +23,12 @@ has_none true false is = absurd (subst IsStranger (sym is) tt)
 
 -- the first rule asks for the password
 denied_first : (policy : PolicyData) (history : List RecordData) (line : ℕ) (user : UserName) (session : Bool) (wanted moment : ℕ)
-    → verdict policy history (record { line = line; user = user; request = requests.Login (record { password_is_right = false; session_is_right = session; wanted = wanted }); handed = moment }) ≡ verdicts.Denied rules.L1
+    → verdict policy history (record { line = line; user = user; request = Request.Login (record { password_is_right = false; session_is_right = session; wanted = wanted }); handed = moment }) ≡ Verdict.Denied RuleName.L1
 unfolding verdict first_forbidding written_order rules_before facts
 denied_first policy history line user session wanted moment = refl
 
 verdict_in : Option RecordData → Verdict
-verdict_in None = verdicts.Granted
+verdict_in None = Verdict.Granted
 verdict_in (Some r) = r.verdict
 
 -- what a legal history ends with was judged on what stands before
@@ -65,11 +39,11 @@ judged policy earlier a o legal = ap verdict_in (legal_before policy earlier (le
 -- the login of a stranger
 asked : UserName → Bool → Bool → ℕ → ℕ → ℕ → Asked
 asked user right session wanted line moment =
-    record { line = line; user = folded_user user; request = requests.Login (record { password_is_right = right; session_is_right = session; wanted = wanted }); handed = moment }
+    record { line = line; user = folded_user user; request = Request.Login (record { password_is_right = right; session_is_right = session; wanted = wanted }); handed = moment }
 
 -- it is denied by the rule that asks for the password
 pub stranger_is_denied : (policy : PolicyData) (was is : Holds) (user : UserName) (given : Password) (session : SessionName) (wanted moment : ℕ) (answer : LoginAnswer) (l : LogsIn policy was is (login_on policy was.line user given session wanted moment) wanted answer)
-    → IsLater policy was is → caller_of policy user given ≡ callers.Stranger → l.outcome.verdict ≡ verdicts.Denied rules.L1
+    → IsLater policy was is → caller_of policy user given ≡ Caller.Stranger → l.outcome.verdict ≡ Verdict.Denied RuleName.L1
 unfolding asked
 stranger_is_denied policy was is user given session wanted moment answer l later stranger =
     let right : Bool = password_is policy.users (folded_user user) (folded_password given) in
@@ -87,7 +61,7 @@ all_denied (x ∷ records) r before last = let each = both (is_denied x) (are_de
 
 -- one more login of a stranger on the line
 pub more_denied : (policy : PolicyData) (was is : Holds) (user : UserName) (given : Password) (session : SessionName) (wanted moment : ℕ) (answer : LoginAnswer) → LogsIn policy was is (login_on policy was.line user given session wanted moment) wanted answer
-    → IsLater policy was is → caller_of policy user given ≡ callers.Stranger → are_denied (mine was) ≡ true → are_denied (mine is) ≡ true
+    → IsLater policy was is → caller_of policy user given ≡ Caller.Stranger → are_denied (mine was) ≡ true → are_denied (mine is) ≡ true
 more_denied policy was is user given session wanted moment answer l later stranger before =
     let a : Asked = login_on policy was.line user given session wanted moment in
     ap are_denied l.adds.own
@@ -95,7 +69,7 @@ more_denied policy was is user given session wanted moment answer l later strang
 
 -- and what he is told
 pub stranger_is_told : (policy : PolicyData) (was is : Holds) (user : UserName) (given : Password) (session : SessionName) (wanted moment : ℕ) (answer : LoginAnswer) → LogsIn policy was is (login_on policy was.line user given session wanted moment) wanted answer
-    → IsLater policy was is → caller_of policy user given ≡ callers.Stranger → answer ≡ answers.Rejected rejections.NotAuthorized
+    → IsLater policy was is → caller_of policy user given ≡ Caller.Stranger → answer ≡ LoginAnswer.Rejected LoginRejection.NotAuthorized
 stranger_is_told policy was is user given session wanted moment answer l later stranger =
     l.told ∙ ap (login_answered policy is.front (folded_user user) wanted) (stranger_is_denied policy was is user given session wanted moment answer l later stranger)
 

@@ -1,20 +1,9 @@
 -- Packets that leave a session as it is before a login.
-use Rattle.std.proofs.Common.{◌≡◌, ◌≢◌, ◌<◌, ◌≤◌, ℕ, ◌+◌, drop, length, slice_index_or, inl, inr, ◌⊎◌, Bool, true, false, List, [], ◌∷◌, ◌++◌, Option, Some, None, if◌then◌else◌, refl, sym, ap, subst, ◌∙◌, append-nil, arith}
+use Rattle.std.proofs.{Common.{◌≡◌, ◌≢◌, ◌<◌, ◌≤◌, ℕ, ◌+◌, drop, length, slice_index_or, inl, inr, ◌⊎◌, Bool, true, false, List, [], ◌∷◌, ◌++◌, Option, Some, None, if◌then◌else◌, refl, sym, ap, subst, ◌∙◌, append-nil, arith}, KnownBytes.{Consumes-nil, Consumes-trans}, lemmas.List.drop_more, Math.ListN.drop_of_length-le}
 use Rattle.std.specs.Io.KnownBytes.{Consumes, IsAtEnd}
-use Rattle.std.proofs.KnownBytes.{Consumes-nil, Consumes-trans}
-use Rattle.std.proofs.lemmas.List.{drop_more}
-use Rattle.std.proofs.Math.ListN.{drop_of_length-le}
 use Rattle.gx_devices.specs.Devices.{one_more}
-use Rattle.gx_soup.specs.declared.packet.LoginRequest.{LoginRequest}
-use Rattle.gx_reception.specs.declared.opening.Knock.{Knock}
-use Rattle.gx_reception.specs.declared.opening.Knock.TheVariants as knocks
-use Rattle.gx_reception.specs.Arrivals.{ComesTo, HasEnded, IsKnock, Knocks}
-use Rattle.gx_soup.specs.declared.packet.ClientPacket.{ClientPacket}
-use Rattle.gx_soup.specs.declared.packet.ClientPacket.TheVariants as client
-use Rattle.gx_soup.specs.declared.packet.SoupFault.{SoupFault}
-use Rattle.gx_soup.specs.Feeding.{Gives, Held, HasRead}
-use Rattle.gx_soup.specs.Packets.{packets_of}
-use Rattle.gx_reception.specs.Openings.{from_first, is_idle, IsBroken, IsIdle, IsOther}
+use Rattle.gx_soup.specs.{declared.packet.{LoginRequest.LoginRequest, ClientPacket.ClientPacket, SoupFault.SoupFault}, Feeding.{Gives, Held, HasRead}, Packets.packets_of}
+use Rattle.gx_reception.specs.{declared.opening.Knock.Knock, Arrivals.{ComesTo, HasEnded, IsKnock, Knocks}, Openings.{from_first, is_idle, IsBroken, IsIdle, IsOther}}
 
 -- the first of these is another one
 pub first_here : (packets behind : List ClientPacket) (p : ClientPacket) → packets ≡ p ∷ behind → is_idle p ≡ false → packets ≡ from_first packets
@@ -32,11 +21,11 @@ is_there (p ∷ packets) = Unit {0}
 pub first_behind : (packets more : List ClientPacket) → from_first packets ≡ [] → from_first (packets ++ more) ≡ from_first more
 unfolding is_there
 first_behind [] more idle = refl
-first_behind (client.Heartbeat ∷ packets) more idle = first_behind packets more idle
-first_behind (client.Debug ∷ packets) more idle = first_behind packets more idle
-first_behind (client.Login login ∷ packets) more idle = absurd (subst is_there idle tt)
-first_behind (client.Data payload ∷ packets) more idle = absurd (subst is_there idle tt)
-first_behind (client.Logout ∷ packets) more idle = absurd (subst is_there idle tt)
+first_behind (ClientPacket.Heartbeat ∷ packets) more idle = first_behind packets more idle
+first_behind (ClientPacket.Debug ∷ packets) more idle = first_behind packets more idle
+first_behind (ClientPacket.Login login ∷ packets) more idle = absurd (subst is_there idle tt)
+first_behind (ClientPacket.Data payload ∷ packets) more idle = absurd (subst is_there idle tt)
+first_behind (ClientPacket.Logout ∷ packets) more idle = absurd (subst is_there idle tt)
 
 -- what a piece brings behind bytes that are idle is what all of them come to
 pub brought : (feeder : Held) (before piece : List ℕ) (given : List ClientPacket) (told : Option SoupFault) → Gives given told feeder before piece → IsIdle before
@@ -44,7 +33,7 @@ pub brought : (feeder : Held) (before piece : List ℕ) (given : List ClientPack
 brought feeder before piece given told gives idle = ap from_first gives.packets ∙ first_behind (packets_of before).packets given idle.packets
 
 -- a packet in this place that is no login
-pub is_other : (packets : List ClientPacket) (at : ℕ) (p : ClientPacket) → at < length packets → p ≡ slice_index_or packets at p → ((login : LoginRequest) → p ≢ client.Login login) → IsOther (drop at packets)
+pub is_other : (packets : List ClientPacket) (at : ℕ) (p : ClientPacket) → at < length packets → p ≡ slice_index_or packets at p → ((login : LoginRequest) → p ≢ ClientPacket.Login login) → IsOther (drop at packets)
 is_other packets at p within is other = record {
   first = p;
   behind = drop (at + 1) packets;
@@ -55,16 +44,16 @@ is_other packets at p within is other = record {
 -- what comes behind idle packets is what a piece brings
 pub comes_knocking : (feeder : Held) (before piece : List ℕ) (given packets : List ClientPacket) (told : Option SoupFault) (k : Knock) → Gives given told feeder before piece → IsIdle before
     → packets ≡ from_first given → IsKnock packets told feeder k → ComesTo (before ++ piece) ⊥ k
-comes_knocking feeder before piece given packets told (knocks.Login opening) gives idle first is = record {
+comes_knocking feeder before piece given packets told (Knock.Login opening) gives idle first is = record {
   packets = brought feeder before piece given told gives idle ∙ sym first ∙ sym is.0;
   fault = sym gives.fault ∙ sym is.1;
   reads = subst (λ f. HasRead f (before ++ piece)) (sym is.2) gives.reads;
 }
-comes_knocking feeder before piece given packets told knocks.Other gives idle first is =
+comes_knocking feeder before piece given packets told Knock.Other gives idle first is =
     subst IsOther (first ∙ sym (brought feeder before piece given told gives idle)) is
-comes_knocking feeder before piece given packets told (knocks.Broken found) gives idle first is = absurd is
-comes_knocking feeder before piece given packets told knocks.Refused gives idle first is = absurd is
-comes_knocking feeder before piece given packets told knocks.Ended gives idle first is = absurd is
+comes_knocking feeder before piece given packets told (Knock.Broken found) gives idle first is = absurd is
+comes_knocking feeder before piece given packets told Knock.Refused gives idle first is = absurd is
+comes_knocking feeder before piece given packets told Knock.Ended gives idle first is = absurd is
 
 -- no place is left for another packet
 pub none_first : (given : List ClientPacket) (at : ℕ) → drop at given ≡ from_first given → length given ≤ at → [] ≡ from_first given
@@ -72,7 +61,7 @@ none_first given at place within = sym (drop_of_length-le given within) ∙ plac
 
 -- nothing but idle packets, and then a fault
 pub comes_broken : (feeder : Held) (before piece : List ℕ) (given : List ClientPacket) (told : Option SoupFault) (found : SoupFault) → Gives given told feeder before piece → IsIdle before
-    → [] ≡ from_first given → told ≡ Some found → ComesTo (before ++ piece) ⊥ (knocks.Broken found)
+    → [] ≡ from_first given → told ≡ Some found → ComesTo (before ++ piece) ⊥ (Knock.Broken found)
 comes_broken feeder before piece given told found gives idle none is = record {
   packets = brought feeder before piece given told gives idle ∙ sym none;
   fault = sym gives.fault ∙ is;
@@ -110,11 +99,11 @@ waits_on input mid left feeder feeder' piece w took goes = record {
 }
 
 comes_so : (bytes : List ℕ) (Ended : Type 0) (k : Knock) → ComesTo bytes ⊥ k → ComesTo bytes Ended k
-comes_so bytes Ended (knocks.Login opening) comes = comes
-comes_so bytes Ended knocks.Other comes = comes
-comes_so bytes Ended (knocks.Broken found) comes = comes
-comes_so bytes Ended knocks.Refused comes = comes
-comes_so bytes Ended knocks.Ended comes = absurd comes.1
+comes_so bytes Ended (Knock.Login opening) comes = comes
+comes_so bytes Ended Knock.Other comes = comes
+comes_so bytes Ended (Knock.Broken found) comes = comes
+comes_so bytes Ended Knock.Refused comes = comes
+comes_so bytes Ended Knock.Ended comes = absurd comes.1
 
 pub knocks_then : (input mid left : Option (List ℕ)) (feeder : Held) (piece : List ℕ) (failed : ℕ) (k : Knock) → Waits input mid feeder → Consumes mid left piece
     → ((before : List ℕ) → HasRead feeder before → IsIdle before → ComesTo (before ++ piece) ⊥ k) → Knocks input left failed k
@@ -131,7 +120,7 @@ ended_so : (left : Option (List ℕ)) (failed failed' : ℕ) → IsAtEnd left �
 ended_so left failed failed' (inl end) = inl end
 ended_so left failed failed' (inr count) = inr (some_failed failed failed' count)
 
-pub knocks_never : (input mid left : Option (List ℕ)) (feeder : Held) (failed failed' : ℕ) → Waits input mid feeder → HasEnded mid left failed failed' → Knocks input left failed' knocks.Ended
+pub knocks_never : (input mid left : Option (List ℕ)) (feeder : Held) (failed failed' : ℕ) → Waits input mid feeder → HasEnded mid left failed failed' → Knocks input left failed' Knock.Ended
 knocks_never input mid left feeder failed failed' w end = record {
   bytes = w.bytes;
   consumed = subst (Consumes input left) (append-nil w.bytes) (Consumes-trans input mid left w.bytes [] w.consumed end.0);

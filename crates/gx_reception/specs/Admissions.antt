@@ -3,24 +3,18 @@ use Rattle.std.specs.Prelude.{◌≡◌, ◌≢◌, []}
 use Rattle.gx_policy.specs.declared.policy.PolicyData.{PolicyData}
 use Rattle.gx_history.specs.Verdicts.{IsLegal}
 use Rattle.gx_soup.specs.declared.packet.LoginRequest.{LoginRequest}
-use Rattle.gx_pass.specs.declared.view.Holds.{Holds}
-use Rattle.gx_pass.specs.Views.{mine}
-use Rattle.gx_door.specs.Callers.{caller_of}
-use Rattle.gx_door.specs.declared.caller.Caller.{Caller}
-use Rattle.gx_door.specs.declared.caller.Caller.TheVariants as callers
-use Rattle.gx_reception.specs.declared.lines.LineFault.{LineFault}
-use Rattle.gx_reception.specs.declared.lines.LineFault.TheVariants as line_faults
-use Rattle.gx_reception.specs.declared.reception.Admission.{Admission}
-use Rattle.gx_reception.specs.declared.reception.Admission.TheVariants as admissions
+use Rattle.gx_pass.specs.{declared.view.Holds.Holds, Views.mine}
+use Rattle.gx_door.specs.{Callers.caller_of, declared.caller.Caller.Caller}
+use Rattle.gx_reception.specs.declared.{lines.LineFault.LineFault, reception.Admission.Admission}
 
 -- no line is left for him: the lines that are kept are kept from traders alone
 abbrev pub LacksLine : Caller → LineFault → Type 0
-LacksLine caller line_faults.Kept = caller ≡ callers.Trader
-LacksLine caller (line_faults.Unissued fault) = caller ≢ callers.Stranger
+LacksLine caller LineFault.Kept = caller ≡ Caller.Trader
+LacksLine caller (LineFault.Unissued fault) = caller ≢ Caller.Stranger
 
 -- whoever has a user's password is given a new line, or is told that there is none
 abbrev pub IsAdmitted : {T : Type 0} → PolicyData → (T → Holds) → LoginRequest → Admission T → Type 0
-IsAdmitted policy held login (admissions.Line pass caller) =
-    (caller ≡ caller_of policy login.user login.password) × (caller ≢ callers.Stranger) × (mine (held pass) ≡ []) × IsLegal policy (held pass).front
-IsAdmitted policy held login (admissions.NoLine why) = LacksLine (caller_of policy login.user login.password) why
-IsAdmitted policy held login admissions.Stranger = caller_of policy login.user login.password ≡ callers.Stranger
+IsAdmitted policy held login (Admission.Line pass caller) =
+    (caller ≡ caller_of policy login.user login.password) × (caller ≢ Caller.Stranger) × (mine (held pass) ≡ []) × IsLegal policy (held pass).front
+IsAdmitted policy held login (Admission.NoLine why) = LacksLine (caller_of policy login.user login.password) why
+IsAdmitted policy held login Admission.Stranger = caller_of policy login.user login.password ≡ Caller.Stranger

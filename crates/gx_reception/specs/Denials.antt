@@ -1,27 +1,20 @@
 -- Logins that are denied for their password.
-use Rattle.std.specs.Prelude.{Bool, true, false, ◌&&◌, List}
-use Rattle.std.specs.List.{list_all}
+use Rattle.std.specs.{Prelude.{Bool, true, false, ◌&&◌, List}, List.list_all}
 use Rattle.gx_policy.specs.declared.rule_name.RuleName.{RuleName}
-use Rattle.gx_policy.specs.declared.rule_name.RuleName.TheVariants as rules
-use Rattle.gx_history.specs.declared.record.RecordData.{RecordData}
-use Rattle.gx_history.specs.declared.record.Step.{Step}
-use Rattle.gx_history.specs.declared.record.Step.TheVariants as steps
-use Rattle.gx_history.specs.declared.record.Verdict.{Verdict}
-use Rattle.gx_history.specs.declared.record.Verdict.TheVariants as verdicts
-use Rattle.gx_history.specs.Requests.{is_login}
+use Rattle.gx_history.specs.{declared.record.{RecordData.RecordData, Step.Step, Verdict.Verdict}, Requests.is_login}
 
 -- a login is asked for
 abbrev pub is_login_step : Step → Bool
-is_login_step (steps.Asked a) = is_login a.request
-is_login_step (steps.Matching handed) = false
+is_login_step (Step.Asked a) = is_login a.request
+is_login_step (Step.Matching handed) = false
 
 -- the rule that asks for the password
 abbrev pub is_password_rule : RuleName → Bool
-is_password_rule rules.L1 = true
+is_password_rule RuleName.L1 = true
 is_password_rule other = false
 
 abbrev pub is_denied_by_password : Verdict → Bool
-is_denied_by_password (verdicts.Denied rule) = is_password_rule rule
+is_denied_by_password (Verdict.Denied rule) = is_password_rule rule
 is_denied_by_password other = false
 
 -- a login that was denied, since no user has this password

@@ -1,19 +1,14 @@
 -- What a connection begins with.
 use Rattle.std.specs.Prelude.{◌≡◌, ◌≢◌, ℕ, Bool, true, false, List, [], ◌∷◌, Option, Some, None, if◌then◌else◌}
-use Rattle.gx_soup.specs.declared.packet.ClientPacket.{ClientPacket}
-use Rattle.gx_soup.specs.declared.packet.ClientPacket.TheVariants as client
-use Rattle.gx_soup.specs.declared.packet.LoginRequest.{LoginRequest}
-use Rattle.gx_soup.specs.declared.packet.SoupFault.{SoupFault}
-use Rattle.gx_soup.specs.Feeding.{Held, HasRead}
-use Rattle.gx_soup.specs.Packets.{packets_of}
+use Rattle.gx_soup.specs.{declared.packet.{ClientPacket.ClientPacket, LoginRequest.LoginRequest, SoupFault.SoupFault}, Feeding.{Held, HasRead}, Packets.packets_of}
 
 -- a packet that leaves each session as it is
 abbrev pub is_idle : ClientPacket → Bool
-is_idle (client.Login login) = false
-is_idle (client.Data payload) = false
-is_idle client.Logout = false
-is_idle client.Heartbeat = true
-is_idle client.Debug = true
+is_idle (ClientPacket.Login login) = false
+is_idle (ClientPacket.Data payload) = false
+is_idle ClientPacket.Logout = false
+is_idle ClientPacket.Heartbeat = true
+is_idle ClientPacket.Debug = true
 
 -- the packets from the first on that is another one
 abbrev pub from_first : List ClientPacket → List ClientPacket
@@ -39,7 +34,7 @@ pub record IsOther (packets : List ClientPacket) : Type 0 where
   pub first : ClientPacket
   pub behind : List ClientPacket
   pub split : packets ≡ first ∷ behind
-  pub other : (login : LoginRequest) → first ≢ client.Login login
+  pub other : (login : LoginRequest) → first ≢ ClientPacket.Login login
 
 -- these bytes have no other packet, and no fault
 pub record IsIdle (bytes : List ℕ) : Type 0 where

@@ -1,12 +1,9 @@
 //! The first packets of a connection.
 
-ghost use Rattle.std.specs.Prelude.{◌≡◌, ◌≢◌, ◌≤◌, ◌<◌, ℕ, List, ◌++◌, drop, length, take, IfErr, IfNone, IfOk, IfSome};
-ghost use Rattle.std.specs.Io.KnownBytes.{Consumes};
+ghost use Rattle.std.specs.{Prelude.{◌≡◌, ◌≢◌, ◌≤◌, ◌<◌, ℕ, List, ◌++◌, drop, length, take, IfErr, IfNone, IfOk, IfSome}, Io.KnownBytes.Consumes};
 ghost use Rattle.gx_soup.specs.declared.packet.ClientPacket.TheVariants as client;
-ghost use Rattle.gx_soup.specs.declared.packet.LoginRequest.{LoginRequest};
-ghost use Rattle.gx_soup.specs.Feeding.{HasRead};
-ghost use Rattle.gx_reception.specs.Arrivals.{ComesTo, HasEnded, IsKnock, Knocks};
-ghost use Rattle.gx_reception.specs.Openings.{from_first, is_idle, IsIdle};
+ghost use Rattle.gx_soup.specs.{declared.packet.LoginRequest.LoginRequest, Feeding.HasRead};
+ghost use Rattle.gx_reception.specs.{Arrivals.{ComesTo, HasEnded, IsKnock, Knocks}, Openings.{from_first, is_idle, IsIdle}};
 
 use crate::opening::{Knock, Opening};
 use gx_devices::Counted;

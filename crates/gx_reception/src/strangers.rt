@@ -4,8 +4,7 @@ ghost use Rattle.std.specs.Prelude.{◌≡◌, ◌≤◌, ◌<◌, ◌+◌, [], 
 ghost use Rattle.gx_units.specs.declared.names.LoginRejection.TheVariants as rejections;
 ghost use Rattle.gx_answers.specs.declared.outcome.LoginAnswer.TheVariants as answers;
 ghost use Rattle.gx_pass.specs.Views.{mine};
-ghost use Rattle.gx_door.specs.Acts.{met};
-ghost use Rattle.gx_door.specs.Callers.{caller_of};
+ghost use Rattle.gx_door.specs.{Acts.met, Callers.caller_of};
 ghost use Rattle.gx_door.specs.declared.caller.Caller.TheVariants as callers;
 ghost use Rattle.gx_reception.specs.Denials.{are_denied};
 

@@ -1,20 +1,8 @@
 -- How much of the limits of the policy's rules is used after these records.
+use Rattle.gx_policy.specs.{Kinds.limit_of, declared.{kinds.ExposureLimit.ExposureLimit, policy.{Count.Count, FileRule.FileRule, PolicyData.PolicyData, RuleKind.RuleKind}}, People.{account_named, covers, rule_in}}
 use Rattle.std.specs.Prelude.{ℕ, ℤ, pos, ◌+ℤ◌, Bool, ◌&&◌, List, Option, Some, None, is_some, option_and_then, if◌then◌else◌}
-use Rattle.gx_units.specs.declared.names.AccountName.{AccountName}
-use Rattle.gx_units.specs.declared.names.RuleId.{RuleId}
-use Rattle.gx_policy.specs.declared.policy.Count.{Count}
-use Rattle.gx_policy.specs.declared.policy.FileRule.{FileRule}
-use Rattle.gx_policy.specs.declared.policy.PolicyData.{PolicyData}
-use Rattle.gx_policy.specs.declared.policy.RuleKind.{RuleKind}
-use Rattle.gx_policy.specs.declared.policy.RuleKind.TheVariants as kinds
-use Rattle.gx_policy.specs.People.{account_named, covers, rule_in}
-use Rattle.gx_history.specs.declared.facts.StockSide.{StockSide}
-use Rattle.gx_history.specs.declared.record.RecordData.{RecordData}
-use Rattle.gx_history.specs.Asking.{rule_in_force}
-use Rattle.gx_history.specs.Executions.{executions}
-use Rattle.gx_history.specs.Figures.{counts_account, net_done, side_live}
-use Rattle.gx_history.specs.InForce.{limit_of}
-use Rattle.gx_history.specs.Live.{live}
+use Rattle.gx_units.specs.declared.names.{AccountName.AccountName, RuleId.RuleId}
+use Rattle.gx_history.specs.{declared.{facts.StockSide.StockSide, «record».RecordData.RecordData}, Asking.rule_in_force, Executions.executions, Figures.{counts_account, net_done, side_live}, Live.live}
 use Rattle.gx_exposure.specs.Exposure.{gross_shares, gross_value}
 
 -- the limit of the rule of this name, if it has one that Set Limit may change
@@ -27,14 +15,14 @@ is_for policy account rule = is_some (account_named policy account) && covers ru
 
 -- what a gross rule counts of these accounts: their open and executed shares, or the value of those
 abbrev pub gross_of : PolicyData → List RecordData → (Count → AccountName → Bool) → RuleKind → Option ℕ
-gross_of policy records among (kinds.GrossShares limit count) = Some (gross_shares policy records (among count))
-gross_of policy records among (kinds.GrossValue limit count) = Some (gross_value policy records (among count))
+gross_of policy records among (RuleKind.Exposure ExposureLimit.GrossShares limit count) = Some (gross_shares policy records (among count))
+gross_of policy records among (RuleKind.Exposure ExposureLimit.GrossValue limit count) = Some (gross_value policy records (among count))
 gross_of policy records among other = None
 
 -- what a net rule counts of these accounts on a side of a stock: what they executed there, less what they did on the other
 -- side, and what they have open there
 abbrev pub net_of : PolicyData → List RecordData → (Count → AccountName → Bool) → StockSide → RuleKind → Option ℤ
-net_of policy records among side (kinds.NetShares limit count) =
+net_of policy records among side (RuleKind.Exposure ExposureLimit.NetShares limit count) =
     Some (net_done (executions policy records) (among count) side +ℤ pos (side_live (live policy records) (among count) side))
 net_of policy records among side other = None
 

@@ -1,10 +1,7 @@
 //! What stands after a gate's records.
 
 ghost use Rattle.std.specs.Prelude.{◌≡◌};
-ghost use Rattle.gx_history.specs.Asking.{has_stock, rule_in_force};
-ghost use Rattle.gx_history.specs.InForce.{is_closed, is_entitled};
-ghost use Rattle.gx_history.specs.Live.{live, live_numbered};
-ghost use Rattle.gx_history.specs.Verdicts.{last_moment};
+ghost use Rattle.gx_history.specs.{Asking.{has_stock, rule_in_force}, InForce.{is_closed, is_entitled}, Live.{live, live_numbered}, Verdicts.last_moment};
 ghost use Rattle.gx_records.specs.State.{gross_used, limit_in_force, net_used};
 ghost use Rattle.gx_slab.specs.Slabs.{of_account};
 

@@ -1,20 +1,11 @@
 -- Samples that were taken stay those of the day as it goes on.
-use Rattle.std.proofs.Common.{◌≡◌, ℕ, ◌+◌, ◌<◌, ◌≤◌, List, [], ◌∷◌, ◌++◌, fold, get_or, length, take, map, sym, ap, ◌∙◌, subst, suc, arith, refl}
-use Rattle.std.specs.Prelude.{Option, slice_get, Some, None}
-use Rattle.std.specs.List.{AllByRecursion}
-use Rattle.std.proofs.Math.Seq.{take-length, take-suc}
-use Rattle.std.proofs.lemmas.Grind.{flat_map-append}
-use Rattle.std.proofs.lemmas.List.{append-nil, length-append, map-append, take-append-le, take_more}
-use Rattle.std.proofs.lemmas.List.Sums.{fold-append}
-use Rattle.std.proofs.lemmas.Option.{get_or_from_slice_get, slice_get_within}
-use Rattle.gx_policy.specs.declared.policy.PolicyData.{PolicyData}
-use Rattle.gx_policy.specs.declared.policy.Stock.{Stock}
+use Rattle.std.proofs.{Common.{◌≡◌, ℕ, ◌+◌, ◌<◌, ◌≤◌, List, [], ◌∷◌, ◌++◌, fold, get_or, length, take, map, sym, ap, ◌∙◌, subst, suc, arith, refl}, Math.Seq.{take-length, take-suc}, lemmas.{Grind.flat_map-append, List.{append-nil, length-append, map-append, take-append-le, take_more, Sums.fold-append}, Option.{get_or_from_slice_get, slice_get_within}}}
+use Rattle.std.specs.{Prelude.{Option, slice_get, Some, None}, List.AllByRecursion}
+use Rattle.gx_policy.specs.declared.policy.{PolicyData.PolicyData, Stock.Stock}
 use Rattle.gx_history.specs.declared.record.RecordData.{RecordData}
 use Rattle.gx_history_laws.proofs.Pushing.{all_next}
 use Rattle.gx_records.specs.Watching.{earlier_of}
-use Rattle.gx_report.specs.declared.samples.Samples.{Samples}
-use Rattle.gx_report.specs.declared.samples.Seat.{Seat}
-use Rattle.gx_report.specs.Samples.{AreTaken, more_of, most_used, sample_of, samples_after, samples_at, used_in}
+use Rattle.gx_report.specs.{declared.samples.{Samples.Samples, Seat.Seat}, Samples.{AreTaken, more_of, most_used, sample_of, samples_after, samples_at, used_in}}
 
 -- so many, and one more
 take_one_more : (counts : List ℕ) (taken count : ℕ) → slice_get counts taken ≡ Some count → take (taken + 1) counts ≡ take taken counts ++ count ∷ []

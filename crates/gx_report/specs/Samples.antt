@@ -1,16 +1,11 @@
 -- How much of gross and net limits was used at some times of the day.
-use Rattle.std.specs.Prelude.{◌≡◌, ◌≤◌, ℕ, true, false, List, Option, Some, None, fold, max, take, length, map, flat_map, if◌then◌else◌}
-use Rattle.std.specs.List.{AllByRecursion}
+use Rattle.std.specs.{Prelude.{◌≡◌, ◌≤◌, ℕ, true, false, List, Option, Some, None, fold, max, take, length, map, flat_map, if◌then◌else◌}, List.AllByRecursion}
 use Rattle.gx_units.specs.declared.names.Symbol.{Symbol}
-use Rattle.gx_policy.specs.declared.policy.PolicyData.{PolicyData}
-use Rattle.gx_policy.specs.declared.policy.Stock.{Stock}
-use Rattle.gx_history.specs.declared.facts.StockSide.{StockSide}
-use Rattle.gx_history.specs.declared.record.RecordData.{RecordData}
+use Rattle.gx_policy.specs.declared.policy.{PolicyData.PolicyData, Stock.Stock}
+use Rattle.gx_history.specs.declared.{facts.StockSide.StockSide, «record».RecordData.RecordData}
 use Rattle.gx_records.specs.State.{gross_used, limit_in_force}
 use Rattle.gx_peaks.specs.Figures.{used_of}
-use Rattle.gx_report.specs.declared.samples.Sample.{Sample}
-use Rattle.gx_report.specs.declared.samples.Samples.{Samples}
-use Rattle.gx_report.specs.declared.samples.Seat.{Seat}
+use Rattle.gx_report.specs.declared.samples.{Sample.Sample, Samples.Samples, Seat.Seat}
 
 -- the greater of two figures, or the one that there is
 abbrev pub more_of : Option ℕ → Option ℕ → Option ℕ

@@ -1,10 +1,9 @@
 //! What officers asked for.
 
-use gx_audit_bytes::rule_bytes;
 use gx_desk::Action;
 use gx_endings::commands::CommandRow;
 use gx_endings::endings::Ending;
-use gx_policy::{Policy, RuleKind};
+use gx_policy::{ExposureLimit, OrderLimit, Policy, RuleKind};
 use gx_tables::{Cell, Name, Table, TableKind, name_of};
 use gx_units::{OutOfMemory, RuleId};
 use std::alloc::Global;
@@ -47,7 +46,8 @@ fn counts_ten_thousandths(policy: &Policy, name: RuleId) -> bool {
     match policy.rules().iter().find(|rule| rule.name == name) {
         Some(rule) => matches!(
             rule.kind,
-            RuleKind::OrderValue(_) | RuleKind::GrossValue(_, _) | RuleKind::Collar(_)
+            RuleKind::Order(OrderLimit::Value | OrderLimit::Collar, _)
+                | RuleKind::Exposure(ExposureLimit::GrossValue, _, _)
         ),
         None => false,
     }
@@ -83,7 +83,7 @@ fn values_of(policy: &Policy, row: &CommandRow) -> [Cell; 2] {
 
 fn verdict_cell(row: &CommandRow) -> Cell {
     match row.denied_by {
-        Some(rule) => cell_of(&rule_bytes(rule)),
+        Some(rule) => cell_of(&rule.id().bytes),
         None => cell_of(b"granted"),
     }
 }

@@ -3,7 +3,7 @@
 use crate::commands::limit_cell;
 use gx_history::facts::StockSide;
 use gx_peaks::{Peak, Peaks};
-use gx_policy::{Count, FileRule, Policy, RuleKind};
+use gx_policy::{Count, ExposureLimit, FileRule, Policy, RuleKind};
 use gx_tables::{Cell, Table, TableKind, name_of};
 use gx_units::{AccountName, OutOfMemory};
 use std::alloc::Global;
@@ -11,7 +11,7 @@ use std::alloc::Global;
 /// What was used, in the unit of the rule's limit.
 fn used_cell(kind: &RuleKind, used: u128) -> Cell {
     match kind {
-        RuleKind::GrossValue(_, _) => Cell::Dollars(used),
+        RuleKind::Exposure(ExposureLimit::GrossValue, _, _) => Cell::Dollars(used),
         _ => Cell::Sum(used),
     }
 }
@@ -70,7 +70,9 @@ fn whose_cell(count: Count, account: AccountName) -> Cell {
 /// How a gross rule counts, if it is one.
 fn gross_count(kind: &RuleKind) -> Option<Count> {
     match kind {
-        RuleKind::GrossShares(_, count) | RuleKind::GrossValue(_, count) => Some(*count),
+        RuleKind::Exposure(ExposureLimit::GrossShares | ExposureLimit::GrossValue, _, count) => {
+            Some(*count)
+        },
         _ => None,
     }
 }
@@ -78,7 +80,7 @@ fn gross_count(kind: &RuleKind) -> Option<Count> {
 /// How a net rule counts, if it is one.
 fn net_count(kind: &RuleKind) -> Option<Count> {
     match kind {
-        RuleKind::NetShares(_, count) => Some(*count),
+        RuleKind::Exposure(ExposureLimit::NetShares, _, count) => Some(*count),
         _ => None,
     }
 }

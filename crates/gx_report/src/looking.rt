@@ -1,8 +1,7 @@
 //! Who looks on while the day's records are made again.
 
 ghost use Rattle.std.specs.Prelude.{◌≡◌, [], IfOk};
-ghost use Rattle.gx_endings.specs.Commands.{command_rows};
-ghost use Rattle.gx_endings.specs.Endings.{endings};
+ghost use Rattle.gx_endings.specs.{Commands.command_rows, Endings.endings};
 ghost use Rattle.gx_peaks.specs.Noting.{AreOver};
 ghost use Rattle.gx_report.specs.Samples.{AreTaken};
 
@@ -11,7 +10,7 @@ use gx_endings::Both;
 use gx_endings::commands::Commands;
 use gx_endings::endings::Endings;
 use gx_peaks::Peaks;
-use gx_policy::{Account, Count, FileRule, Policy, RuleKind};
+use gx_policy::{Account, Count, ExposureLimit, FileRule, Policy, RuleKind};
 use gx_units::OutOfMemory;
 use std::alloc::Global;
 
@@ -48,10 +47,9 @@ pub(crate) fn seats_of(alloc: Global, policy: &Policy) -> Result<Vec<Seat>, OutO
     let mut seats = Vec::new(alloc);
     for rule in policy.rules() {
         match &rule.kind {
-            RuleKind::GrossShares(_, count) | RuleKind::GrossValue(_, count) => {
-                push_seats(&mut seats, rule, false, *count, policy.accounts())?
-            }
-            RuleKind::NetShares(_, count) => {
+            RuleKind::Exposure(ExposureLimit::GrossShares | ExposureLimit::GrossValue, _, count) =>
+                { push_seats(&mut seats, rule, false, *count, policy.accounts())? }
+            RuleKind::Exposure(ExposureLimit::NetShares, _, count) => {
                 push_seats(&mut seats, rule, true, *count, policy.accounts())?
             }
             _ => {}

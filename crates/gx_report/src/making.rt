@@ -2,8 +2,7 @@
 
 ghost use Rattle.std.specs.Prelude.{◌≡◌, [], Err, IfErr, IfOk};
 ghost use Rattle.gx_audit.specs.Auditing.{IsAnswer};
-ghost use Rattle.gx_endings.specs.Commands.{command_rows};
-ghost use Rattle.gx_endings.specs.Endings.{endings};
+ghost use Rattle.gx_endings.specs.{Commands.command_rows, Endings.endings};
 ghost use Rattle.gx_peaks.specs.Noting.{AreOver};
 ghost use Rattle.gx_report.specs.Samples.{AreTaken};
 

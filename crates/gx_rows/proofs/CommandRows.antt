@@ -1,16 +1,7 @@
 -- Runs on the sample policy with commands of officers, computed.
 use Rattle.std.proofs.Common.{refl}
-use Rattle.gx_history.specs.Asking.{facts}
-use Rattle.gx_history.specs.Executions.{executions, executed, done}
-use Rattle.gx_history.specs.Figures.{figures, open_of_chosen, live_value, done_of_chosen, done_value, recent, equal_recent, reference}
-use Rattle.gx_history.specs.InForce.{kill_in_force, is_closed, rules_in_force, is_entitled, line_of}
-use Rattle.gx_history.specs.Live.{live, side, waiting}
-use Rattle.gx_history.specs.Matching.{matching}
-use Rattle.gx_history.specs.Orders.{orders, total, is_dead, is_token_used}
+use Rattle.gx_history.specs.{Asking.facts, Executions.{executions, executed, done}, Figures.{figures, open_of_chosen, live_value, done_of_chosen, done_value, recent, equal_recent, reference}, InForce.{kill_in_force, is_closed, rules_in_force, is_entitled, line_of}, Live.{live, side, waiting}, Matching.matching, Orders.{orders, total, is_dead, is_token_used}, Rules.{first_forbidding, written_order}, Streams.stream, Verdicts.{run, verdict, next, step_verdict}}
 use Rattle.gx_policy.specs.RuleNames.{rules_before, rules_behind}
-use Rattle.gx_history.specs.Rules.{first_forbidding, written_order}
-use Rattle.gx_history.specs.Streams.{stream}
-use Rattle.gx_history.specs.Verdicts.{run, verdict, next, step_verdict}
 use Rattle.gx_rows.specs.CommandRows.{AKillEndsASweep, ALiftLetsTradeAgain, ASetLimitIsInForce, UselessCommandsAreDenied, NamesAreWrittenInEitherCase, ReadersComeAndGo, AKillStandsUntilTheLift}
 
 pub a_kill_ends_a_sweep : AKillEndsASweep

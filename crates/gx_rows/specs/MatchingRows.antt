@@ -1,9 +1,6 @@
 -- Runs on the sample policy in which orders meet.
 use Rattle.std.specs.Prelude.{◌≡◌, List, [], ◌∷◌, codes}
-use Rattle.gx_history.specs.declared.record.Step.{Step}
-use Rattle.gx_history.specs.declared.record.Verdict.TheVariants as verdicts
-use Rattle.gx_history.specs.Settling.{settled}
-use Rattle.gx_history.specs.Verdicts.{run}
+use Rattle.gx_history.specs.{declared.record.{Step.Step, Verdict.Verdict}, Settling.settled, Verdicts.run}
 use Rattle.gx_rows.specs.Sample.{alice, bob, sample, login, enter, buys, sells, cancels, matches, verdicts_of, granted, filled}
 
 -- matching goes on until no order waits
@@ -19,7 +16,7 @@ settling_takes_all_that_wait_steps =
 -- what comes of these steps, once no order waits
 abbrev pub SettlingTakesAllThatWait : Type 0
 SettlingTakesAllThatWait = verdicts_of (settled sample (run sample settling_takes_all_that_wait_steps) 3)
-    ≡ granted ∷ granted ∷ granted ∷ granted ∷ granted ∷ verdicts.Rested 3 ∷ verdicts.Rested 4 ∷ filled 5 3 100 10000 ∷
+    ≡ granted ∷ granted ∷ granted ∷ granted ∷ granted ∷ Verdict.Rested 3 ∷ Verdict.Rested 4 ∷ filled 5 3 100 10000 ∷
     filled 5 4 50 10000 ∷ []
 
 -- the best price trades first, and of equal prices the one that rested first
@@ -43,7 +40,7 @@ the_best_price_comes_first_steps =
 -- what comes of these steps
 abbrev pub TheBestPriceComesFirst : Type 0
 TheBestPriceComesFirst = verdicts_of (run sample the_best_price_comes_first_steps)
-    ≡ granted ∷ granted ∷ granted ∷ granted ∷ granted ∷ verdicts.Rested 3 ∷ verdicts.Rested 4 ∷ verdicts.Rested 5 ∷
+    ≡ granted ∷ granted ∷ granted ∷ granted ∷ granted ∷ Verdict.Rested 3 ∷ Verdict.Rested 4 ∷ Verdict.Rested 5 ∷
     granted ∷ filled 9 4 1 10000 ∷ filled 9 5 1 10000 ∷ filled 9 3 1 10100 ∷ []
 
 -- an immediate order takes what there is, and the rest of it ends
@@ -62,7 +59,7 @@ an_immediate_order_takes_what_there_is_steps =
 -- what comes of these steps
 abbrev pub AnImmediateOrderTakesWhatThereIs : Type 0
 AnImmediateOrderTakesWhatThereIs = verdicts_of (run sample an_immediate_order_takes_what_there_is_steps)
-    ≡ granted ∷ granted ∷ granted ∷ verdicts.Rested 3 ∷ granted ∷ filled 5 3 60 10000 ∷ verdicts.Expired 5 ∷ []
+    ≡ granted ∷ granted ∷ granted ∷ Verdict.Rested 3 ∷ granted ∷ filled 5 3 60 10000 ∷ Verdict.Expired 5 ∷ []
 
 -- an order that is cut keeps its place in the book
 abbrev pub a_cut_order_keeps_its_place_steps : List Step
@@ -83,5 +80,5 @@ a_cut_order_keeps_its_place_steps =
 -- what comes of these steps
 abbrev pub ACutOrderKeepsItsPlace : Type 0
 ACutOrderKeepsItsPlace = verdicts_of (run sample a_cut_order_keeps_its_place_steps)
-    ≡ granted ∷ granted ∷ granted ∷ granted ∷ verdicts.Rested 3 ∷ verdicts.Rested 4 ∷ granted ∷ granted ∷
+    ≡ granted ∷ granted ∷ granted ∷ granted ∷ Verdict.Rested 3 ∷ Verdict.Rested 4 ∷ granted ∷ granted ∷
     filled 8 3 50 10000 ∷ filled 8 4 10 10000 ∷ []

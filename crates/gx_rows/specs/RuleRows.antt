@@ -1,11 +1,7 @@
 -- Runs under rules of the file.
+use Rattle.gx_policy.specs.declared.{kinds.{ExposureLimit.ExposureLimit, ListKind.ListKind, OrderLimit.OrderLimit}, policy.{Count.Count, RuleKind.RuleKind}}
 use Rattle.std.specs.Prelude.{◌≡◌, true, List, [], ◌∷◌, codes}
-use Rattle.gx_policy.specs.declared.policy.Count.TheVariants as counts
-use Rattle.gx_policy.specs.declared.policy.RuleKind.TheVariants as kinds
-use Rattle.gx_history.specs.declared.record.Request.TheVariants as requests
-use Rattle.gx_history.specs.declared.record.Step.{Step}
-use Rattle.gx_history.specs.declared.record.Verdict.TheVariants as verdicts
-use Rattle.gx_history.specs.Verdicts.{run}
+use Rattle.gx_history.specs.{declared.record.{Request.Request, Step.Step, Verdict.Verdict}, Verdicts.run}
 use Rattle.gx_rows.specs.Sample.{alice, bob, test_stock, rule_size, rule_gross, file_rule, sample, with_rules, with_last, asks, login, buys, sells, replaces, cancels, matches, verdicts_of, granted, denied_by, filled}
 
 -- a value above the limit
@@ -30,7 +26,7 @@ the_file_order_decides_steps =
 
 -- what comes of these steps
 abbrev pub TheFileOrderDecides : Type 0
-TheFileOrderDecides = verdicts_of (run (with_last (file_rule (codes "BLACK") (kinds.Restricted (test_stock ∷ [])))) the_file_order_decides_steps)
+TheFileOrderDecides = verdicts_of (run (with_last (file_rule (codes "BLACK") (RuleKind.Listed ListKind.Restricted (test_stock ∷ [])))) the_file_order_decides_steps)
     ≡ granted ∷ denied_by (codes "GROSS") ∷ []
 
 -- the same rules in another order
@@ -42,7 +38,7 @@ the_file_order_turned_steps =
 
 -- what comes of these steps
 abbrev pub TheFileOrderTurned : Type 0
-TheFileOrderTurned = verdicts_of (run (with_rules (rule_size ∷ (file_rule (codes "BLACK") (kinds.Restricted (test_stock ∷ []))) ∷ rule_gross ∷ [])) the_file_order_turned_steps)
+TheFileOrderTurned = verdicts_of (run (with_rules (rule_size ∷ (file_rule (codes "BLACK") (RuleKind.Listed ListKind.Restricted (test_stock ∷ []))) ∷ rule_gross ∷ [])) the_file_order_turned_steps)
     ≡ granted ∷ denied_by (codes "BLACK") ∷ []
 
 -- a collar about the last price
@@ -65,8 +61,8 @@ a_collar_follows_the_last_fill_steps =
 
 -- what comes of these steps
 abbrev pub ACollarFollowsTheLastFill : Type 0
-ACollarFollowsTheLastFill = verdicts_of (run (with_last (file_rule (codes "BAND") (kinds.Collar 500))) a_collar_follows_the_last_fill_steps)
-    ≡ granted ∷ granted ∷ granted ∷ denied_by (codes "BAND") ∷ granted ∷ granted ∷ verdicts.Rested 6 ∷ granted ∷
+ACollarFollowsTheLastFill = verdicts_of (run (with_last (file_rule (codes "BAND") (RuleKind.Order OrderLimit.Collar 500))) a_collar_follows_the_last_fill_steps)
+    ≡ granted ∷ granted ∷ granted ∷ denied_by (codes "BAND") ∷ granted ∷ granted ∷ Verdict.Rested 6 ∷ granted ∷
     filled 8 6 1 101000 ∷ granted ∷ denied_by (codes "BAND") ∷ []
 
 -- shares of all accounts together
@@ -82,7 +78,7 @@ shares_count_together_steps =
 
 -- what comes of these steps
 abbrev pub SharesCountTogether : Type 0
-SharesCountTogether = verdicts_of (run (with_last (file_rule (codes "POOL") (kinds.GrossShares 100 counts.Together))) shares_count_together_steps)
+SharesCountTogether = verdicts_of (run (with_last (file_rule (codes "POOL") (RuleKind.Exposure ExposureLimit.GrossShares 100 Count.Together))) shares_count_together_steps)
     ≡ granted ∷ granted ∷ granted ∷ denied_by (codes "POOL") ∷ granted ∷ granted ∷ []
 
 -- incoming orders count as live
@@ -103,7 +99,7 @@ incoming_orders_count_steps =
 -- what comes of these steps
 abbrev pub IncomingOrdersCount : Type 0
 IncomingOrdersCount = verdicts_of (run sample incoming_orders_count_steps)
-    ≡ granted ∷ granted ∷ granted ∷ verdicts.Rested 3 ∷ granted ∷ granted ∷ filled 5 3 100 100000 ∷
+    ≡ granted ∷ granted ∷ granted ∷ Verdict.Rested 3 ∷ granted ∷ granted ∷ filled 5 3 100 100000 ∷
     denied_by (codes "GROSS") ∷ granted ∷ []
 
 -- a position stays within the limit on each side
@@ -126,8 +122,8 @@ a_position_is_net_steps =
 
 -- what comes of these steps
 abbrev pub APositionIsNet : Type 0
-APositionIsNet = verdicts_of (run (with_last (file_rule (codes "NET") (kinds.NetShares 100 counts.Each))) a_position_is_net_steps)
-    ≡ granted ∷ granted ∷ granted ∷ denied_by (codes "NET") ∷ granted ∷ granted ∷ verdicts.Rested 3 ∷ verdicts.Rested 5 ∷
+APositionIsNet = verdicts_of (run (with_last (file_rule (codes "NET") (RuleKind.Exposure ExposureLimit.NetShares 100 Count.Each))) a_position_is_net_steps)
+    ≡ granted ∷ granted ∷ granted ∷ denied_by (codes "NET") ∷ granted ∷ granted ∷ Verdict.Rested 3 ∷ Verdict.Rested 5 ∷
     filled 6 3 100 10 ∷ granted ∷ denied_by (codes "NET") ∷ denied_by (codes "NET") ∷ []
 
 -- equal orders among the last two
@@ -143,13 +139,13 @@ equal_orders_are_counted_steps =
 
 -- what comes of these steps
 abbrev pub EqualOrdersAreCounted : Type 0
-EqualOrdersAreCounted = verdicts_of (run (with_last (file_rule (codes "TWIN") (kinds.Repeat (record { limit = 1; span = 2 }) counts.Each))) equal_orders_are_counted_steps)
+EqualOrdersAreCounted = verdicts_of (run (with_last (file_rule (codes "TWIN") (RuleKind.Repeat (record { limit = 1; span = 2 }) Count.Each))) equal_orders_are_counted_steps)
     ≡ granted ∷ granted ∷ denied_by (codes "TWIN") ∷ granted ∷ granted ∷ granted ∷ []
 
 -- so many orders in a window, by the moments of the records
 abbrev pub windows_go_by_the_moments_steps : List Step
 windows_go_by_the_moments_steps =
-    asks alice 5 (requests.Login (record { password_is_right = true; session_is_right = true; wanted = 1 }))
+    asks alice 5 (Request.Login (record { password_is_right = true; session_is_right = true; wanted = 1 }))
     ∷ buys alice 3 (codes "A1") 1 10
     ∷ buys alice 14 (codes "A2") 1 10
     ∷ buys alice 15 (codes "A3") 1 10
@@ -157,7 +153,7 @@ windows_go_by_the_moments_steps =
 
 -- what comes of these steps
 abbrev pub WindowsGoByTheMoments : Type 0
-WindowsGoByTheMoments = verdicts_of (run (with_last (file_rule (codes "PACE") (kinds.Rate (record { limit = 1; window = 10 }) counts.Each))) windows_go_by_the_moments_steps)
+WindowsGoByTheMoments = verdicts_of (run (with_last (file_rule (codes "PACE") (RuleKind.Rate (record { limit = 1; window = 10 }) Count.Each))) windows_go_by_the_moments_steps)
     ≡ granted ∷ granted ∷ denied_by (codes "PACE") ∷ granted ∷ []
 
 -- a restricted stock before the size
@@ -169,7 +165,7 @@ a_restricted_stock_comes_first_steps =
 
 -- what comes of these steps
 abbrev pub ARestrictedStockComesFirst : Type 0
-ARestrictedStockComesFirst = verdicts_of (run (with_rules (file_rule (codes "BLACK") (kinds.Restricted (test_stock ∷ [])) ∷ rule_size ∷ [])) a_restricted_stock_comes_first_steps)
+ARestrictedStockComesFirst = verdicts_of (run (with_rules (file_rule (codes "BLACK") (RuleKind.Listed ListKind.Restricted (test_stock ∷ [])) ∷ rule_size ∷ [])) a_restricted_stock_comes_first_steps)
     ≡ granted ∷ denied_by (codes "BLACK") ∷ []
 
 -- and behind it
@@ -181,7 +177,7 @@ a_restricted_stock_comes_last_steps =
 
 -- what comes of these steps
 abbrev pub ARestrictedStockComesLast : Type 0
-ARestrictedStockComesLast = verdicts_of (run (with_rules (rule_size ∷ file_rule (codes "BLACK") (kinds.Restricted (test_stock ∷ [])) ∷ [])) a_restricted_stock_comes_last_steps)
+ARestrictedStockComesLast = verdicts_of (run (with_rules (rule_size ∷ file_rule (codes "BLACK") (RuleKind.Listed ListKind.Restricted (test_stock ∷ [])) ∷ [])) a_restricted_stock_comes_last_steps)
     ≡ granted ∷ denied_by (codes "SIZE") ∷ []
 
 -- a value above that of one order
@@ -194,5 +190,5 @@ an_order_may_be_too_big_steps =
 
 -- what comes of these steps
 abbrev pub AnOrderMayBeTooBig : Type 0
-AnOrderMayBeTooBig = verdicts_of (run (with_last (file_rule (codes "BIG") (kinds.OrderValue 1000000))) an_order_may_be_too_big_steps)
+AnOrderMayBeTooBig = verdicts_of (run (with_last (file_rule (codes "BIG") (RuleKind.Order OrderLimit.Value 1000000))) an_order_may_be_too_big_steps)
     ≡ granted ∷ granted ∷ denied_by (codes "BIG") ∷ []

@@ -1,20 +1,10 @@
 -- What changed settings leave as it was.
-use Rattle.std.proofs.Common.{◌≡◌, ℕ, Bool, true, false, cond, not, ◌||◌, List, [], ◌∷◌, ◌++◌, map, refl, sym, ap, ◌∙◌, Option, Some, None, is_some}
+use Rattle.gx_policy.specs.{Kinds.{limit_of, stocks_of, with_limit, with_stocks}, declared.policy.{FileRule.FileRule, RuleKind.RuleKind}, People.rule_in}
+use Rattle.std.proofs.{Common.{◌≡◌, ℕ, Bool, true, false, cond, not, ◌||◌, List, [], ◌∷◌, ◌++◌, map, refl, sym, ap, ◌∙◌, Option, Some, None, is_some}, lemmas.{Cmp.nat_list_eq_equiv, List.Folds.list_any-append}, Math.Bool.or-false}
 use Rattle.std.specs.Option.{option_and_then, option_map_or}
-use Rattle.std.proofs.lemmas.Cmp.{nat_list_eq_equiv}
-use Rattle.std.proofs.Math.Bool.{or-false}
-use Rattle.std.proofs.lemmas.List.Folds.{list_any-append}
-use Rattle.gx_units.specs.Names.{same_rule, same_stock}
-use Rattle.gx_units.specs.declared.names.RuleId.{RuleId}
-use Rattle.gx_units.specs.declared.names.Symbol.{Symbol}
-use Rattle.gx_policy.specs.declared.policy.FileRule.{FileRule}
-use Rattle.gx_policy.specs.declared.policy.RuleKind.{RuleKind}
-use Rattle.gx_policy.specs.declared.policy.RuleKind.TheVariants as kinds
-use Rattle.gx_history.specs.Asking.{knows_stocks}
-use Rattle.gx_history.specs.InForce.{adding, change_rule, limit_of, lists_stock, removing, stocks_of, with_limit, with_stocks}
-use Rattle.gx_policy.specs.People.{rule_in}
-use Rattle.gx_rules.specs.Laws.{names_of, scopes_of}
-use Rattle.gx_rules.specs.Settings.{limit_in, lists_in, restricted, unrestricted, with_limit_of}
+use Rattle.gx_units.specs.{Names.{same_rule, same_stock}, declared.names.{RuleId.RuleId, Symbol.Symbol}}
+use Rattle.gx_history.specs.{Asking.knows_stocks, InForce.{adding, change_rule, lists_stock, removing}}
+use Rattle.gx_rules.specs.{Laws.{names_of, scopes_of}, Settings.{limit_in, lists_in, restricted, unrestricted, with_limit_of}}
 
 -- the rules of other names
 module _ (name : RuleId) (change : RuleKind → RuleKind) where
@@ -39,19 +29,12 @@ module _ (name : RuleId) (change : RuleKind → RuleKind) where
   scopes_stay (r ∷ rules) = ap (λ scopes. r.scope ∷ scopes) (scopes_stay rules)
 
 limit_put : (value : ℕ) (kind : RuleKind) → is_some (limit_of kind) ≡ true → limit_of (with_limit value kind) ≡ Some value
-limit_put value (kinds.Halt stocks) some = cc
-limit_put value (kinds.Restricted stocks) some = cc
-limit_put value kinds.NoShort some = cc
-limit_put value kinds.NoIso some = cc
-limit_put value kinds.OddLot some = cc
-limit_put value (kinds.OrderShares limit) some = refl
-limit_put value (kinds.OrderValue limit) some = refl
-limit_put value (kinds.Collar limit) some = refl
-limit_put value (kinds.GrossShares limit count) some = refl
-limit_put value (kinds.GrossValue limit count) some = refl
-limit_put value (kinds.NetShares limit count) some = refl
-limit_put value (kinds.Rate rate count) some = cc
-limit_put value (kinds.Repeat repeat count) some = cc
+limit_put value (RuleKind.Listed kind stocks) some = cc
+limit_put value (RuleKind.Plain kind) some = cc
+limit_put value (RuleKind.Order kind limit) some = refl
+limit_put value (RuleKind.Exposure kind limit count) some = refl
+limit_put value (RuleKind.Rate rate count) some = cc
+limit_put value (RuleKind.Repeat repeat count) some = cc
 
 -- the limit that was set
 pub limit_set : (name : RuleId) (value : ℕ) (rules : List FileRule) → is_some (limit_in rules name) ≡ true → limit_in (with_limit_of name value rules) name ≡ Some value
@@ -73,19 +56,12 @@ listed_then change stock kind = option_map_or (λ stocks. lists_stock (change st
 
 listed_put : (change : List Symbol → List Symbol) (stock : Symbol) (kind : RuleKind)
     → option_map_or (λ stocks. lists_stock stocks stock) (stocks_of (with_stocks change kind)) false ≡ listed_then change stock kind
-listed_put change stock (kinds.Halt stocks) = refl
-listed_put change stock (kinds.Restricted stocks) = refl
-listed_put change stock kinds.NoShort = refl
-listed_put change stock kinds.NoIso = refl
-listed_put change stock kinds.OddLot = refl
-listed_put change stock (kinds.OrderShares limit) = refl
-listed_put change stock (kinds.OrderValue limit) = refl
-listed_put change stock (kinds.Collar limit) = refl
-listed_put change stock (kinds.GrossShares limit count) = refl
-listed_put change stock (kinds.GrossValue limit count) = refl
-listed_put change stock (kinds.NetShares limit count) = refl
-listed_put change stock (kinds.Rate rate count) = refl
-listed_put change stock (kinds.Repeat repeat count) = refl
+listed_put change stock (RuleKind.Listed kind stocks) = refl
+listed_put change stock (RuleKind.Plain kind) = refl
+listed_put change stock (RuleKind.Order kind limit) = refl
+listed_put change stock (RuleKind.Exposure kind limit count) = refl
+listed_put change stock (RuleKind.Rate rate count) = refl
+listed_put change stock (RuleKind.Repeat repeat count) = refl
 
 -- a changed list is the list of the rule, changed
 listed_changed : (name : RuleId) (change : List Symbol → List Symbol) (stock : Symbol) (rules : List FileRule)

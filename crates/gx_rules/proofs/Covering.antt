@@ -1,30 +1,12 @@
 -- The rules that an account is under, asked in the place of all.
-use Rattle.std.proofs.Common.{◌≡◌, ℕ, zero, suc, ◌+◌, ◌<◌, Bool, true, false, cond, ◌&&◌, List, [], ◌∷◌, ◌++◌, map, length, get_or, take, slice_get, refl, sym, ap, ◌∙◌, arith}
-use Rattle.std.specs.Prelude.{Option, Some, None, find, option_map, option_and_then}
-use Rattle.std.specs.Option.{option_map_or}
-use Rattle.std.specs.List.{list_any}
-use Rattle.std.specs.Map.{keys_of, values_of, lookup}
-use Rattle.std.proofs.lemmas.List.{take_more}
-use Rattle.std.proofs.lemmas.Cmp.{nat_list_eq_equiv}
-use Rattle.std.proofs.lemmas.Slice.Eq.{bytes_eq-Decides}
+use Rattle.std.proofs.{Common.{◌≡◌, ℕ, zero, suc, ◌+◌, ◌<◌, Bool, true, false, cond, ◌&&◌, List, [], ◌∷◌, ◌++◌, map, length, get_or, take, slice_get, refl, sym, ap, ◌∙◌, arith}, lemmas.{List.take_more, Cmp.nat_list_eq_equiv, Slice.Eq.bytes_eq-Decides}}
+use Rattle.std.specs.{Prelude.{Option, Some, None, find, option_map, option_and_then}, Option.option_map_or, List.list_any, Map.{keys_of, values_of, lookup}}
 use Rattle.indexmap.specs.IndexMap.{insert_entry, set_value_at}
-use Rattle.gx_units.specs.Names.{same_account}
-use Rattle.gx_units.specs.declared.names.AccountName.{AccountName}
-use Rattle.gx_units.specs.declared.names.RuleId.{RuleId}
-use Rattle.gx_history.specs.declared.facts.Facts.{Facts}
-use Rattle.gx_history.specs.declared.facts.ProposedOrder.{ProposedOrder}
-use Rattle.gx_history.specs.declared.facts.RuleFigures.{RuleFigures}
-use Rattle.gx_policy.specs.declared.policy.Account.{Account}
-use Rattle.gx_policy.specs.declared.policy.FileRule.{FileRule}
-use Rattle.gx_history.specs.declared.record.Request.{Request}
-use Rattle.gx_policy.specs.declared.rule_name.RuleName.{RuleName}
-use Rattle.gx_policy.specs.declared.rule_name.RuleName.TheVariants.{File}
-use Rattle.gx_policy.specs.People.{covers}
-use Rattle.gx_history.specs.Rules.{figured, figured_from, first_file_rule, kind_forbids, of_proposed, proposed, rule_forbids}
+use Rattle.gx_units.specs.{Names.same_account, declared.names.{AccountName.AccountName, RuleId.RuleId}}
+use Rattle.gx_history.specs.{declared.{facts.{Facts.Facts, ProposedOrder.ProposedOrder, RuleFigures.RuleFigures}, «record».Request.Request}, Rules.{figured, figured_from, first_file_rule, kind_forbids, of_proposed, proposed, rule_forbids}}
+use Rattle.gx_policy.specs.{declared.{policy.{Account.Account, FileRule.FileRule}, rule_name.RuleName.{RuleName, TheVariants.File}}, People.covers}
 use Rattle.gx_history_laws.proofs.Granting.{left_false, right_false}
-use Rattle.gx_rules.specs.declared.book_rule.BookRule.{BookRule}
-use Rattle.gx_rules.specs.Books.{kind_of, rule_named, rules_of}
-use Rattle.gx_rules.specs.Places.{accounts_differ, covering, covering_from, forbids_at, named_at, places_of}
+use Rattle.gx_rules.specs.{declared.book_rule.BookRule.BookRule, Books.{kind_of, rule_named, rules_of}, Places.{accounts_differ, covering, covering_from, forbids_at, named_at, places_of}}
 use Rattle.gx_rules.proofs.Keeping.{none_before}
 
 -- the place of one more rule

@@ -1,19 +1,12 @@
 -- How stocks and rules are put one by one under names that differ.
-use Rattle.std.proofs.Common.{◌≡◌, ◌+◌, ℕ, zero, suc, ◌<◌, Bool, true, false, cond, not, ◌||◌, ◌&&◌, List, [], ◌∷◌, ◌++◌, length, get_or, take, refl, sym, ap, ◌∙◌, arith}
+use Rattle.std.proofs.{Common.{◌≡◌, ◌+◌, ℕ, zero, suc, ◌<◌, Bool, true, false, cond, not, ◌||◌, ◌&&◌, List, [], ◌∷◌, ◌++◌, length, get_or, take, refl, sym, ap, ◌∙◌, arith}, lemmas.{List.take_more, Cmp.nat_list_eq_equiv}}
 use Rattle.std.specs.List.{list_any, AllByRecursion}
-use Rattle.std.proofs.lemmas.List.{take_more}
-use Rattle.std.proofs.lemmas.Cmp.{nat_list_eq_equiv}
-use Rattle.indexmap.specs.IndexMap.{insert_entry}
-use Rattle.indexmap.specs.IndexSet.{insert_key, remove_key}
-use Rattle.gx_units.specs.Names.{same_rule, same_stock}
-use Rattle.gx_units.specs.declared.names.RuleId.{RuleId}
-use Rattle.gx_units.specs.declared.names.Symbol.{Symbol}
-use Rattle.gx_policy.specs.declared.policy.FileRule.{FileRule}
+use Rattle.indexmap.specs.{IndexMap.insert_entry, IndexSet.{insert_key, remove_key}}
+use Rattle.gx_units.specs.{Names.{same_rule, same_stock}, declared.names.{RuleId.RuleId, Symbol.Symbol}}
+use Rattle.gx_policy.specs.{declared.policy.FileRule.FileRule, Lists.are_distinct}
 use Rattle.gx_history.specs.InForce.{adding, lists_stock, removing}
-use Rattle.gx_policy.specs.Lists.{are_distinct}
 use Rattle.gx_history_laws.proofs.Granting.{left_false, right_false}
-use Rattle.gx_rules.specs.declared.book_rule.BookRule.{BookRule}
-use Rattle.gx_rules.specs.Books.{names_differ, rule_named, rules_of}
+use Rattle.gx_rules.specs.{declared.book_rule.BookRule.BookRule, Books.{names_differ, rule_named, rules_of}}
 
 left_true : (a b : Bool) → (not a && b) ≡ true → a ≡ false
 left_true true b h = cc

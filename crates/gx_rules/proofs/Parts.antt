@@ -1,19 +1,10 @@
 -- The written order in its three parts.
-use Rattle.std.proofs.Common.{◌≡◌, ℕ, suc, ◌+◌, arith, sym, List, [], ◌∷◌, ◌++◌, refl, ◌∙◌, ap, map, cond, Bool, true, false}
-use Rattle.std.specs.Prelude.{Option, Some, None, option_map, find}
-use Rattle.std.specs.Option.{option_or}
-use Rattle.std.proofs.lemmas.List.Folds.{find-append}
-use Rattle.gx_history.specs.declared.record.Request.{Request}
-use Rattle.gx_policy.specs.declared.rule_name.RuleName.{RuleName}
-use Rattle.gx_policy.specs.declared.rule_name.RuleName.TheVariants.{File}
-use Rattle.gx_policy.specs.declared.policy.FileRule.{FileRule}
-use Rattle.gx_history.specs.declared.facts.Facts.{Facts}
-use Rattle.gx_history.specs.declared.facts.RuleFigures.{RuleFigures}
+use Rattle.std.proofs.{Common.{◌≡◌, ℕ, suc, ◌+◌, arith, sym, List, [], ◌∷◌, ◌++◌, refl, ◌∙◌, ap, map, cond, Bool, true, false}, lemmas.List.Folds.find-append}
+use Rattle.std.specs.{Prelude.{Option, Some, None, option_map, find}, Option.option_or}
+use Rattle.gx_history.specs.{declared.{«record».Request.Request, facts.{Facts.Facts, RuleFigures.RuleFigures}}, Rules.{BuiltIn, OfFile, name_of, applies, figured_from, first_forbidding, first_file_rule, forbids, rule_forbids, written_order}}
+use Rattle.gx_policy.specs.{declared.{rule_name.RuleName.{RuleName, TheVariants.File}, policy.FileRule.FileRule}, RuleNames.{rules_before, rules_behind}}
 use Rattle.gx_units.specs.declared.names.RuleId.{RuleId}
-use Rattle.gx_history.specs.Rules.{BuiltIn, OfFile, name_of, applies, figured_from, first_forbidding, first_file_rule, forbids, rule_forbids, written_order}
-use Rattle.gx_rules.specs.declared.book_rule.BookRule.{BookRule}
-use Rattle.gx_rules.specs.Books.{rule_named, rules_of}
-use Rattle.gx_policy.specs.RuleNames.{rules_before, rules_behind}
+use Rattle.gx_rules.specs.{declared.book_rule.BookRule.BookRule, Books.{rule_named, rules_of}}
 
 map_or : {X Y : Type 0} (f : X → Y) (a b : Option X) → option_map f (option_or a b) ≡ option_or (option_map f a) (option_map f b)
 map_or f None b = refl

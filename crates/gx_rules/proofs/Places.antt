@@ -1,19 +1,12 @@
 -- Where a rule stands among the entries, and what a change of it there does to the rules.
-use Rattle.std.proofs.Common.{◌≡◌, ◌+◌, ℕ, zero, suc, ◌<◌, Bool, true, false, cond, not, List, [], ◌∷◌, map, length, slice_get, position, refl, sym, ap, ◌∙◌, Some, Option, is_some, option_map, arith}
-use Rattle.std.specs.List.{position_or_len, IsDistinct, AllByRecursion}
-use Rattle.std.specs.Map.{keys_of, values_of, lookup}
-use Rattle.std.proofs.lemmas.Cmp.{nat_list_eq_equiv}
-use Rattle.std.proofs.lemmas.Slice.Eq.{bytes_eq-Decides}
-use Rattle.std.proofs.lemmas.Map.Keys.{IsDistinct-head, IsDistinct-tail}
+use Rattle.std.proofs.{Common.{◌≡◌, ◌+◌, ℕ, zero, suc, ◌<◌, Bool, true, false, cond, not, List, [], ◌∷◌, map, length, slice_get, position, refl, sym, ap, ◌∙◌, Some, Option, is_some, option_map, arith}, lemmas.{Cmp.nat_list_eq_equiv, Slice.Eq.bytes_eq-Decides, Map.Keys.{IsDistinct-head, IsDistinct-tail}}}
+use Rattle.std.specs.{List.{position_or_len, IsDistinct, AllByRecursion}, Map.{keys_of, values_of, lookup}}
 use Rattle.indexmap.specs.IndexMap.{set_value_at}
 use Rattle.indexmap.proofs.MapLemmas.{Found-position}
-use Rattle.gx_units.specs.Names.{same_rule}
-use Rattle.gx_units.specs.declared.names.RuleId.{RuleId}
-use Rattle.gx_policy.specs.declared.policy.RuleKind.{RuleKind}
+use Rattle.gx_units.specs.{Names.same_rule, declared.names.RuleId.RuleId}
+use Rattle.gx_policy.specs.{declared.policy.RuleKind.RuleKind, People.rule_in}
 use Rattle.gx_history.specs.InForce.{change_rule}
-use Rattle.gx_policy.specs.People.{rule_in}
-use Rattle.gx_rules.specs.declared.book_rule.BookRule.{BookRule}
-use Rattle.gx_rules.specs.Books.{kind_of, rule_named, rules_of}
+use Rattle.gx_rules.specs.{declared.book_rule.BookRule.BookRule, Books.{kind_of, rule_named, rules_of}}
 
 rule_is : (a b : RuleId) → same_rule a b ≡ true → a ≡ b
 rule_is a b same = let name : List ℕ → RuleId = λ (bytes : List ℕ). record { bytes = bytes } in ap name ((bytes_eq-Decides a.bytes b.bytes).0 same)

@@ -1,21 +1,9 @@
 -- What a policy's soundness says of its rules.
-use Rattle.std.proofs.Common.{◌≡◌, ℕ, ◌≤◌, Bool, true, false, ◌&&◌, List, [], ◌∷◌, length, refl, ap, ◌∙◌, arith}
-use Rattle.std.specs.Prelude.{nat_le}
-use Rattle.std.proofs.lemmas.Bool.Decides.{nat_tests}
-use Rattle.std.proofs.lemmas.List.{length-map}
-use Rattle.std.specs.List.{list_all}
-use Rattle.gx_units.specs.Names.{same_stock}
-use Rattle.gx_policy.specs.declared.policy.FileRule.{FileRule}
-use Rattle.gx_policy.specs.declared.policy.PolicyData.{PolicyData}
-use Rattle.gx_policy.specs.declared.policy.RuleKind.{RuleKind}
-use Rattle.gx_policy.specs.declared.policy.RuleKind.TheVariants as kinds
-use Rattle.gx_history.specs.InForce.{stocks_of}
-use Rattle.gx_policy.specs.Lists.{are_distinct}
-use Rattle.gx_policy.specs.Soundness.{is_kind_sound, is_rule_sound, is_sound}
-use Rattle.gx_units.specs.declared.names.RuleId.{RuleId}
-use Rattle.gx_rules.specs.declared.book_rule.BookRule.{BookRule}
-use Rattle.gx_rules.specs.Books.{lists_once, names_differ, rule_named, rules_of}
-use Rattle.std.specs.Option.{option_map_or}
+use Rattle.gx_policy.specs.{Kinds.stocks_of, declared.policy.{FileRule.FileRule, PolicyData.PolicyData, RuleKind.RuleKind}, Lists.are_distinct, Soundness.{is_kind_sound, is_rule_sound, is_sound}}
+use Rattle.std.proofs.{Common.{◌≡◌, ℕ, ◌≤◌, Bool, true, false, ◌&&◌, List, [], ◌∷◌, length, refl, ap, ◌∙◌, arith}, lemmas.{Bool.Decides.nat_tests, List.length-map}}
+use Rattle.std.specs.{Prelude.nat_le, List.list_all, Option.option_map_or}
+use Rattle.gx_units.specs.{Names.same_stock, declared.names.RuleId.RuleId}
+use Rattle.gx_rules.specs.{declared.book_rule.BookRule.BookRule, Books.{lists_once, names_differ, rule_named, rules_of}}
 
 both : (a b : Bool) → (a && b) ≡ true → (a ≡ true) × (b ≡ true)
 both true b h = (refl, h)
@@ -28,19 +16,12 @@ all_imply p q each (x ∷ xs) h =
     (λ i. each x parts.0 i && all_imply p q each xs parts.1 i)
 
 kind_once : (policy : PolicyData) (kind : RuleKind) → is_kind_sound policy kind ≡ true → option_map_or (are_distinct same_stock) (stocks_of kind) true ≡ true
-kind_once policy (kinds.Halt stocks) h = (both _ _ h).1
-kind_once policy (kinds.Restricted stocks) h = (both _ _ h).1
-kind_once policy kinds.NoShort h = refl
-kind_once policy kinds.NoIso h = refl
-kind_once policy kinds.OddLot h = refl
-kind_once policy (kinds.OrderShares limit) h = refl
-kind_once policy (kinds.OrderValue limit) h = refl
-kind_once policy (kinds.Collar limit) h = refl
-kind_once policy (kinds.GrossShares limit count) h = refl
-kind_once policy (kinds.GrossValue limit count) h = refl
-kind_once policy (kinds.NetShares limit count) h = refl
-kind_once policy (kinds.Rate rate count) h = refl
-kind_once policy (kinds.Repeat repeat count) h = refl
+kind_once policy (RuleKind.Listed kind stocks) h = (both _ _ h).1
+kind_once policy (RuleKind.Plain kind) h = refl
+kind_once policy (RuleKind.Order kind limit) h = refl
+kind_once policy (RuleKind.Exposure kind limit count) h = refl
+kind_once policy (RuleKind.Rate rate count) h = refl
+kind_once policy (RuleKind.Repeat repeat count) h = refl
 
 rule_once : (policy : PolicyData) (rule : FileRule) → is_rule_sound policy rule ≡ true → lists_once rule ≡ true
 rule_once policy rule h = kind_once policy rule.kind (both _ _ (both _ _ h).0).1

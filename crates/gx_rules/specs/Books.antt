@@ -1,12 +1,7 @@
 -- How a book keeps the rules: each under its name, the stocks apart from the kind.
-use Rattle.std.specs.Prelude.{Bool, true, List, map}
-use Rattle.std.specs.Option.{option_map_or}
-use Rattle.gx_units.specs.Names.{same_rule, same_stock}
-use Rattle.gx_units.specs.declared.names.RuleId.{RuleId}
-use Rattle.gx_policy.specs.declared.policy.FileRule.{FileRule}
-use Rattle.gx_policy.specs.declared.policy.RuleKind.{RuleKind}
-use Rattle.gx_history.specs.InForce.{stocks_of, with_stocks}
-use Rattle.gx_policy.specs.Lists.{are_distinct}
+use Rattle.gx_policy.specs.{Kinds.{stocks_of, with_stocks}, declared.policy.{FileRule.FileRule, RuleKind.RuleKind}, Lists.are_distinct}
+use Rattle.std.specs.{Prelude.{Bool, true, List, map}, Option.option_map_or}
+use Rattle.gx_units.specs.{Names.{same_rule, same_stock}, declared.names.RuleId.RuleId}
 use Rattle.gx_rules.specs.declared.book_rule.BookRule.{BookRule}
 
 -- the kind with the stocks that are kept apart

@@ -1,18 +1,8 @@
 -- What changed settings leave as it was.
-use Rattle.std.specs.Option.{option_map_or}
-use Rattle.std.specs.Prelude.{◌≡◌, ℕ, IsTrue, IsFalse, is_some, List, [], ◌∷◌, ◌++◌, map, Some}
-use Rattle.gx_units.specs.Names.{same_rule, same_stock}
-use Rattle.gx_units.specs.declared.names.RuleId.{RuleId}
-use Rattle.gx_units.specs.declared.names.Symbol.{Symbol}
-use Rattle.gx_history.specs.declared.record.RecordData.{RecordData}
-use Rattle.gx_policy.specs.declared.policy.FileRule.{FileRule}
-use Rattle.gx_policy.specs.declared.policy.PolicyData.{PolicyData}
-use Rattle.gx_policy.specs.declared.policy.RuleKind.{RuleKind}
-use Rattle.gx_policy.specs.declared.policy.Scope.{Scope}
-use Rattle.gx_history.specs.Asking.{knows_stocks}
-use Rattle.gx_history.specs.InForce.{change_rule, changed, rules_in_force}
-use Rattle.gx_history.specs.Requests.{granted_action}
-use Rattle.gx_policy.specs.People.{rule_in}
+use Rattle.std.specs.{Option.option_map_or, Prelude.{◌≡◌, ℕ, IsTrue, IsFalse, is_some, List, [], ◌∷◌, ◌++◌, map, Some}}
+use Rattle.gx_units.specs.{Names.{same_rule, same_stock}, declared.names.{RuleId.RuleId, Symbol.Symbol}}
+use Rattle.gx_history.specs.{declared.record.RecordData.RecordData, Asking.knows_stocks, InForce.{change_rule, changed, rules_in_force}, Requests.granted_action}
+use Rattle.gx_policy.specs.{declared.policy.{FileRule.FileRule, PolicyData.PolicyData, RuleKind.RuleKind, Scope.Scope}, People.rule_in}
 use Rattle.gx_rules.specs.Settings.{limit_in, lists_in, restricted, unrestricted, with_limit_of}
 
 -- one more record changes the rules by the command that it grants, if it grants one

@@ -1,21 +1,9 @@
 -- The rules of the file that an account is under, by their places.
-use Rattle.std.specs.Prelude.{◌≡◌, ◌≤◌, ℕ, suc, Bool, false, List, [], ◌∷◌, map, length, slice_get, Option, option_map, if◌then◌else◌}
-use Rattle.std.specs.Option.{option_map_or}
-use Rattle.std.specs.Map.{keys_of, values_of}
-use Rattle.gx_units.specs.Names.{same_account}
-use Rattle.gx_units.specs.declared.names.AccountName.{AccountName}
-use Rattle.gx_units.specs.declared.names.RuleId.{RuleId}
-use Rattle.gx_history.specs.declared.facts.ProposedOrder.{ProposedOrder}
-use Rattle.gx_history.specs.declared.facts.RuleFigures.{RuleFigures}
-use Rattle.gx_policy.specs.declared.policy.Account.{Account}
-use Rattle.gx_policy.specs.declared.policy.FileRule.{FileRule}
-use Rattle.gx_policy.specs.declared.rule_name.RuleName.{RuleName}
-use Rattle.gx_policy.specs.declared.rule_name.RuleName.TheVariants.{File}
-use Rattle.gx_policy.specs.Lists.{are_distinct}
-use Rattle.gx_policy.specs.People.{covers}
-use Rattle.gx_history.specs.Rules.{kind_forbids}
-use Rattle.gx_rules.specs.declared.book_rule.BookRule.{BookRule}
-use Rattle.gx_rules.specs.Books.{kind_of, rules_of}
+use Rattle.std.specs.{Prelude.{◌≡◌, ◌≤◌, ℕ, suc, Bool, false, List, [], ◌∷◌, map, length, slice_get, Option, option_map, if◌then◌else◌}, Option.option_map_or, Map.{keys_of, values_of}}
+use Rattle.gx_units.specs.{Names.same_account, declared.names.{AccountName.AccountName, RuleId.RuleId}}
+use Rattle.gx_history.specs.{declared.facts.{ProposedOrder.ProposedOrder, RuleFigures.RuleFigures}, Rules.kind_forbids}
+use Rattle.gx_policy.specs.{declared.{policy.{Account.Account, FileRule.FileRule}, rule_name.RuleName.{RuleName, TheVariants.File}}, Lists.are_distinct, People.covers}
+use Rattle.gx_rules.specs.{declared.book_rule.BookRule.BookRule, Books.{kind_of, rules_of}}
 
 -- the places, from this one on, of the rules whose scope has the account
 abbrev pub covering_from : AccountName → ℕ → List FileRule → List ℕ

@@ -1,13 +1,8 @@
 -- The file's rules with their settings: what they are, and what commands make of them.
-use Rattle.std.specs.Prelude.{ℕ, Bool, false, List, map, Option, option_and_then}
-use Rattle.std.specs.Option.{option_map_or}
-use Rattle.gx_units.specs.declared.names.AccountName.{AccountName}
-use Rattle.gx_units.specs.declared.names.RuleId.{RuleId}
-use Rattle.gx_units.specs.declared.names.Symbol.{Symbol}
-use Rattle.gx_policy.specs.declared.policy.FileRule.{FileRule}
-use Rattle.gx_history.specs.Asking.{has_stock}
-use Rattle.gx_policy.specs.People.{covers, rule_in}
-use Rattle.gx_history.specs.InForce.{limit_of, with_limit, with_stocks, adding, removing, change_rule}
+use Rattle.gx_policy.specs.{Kinds.{limit_of, with_limit, with_stocks}, declared.policy.FileRule.FileRule, People.{covers, rule_in}}
+use Rattle.std.specs.{Prelude.{ℕ, Bool, false, List, map, Option, option_and_then}, Option.option_map_or}
+use Rattle.gx_units.specs.declared.names.{AccountName.AccountName, RuleId.RuleId, Symbol.Symbol}
+use Rattle.gx_history.specs.{Asking.has_stock, InForce.{adding, removing, change_rule}}
 
 -- the rule's limit, if it has one that Set Limit may change
 abbrev pub limit_in : List FileRule → RuleId → Option ℕ

@@ -1,13 +1,9 @@
 //! A rule as the book keeps it.
 
-ghost use Rattle.std.specs.Prelude.{◌≡◌, [], false, is_some, unwrap_or, IsTrue, IfOk, OnOk, OnErr};
-ghost use Rattle.std.specs.Option.{option_map_or};
-ghost use Rattle.std.specs.List.{list_any};
+ghost use Rattle.gx_policy.specs.{Kinds.{limit_of, stocks_of, with_limit, with_stocks}, Lists.are_distinct};
+ghost use Rattle.std.specs.{Prelude.{◌≡◌, [], false, is_some, unwrap_or, IsTrue, IfOk, OnOk, OnErr}, Option.option_map_or, List.list_any};
 ghost use Rattle.gx_units.specs.Names.{same_stock};
-ghost use Rattle.gx_history.specs.Asking.{has_stock};
-ghost use Rattle.gx_history.specs.InForce.{adding, limit_of, lists_stock, stocks_of, removing, with_limit, with_stocks};
-ghost use Rattle.gx_policy.specs.Lists.{are_distinct};
-ghost use Rattle.gx_history.specs.Rules.{kind_forbids, rule_forbids};
+ghost use Rattle.gx_history.specs.{Asking.has_stock, InForce.{adding, lists_stock, removing}, Rules.{kind_forbids, rule_forbids}};
 ghost use Rattle.gx_rules.specs.Books.{kind_of, lists_once, rule_named};
 
 use crate::file_rule::{
@@ -16,7 +12,7 @@ use crate::file_rule::{
 use crate::request::proposed;
 use gx_history::facts::{Facts, ProposedOrder, TellsFigures};
 use gx_history::record::Request;
-use gx_policy::{FileRule, RuleKind, Scope, Symbols};
+use gx_policy::{ExposureLimit, FileRule, OrderLimit, PlainKind, RuleKind, Scope, Symbols};
 use gx_units::{OutOfMemory, RuleId, Symbol, value_of};
 use indexmap::IndexSet;
 use std::alloc::Global;
@@ -35,40 +31,12 @@ fn kind_alone(alloc: Global, kind: &RuleKind) -> RuleKind
     ensures { result ≡ with_stocks (λ listed. []) kind.now }
 {
     match kind {
-        RuleKind::Halt(_) => RuleKind::Halt(Symbols::new(Vec::new(alloc))),
-        RuleKind::Restricted(_) => RuleKind::Restricted(Symbols::new(Vec::new(alloc))),
-        RuleKind::NoShort => RuleKind::NoShort,
-        RuleKind::NoIso => RuleKind::NoIso,
-        RuleKind::OddLot => RuleKind::OddLot,
-        RuleKind::OrderShares(limit) => RuleKind::OrderShares(*limit),
-        RuleKind::OrderValue(limit) => RuleKind::OrderValue(*limit),
-        RuleKind::Collar(limit) => RuleKind::Collar(*limit),
-        RuleKind::GrossShares(limit, count) => RuleKind::GrossShares(*limit, *count),
-        RuleKind::GrossValue(limit, count) => RuleKind::GrossValue(*limit, *count),
-        RuleKind::NetShares(limit, count) => RuleKind::NetShares(*limit, *count),
+        RuleKind::Listed(kind, _) => RuleKind::Listed(*kind, Symbols::new(Vec::new(alloc))),
+        RuleKind::Plain(kind) => RuleKind::Plain(*kind),
+        RuleKind::Order(kind, limit) => RuleKind::Order(*kind, *limit),
+        RuleKind::Exposure(kind, limit, count) => RuleKind::Exposure(*kind, *limit, *count),
         RuleKind::Rate(rate, count) => RuleKind::Rate(*rate, *count),
         RuleKind::Repeat(repeat, count) => RuleKind::Repeat(*repeat, *count),
-    }
-}
-
-/// The stocks on the kind's list; none where it has no list.
-fn listed(kind: &RuleKind) -> &[Symbol]
-    ensures { result.now ≡ unwrap_or (stocks_of kind.now) [] }
-{
-    match kind {
-        RuleKind::Halt(stocks) => stocks.as_slice(),
-        RuleKind::Restricted(stocks) => stocks.as_slice(),
-        RuleKind::NoShort
-        | RuleKind::NoIso
-        | RuleKind::OddLot
-        | RuleKind::OrderShares(_)
-        | RuleKind::OrderValue(_)
-        | RuleKind::Collar(_)
-        | RuleKind::GrossShares(..)
-        | RuleKind::GrossValue(..)
-        | RuleKind::NetShares(..)
-        | RuleKind::Rate(..)
-        | RuleKind::Repeat(..) => &[],
     }
 }
 
@@ -88,7 +56,7 @@ impl BookRule {
         requires { IsTrue (lists_once rule.now) }
         ensures { IfOk result (λ r. rule_named rule.now.name r ≡ rule.now) }
     {
-        let stocks = set_of(alloc, listed(&rule.kind))?;
+        let stocks = set_of(alloc, rule.kind.stocks())?;
         let scope = rule.scope.copied(alloc)?;
         let kind = kind_alone(alloc, &rule.kind);
         Ok(BookRule {
@@ -101,21 +69,7 @@ impl BookRule {
     pub fn limit(&self) -> Option<u64>
         ensures { result ≡ limit_of (kind_of self.now) }
     {
-        match &self.kind {
-            RuleKind::OrderShares(limit) => Some(*limit),
-            RuleKind::OrderValue(limit) => Some(*limit),
-            RuleKind::Collar(limit) => Some(*limit),
-            RuleKind::GrossShares(limit, _) => Some(*limit),
-            RuleKind::GrossValue(limit, _) => Some(*limit),
-            RuleKind::NetShares(limit, _) => Some(*limit),
-            RuleKind::Halt(_)
-            | RuleKind::Restricted(_)
-            | RuleKind::NoShort
-            | RuleKind::NoIso
-            | RuleKind::OddLot
-            | RuleKind::Rate(..)
-            | RuleKind::Repeat(..) => None,
-        }
+        self.kind.limit()
     }
 
     pub fn set_limit(&mut self, value: u64)
@@ -123,19 +77,12 @@ impl BookRule {
         ensures scope { self.new.scope ≡ self.old.scope }
     {
         match &mut self.kind {
-            RuleKind::OrderShares(limit) => *limit = value,
-            RuleKind::OrderValue(limit) => *limit = value,
-            RuleKind::Collar(limit) => *limit = value,
-            RuleKind::GrossShares(limit, _) => *limit = value,
-            RuleKind::GrossValue(limit, _) => *limit = value,
-            RuleKind::NetShares(limit, _) => *limit = value,
-            RuleKind::Halt(_)
-            | RuleKind::Restricted(_)
-            | RuleKind::NoShort
-            | RuleKind::NoIso
-            | RuleKind::OddLot
-            | RuleKind::Rate(..)
-            | RuleKind::Repeat(..) => {}
+            RuleKind::Order(_, limit) => *limit = value,
+            RuleKind::Exposure(_, limit, _) => *limit = value,
+            RuleKind::Listed(_, _)
+            | RuleKind::Plain(_)
+            | RuleKind::Rate(_, _)
+            | RuleKind::Repeat(_, _) => {}
         }
     }
 
@@ -144,7 +91,7 @@ impl BookRule {
         ensures own { result ≡ is_some (stocks_of self.now.kind) }
         ensures with_stocks { result ≡ is_some (stocks_of (kind_of self.now)) }
     {
-        matches!(self.kind, RuleKind::Halt(_) | RuleKind::Restricted(_))
+        matches!(self.kind, RuleKind::Listed(_, _))
     }
 
     /// Whether the stock is on the rule's list.
@@ -185,18 +132,31 @@ impl BookRule {
         ensures { result ≡ kind_forbids (kind_of self.now) (F.told figures.now place) w.now }
     {
         match &self.kind {
-            RuleKind::Halt(_) | RuleKind::Restricted(_) => self.stocks.contains(&w.stock),
-            RuleKind::NoShort => matches!(w.side, b'T' | b'E'),
-            RuleKind::NoIso => w.intermarket_sweep == b'Y',
-            RuleKind::OddLot => w.shares % 100 != 0,
-            RuleKind::OrderShares(limit) => u64::from(w.shares) > *limit,
-            RuleKind::OrderValue(limit) => value_of(w.shares, w.price) > u128::from(*limit),
-            RuleKind::Collar(limit) => {
+            RuleKind::Listed(_, _) => self.stocks.contains(&w.stock),
+            RuleKind::Plain(PlainKind::NoShort) => matches!(w.side, b'T' | b'E'),
+            RuleKind::Plain(PlainKind::NoIso) => w.intermarket_sweep == b'Y',
+            RuleKind::Plain(PlainKind::OddLot) => w.shares % 100 != 0,
+            RuleKind::Order(OrderLimit::Shares, limit) => u64::from(w.shares) > *limit,
+            RuleKind::Order(OrderLimit::Value, limit) => value_of(w.shares, w.price)
+                > u128::from(*limit),
+            RuleKind::Order(OrderLimit::Collar, limit) => {
                 is_outside_collar(*limit, figures.of(place).reference, w.price)
             }
-            RuleKind::GrossShares(limit, _) => has_shares_above(&figures.of(place), w, *limit),
-            RuleKind::GrossValue(limit, _) => has_value_above(&figures.of(place), w, *limit),
-            RuleKind::NetShares(limit, _) => has_net_above(&figures.of(place), w, *limit),
+            RuleKind::Exposure(ExposureLimit::GrossShares, limit, _) => has_shares_above(
+                &figures.of(place),
+                w,
+                *limit,
+            ),
+            RuleKind::Exposure(ExposureLimit::GrossValue, limit, _) => has_value_above(
+                &figures.of(place),
+                w,
+                *limit,
+            ),
+            RuleKind::Exposure(ExposureLimit::NetShares, limit, _) => has_net_above(
+                &figures.of(place),
+                w,
+                *limit,
+            ),
             RuleKind::Rate(rate, _) => rate.limit <= figures.of(place).recent,
             RuleKind::Repeat(repeat, _) => {
                 w.is_new && repeat.limit <= figures.of(place).equal_recent

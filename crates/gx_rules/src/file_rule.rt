@@ -1,7 +1,6 @@
 //! What the limits of the policy file's rules forbid.
 
-ghost use Rattle.std.specs.Prelude.{◌≡◌, ◌+◌, ◌-◌, ◌+ℤ◌, ◌-ℤ◌, false, int_lt, nat_lt, pos};
-ghost use Rattle.std.specs.Option.{option_map_or};
+ghost use Rattle.std.specs.{Prelude.{◌≡◌, ◌+◌, ◌-◌, ◌+ℤ◌, ◌-ℤ◌, false, int_lt, nat_lt, pos}, Option.option_map_or};
 ghost use Rattle.gx_units.specs.Money.{value};
 ghost use Rattle.gx_policy.specs.People.{covers};
 ghost use Rattle.gx_history.specs.Rules.{is_outside_collar, new_open};

@@ -1,7 +1,6 @@
 //! Laws of the settings, each as what a function without a body ensures.
 
-ghost use Rattle.gx_rules.specs.Laws.{NamesAndScopesStay, OtherRulesStay, OtherStocksStay, RestrictedAreListed, RulesAfterOneMore, SetLimitsAreInForce, UnrestrictedAreNotListed};
-ghost use Rattle.gx_rules.specs.Settings.{restricted, unrestricted};
+ghost use Rattle.gx_rules.specs.{Laws.{NamesAndScopesStay, OtherRulesStay, OtherStocksStay, RestrictedAreListed, RulesAfterOneMore, SetLimitsAreInForce, UnrestrictedAreNotListed}, Settings.{restricted, unrestricted}};
 
 /// The rules in force after one more record are those before it, changed by the command that it grants.
 pub fn rules_after_one_more()

@@ -11,38 +11,13 @@ use crate::terms::{are_bad_shares, is_bad_display, is_bad_price, is_bad_side, is
 use gx_history::facts::Facts;
 use gx_history::record::Request;
 use gx_ouch::{EnterOrder, ReplaceOrder};
-use gx_policy::RuleName;
+use gx_policy::{BUILT_IN, RuleName};
 
-/// The built-in rules before those of the file.
-const RULES_BEFORE: [RuleName; 21] = [
-    RuleName::L1,
-    RuleName::L2,
-    RuleName::L3,
-    RuleName::G1,
-    RuleName::G2,
-    RuleName::G3,
-    RuleName::I1,
-    RuleName::I2,
-    RuleName::I3,
-    RuleName::P1,
-    RuleName::P2,
-    RuleName::P3,
-    RuleName::P4,
-    RuleName::P5,
-    RuleName::P6,
-    RuleName::P7,
-    RuleName::P8,
-    RuleName::P9,
-    RuleName::P10,
-    RuleName::P11,
-    RuleName::P12,
-];
+/// How many built-in rules stand before those of the file.
+const RULES_BEFORE: usize = 21;
 
 /// Those of them that can forbid a Cancel.
 const RULES_OF_CANCEL: [RuleName; 4] = [RuleName::G1, RuleName::G2, RuleName::I2, RuleName::I3];
-
-/// The built-in rules behind those of the file.
-const RULES_BEHIND: [RuleName; 4] = [RuleName::Q1, RuleName::Q2, RuleName::Q3, RuleName::Q4];
 
 fn first_of(names: &[RuleName], facts: &Facts, request: &Request) -> Option<RuleName>
     ensures { result ≡ find (λ name. forbids name facts.now request.now) names.now }
@@ -156,7 +131,7 @@ pub fn first_before(facts: &Facts, request: &Request) -> Option<RuleName>
         Request::Enter(m) => first_of_enter(facts, m),
         Request::Replace(m) => first_of_replace(facts, m),
         Request::Cancel(_) => first_of(&RULES_OF_CANCEL, facts, request),
-        _ => first_of(&RULES_BEFORE, facts, request),
+        _ => first_of(&BUILT_IN[..RULES_BEFORE], facts, request),
     }
 }
 
@@ -166,7 +141,7 @@ pub fn first_behind(facts: &Facts, request: &Request) -> Option<RuleName>
     ensures { result ≡ find (λ name. forbids name facts.now request.now) rules_behind }
 {
     match request {
-        Request::Command(_) => first_of(&RULES_BEHIND, facts, request),
+        Request::Command(_) => first_of(&BUILT_IN[RULES_BEFORE..], facts, request),
         _ => None,
     }
 }

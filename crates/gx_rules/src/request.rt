@@ -1,8 +1,7 @@
 //! What kind of request it is, and what it asks for.
 
 ghost use Rattle.std.specs.Prelude.{◌≡◌};
-ghost use Rattle.gx_history.specs.Requests.{is_login, is_command, is_order, names_order};
-ghost use Rattle.gx_history.specs.Rules.{proposed, takes_nothing};
+ghost use Rattle.gx_history.specs.{Requests.{is_login, is_command, is_order, names_order}, Rules.{proposed, takes_nothing}};
 
 use gx_history::facts::{Facts, ProposedOrder};
 use gx_history::live_order::LiveOrder;

@@ -1,15 +1,10 @@
 //! The file's rules with their settings in force.
 
-ghost use Rattle.std.specs.Prelude.{◌≡◌, ◌≤◌, ◌+◌, find, length, option_and_then, option_copied, IsTrue, IsFalse, is_some, IfOk, OnOk, OnErr, IfSome, IfNone};
-ghost use Rattle.std.specs.List.{list_all, list_any};
-ghost use Rattle.std.specs.Map.{lookup};
+ghost use Rattle.std.specs.{Prelude.{◌≡◌, ◌≤◌, ◌+◌, find, length, option_and_then, option_copied, IsTrue, IsFalse, is_some, IfOk, OnOk, OnErr, IfSome, IfNone}, List.{list_all, list_any}, Map.lookup};
 ghost use Rattle.gx_units.specs.Names.{same_account};
-ghost use Rattle.gx_history.specs.Asking.{knows_stocks};
+ghost use Rattle.gx_history.specs.{Asking.knows_stocks, Rules.{applies, figured, figured_from, first_forbidding, first_file_rule, written_order, IsFirstForbidding}};
 ghost use Rattle.gx_policy.specs.People.{rule_in};
-ghost use Rattle.gx_history.specs.Rules.{applies, figured, figured_from, first_forbidding, first_file_rule, written_order, IsFirstForbidding};
-ghost use Rattle.gx_rules.specs.Books.{lists_once, names_differ, rules_of};
-ghost use Rattle.gx_rules.specs.Places.{forbids_at, named_at, AreTied};
-ghost use Rattle.gx_rules.specs.Settings.{covers_in, limit_in, lists_in, restricted, unrestricted, with_limit_of};
+ghost use Rattle.gx_rules.specs.{Books.{lists_once, names_differ, rules_of}, Places.{forbids_at, named_at, AreTied}, Settings.{covers_in, limit_in, lists_in, restricted, unrestricted, with_limit_of}};
 
 use crate::book_rule::BookRule;
 use crate::order::{first_before, first_behind};

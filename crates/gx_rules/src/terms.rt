@@ -2,11 +2,7 @@
 
 ghost use Rattle.std.specs.Prelude.{◌≡◌, ◌∷◌, [], ◌==◌, ◌||◌, not, nat_le};
 ghost use Rattle.gx_units.specs.Money.{is_bad_price};
-ghost use Rattle.gx_history.specs.OuchValues.{display_anonymous, display_attributable};
-ghost use Rattle.gx_history.specs.OuchValues.{immediate_or_cancel, market_hours, system_hours};
-ghost use Rattle.gx_history.specs.OuchValues.{side_buy, side_sell};
-ghost use Rattle.gx_history.specs.OuchValues.{side_sell_short, side_sell_short_exempt};
-ghost use Rattle.gx_history.specs.Rules.{is_one_of};
+ghost use Rattle.gx_history.specs.{OuchValues.{display_anonymous, display_attributable, immediate_or_cancel, market_hours, system_hours, side_buy, side_sell, side_sell_short, side_sell_short_exempt}, Rules.is_one_of};
 
 use gx_units::Price;
 

@@ -1,9 +1,6 @@
 -- Words that are cut and read at once.
-use Rattle.std.proofs.Common.{◌≡◌, ℕ, ◌^◌, ◌<◌, ◌≤◌, Bool, true, false, not, List, [], ◌∷◌, refl, arith, eqb}
-use Rattle.std.specs.List.{list_all}
-use Rattle.std.specs.Char.{is_ascii_digit}
-use Rattle.std.proofs.lemmas.Bool.{and_parts, and_from, leb-true, eqb-true}
-use Rattle.std.proofs.Math.Nat.{pow-le-pow_right}
+use Rattle.std.proofs.{Common.{◌≡◌, ℕ, ◌^◌, ◌<◌, ◌≤◌, Bool, true, false, not, List, [], ◌∷◌, refl, arith, eqb}, lemmas.Bool.{and_parts, and_from, leb-true, eqb-true}, Math.Nat.pow-le-pow_right}
+use Rattle.std.specs.{List.list_all, Char.is_ascii_digit}
 use Rattle.gx_script.specs.Words.{has_no_space, is_visible}
 
 apart : (n low : ℕ) → n < low → (m : ℕ) → low ≤ m → not (eqb m n) ≡ true

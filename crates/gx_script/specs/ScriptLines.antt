@@ -1,29 +1,17 @@
 -- What a line of a script means.
 use Rattle.std.specs.Prelude.{ℕ, ◌-◌, Bool, ◌&&◌, ◌||◌, ◌==◌, nat_lt, if◌then◌else◌, List, length, take, codes, bytes_eq, slice_index, Option, Some, None, option_map, IsTrue}
-use Rattle.gx_units.specs.declared.names.AccountName.{AccountName}
-use Rattle.gx_units.specs.declared.names.RuleId.{RuleId}
-use Rattle.gx_units.specs.declared.names.Symbol.{Symbol}
-use Rattle.gx_desk.specs.declared.Action.{Action}
-use Rattle.gx_desk.specs.declared.Action.TheVariants as actions
-use Rattle.gx_desk.specs.declared.Command.{Command}
-use Rattle.gx_desk.specs.declared.Tag.{Tag}
-use Rattle.gx_desk.specs.declared.WrittenName.{WrittenName}
-use Rattle.gx_ouch.specs.declared.inbound.EnterOrder.{EnterOrder}
-use Rattle.gx_ouch.specs.declared.inbound.ReplaceOrder.{ReplaceOrder}
-use Rattle.gx_history.specs.Payloads.{request_of}
-use Rattle.gx_history.specs.Showing.{has_its_first}
-use Rattle.gx_script.specs.declared.line.ScriptStep.{ScriptStep}
-use Rattle.gx_script.specs.declared.line.ScriptStep.TheVariants as steps
-use Rattle.gx_script.specs.declared.line.ScriptLine.{ScriptLine}
-use Rattle.gx_script.specs.declared.line.ScriptLine.TheVariants.{Skipped, Step, Match, Settle, Stream}
-use Rattle.gx_script.specs.Words.{◌>>=◌, words_of, first, alone, is_done, itself, is_empty, name_of, user_of, number_of, byte_of, bytes_of}
+use Rattle.gx_units.specs.declared.names.{AccountName.AccountName, RuleId.RuleId, Symbol.Symbol}
+use Rattle.gx_desk.specs.declared.{Action.Action, Command.Command, Tag.Tag, WrittenName.WrittenName}
+use Rattle.gx_ouch.specs.declared.inbound.{EnterOrder.EnterOrder, ReplaceOrder.ReplaceOrder}
+use Rattle.gx_history.specs.{Payloads.request_of, Showing.has_its_first}
+use Rattle.gx_script.specs.{declared.line.{ScriptStep.ScriptStep, ScriptLine.{ScriptLine, TheVariants.{Skipped, Step, Match, Settle, Stream}}}, Words.{◌>>=◌, words_of, first, alone, is_done, itself, is_empty, name_of, user_of, number_of, byte_of, bytes_of}}
 
 -- `PASSWORD NUMBER`: the first report wanted, 0 for the last one
 unfoldable pub login_form : List (List ℕ) → Option ScriptStep
 login_form words = do
   given ← first (name_of 10) words
   wanted ← first (number_of 64) given.1
-  alone (steps.Login (record { bytes = given.0 }) wanted.0) wanted.1
+  alone (ScriptStep.Login (record { bytes = given.0 }) wanted.0) wanted.1
 
 -- an order with a blank firm, displayed, by an agency, in no sweep, of any quantity, in no cross, for no retail customer
 abbrev pub plain_order : List ℕ → ℕ → ℕ → List ℕ → ℕ → ℕ → EnterOrder
@@ -52,7 +40,7 @@ enter_form words = do
   stock ← first (name_of 8) shares.1
   price ← first (number_of 32) stock.1
   time_in_force ← first (number_of 32) price.1
-  alone (steps.Enter (plain_order token.0 side.0 shares.0 stock.0 price.0 time_in_force.0)) time_in_force.1
+  alone (ScriptStep.Enter (plain_order token.0 side.0 shares.0 stock.0 price.0 time_in_force.0)) time_in_force.1
 
 -- what is asked for in the place of an order: displayed, in no sweep, of any quantity
 abbrev pub plain_replace : (old new : List ℕ) → ℕ → ℕ → ℕ → ReplaceOrder
@@ -75,14 +63,14 @@ replace_form words = do
   shares ← first (number_of 32) new.1
   price ← first (number_of 32) shares.1
   time_in_force ← first (number_of 32) price.1
-  alone (steps.Replace (plain_replace old.0 new.0 shares.0 price.0 time_in_force.0)) time_in_force.1
+  alone (ScriptStep.Replace (plain_replace old.0 new.0 shares.0 price.0 time_in_force.0)) time_in_force.1
 
 -- `TOKEN SHARES`: the shares are the new size of the order
 unfoldable pub cancel_form : List (List ℕ) → Option ScriptStep
 cancel_form words = do
   token ← first (name_of 14) words
   shares ← first (number_of 32) token.1
-  alone (steps.Cancel (record { token = record { bytes = token.0 }; shares = shares.0 })) shares.1
+  alone (ScriptStep.Cancel (record { token = record { bytes = token.0 }; shares = shares.0 })) shares.1
 
 -- `TAG ACCOUNT`
 unfoldable pub account_form : List (List ℕ) → Option (Tag × AccountName)
@@ -119,7 +107,7 @@ reader_form words = do
 unfoldable pub close_form : List (List ℕ) → Option Command
 close_form words = do
   tag ← first (name_of 14) words
-  alone (record { tag = record { bytes = tag.0 }; action = actions.CloseDay }) tag.1
+  alone (record { tag = record { bytes = tag.0 }; action = Action.CloseDay }) tag.1
 
 -- what is asked for under the tag, of what else is named
 abbrev pub asking : {A : Type 0} → (A → Action) → Option (Tag × A) → Option Command
@@ -132,13 +120,13 @@ of_both action named = action named.0 named.1
 -- the command that the word names, of the words behind it
 unfoldable pub command_form : List ℕ → List (List ℕ) → Option Command
 command_form name words =
-    if bytes_eq name (codes "kill") then asking actions.Kill (account_form words)
-    else (if bytes_eq name (codes "lift") then asking actions.Lift (account_form words)
-    else (if bytes_eq name (codes "limit") then asking (of_both actions.SetLimit) (limit_form words)
-    else (if bytes_eq name (codes "restrict") then asking (of_both actions.Restrict) (stock_form words)
-    else (if bytes_eq name (codes "unrestrict") then asking (of_both actions.Unrestrict) (stock_form words)
-    else (if bytes_eq name (codes "grant") then asking (of_both actions.Grant) (reader_form words)
-    else (if bytes_eq name (codes "revoke") then asking (of_both actions.Revoke) (reader_form words)
+    if bytes_eq name (codes "kill") then asking Action.Kill (account_form words)
+    else (if bytes_eq name (codes "lift") then asking Action.Lift (account_form words)
+    else (if bytes_eq name (codes "limit") then asking (of_both Action.SetLimit) (limit_form words)
+    else (if bytes_eq name (codes "restrict") then asking (of_both Action.Restrict) (stock_form words)
+    else (if bytes_eq name (codes "unrestrict") then asking (of_both Action.Unrestrict) (stock_form words)
+    else (if bytes_eq name (codes "grant") then asking (of_both Action.Grant) (reader_form words)
+    else (if bytes_eq name (codes "revoke") then asking (of_both Action.Revoke) (reader_form words)
     else (if bytes_eq name (codes "close") then close_form words
     else None)))))))
 
@@ -146,18 +134,18 @@ command_form name words =
 unfoldable pub raw_form : List (List ℕ) → Option ScriptStep
 raw_form words = do
   payload ← first bytes_of words
-  alone (steps.Raw (request_of payload.0)) payload.1
+  alone (ScriptStep.Raw (request_of payload.0)) payload.1
 
 -- the form that the word names, of the words behind it: a command's, where no other has this name
 unfoldable pub step_form : List ℕ → List (List ℕ) → Option ScriptStep
 step_form name words =
     if bytes_eq name (codes "login") then login_form words
-    else (if bytes_eq name (codes "logout") then alone steps.Logout words
+    else (if bytes_eq name (codes "logout") then alone ScriptStep.Logout words
     else (if bytes_eq name (codes "enter") then enter_form words
     else (if bytes_eq name (codes "replace") then replace_form words
     else (if bytes_eq name (codes "cancel") then cancel_form words
     else (if bytes_eq name (codes "raw") then raw_form words
-    else option_map steps.Command (command_form name words))))))
+    else option_map ScriptStep.Command (command_form name words))))))
 
 -- `USER ..`, USER being the first word: what the user asks for at this moment
 unfoldable pub asked_line : ℕ → List ℕ → List (List ℕ) → Option ScriptLine
@@ -209,13 +197,13 @@ line_of line = if is_too_long line then None else line_within (without_cr line)
 
 -- a request that can be put to the gate
 abbrev pub IsAskable : ScriptStep → Type 0
-IsAskable (steps.Raw request) = IsTrue (has_its_first request)
-IsAskable (steps.Login given wanted) = Unit {0}
-IsAskable steps.Logout = Unit {0}
-IsAskable (steps.Enter order) = Unit {0}
-IsAskable (steps.Replace order) = Unit {0}
-IsAskable (steps.Cancel order) = Unit {0}
-IsAskable (steps.Command command) = Unit {0}
+IsAskable (ScriptStep.Raw request) = IsTrue (has_its_first request)
+IsAskable (ScriptStep.Login given wanted) = Unit {0}
+IsAskable ScriptStep.Logout = Unit {0}
+IsAskable (ScriptStep.Enter order) = Unit {0}
+IsAskable (ScriptStep.Replace order) = Unit {0}
+IsAskable (ScriptStep.Cancel order) = Unit {0}
+IsAskable (ScriptStep.Command command) = Unit {0}
 
 abbrev pub IsAskableLine : ScriptLine → Type 0
 IsAskableLine (Step moment user step) = IsAskable step

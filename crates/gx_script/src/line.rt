@@ -1,11 +1,8 @@
 //! Lines of a script.
 
-ghost use Rattle.std.specs.Prelude.{◌≡◌, ◌≢◌, ◌≤◌, ◌∷◌, [], length, bytes_eq, ◌&&◌, IsTrue, IfOk, IfSome, MatchResult, option_map};
-ghost use Rattle.std.specs.Result.{result_ok};
-ghost use Rattle.gx_history.specs.Payloads.{request_of};
-ghost use Rattle.gx_history.specs.Showing.{has_its_first};
-ghost use Rattle.gx_script.specs.Words.{Takes, alone, is_done, name_of, user_of, number_of, byte_of, bytes_of, itself};
-ghost use Rattle.gx_script.specs.ScriptLines.{login_form, plain_order, enter_form, replace_form, cancel_form, account_form, limit_form, stock_form, reader_form, close_form, command_form, raw_form, step_form, asked_line, step_line, stream_line, line_of_words, without_cr, is_too_long, is_skipped, line_of, IsAskable, IsAskableLine};
+ghost use Rattle.std.specs.{Prelude.{◌≡◌, ◌≢◌, ◌≤◌, ◌∷◌, [], length, bytes_eq, ◌&&◌, IsTrue, IfOk, IfSome, MatchResult, option_map}, Result.result_ok};
+ghost use Rattle.gx_history.specs.{Payloads.request_of, Showing.has_its_first};
+ghost use Rattle.gx_script.specs.{Words.{Takes, alone, is_done, name_of, user_of, number_of, byte_of, bytes_of, itself}, ScriptLines.{login_form, plain_order, enter_form, replace_form, cancel_form, account_form, limit_form, stock_form, reader_form, close_form, command_form, raw_form, step_form, asked_line, step_line, stream_line, line_of_words, without_cr, is_too_long, is_skipped, line_of, IsAskable, IsAskableLine}};
 
 use crate::words::{Words, byte, name, number64};
 use crate::wrong::{Wanted, Wrong};

@@ -1,22 +1,11 @@
 -- What a line of a script does.
-use Rattle.std.proofs.Common.{◌≡◌, ℕ, ◌+◌, ◌<◌, ◌≤◌, ◌⊎◌, inl, inr, Bool, true, false, not, leb, le-leb, cond, List, [], ◌∷◌, ◌++◌, length, take, Option, Some, None, Result, Ok, Err, IfOk, refl, sym, ap, ◌∙◌, subst}
-use Rattle.std.proofs.lemmas.Bool.{lt-leb, cases_lt}
+use Rattle.std.proofs.{Common.{◌≡◌, ℕ, ◌+◌, ◌<◌, ◌≤◌, ◌⊎◌, inl, inr, Bool, true, false, not, leb, le-leb, cond, List, [], ◌∷◌, ◌++◌, length, take, Option, Some, None, Result, Ok, Err, IfOk, refl, sym, ap, ◌∙◌, subst}, lemmas.Bool.{lt-leb, cases_lt}}
 use Rattle.std.specs.Prelude.{is_ok, ◌&&◌}
-use Rattle.gx_history.specs.declared.record.Asked.{Asked}
-use Rattle.gx_history.specs.declared.record.RecordData.{RecordData}
-use Rattle.gx_history.specs.declared.record.Step.TheVariants as steps
-use Rattle.gx_history.specs.declared.record.Verdict.{Verdict}
-use Rattle.gx_history.specs.declared.report.Report.{Report}
-use Rattle.gx_history.specs.Verdicts.{next, step_verdict, verdict, day_limit}
-use Rattle.gx_answers.specs.Gates.{GateData, left_by}
-use Rattle.gx_answers.specs.Steps.{has_its_places}
-use Rattle.gx_answers.specs.declared.outcome.Outcome.{Outcome}
-use Rattle.gx_answers.specs.declared.outcome.StepFault.{StepFault}
-use Rattle.gx_answers.specs.Asking.{stepped}
+use Rattle.gx_history.specs.{declared.{«record».{Asked.Asked, RecordData.RecordData, Step.Step, Verdict.Verdict}, report.Report.Report}, Verdicts.{next, step_verdict, verdict, day_limit}}
+use Rattle.gx_answers.specs.{Gates.{GateData, left_by}, Steps.has_its_places, declared.outcome.{Outcome.Outcome, StepFault.StepFault}, Asking.stepped}
 use Rattle.gx_script.specs.Printing.{outcome_line, refused_line}
 use Rattle.gx_devices.proofs.Stopping.{first_same}
-use Rattle.gx_scripting.specs.Leaving.{IsHalf}
-use Rattle.gx_scripting.specs.Scripting.{Printed, step_of}
+use Rattle.gx_scripting.specs.{Leaving.IsHalf, Scripting.{Printed, step_of}}
 use Rattle.gx_answers.proofs.Stepped.{stepped_is, all_taken}
 
 pub if_ok : {T E : Type 0} (r : Result T E) (P Q : T → Type 0) → ((x : T) → P x → Q x) → IfOk r P → IfOk r Q
@@ -51,14 +40,14 @@ number_in : Option RecordData → ℕ
 number_in None = 0
 number_in (Some r) = r.number
 
-number_is : (gate : GateData) (a : Asked) (o : Outcome) → next gate.policy gate.records (steps.Asked a) ≡ Some (left_by a o) → o.number ≡ length gate.records + 1
+number_is : (gate : GateData) (a : Asked) (o : Outcome) → next gate.policy gate.records (Step.Asked a) ≡ Some (left_by a o) → o.number ≡ length gate.records + 1
 unfolding next step_verdict number_in
 number_is gate a o n = sym (ap number_in n)
 
 -- a step that was made
 pub made : {T : Type 0} (gate after : GateData) (a : Asked) (o : Outcome) (r : Result T StepFault) (x : T) (e : StepFault) (text : List ℕ)
     → (day_limit ≤ length gate.records → has_its_places gate a ≡ false → r ≡ Err e) → r ≡ Ok x → after.policy ≡ gate.policy
-    → next gate.policy gate.records (steps.Asked a) ≡ Some (left_by a o) → after.records ≡ gate.records ++ left_by a o ∷ []
+    → next gate.policy gate.records (Step.Asked a) ≡ Some (left_by a o) → after.records ≡ gate.records ++ left_by a o ∷ []
     → o.verdict ≡ verdict gate.policy gate.records a → text ≡ outcome_line o.number o.verdict
     → step_of gate a ≡ record { gate = after; text = text }
 unfolding step_of

@@ -1,19 +1,11 @@
 -- What a script leaves that a fault stopped is a front of what the whole script leaves.
-use Rattle.std.proofs.Common.{◌≡◌, ℕ, inl, inr, Bool, true, false, cond, is_some, List, [], ◌∷◌, ◌++◌, Option, Some, None, IfSome, refl, sym, ap, ◌∙◌, subst, append-nil}
-use Rattle.std.specs.Prelude.{fold}
-use Rattle.std.specs.Io.KnownBytes.{Appends, IsAtEnd}
-use Rattle.std.proofs.KnownBytes.{Appends-trans}
-use Rattle.std.proofs.lemmas.List.Sums.{fold-append}
-use Rattle.gx_devices.specs.Devices.{IsFront}
-use Rattle.gx_devices.specs.Stopping.{AreFirst}
+use Rattle.std.proofs.{Common.{◌≡◌, ℕ, inl, inr, Bool, true, false, cond, is_some, List, [], ◌∷◌, ◌++◌, Option, Some, None, IfSome, refl, sym, ap, ◌∙◌, subst, append-nil}, KnownBytes.Appends-trans, lemmas.List.Sums.fold-append}
+use Rattle.std.specs.{Prelude.fold, Io.KnownBytes.{Appends, IsAtEnd}}
+use Rattle.gx_devices.specs.{Devices.IsFront, Stopping.AreFirst}
 use Rattle.gx_devices.proofs.Stopping.{Leads, first_same, leads_same, leads_then, trail_leads}
 use Rattle.gx_answers.specs.Gates.{GateData}
-use Rattle.gx_scripting.specs.declared.script_fault.ScriptFault.{ScriptFault}
-use Rattle.gx_scripting.specs.declared.script_fault.ScriptFault.TheVariants as faults
-use Rattle.gx_scripting.specs.Scripting.{Printed, line_effect, ScriptRun, unread, with_line, on_line, cut_of, after_lines, script_of}
-use Rattle.gx_scripting.specs.ScriptPiping.{so_far, mark, line_marks, cause_of, Refused, IsLast, HasLines, IsCutShort}
-use Rattle.gx_scripting.proofs.Growing.{EffectGoesOn, line_effect_on}
-use Rattle.gx_scripting.proofs.ScriptCuts.{lines_grow, script_is}
+use Rattle.gx_scripting.specs.{declared.script_fault.ScriptFault.ScriptFault, Scripting.{Printed, line_effect, ScriptRun, unread, with_line, on_line, cut_of, after_lines, script_of}, ScriptPiping.{so_far, mark, line_marks, cause_of, Refused, IsLast, HasLines, IsCutShort}}
+use Rattle.gx_scripting.proofs.{Growing.{EffectGoesOn, line_effect_on}, ScriptCuts.{lines_grow, script_is}}
 
 line_leads : (run : ScriptRun) (line : List ℕ) → Leads (mark run) (mark (on_line run line))
 unfolding on_line
@@ -43,11 +35,11 @@ bytes_lead before bytes tail =
     (leads_then (mark run) (mark (fold on_line run g.0)) (mark (on_line (fold on_line run g.0) last)) (lines_lead g.0 run) (line_leads (fold on_line run g.0) last))
 
 at_its_end : (fault : ScriptFault) (at_end : Type 0) → IsLast (cause_of fault) at_end → at_end
-at_its_end (faults.BadLine n) at_end h = absurd h
-at_its_end faults.ReadFailed at_end h = absurd h
-at_its_end faults.WriteFailed at_end h = h
-at_its_end faults.OutOfMemory at_end h = h
-at_its_end faults.Endless at_end h = absurd h
+at_its_end (ScriptFault.BadLine n) at_end h = absurd h
+at_its_end ScriptFault.ReadFailed at_end h = absurd h
+at_its_end ScriptFault.WriteFailed at_end h = h
+at_its_end ScriptFault.OutOfMemory at_end h = h
+at_its_end ScriptFault.Endless at_end h = absurd h
 
 -- the lines that were to be done are lines of the whole script
 to_the_end : (before : GateData) (fault : ScriptFault) (bytes piece rest : List ℕ) (lines : List (List ℕ)) → HasLines bytes piece lines (IsLast (cause_of fault) (IsAtEnd (Some rest)))

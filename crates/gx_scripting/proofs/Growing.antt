@@ -1,23 +1,14 @@
 -- Each line puts its records behind those that are there, under the same policy.
-use Rattle.std.proofs.Common.{◌≡◌, ℕ, ◌+◌, ◌-◌, ◌≤◌, Bool, true, false, cond, is_some, List, [], ◌∷◌, ◌++◌, length, take, max, Option, Some, None, refl, ap, ◌∙◌, arith}
-use Rattle.std.proofs.Math.Seq.{take-append-add}
+use Rattle.std.proofs.{Common.{◌≡◌, ℕ, ◌+◌, ◌-◌, ◌≤◌, Bool, true, false, cond, is_some, List, [], ◌∷◌, ◌++◌, length, take, max, Option, Some, None, refl, ap, ◌∙◌, arith}, Math.Seq.take-append-add}
 use Rattle.std.specs.Option.{option_map_or}
-use Rattle.gx_history.specs.declared.record.Asked.{Asked}
-use Rattle.gx_history.specs.declared.record.RecordData.{RecordData}
+use Rattle.gx_history.specs.{declared.record.{Asked.Asked, RecordData.RecordData}, Verdicts.{next, verdict}}
 use Rattle.gx_history.specs.declared.record.Step.TheVariants as steps
 use Rattle.gx_policy.specs.People.{user_in}
-use Rattle.gx_history.specs.Verdicts.{next, verdict}
 use Rattle.gx_effects.proofs.Settling.{settled_adds}
 use Rattle.gx_devices.specs.Stopping.{AreFirst}
 use Rattle.gx_devices.proofs.Stopping.{first_same, first_then}
-use Rattle.gx_answers.specs.Gates.{GateData}
-use Rattle.gx_answers.specs.Asking.{asked_by, stepped}
-use Rattle.gx_answers.specs.Matches.{next_match}
-use Rattle.gx_script.specs.declared.line.ScriptLine.{ScriptLine}
-use Rattle.gx_script.specs.declared.line.ScriptLine.TheVariants.{Skipped, Step, Match, Settle, Stream}
-use Rattle.gx_script.specs.Printing.{outcome_line, refused_line}
-use Rattle.gx_script.specs.ScriptLines.{line_of}
-use Rattle.gx_script.specs.Words.{◌>>=◌}
+use Rattle.gx_answers.specs.{Gates.GateData, Asking.{asked_by, stepped}, Matches.next_match}
+use Rattle.gx_script.specs.{declared.line.ScriptLine.{ScriptLine, TheVariants.{Skipped, Step, Match, Settle, Stream}}, Printing.{outcome_line, refused_line}, ScriptLines.line_of, Words.◌>>=◌}
 use Rattle.gx_scripting.specs.Scripting.{Printed, is_full, refuses, request_of_step, step_of, match_by, match_of, most_records, settle_of, effect_of, line_effect}
 
 pub record GoesOn (before now : GateData) : Type 0 where

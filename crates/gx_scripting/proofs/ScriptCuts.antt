@@ -1,14 +1,9 @@
 -- Laws of scripts: how lines end, and what follows a bad line.
-use Rattle.std.proofs.Common.{◌≡◌, ℕ, ◌+◌, ◌-◌, ◌<◌, ◌≤◌, Bool, true, false, not, ◌||◌, cond, eqb, is_some, Option, Some, None, List, [], ◌∷◌, ◌++◌, length, take, refl, sym, ap, ◌∙◌, append_assoc, append-nil, arith, length-take, length-append}
+use Rattle.std.proofs.{Common.{◌≡◌, ℕ, ◌+◌, ◌-◌, ◌<◌, ◌≤◌, Bool, true, false, not, ◌||◌, cond, eqb, is_some, Option, Some, None, List, [], ◌∷◌, ◌++◌, length, take, refl, sym, ap, ◌∙◌, append_assoc, append-nil, arith, length-take, length-append}, lemmas.{Bool.{and_parts, ltb-true, lt-ltb}, List.Sums.fold-append}}
 use Rattle.std.specs.Prelude.{fold, slice_index}
-use Rattle.std.proofs.lemmas.Bool.{and_parts, ltb-true, lt-ltb}
-use Rattle.std.proofs.lemmas.List.Sums.{fold-append}
 use Rattle.gx_answers.specs.Gates.{GateData}
-use Rattle.gx_script.specs.Words.{◌>>=◌}
-use Rattle.gx_script.specs.ScriptLines.{without_cr, is_too_long, line_within, line_of}
-use Rattle.gx_scripting.specs.Scripting.{Printed, effect_of, line_effect, ScriptRun, unread, with_line, on_line, Cut, on_byte, cut_of, after_lines, script_of, is_settled}
-use Rattle.gx_scripting.specs.ScriptPiping.{so_far}
-use Rattle.gx_scripting.specs.ScriptTexts.{has_no_end}
+use Rattle.gx_script.specs.{Words.◌>>=◌, ScriptLines.{without_cr, is_too_long, line_within, line_of}}
+use Rattle.gx_scripting.specs.{Scripting.{Printed, effect_of, line_effect, ScriptRun, unread, with_line, on_line, Cut, on_byte, cut_of, after_lines, script_of, is_settled}, ScriptPiping.so_far, ScriptTexts.has_no_end}
 
 pub cut_more : (bytes piece : List ℕ) → cut_of (bytes ++ piece) ≡ fold on_byte (cut_of bytes) piece
 unfolding cut_of

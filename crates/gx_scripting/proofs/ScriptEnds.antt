@@ -1,15 +1,10 @@
 -- What a script that was read to its end, or given up, leaves.
-use Rattle.std.proofs.Common.{◌≡◌, ℕ, ◌≤◌, arith, length, true, Option, Some, None, List, [], ◌∷◌, ◌++◌, take, refl, sym, ap, ◌∙◌, subst, append-nil, inl, inr, ◌⊎◌}
+use Rattle.std.proofs.{Common.{◌≡◌, ℕ, ◌≤◌, arith, length, true, Option, Some, None, List, [], ◌∷◌, ◌++◌, take, refl, sym, ap, ◌∙◌, subst, append-nil, inl, inr, ◌⊎◌}, KnownBytes.{Appends-nil, Appends-trans, Consumes-nil, Consumes-trans, Consumes-kept}}
 use Rattle.std.specs.Io.KnownBytes.{Appends, Consumes, Keeps, IsAtEnd}
-use Rattle.std.proofs.KnownBytes.{Appends-nil, Appends-trans, Consumes-nil, Consumes-trans, Consumes-kept}
 use Rattle.gx_answers.specs.Gates.{GateData}
-use Rattle.gx_scripting.specs.declared.script_fault.ScriptFault.{ScriptFault}
-use Rattle.gx_scripting.specs.declared.script_fault.ScriptFault.TheVariants as faults
-use Rattle.gx_scripting.specs.Scripting.{Printed, line_effect, ScriptRun, with_line, cut_of, script_of, is_settled}
-use Rattle.gx_scripting.specs.ScriptPiping.{so_far, EndsLine, cause_of, StopsIn, IsLast, IsBadLine, StopsAtLine, IsSoFar, TakesPiece, FindsBad, BreaksOff, StopsInPiece, IsScript, IsCutShort, IfBadLine, UnlessBadLine, IsAll}
+use Rattle.gx_scripting.specs.{declared.script_fault.ScriptFault.ScriptFault, Scripting.{Printed, line_effect, ScriptRun, with_line, cut_of, script_of, is_settled}, ScriptPiping.{so_far, EndsLine, cause_of, StopsIn, IsLast, IsBadLine, StopsAtLine, IsSoFar, TakesPiece, FindsBad, BreaksOff, StopsInPiece, IsScript, IsCutShort, IfBadLine, UnlessBadLine, IsAll}}
 use Rattle.gx_devices.specs.Stopping.{MayEnd}
-use Rattle.gx_scripting.proofs.ScriptCuts.{script_is, nothing_follows}
-use Rattle.gx_scripting.proofs.ScriptRuns.{good, next_line, gate_is, is_good, stops_before}
+use Rattle.gx_scripting.proofs.{ScriptCuts.{script_is, nothing_follows}, ScriptRuns.{good, next_line, gate_is, is_good, stops_before}}
 
 -- before an iteration of `run_script`
 pub record StandsAt (input left output written : Option (List ℕ)) (before gate : GateData) (rest : List ℕ) (lines : ℕ) : Type 0 where
@@ -98,18 +93,18 @@ module _ (input left output written : Option (List ℕ)) (before gate : GateData
 
       pub ends_with_bad : IsAtEnd left' → (fault : ScriptFault) → StopsAtLine gate rest lines now written written' fault
           → IfBadLine fault (λ k. IsScript input left' output written' before now (Some k))
-      ends_with_bad end (faults.BadLine k) d = ends_bad end k d
-      ends_with_bad end faults.WriteFailed d = tt
-      ends_with_bad end faults.OutOfMemory d = tt
-      ends_with_bad end faults.ReadFailed d = absurd d
-      ends_with_bad end faults.Endless d = absurd d
+      ends_with_bad end (ScriptFault.BadLine k) d = ends_bad end k d
+      ends_with_bad end ScriptFault.WriteFailed d = tt
+      ends_with_bad end ScriptFault.OutOfMemory d = tt
+      ends_with_bad end ScriptFault.ReadFailed d = absurd d
+      ends_with_bad end ScriptFault.Endless d = absurd d
 
       pub ends_halfway : IsAtEnd left' → (fault : ScriptFault) → StopsAtLine gate rest lines now written written' fault → UnlessBadLine fault (IsCutShort input left' output written' before now fault)
-      ends_halfway end (faults.BadLine k) d = tt
-      ends_halfway end faults.WriteFailed d = half_done faults.WriteFailed end (d (so_far before s.bytes) [] (sym here_is) good_is)
-      ends_halfway end faults.OutOfMemory d = half_done faults.OutOfMemory end (d (so_far before s.bytes) [] (sym here_is) good_is)
-      ends_halfway end faults.ReadFailed d = absurd d
-      ends_halfway end faults.Endless d = absurd d
+      ends_halfway end (ScriptFault.BadLine k) d = tt
+      ends_halfway end ScriptFault.WriteFailed d = half_done ScriptFault.WriteFailed end (d (so_far before s.bytes) [] (sym here_is) good_is)
+      ends_halfway end ScriptFault.OutOfMemory d = half_done ScriptFault.OutOfMemory end (d (so_far before s.bytes) [] (sym here_is) good_is)
+      ends_halfway end ScriptFault.ReadFailed d = absurd d
+      ends_halfway end ScriptFault.Endless d = absurd d
 
   -- a read that failed, or one too many
   pub stops_reading : (fault : ScriptFault) → MayEnd (cause_of fault) → (left' : Option (List ℕ)) → Keeps left left' → IsCutShort input left' output written before gate fault
@@ -153,18 +148,18 @@ module _ (input left output written : Option (List ℕ)) (before gate : GateData
     }
 
     pub stops_with_bad : (fault : ScriptFault) → StopsInPiece before s.bytes piece now written written' fault → IfBadLine fault (λ k. IsScript input left' output written' before now (Some k))
-    stops_with_bad (faults.BadLine k) f = finds k f
-    stops_with_bad faults.WriteFailed f = tt
-    stops_with_bad faults.OutOfMemory f = tt
-    stops_with_bad faults.ReadFailed f = absurd f
-    stops_with_bad faults.Endless f = absurd f
+    stops_with_bad (ScriptFault.BadLine k) f = finds k f
+    stops_with_bad ScriptFault.WriteFailed f = tt
+    stops_with_bad ScriptFault.OutOfMemory f = tt
+    stops_with_bad ScriptFault.ReadFailed f = absurd f
+    stops_with_bad ScriptFault.Endless f = absurd f
 
     pub stops_halfway : length piece ≤ 4096 → (fault : ScriptFault) → StopsInPiece before s.bytes piece now written written' fault → UnlessBadLine fault (IsCutShort input left' output written' before now fault)
-    stops_halfway short (faults.BadLine k) f = tt
-    stops_halfway short faults.WriteFailed f = breaks faults.WriteFailed short f
-    stops_halfway short faults.OutOfMemory f = breaks faults.OutOfMemory short f
-    stops_halfway short faults.ReadFailed f = absurd f
-    stops_halfway short faults.Endless f = absurd f
+    stops_halfway short (ScriptFault.BadLine k) f = tt
+    stops_halfway short ScriptFault.WriteFailed f = breaks ScriptFault.WriteFailed short f
+    stops_halfway short ScriptFault.OutOfMemory f = breaks ScriptFault.OutOfMemory short f
+    stops_halfway short ScriptFault.ReadFailed f = absurd f
+    stops_halfway short ScriptFault.Endless f = absurd f
 
 -- where the reader tells its bytes
 all_bytes : (input left output written : Option (List ℕ)) (before after : GateData) (bad : Option ℕ) (bytes : List ℕ) → Consumes input left bytes → after ≡ (script_of before bytes).gate
@@ -183,8 +178,8 @@ all_of_script input left output written before after bad t = all_bytes input lef
 
 pub all_with_bad : (input left output written : Option (List ℕ)) (before after : GateData) (fault : ScriptFault) → IfBadLine fault (λ n. IsScript input left output written before after (Some n))
     → IfBadLine fault (λ n. IsAll input output written before after (Some n))
-all_with_bad input left output written before after (faults.BadLine n) s = all_of_script input left output written before after (Some n) s
-all_with_bad input left output written before after faults.ReadFailed s = tt
-all_with_bad input left output written before after faults.WriteFailed s = tt
-all_with_bad input left output written before after faults.OutOfMemory s = tt
-all_with_bad input left output written before after faults.Endless s = tt
+all_with_bad input left output written before after (ScriptFault.BadLine n) s = all_of_script input left output written before after (Some n) s
+all_with_bad input left output written before after ScriptFault.ReadFailed s = tt
+all_with_bad input left output written before after ScriptFault.WriteFailed s = tt
+all_with_bad input left output written before after ScriptFault.OutOfMemory s = tt
+all_with_bad input left output written before after ScriptFault.Endless s = tt

@@ -1,24 +1,14 @@
 -- Laws of scripts: a front more, a line's end, one piece more.
-use Rattle.std.proofs.Common.{◌≡◌, ℕ, ◌+◌, true, cond, is_some, Option, Some, None, List, [], ◌∷◌, ◌++◌, Result, Ok, Err, IfErr, OnOk, refl, sym, ap, ◌∙◌, subst, append_assoc, append-nil, inl, inr}
-use Rattle.std.specs.Prelude.{fold}
-use Rattle.std.specs.Io.KnownBytes.{Appends}
-use Rattle.std.proofs.KnownBytes.{Appends-nil, Appends-trans}
-use Rattle.std.proofs.lemmas.List.Sums.{fold-append}
+use Rattle.std.proofs.{Common.{◌≡◌, ℕ, ◌+◌, true, cond, is_some, Option, Some, None, List, [], ◌∷◌, ◌++◌, Result, Ok, Err, IfErr, OnOk, refl, sym, ap, ◌∙◌, subst, append_assoc, append-nil, inl, inr}, KnownBytes.{Appends-nil, Appends-trans}, lemmas.List.Sums.fold-append}
+use Rattle.std.specs.{Prelude.fold, Io.KnownBytes.Appends}
 use Rattle.gx_answers.specs.Gates.{GateData}
-use Rattle.gx_scripting.specs.declared.script_fault.ScriptFault.{ScriptFault}
-use Rattle.gx_devices.specs.Devices.{IsFront}
-use Rattle.gx_devices.specs.Stopping.{AreFirst, Mark, Memory, Writing, IsBetween, IsUnsent, Stops, trail}
+use Rattle.gx_scripting.specs.{declared.script_fault.ScriptFault.ScriptFault, Scripting.{Printed, line_effect, ScriptRun, unread, with_line, on_line, Cut, cut_of, after_lines, script_of, is_settled}, Leaving.IsHalf, ScriptPiping.{so_far, EndsLine, Known, mark, line_marks, cause_of, Refused, StopsIn, IsBadLine, StopsAtLine, IsSoFar, TakesPiece, FindsBad, BreaksOff, StopsInPiece}, ScriptTexts.{ended, has_no_end}}
+use Rattle.gx_devices.specs.{Devices.IsFront, Stopping.{AreFirst, Mark, Memory, Writing, IsBetween, IsUnsent, Stops, trail}}
 use Rattle.gx_devices.proofs.Stopping.{first_behind, first_same, stops_here, trail_stops}
 use Rattle.gx_policy.specs.declared.policy.PolicyData.{PolicyData}
 use Rattle.gx_history.specs.declared.record.RecordData.{RecordData}
-use Rattle.gx_scripting.specs.declared.script_fault.ScriptFault.TheVariants as faults
 use Rattle.gx_script.specs.ScriptLines.{is_too_long}
-use Rattle.gx_scripting.specs.Scripting.{Printed, line_effect, ScriptRun, unread, with_line, on_line, Cut, cut_of, after_lines, script_of, is_settled}
-use Rattle.gx_scripting.specs.Leaving.{IsHalf}
-use Rattle.gx_scripting.specs.ScriptPiping.{so_far, EndsLine, Known, mark, line_marks, cause_of, Refused, StopsIn, IsBadLine, StopsAtLine, IsSoFar, TakesPiece, FindsBad, BreaksOff, StopsInPiece}
-use Rattle.gx_scripting.proofs.Growing.{GoesOn, EffectGoesOn, line_effect_on}
-use Rattle.gx_scripting.specs.ScriptTexts.{ended, has_no_end}
-use Rattle.gx_scripting.proofs.ScriptCuts.{cut_end, cut_on, lines_more, script_is, long_is_bad, settled_bad, settled_long, settled_stays, nothing_follows, lines_grow}
+use Rattle.gx_scripting.proofs.{Growing.{GoesOn, EffectGoesOn, line_effect_on}, ScriptCuts.{cut_end, cut_on, lines_more, script_is, long_is_bad, settled_bad, settled_long, settled_stays, nothing_follows, lines_grow}}
 
 pub if_err : {T E : Type 0} (r : Result T E) (P Q : E → Type 0) → ((x : E) → P x → Q x) → IfErr r P → IfErr r Q
 if_err (Ok x) P Q f p = tt
@@ -48,14 +38,14 @@ stops_before run is_good lines fault now output left same stops written =
     record { stop = mark run; stops = stops; good = is_good; gate = same; told = []; text = sym (append-nil run.text); written = written }
 
 -- a growth was refused before them
-pub pauses : (run : ScriptRun) → run.bad ≡ None → (lines : List (List ℕ)) (now : GateData) (output : Option (List ℕ)) → now ≡ run.gate → StopsIn run lines faults.OutOfMemory now output output
+pub pauses : (run : ScriptRun) → run.bad ≡ None → (lines : List (List ℕ)) (now : GateData) (output : Option (List ℕ)) → now ≡ run.gate → StopsIn run lines ScriptFault.OutOfMemory now output output
 pauses run is_good lines now output same =
-    stops_before run is_good lines faults.OutOfMemory now output output same (stops_here Refused (mark run) (trail line_marks on_line run lines)) (Appends-nil output)
+    stops_before run is_good lines ScriptFault.OutOfMemory now output output same (stops_here Refused (mark run) (trail line_marks on_line run lines)) (Appends-nil output)
 
 -- a line was done, and a front of its text written
 pub half_written : (before : GateData) (line : List ℕ) (now : GateData) (output left : Option (List ℕ)) (text piece : List ℕ)
     → line_effect before line ≡ Some (record { gate = now; text = text }) → piece ≡ text → IsFront output left piece
-    → (run : ScriptRun) (others : List (List ℕ)) → run.gate ≡ before → run.bad ≡ None → StopsIn run (line ∷ others) faults.WriteFailed now output left
+    → (run : ScriptRun) (others : List (List ℕ)) → run.gate ≡ before → run.bad ≡ None → StopsIn run (line ∷ others) ScriptFault.WriteFailed now output left
 half_written before line now output left text piece e p f run others at is_good =
     let stop : Mark RecordData Known = record { records = now.records; text = run.text ++ f.front; known = record { policy = now.policy; bad = None } } in
     let done : on_line run line ≡ with_line run (Some (record { gate = now; text = text })) = good_line run is_good line ∙ ap (with_line run) (ap (λ g. line_effect g line) at ∙ e) in
@@ -77,7 +67,7 @@ half_written before line now output left text piece e p f run others at is_good 
 
 -- of its records the first were made, and nothing was written
 pub half_done : (before : GateData) (line : List ℕ) (now : GateData) (output : Option (List ℕ)) → IsHalf before (line_effect before line) now
-    → (run : ScriptRun) (others : List (List ℕ)) → run.gate ≡ before → run.bad ≡ None → StopsIn run (line ∷ others) faults.OutOfMemory now output output
+    → (run : ScriptRun) (others : List (List ℕ)) → run.gate ≡ before → run.bad ≡ None → StopsIn run (line ∷ others) ScriptFault.OutOfMemory now output output
 half_done before line now output (inl same) run others at is_good = pauses run is_good (line ∷ others) now output (same ∙ sym at)
 half_done before line now output (inr h) run others at is_good = by h.left.others h.left.whole
   where
@@ -93,7 +83,7 @@ half_done before line now output (inr h) run others at is_good = by h.left.other
     known_as : (policy : PolicyData) (bad : Option ℕ) → now.policy ≡ policy → None ≡ bad → stop.known ≡ record { policy = policy; bad = bad }
     known_as policy bad e k = ap (λ p. record { policy = p; bad = None }) e ∙ ap (λ b. record { policy = policy; bad = b }) k
 
-    ended : IsBetween Refused Memory (mark run) (mark (with_line run (Some h.printed))) stop → StopsIn run (line ∷ others) faults.OutOfMemory now output output
+    ended : IsBetween Refused Memory (mark run) (mark (with_line run (Some h.printed))) stop → StopsIn run (line ∷ others) ScriptFault.OutOfMemory now output output
     ended between = record {
       stop = stop;
       stops = inr (inl (subst (λ (r : ScriptRun). IsBetween Refused Memory (mark run) (mark r) stop) (sym done) between));
@@ -104,7 +94,7 @@ half_done before line now output (inr h) run others at is_good = by h.left.other
       written = Appends-nil output;
     }
 
-    by : (others' : List RecordData) → h.printed.gate.records ≡ now.records ++ others' → StopsIn run (line ∷ others) faults.OutOfMemory now output output
+    by : (others' : List RecordData) → h.printed.gate.records ≡ now.records ++ others' → StopsIn run (line ∷ others) ScriptFault.OutOfMemory now output output
     by [] e = ended (inr (record {
       records = sym (append-nil now.records) ∙ sym e;
       known = known_as h.printed.gate.policy None (h.policy_kept ∙ sym effect.policy_kept) refl;
@@ -212,11 +202,11 @@ module _ (before : GateData) (bytes : List ℕ) (gate : GateData) (line : List �
         }
 
     pub stops_end : (tail : List ℕ) (now : GateData) (output left : Option (List ℕ)) (fault : ScriptFault) → StopsAtLine gate line lines now output left fault → StopsInPiece before bytes (byte ∷ tail) now output left fault
-    stops_end tail now output left (faults.BadLine n) d = finds_before before bytes (byte ∷ []) tail n now output left (bad_end n now output left d)
-    stops_end tail now output left faults.WriteFailed d = half_end tail now output left faults.WriteFailed (λ others. d (so_far before bytes) others (sym gate_is) is_good)
-    stops_end tail now output left faults.OutOfMemory d = half_end tail now output left faults.OutOfMemory (λ others. d (so_far before bytes) others (sym gate_is) is_good)
-    stops_end tail now output left faults.ReadFailed d = absurd d
-    stops_end tail now output left faults.Endless d = absurd d
+    stops_end tail now output left (ScriptFault.BadLine n) d = finds_before before bytes (byte ∷ []) tail n now output left (bad_end n now output left d)
+    stops_end tail now output left ScriptFault.WriteFailed d = half_end tail now output left ScriptFault.WriteFailed (λ others. d (so_far before bytes) others (sym gate_is) is_good)
+    stops_end tail now output left ScriptFault.OutOfMemory d = half_end tail now output left ScriptFault.OutOfMemory (λ others. d (so_far before bytes) others (sym gate_is) is_good)
+    stops_end tail now output left ScriptFault.ReadFailed d = absurd d
+    stops_end tail now output left ScriptFault.Endless d = absurd d
 
   module _ (front : List ℕ) (goes_on : has_no_end front ≡ true) where
     so_far_on : so_far before (bytes ++ front) ≡ so_far before bytes
@@ -259,7 +249,7 @@ module _ (before : GateData) (bytes : List ℕ) (gate : GateData) (line : List �
     pub too_long_on : (tail : List ℕ) (n : ℕ) (output : Option (List ℕ)) → n ≡ lines + 1 → is_too_long (line ++ front) ≡ true → FindsBad before bytes (front ++ tail) n gate output output
     too_long_on tail n output m longer = finds_before before bytes front tail n gate output output (too_long n output m longer)
 
-  pub breaks_on : (piece : List ℕ) (output : Option (List ℕ)) → BreaksOff before bytes piece gate output output faults.OutOfMemory
+  pub breaks_on : (piece : List ℕ) (output : Option (List ℕ)) → BreaksOff before bytes piece gate output output ScriptFault.OutOfMemory
   breaks_on piece output =
       let g = lines_grow bytes piece in
       record { lines = g.0; split = g.1; cut = pauses (so_far before bytes) is_good g.0 gate output gate_is }
@@ -331,11 +321,11 @@ module _ (before : GateData) (bytes p : List ℕ) (gate : GateData) (rest : List
         }
 
     pub stops_more : (now : GateData) (third : Option (List ℕ)) (fault : ScriptFault) → StopsInPiece before (bytes ++ p) q now second third fault → StopsInPiece before bytes all now first third fault
-    stops_more now third (faults.BadLine n) f = finds_more n now third f
-    stops_more now third faults.WriteFailed f = breaks_more now third faults.WriteFailed f
-    stops_more now third faults.OutOfMemory f = breaks_more now third faults.OutOfMemory f
-    stops_more now third faults.ReadFailed f = absurd f
-    stops_more now third faults.Endless f = absurd f
+    stops_more now third (ScriptFault.BadLine n) f = finds_more n now third f
+    stops_more now third ScriptFault.WriteFailed f = breaks_more now third ScriptFault.WriteFailed f
+    stops_more now third ScriptFault.OutOfMemory f = breaks_more now third ScriptFault.OutOfMemory f
+    stops_more now third ScriptFault.ReadFailed f = absurd f
+    stops_more now third ScriptFault.Endless f = absurd f
 
 -- the rest of a line, its end, and what stands behind it
 pub stops_ended : (before : GateData) (bytes front tail : List ℕ) (now : GateData) (output left : Option (List ℕ)) (fault : ScriptFault) → StopsInPiece before bytes (front ++ 10 ∷ tail) now output left fault

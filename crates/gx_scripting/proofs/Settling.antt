@@ -1,28 +1,16 @@
 -- What `match` and `settle` do, step by step.
-use Rattle.std.proofs.Common.{◌≡◌, ℕ, ◌-◌, ◌<◌, ◌≤◌, ◌⊎◌, inl, inr, max, arith, Bool, true, false, cond, List, [], ◌∷◌, ◌++◌, length, take, drop, refl, sym, ap, ◌∙◌, append_assoc, subst, length-append, le-leb}
-use Rattle.std.proofs.Math.Seq.{drop-append_seam, drop-length, take-append_seam}
-use Rattle.std.proofs.lemmas.Bool.{leb-true, leb-false, lt-leb}
-use Rattle.std.proofs.lemmas.List.{take_all}
+use Rattle.std.proofs.{Common.{◌≡◌, ℕ, ◌-◌, ◌<◌, ◌≤◌, ◌⊎◌, inl, inr, max, arith, Bool, true, false, cond, List, [], ◌∷◌, ◌++◌, length, take, drop, refl, sym, ap, ◌∙◌, append_assoc, subst, length-append, le-leb}, Math.Seq.{drop-append_seam, drop-length, take-append_seam}, lemmas.{Bool.{leb-true, leb-false, lt-leb}, List.take_all}}
 use Rattle.std.specs.Prelude.{Option, None, Some, Result, Ok, Err, is_none, is_some, nat_le, option_map, ◌||◌}
 use Rattle.gx_policy.specs.declared.policy.PolicyData.{PolicyData}
-use Rattle.gx_history.specs.declared.record.RecordData.{RecordData}
-use Rattle.gx_history.specs.declared.record.Verdict.{Verdict}
-use Rattle.gx_history.specs.Matching.{matching}
-use Rattle.gx_history.specs.Settling.{AddsMatches, settled}
-use Rattle.gx_history.specs.Verdicts.{IsLegal, day_limit, next, step_verdict}
-use Rattle.gx_effects.proofs.Orderly.{legal_is_orderly}
-use Rattle.gx_effects.proofs.Settling.{settled_adds, settled_idle, settled_step}
+use Rattle.gx_history.specs.{declared.record.{RecordData.RecordData, Verdict.Verdict}, Matching.matching, Settling.{AddsMatches, settled}, Verdicts.{IsLegal, day_limit, next, step_verdict}}
+use Rattle.gx_effects.proofs.{Orderly.legal_is_orderly, Settling.{settled_adds, settled_idle, settled_step}}
 use Rattle.gx_market.specs.Meeting.{match_record}
-use Rattle.gx_answers.specs.Gates.{GateData}
-use Rattle.gx_answers.specs.Matches.{matching_of, next_match}
-use Rattle.gx_answers.specs.declared.outcome.StepFault.{StepFault}
+use Rattle.gx_answers.specs.{Gates.GateData, Matches.{matching_of, next_match}, declared.outcome.StepFault.StepFault}
 use Rattle.gx_script.specs.Printing.{idle_line, outcome_line, refused_line}
-use Rattle.gx_scripting.specs.Leaving.{IsHalf}
-use Rattle.gx_scripting.specs.Scripting.{Printed, is_full, last_line, makes_none, match_by, match_of, most_records, record_lines, settle_of}
+use Rattle.gx_scripting.specs.{Leaving.IsHalf, Scripting.{Printed, is_full, last_line, makes_none, match_by, match_of, most_records, record_lines, settle_of}}
 use Rattle.gx_devices.specs.Stopping.{AreFirst}
 use Rattle.gx_devices.proofs.Stopping.{first_same}
-use Rattle.gx_scripting.proofs.Doing.{not_full}
-use Rattle.gx_scripting.proofs.Growing.{GoesOn, here, further, match_on, settle_on, take_front}
+use Rattle.gx_scripting.proofs.{Doing.not_full, Growing.{GoesOn, here, further, match_on, settle_on, take_front}}
 
 -- a match in a gate that is not full
 pub match_is : (gate : GateData) (moment : ℕ) (r : RecordData) → next_match gate moment ≡ Some r → is_full gate ≡ false

@@ -1,16 +1,8 @@
 -- The lines of a text, with their ends, are the text.
-use Rattle.std.proofs.Common.{◌≡◌, ℕ, suc, ◌+◌, ◌-◌, length, take, drop, get_or, arith, Bool, true, false, ◌&&◌, not, cond, eqb, ltb, Some, None, List, [], ◌∷◌, ◌++◌, refl, sym, ap, ◌∙◌, subst, append_assoc, append-nil}
-use Rattle.std.specs.Prelude.{fold, Option, position, IfNone}
-use Rattle.std.specs.List.{flat_map, position_or_len}
-use Rattle.std.proofs.lemmas.Bool.{eqb-true, false_from_ne_true, le-ltb, lt-ltb, ltb-true, ltb-false, and_parts, and_from}
-use Rattle.std.proofs.lemmas.List.{take_all, take_rest}
-use Rattle.std.proofs.lemmas.List.Sums.{position_or_len_is, split_at_first, passes_at_first}
-use Rattle.std.proofs.lemmas.Option.{cond_some}
-use Rattle.std.proofs.lemmas.Grind.{flat_map-append}
-use Rattle.std.proofs.lemmas.List.Folds.{list_all-append}
+use Rattle.std.proofs.{Common.{◌≡◌, ℕ, suc, ◌+◌, ◌-◌, length, take, drop, get_or, arith, Bool, true, false, ◌&&◌, not, cond, eqb, ltb, Some, None, List, [], ◌∷◌, ◌++◌, refl, sym, ap, ◌∙◌, subst, append_assoc, append-nil}, lemmas.{Bool.{eqb-true, false_from_ne_true, le-ltb, lt-ltb, ltb-true, ltb-false, and_parts, and_from}, List.{take_all, take_rest, Sums.{position_or_len_is, split_at_first, passes_at_first}, Folds.list_all-append}, Option.cond_some, Grind.flat_map-append}}
+use Rattle.std.specs.{Prelude.{fold, Option, position, IfNone}, List.{flat_map, position_or_len}}
 use Rattle.memchr.specs.Find.{IsFirstByte, is_byte}
-use Rattle.gx_scripting.specs.Scripting.{Cut, on_byte, cut_of}
-use Rattle.gx_scripting.specs.ScriptTexts.{ended, has_no_end, is_end, joined, are_lines}
+use Rattle.gx_scripting.specs.{Scripting.{Cut, on_byte, cut_of}, ScriptTexts.{ended, has_no_end, is_end, joined, are_lines}}
 
 -- one byte more
 joined_step : (whole : List (List ℕ)) (rest : List ℕ) (byte : ℕ) (test : Bool) → eqb byte 10 ≡ test

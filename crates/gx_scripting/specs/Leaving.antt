@@ -2,9 +2,7 @@
 use Rattle.std.specs.Prelude.{◌≡◌, ◌⊎◌, Option, Some, None}
 use Rattle.gx_devices.specs.Stopping.{AreFirst}
 use Rattle.gx_answers.specs.Gates.{GateData}
-use Rattle.gx_scripting.specs.declared.script_fault.LineFault.{LineFault}
-use Rattle.gx_scripting.specs.declared.script_fault.LineFault.TheVariants as line_faults
-use Rattle.gx_scripting.specs.Scripting.{Printed}
+use Rattle.gx_scripting.specs.{declared.script_fault.LineFault.LineFault, Scripting.Printed}
 
 -- of the records that the line leaves, the first were made
 pub record IsPartlyDone (gate : GateData) (done : Option Printed) (now : GateData) : Type 0 where
@@ -20,5 +18,5 @@ IsHalf gate done now = (now ≡ gate) ⊎ IsPartlyDone gate done now
 
 -- a bad line leaves the gate as it was; without memory the line is half done
 abbrev pub Leaves : GateData → Option Printed → GateData → LineFault → Type 0
-Leaves gate done now (line_faults.Bad wrong) = (done ≡ None) × (now ≡ gate)
-Leaves gate done now line_faults.OutOfMemory = IsHalf gate done now
+Leaves gate done now (LineFault.Bad wrong) = (done ≡ None) × (now ≡ gate)
+Leaves gate done now LineFault.OutOfMemory = IsHalf gate done now

@@ -1,14 +1,10 @@
 -- What `run_script` did to a reader, a writer and a gate.
-use Rattle.std.specs.Prelude.{◌≡◌, ℕ, ◌+◌, ◌<◌, ◌≤◌, true, length, ◌⊎◌, List, [], ◌∷◌, ◌++◌, Option, Some, None, IfSome}
-use Rattle.std.specs.Io.KnownBytes.{Consumes, Appends, IsAtEnd}
+use Rattle.std.specs.{Prelude.{◌≡◌, ℕ, ◌+◌, ◌<◌, ◌≤◌, true, length, ◌⊎◌, List, [], ◌∷◌, ◌++◌, Option, Some, None, IfSome}, Io.KnownBytes.{Consumes, Appends, IsAtEnd}}
 use Rattle.gx_answers.specs.Gates.{GateData}
-use Rattle.gx_scripting.specs.declared.script_fault.ScriptFault.{ScriptFault}
-use Rattle.gx_scripting.specs.declared.script_fault.ScriptFault.TheVariants as faults
-use Rattle.gx_devices.specs.Devices.{IsUnfailing}
-use Rattle.gx_devices.specs.Stopping.{Cause, Memory, Full, Writing, Reading, Mark, Stops, trail}
+use Rattle.gx_scripting.specs.{declared.script_fault.ScriptFault.ScriptFault, Scripting.{ScriptRun, line_effect, on_line, cut_of, after_lines, script_of, is_settled}}
+use Rattle.gx_devices.specs.{Devices.IsUnfailing, Stopping.{Cause, Memory, Full, Writing, Reading, Mark, Stops, trail}}
 use Rattle.gx_policy.specs.declared.policy.PolicyData.{PolicyData}
 use Rattle.gx_history.specs.declared.record.RecordData.{RecordData}
-use Rattle.gx_scripting.specs.Scripting.{ScriptRun, line_effect, on_line, cut_of, after_lines, script_of, is_settled}
 
 -- after the lines that have ended
 unfoldable pub so_far : GateData → List ℕ → ScriptRun
@@ -39,11 +35,11 @@ line_marks run line = mark (on_line run line) ∷ []
 
 -- why a script stops; a full day is printed, and a bad line is told in another way
 abbrev pub cause_of : ScriptFault → Cause
-cause_of (faults.BadLine n) = Full
-cause_of faults.ReadFailed = Reading
-cause_of faults.WriteFailed = Writing
-cause_of faults.OutOfMemory = Memory
-cause_of faults.Endless = Reading
+cause_of (ScriptFault.BadLine n) = Full
+cause_of ScriptFault.ReadFailed = Reading
+cause_of ScriptFault.WriteFailed = Writing
+cause_of ScriptFault.OutOfMemory = Memory
+cause_of ScriptFault.Endless = Reading
 
 -- a step is refused for want of memory
 abbrev pub Refused : Cause → List RecordData → Type 0
@@ -71,9 +67,9 @@ pub record IsBadLine (before : GateData) (line : List ℕ) (lines n : ℕ) (now 
 
 -- behind so many lines, a line was bad or given up
 abbrev pub StopsAtLine : GateData → List ℕ → ℕ → GateData → Option (List ℕ) → Option (List ℕ) → ScriptFault → Type 0
-StopsAtLine before line lines now output left (faults.BadLine n) = IsBadLine before line lines n now output left
-StopsAtLine before line lines now output left faults.ReadFailed = ⊥
-StopsAtLine before line lines now output left faults.Endless = ⊥
+StopsAtLine before line lines now output left (ScriptFault.BadLine n) = IsBadLine before line lines n now output left
+StopsAtLine before line lines now output left ScriptFault.ReadFailed = ⊥
+StopsAtLine before line lines now output left ScriptFault.Endless = ⊥
 StopsAtLine before line lines now output left fault =
     (run : ScriptRun) (others : List (List ℕ)) → run.gate ≡ before → run.bad ≡ None → StopsIn run (line ∷ others) fault now output left
 
@@ -106,9 +102,9 @@ pub record BreaksOff (before : GateData) (bytes piece : List ℕ) (now : GateDat
 
 -- in a piece, a line was bad or given up
 abbrev pub StopsInPiece : GateData → List ℕ → List ℕ → GateData → Option (List ℕ) → Option (List ℕ) → ScriptFault → Type 0
-StopsInPiece before bytes piece now output left (faults.BadLine n) = FindsBad before bytes piece n now output left
-StopsInPiece before bytes piece now output left faults.ReadFailed = ⊥
-StopsInPiece before bytes piece now output left faults.Endless = ⊥
+StopsInPiece before bytes piece now output left (ScriptFault.BadLine n) = FindsBad before bytes piece n now output left
+StopsInPiece before bytes piece now output left ScriptFault.ReadFailed = ⊥
+StopsInPiece before bytes piece now output left ScriptFault.Endless = ⊥
 StopsInPiece before bytes piece now output left fault = BreaksOff before bytes piece now output left fault
 
 -- Of the bytes read, the gate, the bytes written and the number of the first bad line are the script's; the bytes read are
@@ -150,19 +146,19 @@ pub record IsCutShort (input left output written : Option (List ℕ)) (before af
 
 -- what holds where a line was bad
 abbrev pub IfBadLine : ScriptFault → (ℕ → Type 0) → Type 0
-IfBadLine (faults.BadLine n) P = P n
-IfBadLine faults.ReadFailed P = Unit {0}
-IfBadLine faults.WriteFailed P = Unit {0}
-IfBadLine faults.OutOfMemory P = Unit {0}
-IfBadLine faults.Endless P = Unit {0}
+IfBadLine (ScriptFault.BadLine n) P = P n
+IfBadLine ScriptFault.ReadFailed P = Unit {0}
+IfBadLine ScriptFault.WriteFailed P = Unit {0}
+IfBadLine ScriptFault.OutOfMemory P = Unit {0}
+IfBadLine ScriptFault.Endless P = Unit {0}
 
 -- what holds where no line was bad
 abbrev pub UnlessBadLine : ScriptFault → Type 0 → Type 0
-UnlessBadLine (faults.BadLine n) P = Unit {0}
-UnlessBadLine faults.ReadFailed P = P
-UnlessBadLine faults.WriteFailed P = P
-UnlessBadLine faults.OutOfMemory P = P
-UnlessBadLine faults.Endless P = P
+UnlessBadLine (ScriptFault.BadLine n) P = Unit {0}
+UnlessBadLine ScriptFault.ReadFailed P = P
+UnlessBadLine ScriptFault.WriteFailed P = P
+UnlessBadLine ScriptFault.OutOfMemory P = P
+UnlessBadLine ScriptFault.Endless P = P
 
 -- where the reader tells its bytes: the gate, the first bad line and the bytes written are those of the script of all of them
 abbrev pub IsAll : (input output written : Option (List ℕ)) → GateData → GateData → Option ℕ → Type 0
@@ -171,8 +167,8 @@ IsAll input output written before after bad = IfSome input (λ all.
 
 -- Of the counts of failed calls of a reader and a writer, before and after: a device is blamed exactly where a call of it failed
 abbrev pub IsBlamedRightly : (reads reads' writes writes' : ℕ) → ScriptFault → Type 0
-IsBlamedRightly reads reads' writes writes' (faults.BadLine n) = IsUnfailing reads reads' writes writes'
-IsBlamedRightly reads reads' writes writes' faults.ReadFailed = (reads < reads') × (writes' ≡ writes)
-IsBlamedRightly reads reads' writes writes' faults.WriteFailed = (reads' ≡ reads) × (writes < writes')
-IsBlamedRightly reads reads' writes writes' faults.OutOfMemory = IsUnfailing reads reads' writes writes'
-IsBlamedRightly reads reads' writes writes' faults.Endless = IsUnfailing reads reads' writes writes'
+IsBlamedRightly reads reads' writes writes' (ScriptFault.BadLine n) = IsUnfailing reads reads' writes writes'
+IsBlamedRightly reads reads' writes writes' ScriptFault.ReadFailed = (reads < reads') × (writes' ≡ writes)
+IsBlamedRightly reads reads' writes writes' ScriptFault.WriteFailed = (reads' ≡ reads) × (writes < writes')
+IsBlamedRightly reads reads' writes writes' ScriptFault.OutOfMemory = IsUnfailing reads reads' writes writes'
+IsBlamedRightly reads reads' writes writes' ScriptFault.Endless = IsUnfailing reads reads' writes writes'

@@ -1,6 +1,5 @@
 -- How a text is made of its lines.
-use Rattle.std.specs.Prelude.{ℕ, Bool, not, ◌&&◌, ◌==◌, List, [], ◌∷◌, ◌++◌}
-use Rattle.std.specs.List.{flat_map, list_all}
+use Rattle.std.specs.{Prelude.{ℕ, Bool, not, ◌&&◌, ◌==◌, List, [], ◌∷◌, ◌++◌}, List.{flat_map, list_all}}
 use Rattle.gx_scripting.specs.Scripting.{Cut}
 
 -- a line and its LF

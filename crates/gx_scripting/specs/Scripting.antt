@@ -1,37 +1,20 @@
 -- What a script makes of a gate, and what it prints.
-use Rattle.std.specs.Prelude.{ℕ, ◌+◌, max, take, drop, Bool, not, ◌==◌, nat_le, is_some, is_none, ◌&&◌, ◌||◌, if◌then◌else◌, Option, Some, None, List, [], ◌∷◌, ◌++◌, length, fold}
-use Rattle.std.specs.List.{flat_map}
+use Rattle.std.specs.{Prelude.{ℕ, ◌+◌, max, take, drop, Bool, not, ◌==◌, nat_le, is_some, is_none, ◌&&◌, ◌||◌, if◌then◌else◌, Option, Some, None, List, [], ◌∷◌, ◌++◌, length, fold}, List.flat_map}
 use Rattle.gx_units.specs.declared.names.UserName.{UserName}
-use Rattle.gx_history.specs.declared.record.Asked.{Asked}
-use Rattle.gx_history.specs.declared.record.RecordData.{RecordData}
-use Rattle.gx_history.specs.declared.record.Request.{Request}
-use Rattle.gx_history.specs.declared.record.Request.TheVariants as requests
-use Rattle.gx_history.specs.Logins.{blank_session}
+use Rattle.gx_history.specs.{declared.record.{Asked.Asked, RecordData.RecordData, Request.Request}, Logins.blank_session, Streams.stream, Verdicts.{verdict, day_limit}}
 use Rattle.gx_policy.specs.People.{user_in}
-use Rattle.gx_history.specs.Streams.{stream}
-use Rattle.gx_history.specs.Verdicts.{verdict, day_limit}
-use Rattle.gx_answers.specs.Gates.{GateData}
-use Rattle.gx_answers.specs.Told.{login_of}
-use Rattle.gx_answers.specs.Matches.{next_match, settled_gate}
-use Rattle.gx_answers.specs.Steps.{has_its_places}
-use Rattle.gx_script.specs.declared.line.ScriptStep.{ScriptStep}
-use Rattle.gx_script.specs.declared.line.ScriptStep.TheVariants.{Login, Logout, Enter, Replace, Cancel, Command, Raw}
-use Rattle.gx_script.specs.declared.line.ScriptLine.{ScriptLine}
-use Rattle.gx_script.specs.declared.line.ScriptLine.TheVariants.{Skipped, Step, Match, Settle, Stream}
-use Rattle.gx_answers.specs.Asking.{asked_by, stepped}
-use Rattle.gx_script.specs.Words.{◌>>=◌}
-use Rattle.gx_script.specs.ScriptLines.{line_of, is_too_long}
-use Rattle.gx_script.specs.Printing.{idle_line, outcome_line, refused_line, report_lines}
+use Rattle.gx_answers.specs.{Gates.GateData, Told.login_of, Matches.{next_match, settled_gate}, Steps.has_its_places, Asking.{asked_by, stepped}}
+use Rattle.gx_script.specs.{declared.line.{ScriptStep.{ScriptStep, TheVariants.{Login, Logout, Enter, Replace, Cancel, Command, Raw}}, ScriptLine.{ScriptLine, TheVariants.{Skipped, Step, Match, Settle, Stream}}}, Words.◌>>=◌, ScriptLines.{line_of, is_too_long}, Printing.{idle_line, outcome_line, refused_line, report_lines}}
 
 -- what a step asks the gate for
 abbrev pub request_of_step : GateData → UserName → ScriptStep → Request
 request_of_step gate user (Login given wanted) =
     login_of gate user given blank_session wanted
-request_of_step gate user Logout = requests.Logout
-request_of_step gate user (Enter order) = requests.Enter order
-request_of_step gate user (Replace order) = requests.Replace order
-request_of_step gate user (Cancel order) = requests.Cancel order
-request_of_step gate user (Command command) = requests.Command command
+request_of_step gate user Logout = Request.Logout
+request_of_step gate user (Enter order) = Request.Enter order
+request_of_step gate user (Replace order) = Request.Replace order
+request_of_step gate user (Cancel order) = Request.Cancel order
+request_of_step gate user (Command command) = Request.Command command
 request_of_step gate user (Raw request) = request
 
 -- a gate, and what is printed

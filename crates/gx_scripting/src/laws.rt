@@ -2,12 +2,8 @@
 
 ghost use Rattle.std.specs.Prelude.{◌≡◌, ℕ, List, ◌++◌, Option, IfSome, IsTrue};
 ghost use Rattle.gx_answers.specs.Gates.{GateData};
-ghost use Rattle.gx_devices.specs.Devices.{IsFront};
-ghost use Rattle.gx_devices.specs.Stopping.{AreFirst};
-ghost use Rattle.gx_scripting.specs.declared.script_fault.ScriptFault.{ScriptFault};
-ghost use Rattle.gx_scripting.specs.ScriptPiping.{IsCutShort};
-ghost use Rattle.gx_scripting.specs.Scripting.{cut_of, script_of, is_settled};
-ghost use Rattle.gx_scripting.specs.ScriptTexts.{joined, are_lines};
+ghost use Rattle.gx_devices.specs.{Devices.IsFront, Stopping.AreFirst};
+ghost use Rattle.gx_scripting.specs.{declared.script_fault.ScriptFault.ScriptFault, ScriptPiping.IsCutShort, Scripting.{cut_of, script_of, is_settled}, ScriptTexts.{joined, are_lines}};
 
 /// Once a line of a script is bad, or too long already, nothing that follows makes a step or is printed.
 pub fn nothing_follows_a_bad_line()

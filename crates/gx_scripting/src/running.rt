@@ -2,14 +2,9 @@
 
 ghost use Rattle.std.specs.Prelude.{◌≡◌, ◌+◌, ◌^◌, ◌<◌, ◌⊎◌, ◌++◌, [], length, Some, IsTrue, IsFalse, IfOk, IfErr, OnOk, OnErr};
 ghost use Rattle.gx_answers.specs.Matches.{matches_left};
-ghost use Rattle.gx_history.specs.Showing.{has_its_first, is_askable};
-ghost use Rattle.gx_history.specs.Streams.{stream};
-ghost use Rattle.gx_script.specs.Printing.{report_lines};
-ghost use Rattle.gx_script.specs.declared.line.ScriptLine.TheVariants.{Stream};
-ghost use Rattle.gx_script.specs.ScriptLines.{IsAskable, IsAskableLine};
-ghost use Rattle.gx_scripting.specs.Scripting.{request_of_step, step_of, match_of, makes_none, settle_of};
-ghost use Rattle.gx_scripting.specs.Scripting.{effect_of, line_effect};
-ghost use Rattle.gx_scripting.specs.Leaving.{IsHalf, Leaves};
+ghost use Rattle.gx_history.specs.{Showing.{has_its_first, is_askable}, Streams.stream};
+ghost use Rattle.gx_script.specs.{Printing.report_lines, declared.line.ScriptLine.TheVariants.Stream, ScriptLines.{IsAskable, IsAskableLine}};
+ghost use Rattle.gx_scripting.specs.{Scripting.{request_of_step, step_of, match_of, makes_none, settle_of, effect_of, line_effect}, Leaving.{IsHalf, Leaves}};
 
 use crate::script_fault::LineFault;
 use gx_answers::{AccessGate, StepFault, asked, count_of};

@@ -1,13 +1,9 @@
 //! A script over any reader and any writer.
 
-ghost use Rattle.std.specs.Prelude.{◌≡◌, ℕ, ◌+◌, ◌-◌, ◌^◌, ◌<◌, ◌≤◌};
-ghost use Rattle.std.specs.Prelude.{List, [], ◌++◌, length, position, Option, Some, None, IsTrue, IfErr, IfNone, IfSome, OnOk, OnErr};
+ghost use Rattle.std.specs.Prelude.{◌≡◌, ℕ, ◌+◌, ◌-◌, ◌^◌, ◌<◌, ◌≤◌, List, [], ◌++◌, length, position, Option, Some, None, IsTrue, IfErr, IfNone, IfSome, OnOk, OnErr};
 ghost use Rattle.gx_answers.specs.Gates.{GateData};
 ghost use Rattle.gx_devices.specs.Devices.{counted_on, IsUnfailing};
-ghost use Rattle.gx_scripting.specs.ScriptPiping.{EndsLine, StopsAtLine, IsSoFar, TakesPiece, StopsInPiece};
-ghost use Rattle.gx_scripting.specs.ScriptPiping.{IsScript, IsCutShort, IsAll, IsBlamedRightly};
-ghost use Rattle.gx_scripting.specs.ScriptPiping.{IfBadLine, UnlessBadLine};
-ghost use Rattle.gx_scripting.specs.ScriptTexts.{ended, has_no_end, is_end};
+ghost use Rattle.gx_scripting.specs.{ScriptPiping.{EndsLine, StopsAtLine, IsSoFar, TakesPiece, StopsInPiece, IsScript, IsCutShort, IsAll, IsBlamedRightly, IfBadLine, UnlessBadLine}, ScriptTexts.{ended, has_no_end, is_end}};
 
 use crate::running::take_line;
 use crate::script_fault::{Explained, LineFault, ScriptFault};

@@ -1,25 +1,19 @@
 -- What a reader has heard, piece by piece.
-use Rattle.std.proofs.Common.{◌≡◌, ◌<◌, ℕ, inl, inr, ◌⊎◌, List, [], ◌++◌, Option, sym, ap, ◌∙◌, subst, append-nil, append_assoc, arith}
+use Rattle.std.proofs.{Common.{◌≡◌, ◌<◌, ℕ, inl, inr, ◌⊎◌, List, [], ◌++◌, Option, sym, ap, ◌∙◌, subst, append-nil, append_assoc, arith}, KnownBytes.{Consumes-nil, Consumes-trans}}
 use Rattle.std.specs.Io.KnownBytes.{Consumes, IsAtEnd}
-use Rattle.std.proofs.KnownBytes.{Consumes-nil, Consumes-trans}
 use Rattle.gx_devices.specs.Devices.{one_more}
-use Rattle.gx_soup.specs.declared.packet.SoupFault.{SoupFault}
-use Rattle.gx_soup.specs.Feeding.{Held, HasRead}
-use Rattle.gx_soup.specs.Packets.{packets_of}
+use Rattle.gx_soup.specs.{declared.packet.SoupFault.SoupFault, Feeding.{Held, HasRead}, Packets.packets_of}
 use Rattle.gx_session.specs.Happenings.{Happening}
-use Rattle.gx_serve.specs.declared.reading.Left.{Left}
-use Rattle.gx_serve.specs.declared.reading.Left.TheVariants as lefts
-use Rattle.gx_reception.specs.Arrivals.{HasEnded}
-use Rattle.gx_reception.specs.Openings.{IsOpening, OpeningData}
-use Rattle.gx_serve.specs.Readings.{IfOpen, IsBroken, IsLeft, Leaves, Stands, WasHeard}
+use Rattle.gx_serve.specs.{declared.reading.Left.Left, Readings.{IfOpen, IsBroken, IsLeft, Leaves, Stands, WasHeard}}
+use Rattle.gx_reception.specs.{Arrivals.HasEnded, Openings.{IsOpening, OpeningData}}
 
 -- a piece was taken
 pub opened : (feeder feeder' : Held) (piece : List ℕ) (result : Left) → ((before : List ℕ) → HasRead feeder before → IsLeft (packets_of (before ++ piece)).fault result)
-    → ((before : List ℕ) → HasRead feeder before → IfOpen result (HasRead feeder' (before ++ piece))) → (before : List ℕ) → Stands lefts.Open feeder before → Stands result feeder' (before ++ piece)
-opened feeder feeder' piece lefts.Open left read before stands = (read before stands.0, left before stands.0)
-opened feeder feeder' piece (lefts.Over over) left read before stands = (tt, tt)
-opened feeder feeder' piece (lefts.Refused told) left read before stands = (tt, left before stands.0)
-opened feeder feeder' piece (lefts.Broken found told) left read before stands = let l = left before stands.0 in (
+    → ((before : List ℕ) → HasRead feeder before → IfOpen result (HasRead feeder' (before ++ piece))) → (before : List ℕ) → Stands Left.Open feeder before → Stands result feeder' (before ++ piece)
+opened feeder feeder' piece Left.Open left read before stands = (read before stands.0, left before stands.0)
+opened feeder feeder' piece (Left.Over over) left read before stands = (tt, tt)
+opened feeder feeder' piece (Left.Refused told) left read before stands = (tt, left before stands.0)
+opened feeder feeder' piece (Left.Broken found told) left read before stands = let l = left before stands.0 in (
   tt,
   record {
     front = before ++ piece;
@@ -29,7 +23,7 @@ opened feeder feeder' piece (lefts.Broken found told) left read before stands = 
     told = l.1;
   },
 )
-opened feeder feeder' piece (lefts.Excluded why told) left read before stands = (tt, left before stands.0)
+opened feeder feeder' piece (Left.Excluded why told) left read before stands = (tt, left before stands.0)
 
 -- what comes behind a fault is let go
 pub still_broken : (found : SoupFault) (told : Happening) (before piece : List ℕ) → IsBroken found told before → IsBroken found told (before ++ piece)
@@ -49,24 +43,24 @@ pub record Hears (before : List ℕ) (input left : Option (List ℕ)) (feeder : 
 
 -- what the bytes that a connection began with leave
 begun : (before : List ℕ) (o : OpeningData) (state : Left) → IsOpening before o → IsLeft o.fault state → Leaves before state
-begun before o lefts.Open opening left = opening.fault ∙ left
-begun before o (lefts.Over over) opening left = tt
-begun before o (lefts.Refused told) opening left = left
-begun before o (lefts.Broken found told) opening left = record {
+begun before o Left.Open opening left = opening.fault ∙ left
+begun before o (Left.Over over) opening left = tt
+begun before o (Left.Refused told) opening left = left
+begun before o (Left.Broken found told) opening left = record {
   front = before;
   rest = [];
   whole = sym (append-nil before);
   fault = opening.fault ∙ left.0;
   told = left.1;
 }
-begun before o (lefts.Excluded why told) opening left = left
+begun before o (Left.Excluded why told) opening left = left
 
 has_begun : (before : List ℕ) (o : OpeningData) (state : Left) → IsOpening before o → IfOpen state (HasRead o.feeder before)
-has_begun before o lefts.Open opening = opening.reads
-has_begun before o (lefts.Over over) opening = tt
-has_begun before o (lefts.Refused told) opening = tt
-has_begun before o (lefts.Broken found told) opening = tt
-has_begun before o (lefts.Excluded why told) opening = tt
+has_begun before o Left.Open opening = opening.reads
+has_begun before o (Left.Over over) opening = tt
+has_begun before o (Left.Refused told) opening = tt
+has_begun before o (Left.Broken found told) opening = tt
+has_begun before o (Left.Excluded why told) opening = tt
 
 pub hears_nothing : (before : List ℕ) (input : Option (List ℕ)) (o : OpeningData) (state : Left) → IsOpening before o → IsLeft o.fault state → Hears before input input o.feeder state
 hears_nothing before input o state opening left = record {

@@ -1,37 +1,16 @@
 -- What becomes of a session and its pass under the lock.
 use Rattle.std.proofs.Common.{◌≡◌, ◌≢◌, ℕ, ◌-◌, Bool, true, false, cond, Option, Some, None, inl, inr, refl, sym, ap, subst, ◌∙◌}
 use Rattle.std.specs.Prelude.{nat_le}
-use Rattle.gx_units.specs.declared.names.UserName.{UserName}
+use Rattle.gx_units.specs.{declared.names.UserName.UserName, Spelling.folded_user}
 use Rattle.gx_policy.specs.declared.policy.PolicyData.{PolicyData}
-use Rattle.gx_history.specs.declared.record.Asked.{Asked}
-use Rattle.gx_answers.specs.declared.outcome.Outcome.{Outcome}
-use Rattle.gx_answers.specs.declared.outcome.StepFault.TheVariants as faults
-use Rattle.gx_answers.specs.Gates.{left_by}
-use Rattle.gx_pass.specs.declared.view.Holds.{Holds}
+use Rattle.gx_history.specs.{declared.record.Asked.Asked, InForce.line_of}
+use Rattle.gx_answers.specs.{declared.{outcome.{Outcome.Outcome, StepFault.StepFault}, pulled.Pulled.Pulled}, Gates.left_by}
+use Rattle.gx_pass.specs.{declared.view.Holds.Holds, Views.{mine, retold}}
 use Rattle.gx_session.specs.Happenings as happens
-use Rattle.gx_session.specs.declared.session.Phase.{Phase}
-use Rattle.gx_session.specs.declared.session.Phase.TheVariants.{Fresh, Waiting, On, Abandoned, Done}
-use Rattle.gx_session.specs.Outboxes.{left_after}
-use Rattle.gx_session.specs.Table.{row_in, turn, SessionData}
-use Rattle.gx_history.specs.InForce.{line_of}
-use Rattle.gx_units.specs.Spelling.{folded_user}
-use Rattle.gx_answers.specs.declared.pulled.Pulled.{Pulled}
-use Rattle.gx_pass.specs.Views.{mine, retold}
-use Rattle.gx_door.specs.Acts.{IsLater}
-use Rattle.gx_door.specs.declared.ended.Ended.{Ended}
-use Rattle.gx_door.specs.Matching.{Turns}
+use Rattle.gx_session.specs.{declared.{session.Phase.{Phase, TheVariants.{Fresh, Waiting, On, Abandoned, Done}}, event.Sign.Sign, outbox.Outbox.Outbox}, Outboxes.left_after, Table.{row_in, turn, SessionData}, Events.{is_on, is_over}}
+use Rattle.gx_door.specs.{Acts.IsLater, declared.ended.Ended.Ended, Matching.Turns}
 use Rattle.gx_lobby.specs.Watches.{has_news, WatchData}
-use Rattle.gx_session.specs.Events.{is_on, is_over}
-use Rattle.gx_session.specs.declared.event.Sign.{Sign}
-use Rattle.gx_session.specs.declared.outbox.Outbox.{Outbox}
-use Rattle.gx_serve.specs.declared.announcing.EndedOrders.{EndedOrders}
-use Rattle.gx_serve.specs.Announcements.{announced_of, WasAnnounced}
-use Rattle.gx_serve.specs.declared.seat.outgoing.Due.{Due}
-use Rattle.gx_serve.specs.declared.seat.outgoing.Due.TheVariants as dues
-use Rattle.gx_serve.specs.Marks.{fetched, FetchedData, Mark}
-use Rattle.gx_serve.specs.Seats.{HasLooked, WasTold, WasToldRefusal}
-use Rattle.gx_serve.specs.Seeking.{due_of, is_bare, watch_after, DueElse, IsOver, LooksWhere, Seeks, WasPulled, WasSought, WasWatched}
-use Rattle.gx_serve.specs.Speech.{IsDue, IsShown}
+use Rattle.gx_serve.specs.{declared.{announcing.EndedOrders.EndedOrders, seat.outgoing.Due.Due}, Announcements.{announced_of, WasAnnounced}, Marks.{fetched, FetchedData, Mark}, Seats.{HasLooked, WasTold, WasToldRefusal}, Seeking.{due_of, is_bare, watch_after, DueElse, IsOver, LooksWhere, Seeks, WasPulled, WasSought, WasWatched}, Speech.{IsDue, IsShown}}
 
 -- a step was made, and what belongs to it is announced
 pub was_announced : (policy : PolicyData) (a : Asked) (was is : Holds) (o : Outcome) (ended : Ended) (made : ℕ) (told : Option EndedOrders) → IsLater policy was is → Turns policy was is (left_by a o) ended a.handed made
@@ -40,7 +19,7 @@ was_announced policy a was is o ended made told later turns same = record { turn
 
 -- as many records were told as had been seen
 pub was_idle : (policy : PolicyData) (user : UserName) (m : Mark) (moment : ℕ) (session : SessionData) (was is : Holds) (watch : WatchData) (count : ℕ) → is ≡ retold was count → has_news watch count ≡ false
-    → WasPulled policy user m moment session was watch session is watch dues.Nothing
+    → WasPulled policy user m moment session was watch session is watch Due.Nothing
 was_idle policy user m moment session was is watch count told idle = inl (record {
   told = told ∙ ap (λ n. retold was n) (sym (ap (λ (h : Holds). h.told) told));
   idle = ap (λ n. has_news watch n) (ap (λ (h : Holds). h.told) told) ∙ idle;
@@ -73,8 +52,8 @@ was_fetched policy user m moment session was mid is watch pulled count told news
 
 -- it was refused for want of memory
 pub was_refused : (policy : PolicyData) (user : UserName) (m : Mark) (moment : ℕ) (session session' : SessionData) (was mid next is : Holds) (watch : WatchData) (count : ℕ)
-    → mid ≡ retold was count → HasLooked mid next → WasToldRefusal policy user faults.OutOfMemory moment session next session' is
-    → WasPulled policy user m moment session was watch session' is watch dues.Nothing
+    → mid ≡ retold was count → HasLooked mid next → WasToldRefusal policy user StepFault.OutOfMemory moment session next session' is
+    → WasPulled policy user m moment session was watch session' is watch Due.Nothing
 was_refused policy user m moment session session' was mid next is watch count told looked refusal = inr (inr (record {
   between = next;
   looked = own_told was mid next count told looked;
@@ -86,7 +65,7 @@ was_refused policy user m moment session session' was mid next is watch count to
 -- the user is not logged in there
 pub was_not_on : (policy : PolicyData) (user : UserName) (m : Mark) (moment : ℕ) (session session' : SessionData) (was mid next is : Holds) (watch : WatchData) (count : ℕ)
     → mid ≡ retold was count → HasLooked mid next → line_of next.front (folded_user m.user) ≢ Some mid.line → WasTold policy user happens.Fault moment session next session' is
-    → WasPulled policy user m moment session was watch session' is watch dues.Nothing
+    → WasPulled policy user m moment session was watch session' is watch Due.Nothing
 was_not_on policy user m moment session session' was mid next is watch count told looked off fault = inr (inr (record {
   between = next;
   looked = own_told was mid next count told looked;
@@ -103,7 +82,7 @@ was_watched left left' policy user m moment session ticked session' was between 
 
 -- What is due are the user's reports from the mark on.
 
-fetched_due : (policy : PolicyData) (user : UserName) (from : ℕ) (f : FetchedData) → IsShown policy user from f.pulled → (bare : Bool) → IsDue policy user from (cond bare dues.Nothing (dues.Reports f))
+fetched_due : (policy : PolicyData) (user : UserName) (from : ℕ) (f : FetchedData) → IsShown policy user from f.pulled → (bare : Bool) → IsDue policy user from (cond bare Due.Nothing (Due.Reports f))
 fetched_due policy user from f shown true = tt
 fetched_due policy user from f shown false = shown
 
@@ -112,25 +91,25 @@ due_so policy user from due due' same is = subst (λ d. IsDue policy user from d
 
 pulled_due : (policy : PolicyData) (user : UserName) (m : Mark) (moment : ℕ) (session : SessionData) (was : Holds) (watch : WatchData) (session' : SessionData) (is : Holds) (watch' : WatchData) (due : Due)
     → WasPulled policy user m moment session was watch session' is watch' due → IsDue policy m.user m.next due
-pulled_due policy user m moment session was watch session' is watch' due (inl idle) = due_so policy m.user m.next dues.Nothing due idle.nothing tt
+pulled_due policy user m moment session was watch session' is watch' due (inl idle) = due_so policy m.user m.next Due.Nothing due idle.nothing tt
 pulled_due policy user m moment session was watch session' is watch' due (inr (inl found)) =
     due_so policy m.user m.next (due_of (fetched found.pulled found.count)) due found.brought (fetched_due policy m.user m.next (fetched found.pulled found.count) found.shown (is_bare (fetched found.pulled found.count)))
-pulled_due policy user m moment session was watch session' is watch' due (inr (inr refused)) = due_so policy m.user m.next dues.Nothing due refused.nothing tt
+pulled_due policy user m moment session was watch session' is watch' due (inr (inr refused)) = due_so policy m.user m.next Due.Nothing due refused.nothing tt
 
 over_due : (policy : PolicyData) (user : UserName) (from : ℕ) (due : Due) → IsOver due → IsDue policy user from due
-over_due policy user from (dues.Sign sign) over = tt
-over_due policy user from (dues.Reports f) over = absurd over
-over_due policy user from dues.Nothing over = tt
-over_due policy user from (dues.Over finished) over = tt
+over_due policy user from (Due.Sign sign) over = tt
+over_due policy user from (Due.Reports f) over = absurd over
+over_due policy user from Due.Nothing over = tt
+over_due policy user from (Due.Over finished) over = tt
 
 looks_due : (on : Bool) (policy : PolicyData) (user : UserName) (m : Mark) (moment : ℕ) (session : SessionData) (was : Holds) (watch : WatchData) (session' : SessionData) (is : Holds) (watch' : WatchData) (due : Due)
     → LooksWhere on policy user m moment session was watch session' is watch' due → IsDue policy m.user m.next due
 looks_due true policy user m moment session was watch session' is watch' due pulled = pulled_due policy user m moment session was watch session' is watch' due pulled
-looks_due false policy user m moment session was watch session' is watch' due (stays, nothing) = due_so policy m.user m.next dues.Nothing due nothing tt
+looks_due false policy user m moment session was watch session' is watch' due (stays, nothing) = due_so policy m.user m.next Due.Nothing due nothing tt
 
 else_due : {Else : Type 0} (left : Option Sign) (left' : Outbox) (over : Bool) (policy : PolicyData) (m : Mark) (session : SessionData) (was : Holds) (watch : WatchData) (session' : SessionData) (is : Holds) (watch' : WatchData) (due : Due)
     → (Else → IsDue policy m.user m.next due) → DueElse left left' over session was watch session' is watch' due Else → IsDue policy m.user m.next due
-else_due (Some sign) left' over policy m session was watch session' is watch' due by (stays, signs, taken) = due_so policy m.user m.next (dues.Sign sign) due signs tt
+else_due (Some sign) left' over policy m session was watch session' is watch' due by (stays, signs, taken) = due_so policy m.user m.next (Due.Sign sign) due signs tt
 else_due None left' true policy m session was watch session' is watch' due by (stays, over) = over_due policy m.user m.next due over
 else_due None left' false policy m session was watch session' is watch' due by other = by other
 

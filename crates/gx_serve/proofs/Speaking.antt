@@ -1,25 +1,13 @@
 -- What the writer of a connection has written, part by part.
-use Rattle.std.proofs.Common.{◌≡◌, ℕ, Bool, true, false, inl, inr, Option, List, [], ◌∷◌, ◌++◌, refl, sym, ap, ◌∙◌, subst, append-nil, append_assoc}
-use Rattle.std.specs.Prelude.{codes}
-use Rattle.std.specs.List.{flat_map}
-use Rattle.std.proofs.lemmas.Grind.{flat_map-append}
-use Rattle.std.specs.Io.KnownBytes.{Appends}
-use Rattle.std.proofs.KnownBytes.{Appends-nil, Appends-trans}
-use Rattle.gx_units.specs.declared.names.SessionName.{SessionName}
-use Rattle.gx_units.specs.declared.names.UserName.{UserName}
+use Rattle.std.proofs.{Common.{◌≡◌, ℕ, Bool, true, false, inl, inr, Option, List, [], ◌∷◌, ◌++◌, refl, sym, ap, ◌∙◌, subst, append-nil, append_assoc}, lemmas.Grind.flat_map-append, KnownBytes.{Appends-nil, Appends-trans}}
+use Rattle.std.specs.{Prelude.codes, List.flat_map, Io.KnownBytes.Appends}
+use Rattle.gx_units.specs.declared.names.{SessionName.SessionName, UserName.UserName}
 use Rattle.gx_policy.specs.declared.policy.PolicyData.{PolicyData}
 use Rattle.gx_answers.specs.declared.outcome.LoginAnswer.{LoginAnswer}
-use Rattle.gx_answers.specs.declared.outcome.LoginAnswer.TheVariants as answers
 use Rattle.gx_devices.specs.Devices.{IsFront}
-use Rattle.gx_session.specs.declared.event.Control.TheVariants as controls
-use Rattle.gx_session.specs.declared.event.Sign.TheVariants as signs
-use Rattle.gx_session.specs.Sending.{control_bytes, reports_text}
+use Rattle.gx_session.specs.{declared.event.{Control.Control, Sign.Sign}, Sending.{control_bytes, reports_text}}
 use Rattle.gx_devices.proofs.Known.{front_behind, front_longer}
-use Rattle.gx_serve.specs.declared.seat.outgoing.Due.{Due}
-use Rattle.gx_serve.specs.declared.seat.outgoing.Due.TheVariants as dues
-use Rattle.gx_serve.specs.declared.seat.outgoing.Greeted.{Greeted}
-use Rattle.gx_serve.specs.declared.seat.outgoing.Greeted.TheVariants as greeteds
-use Rattle.gx_serve.specs.declared.seat.outgoing.Finished.{Finished}
+use Rattle.gx_serve.specs.declared.seat.outgoing.{Due.Due, Greeted.Greeted, Finished.Finished}
 use Rattle.gx_serve.specs.Speech
 
 -- parts that go on where others ended
@@ -41,19 +29,19 @@ nothing_spoken policy user from = record { parts = []; go_on = refl; whole = ref
 
 -- what is due and not the last is a part
 due_spoken : (policy : PolicyData) (user : UserName) (from : ℕ) (due : Due) → Speech.IsDue policy user from due → Speech.is_last due ≡ false → Speech.IsSpoken policy user from (Speech.due_text due) (Speech.next_after due from)
-due_spoken policy user from (dues.Sign signs.Heartbeat) d e = record { parts = Speech.Beat ∷ []; go_on = refl; whole = sym (append-nil (control_bytes (controls.Sign signs.Heartbeat))) }
-due_spoken policy user from (dues.Sign signs.EndOfSession) d e = cc
-due_spoken policy user from (dues.Reports fetched) d e = record { parts = Speech.Shown fetched.pulled ∷ []; go_on = (d, refl); whole = sym (append-nil (reports_text fetched.pulled.reports)) }
-due_spoken policy user from dues.Nothing d e = record { parts = []; go_on = refl; whole = refl }
-due_spoken policy user from (dues.Over finished) d e = cc
+due_spoken policy user from (Due.Sign Sign.Heartbeat) d e = record { parts = Speech.Beat ∷ []; go_on = refl; whole = sym (append-nil (control_bytes (Control.Sign Sign.Heartbeat))) }
+due_spoken policy user from (Due.Sign Sign.EndOfSession) d e = cc
+due_spoken policy user from (Due.Reports fetched) d e = record { parts = Speech.Shown fetched.pulled ∷ []; go_on = (d, refl); whole = sym (append-nil (reports_text fetched.pulled.reports)) }
+due_spoken policy user from Due.Nothing d e = record { parts = []; go_on = refl; whole = refl }
+due_spoken policy user from (Due.Over finished) d e = cc
 
 -- what is due and the last is an ending
 due_ends : (due : Due) → Speech.is_last due ≡ true → Speech.IsEnding (Speech.due_text due)
-due_ends (dues.Sign signs.Heartbeat) e = cc
-due_ends (dues.Sign signs.EndOfSession) e = inr refl
-due_ends (dues.Reports fetched) e = cc
-due_ends dues.Nothing e = cc
-due_ends (dues.Over finished) e = inl refl
+due_ends (Due.Sign Sign.Heartbeat) e = cc
+due_ends (Due.Sign Sign.EndOfSession) e = inr refl
+due_ends (Due.Reports fetched) e = cc
+due_ends Due.Nothing e = cc
+due_ends (Due.Over finished) e = inl refl
 
 -- of what the writer has come to
 pub record Says (policy : PolicyData) (user : UserName) (from to : ℕ) (before after : Option (List ℕ)) : Type 0 where
@@ -113,24 +101,24 @@ is_cut_off policy user from to before mid after due d s f = elim (Speech.is_last
 
 -- The whole of it, by what came of the login.
 
-pub is_said : (policy : PolicyData) (finished : Finished) (before after : Option (List ℕ)) → Speech.IsGreeted before after (greeteds.Over finished) → Speech.WasSaid true policy before after
+pub is_said : (policy : PolicyData) (finished : Finished) (before after : Option (List ℕ)) → Speech.IsGreeted before after (Greeted.Over finished) → Speech.WasSaid true policy before after
 is_said policy finished before after (inl w) = record { text = []; said = inl refl; written = w }
-is_said policy finished before after (inr (reason, w)) = record { text = control_bytes (controls.Answer (answers.Rejected reason)); said = inr (inl (reason, refl)); written = w }
+is_said policy finished before after (inr (reason, w)) = record { text = control_bytes (Control.Answer (LoginAnswer.Rejected reason)); said = inr (inl (reason, refl)); written = w }
 
-pub is_greeted : (user : UserName) (answer : LoginAnswer) (greeted : Greeted) (before after : Option (List ℕ)) → Appends before after (control_bytes (controls.Answer answer)) → Speech.Begins user answer greeted → Speech.IsGreeted before after greeted
-is_greeted user (answers.Accepted session next) (greeteds.On m) before after w b = (session, subst (λ n. Appends before after (control_bytes (controls.Answer (answers.Accepted session n)))) (sym (ap (λ k. k.next) b)) w)
-is_greeted user (answers.Accepted session next) (greeteds.Over finished) before after w b = absurd b
-is_greeted user (answers.Accepted session next) greeteds.Cut before after w b = absurd b
-is_greeted user (answers.Rejected reason) (greeteds.On m) before after w b = absurd b
-is_greeted user (answers.Rejected reason) (greeteds.Over finished) before after w b = inr (reason, w)
-is_greeted user (answers.Rejected reason) greeteds.Cut before after w b = absurd b
+pub is_greeted : (user : UserName) (answer : LoginAnswer) (greeted : Greeted) (before after : Option (List ℕ)) → Appends before after (control_bytes (Control.Answer answer)) → Speech.Begins user answer greeted → Speech.IsGreeted before after greeted
+is_greeted user (LoginAnswer.Accepted session next) (Greeted.On m) before after w b = (session, subst (λ n. Appends before after (control_bytes (Control.Answer (LoginAnswer.Accepted session n)))) (sym (ap (λ k. k.next) b)) w)
+is_greeted user (LoginAnswer.Accepted session next) (Greeted.Over finished) before after w b = absurd b
+is_greeted user (LoginAnswer.Accepted session next) Greeted.Cut before after w b = absurd b
+is_greeted user (LoginAnswer.Rejected reason) (Greeted.On m) before after w b = absurd b
+is_greeted user (LoginAnswer.Rejected reason) (Greeted.Over finished) before after w b = inr (reason, w)
+is_greeted user (LoginAnswer.Rejected reason) Greeted.Cut before after w b = absurd b
 
 blank_user : UserName
 blank_user = record { bytes = codes "      " }
 
-answer_said : (policy : PolicyData) (answer : LoginAnswer) → Speech.IsConversation policy (control_bytes (controls.Answer answer))
-answer_said policy (answers.Rejected reason) = inr (inl (reason, refl))
-answer_said policy (answers.Accepted session next) = inr (inr (record {
+answer_said : (policy : PolicyData) (answer : LoginAnswer) → Speech.IsConversation policy (control_bytes (Control.Answer answer))
+answer_said policy (LoginAnswer.Rejected reason) = inr (inl (reason, refl))
+answer_said policy (LoginAnswer.Accepted session next) = inr (inr (record {
   user = blank_user;
   session = session;
   first = next;
@@ -139,13 +127,13 @@ answer_said policy (answers.Accepted session next) = inr (inr (record {
   speech = nothing_spoken policy blank_user next;
   ending = [];
   ends = inl refl;
-  whole = sym (append-nil (control_bytes (controls.Answer (answers.Accepted session next)) ++ []) ∙ append-nil (control_bytes (controls.Answer (answers.Accepted session next))));
+  whole = sym (append-nil (control_bytes (Control.Answer (LoginAnswer.Accepted session next)) ++ []) ∙ append-nil (control_bytes (Control.Answer (LoginAnswer.Accepted session next))));
 }))
 
-pub answer_cut : (policy : PolicyData) (before after : Option (List ℕ)) → Speech.IsGreeted before after greeteds.Cut → Speech.WasSaid false policy before after
-answer_cut policy before after (answer, f) = record { text = control_bytes (controls.Answer answer); said = answer_said policy answer; written = f }
+pub answer_cut : (policy : PolicyData) (before after : Option (List ℕ)) → Speech.IsGreeted before after Greeted.Cut → Speech.WasSaid false policy before after
+answer_cut policy before after (answer, f) = record { text = control_bytes (Control.Answer answer); said = answer_said policy answer; written = f }
 
-welcome : (policy : PolicyData) (user : UserName) (session : SessionName) (first to : ℕ) (spoken ending : List ℕ) → Speech.IsSpoken policy user first spoken to → Speech.IsEnding ending → Speech.IsConversation policy (control_bytes (controls.Answer (answers.Accepted session first)) ++ (spoken ++ ending))
+welcome : (policy : PolicyData) (user : UserName) (session : SessionName) (first to : ℕ) (spoken ending : List ℕ) → Speech.IsSpoken policy user first spoken to → Speech.IsEnding ending → Speech.IsConversation policy (control_bytes (Control.Answer (LoginAnswer.Accepted session first)) ++ (spoken ++ ending))
 welcome policy user session first to spoken ending s e = inr (inr (record {
   user = user;
   session = session;
@@ -155,14 +143,14 @@ welcome policy user session first to spoken ending s e = inr (inr (record {
   speech = s;
   ending = ending;
   ends = e;
-  whole = sym (append_assoc (control_bytes (controls.Answer (answers.Accepted session first))) spoken ending);
+  whole = sym (append_assoc (control_bytes (Control.Answer (LoginAnswer.Accepted session first))) spoken ending);
 }))
 
-pub rest_said : (whole : Bool) (policy : PolicyData) (user : UserName) (first : ℕ) (before mid after : Option (List ℕ)) → ((session : SessionName) × Appends before mid (control_bytes (controls.Answer (answers.Accepted session first)))) → Speech.WasSpoken whole policy user first mid after → Speech.WasSaid whole policy before after
+pub rest_said : (whole : Bool) (policy : PolicyData) (user : UserName) (first : ℕ) (before mid after : Option (List ℕ)) → ((session : SessionName) × Appends before mid (control_bytes (Control.Answer (LoginAnswer.Accepted session first)))) → Speech.WasSpoken whole policy user first mid after → Speech.WasSaid whole policy before after
 rest_said whole policy user first before mid after (session, g) s = record {
-  text = control_bytes (controls.Answer (answers.Accepted session first)) ++ (s.spoken ++ s.ending);
+  text = control_bytes (Control.Answer (LoginAnswer.Accepted session first)) ++ (s.spoken ++ s.ending);
   said = welcome policy user session first s.to s.spoken s.ending s.speech s.ends;
-  written = behind whole (control_bytes (controls.Answer (answers.Accepted session first))) (s.spoken ++ s.ending) before mid after g s.written;
+  written = behind whole (control_bytes (Control.Answer (LoginAnswer.Accepted session first))) (s.spoken ++ s.ending) before mid after g s.written;
 }
 
 -- Nothing was sent.

@@ -2,27 +2,18 @@
 use Rattle.std.specs.Prelude.{◌≡◌, ◌⊎◌, ℕ, Option, Some, None, option_and_then, option_map, if◌then◌else◌}
 use Rattle.gx_units.specs.declared.names.UserName.{UserName}
 use Rattle.gx_desk.specs.declared.Action.{Action}
-use Rattle.gx_desk.specs.declared.Action.TheVariants as actions
 use Rattle.gx_policy.specs.declared.policy.PolicyData.{PolicyData}
-use Rattle.gx_history.specs.declared.record.Asked.{Asked}
-use Rattle.gx_history.specs.declared.record.Request.{Request}
-use Rattle.gx_history.specs.Requests.{action_of, is_granted}
+use Rattle.gx_history.specs.{declared.record.{Asked.Asked, Request.Request}, Requests.{action_of, is_granted}}
 use Rattle.gx_answers.specs.declared.outcome.Outcome.{Outcome}
 use Rattle.gx_pass.specs.declared.view.Holds.{Holds}
-use Rattle.gx_door.specs.Acts.{asked_on}
-use Rattle.gx_door.specs.declared.ended.Ended.{Ended}
-use Rattle.gx_session.specs.declared.event.Next.{Next}
-use Rattle.gx_session.specs.declared.event.Next.TheVariants.{Act}
-use Rattle.gx_session.specs.Table.{SessionData}
-use Rattle.gx_serve.specs.declared.announcing.EndedBy.{EndedBy}
-use Rattle.gx_serve.specs.declared.announcing.EndedBy.TheVariants as by
-use Rattle.gx_serve.specs.declared.announcing.EndedOrders.{EndedOrders}
-use Rattle.gx_serve.specs.Seats.{WasGivenUp, WasTurned}
+use Rattle.gx_door.specs.{Acts.asked_on, declared.ended.Ended.Ended}
+use Rattle.gx_session.specs.{declared.event.Next.{Next, TheVariants.Act}, Table.SessionData}
+use Rattle.gx_serve.specs.{declared.announcing.{EndedBy.EndedBy, EndedOrders.EndedOrders}, Seats.{WasGivenUp, WasTurned}}
 
 -- what a command ends, if it ends live orders
 abbrev pub ended_by : Action → Option EndedBy
-ended_by (actions.Kill account) = Some (by.Kill account)
-ended_by actions.CloseDay = Some by.CloseDay
+ended_by (Action.Kill account) = Some (EndedBy.Kill account)
+ended_by Action.CloseDay = Some EndedBy.CloseDay
 ended_by other = None
 
 -- what is announced of a command that was decided so and ended so much: where it is a granted Kill or Close Day, and nothing else

@@ -2,9 +2,8 @@
 use Rattle.gx_session.specs.Happenings.{Happening}
 use Rattle.gx_session.specs.Happenings as happens
 use Rattle.gx_serve.specs.declared.seat.Break.{Break}
-use Rattle.gx_serve.specs.declared.seat.Break.TheVariants as breaks
 
 -- what the session is told
 abbrev pub break_of : Break → Happening
-break_of (breaks.Refused fault) = happens.Refused fault
-break_of breaks.Fault = happens.Fault
+break_of (Break.Refused fault) = happens.Refused fault
+break_of Break.Fault = happens.Fault

@@ -1,8 +1,7 @@
 -- What a seat gives its writer: whose reports he sends, an answer, reports.
 use Rattle.std.specs.Prelude.{ℕ, length, nat_le}
 use Rattle.gx_units.specs.declared.names.UserName.{UserName}
-use Rattle.gx_answers.specs.declared.outcome.LoginAnswer.{LoginAnswer}
-use Rattle.gx_answers.specs.declared.pulled.Pulled.{Pulled}
+use Rattle.gx_answers.specs.declared.{outcome.LoginAnswer.LoginAnswer, pulled.Pulled.Pulled}
 use Rattle.gx_lobby.specs.Watches.{watch_of, WatchData}
 
 -- the user whose reports are sent, and the number of the next

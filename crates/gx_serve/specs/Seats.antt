@@ -1,30 +1,14 @@
 -- What becomes of a session that two threads share, of its pass, and of what it asks to send.
-use Rattle.std.specs.Prelude.{◌≡◌, ℕ, ◌⊎◌, Bool, true, false, Option, Some, None}
-use Rattle.std.specs.Option.{option_map_or}
+use Rattle.std.specs.{Prelude.{◌≡◌, ℕ, ◌⊎◌, Bool, true, false, Option, Some, None}, Option.option_map_or}
 use Rattle.gx_units.specs.declared.names.UserName.{UserName}
 use Rattle.gx_policy.specs.declared.policy.PolicyData.{PolicyData}
-use Rattle.gx_history.specs.declared.record.Asked.{Asked}
-use Rattle.gx_history.specs.declared.record.Request.{Request}
-use Rattle.gx_history.specs.declared.record.Request.TheVariants as requests
-use Rattle.gx_answers.specs.declared.outcome.LoginAnswer.{LoginAnswer}
-use Rattle.gx_answers.specs.declared.outcome.Outcome.{Outcome}
-use Rattle.gx_answers.specs.declared.outcome.StepFault.{StepFault}
-use Rattle.gx_answers.specs.Gates.{left_by}
-use Rattle.gx_soup.specs.declared.packet.ClientPacket.{ClientPacket}
-use Rattle.gx_soup.specs.declared.packet.LoginRequest.{LoginRequest}
-use Rattle.gx_pass.specs.declared.view.Holds.{Holds}
-use Rattle.gx_pass.specs.Views.{mine}
-use Rattle.gx_door.specs.Acts.{asked_on, gate_met, login_on, AddsOwn, IsLater, IsToldFull, LogsIn, MayBeRefused}
-use Rattle.gx_door.specs.Matching.{Matches, Turns}
-use Rattle.gx_door.specs.declared.ended.Ended.{Ended}
-use Rattle.gx_session.specs.declared.event.Next.{Next}
-use Rattle.gx_session.specs.declared.event.Next.TheVariants.{Act, Logout}
-use Rattle.gx_session.specs.declared.outbox.Outbox.{Outbox}
-use Rattle.gx_session.specs.Events.{login_in}
-use Rattle.gx_session.specs.Happenings.{Happening}
+use Rattle.gx_history.specs.declared.record.{Asked.Asked, Request.Request}
+use Rattle.gx_answers.specs.{declared.outcome.{LoginAnswer.LoginAnswer, Outcome.Outcome, StepFault.StepFault}, Gates.left_by}
+use Rattle.gx_soup.specs.declared.packet.{ClientPacket.ClientPacket, LoginRequest.LoginRequest}
+use Rattle.gx_pass.specs.{declared.view.Holds.Holds, Views.mine}
+use Rattle.gx_door.specs.{Acts.{asked_on, gate_met, login_on, AddsOwn, IsLater, IsToldFull, LogsIn, MayBeRefused}, Matching.{Matches, Turns}, declared.ended.Ended.Ended}
+use Rattle.gx_session.specs.{declared.{event.Next.{Next, TheVariants.{Act, Logout}}, outbox.Outbox.Outbox}, Events.login_in, Happenings.Happening, Outboxes.left_after, Table.{SessionData, turn}}
 use Rattle.gx_session.specs.Happenings as happens
-use Rattle.gx_session.specs.Outboxes.{left_after}
-use Rattle.gx_session.specs.Table.{SessionData, turn}
 
 -- the step was made: its record is one more of the pass's own, behind all that had been met
 pub record WasMade (policy : PolicyData) (a : Asked) (was is : Holds) : Type 0 where
@@ -56,8 +40,8 @@ pub record WasRefused (policy : PolicyData) (a : Asked) (fault : StepFault) (was
 -- a logout was made, or one that is not granted was refused
 abbrev pub WasLoggedOut : PolicyData → UserName → ℕ → Holds → Holds → Type 0
 WasLoggedOut policy user moment was is =
-    WasMade policy (asked_on was.line user requests.Logout moment) was is
-    ⊎ ((fault : StepFault) × WasRefused policy (asked_on was.line user requests.Logout moment) fault was is)
+    WasMade policy (asked_on was.line user Request.Logout moment) was is
+    ⊎ ((fault : StepFault) × WasRefused policy (asked_on was.line user Request.Logout moment) fault was is)
 
 -- the logout that a session asks for
 abbrev pub Outs : Next → PolicyData → UserName → ℕ → Holds → Holds → Type 0

@@ -1,28 +1,15 @@
 -- What a writer is given to do: the answer to a login, and then what is due to its user.
 use Rattle.std.specs.Prelude.{◌≡◌, ◌≢◌, ◌==◌, ℕ, ◌⊎◌, Bool, true, false, ◌&&◌, not, cond, IsFalse, IsTrue, Option, Some, None, Result, Ok, Err, length}
-use Rattle.gx_units.specs.declared.names.UserName.{UserName}
-use Rattle.gx_units.specs.Spelling.{folded_user}
+use Rattle.gx_units.specs.{declared.names.UserName.UserName, Spelling.folded_user}
 use Rattle.gx_policy.specs.declared.policy.PolicyData.{PolicyData}
 use Rattle.gx_history.specs.InForce.{line_of}
-use Rattle.gx_answers.specs.declared.outcome.LoginAnswer.{LoginAnswer}
-use Rattle.gx_answers.specs.declared.outcome.StepFault.TheVariants as faults
-use Rattle.gx_answers.specs.declared.pulled.Pulled.{Pulled}
-use Rattle.gx_pass.specs.declared.view.Holds.{Holds}
-use Rattle.gx_pass.specs.Views.{retold}
+use Rattle.gx_answers.specs.declared.{outcome.{LoginAnswer.LoginAnswer, StepFault.StepFault}, pulled.Pulled.Pulled}
+use Rattle.gx_pass.specs.{declared.view.Holds.Holds, Views.retold}
 use Rattle.gx_door.specs.Acts.{IsLater}
 use Rattle.gx_lobby.specs.Watches.{has_news, watch_of, WatchData}
-use Rattle.gx_session.specs.declared.event.Sign.{Sign}
-use Rattle.gx_session.specs.declared.outbox.Outbox.{Outbox}
-use Rattle.gx_session.specs.Events.{is_on, is_over}
+use Rattle.gx_session.specs.{declared.{event.Sign.Sign, outbox.Outbox.Outbox}, Events.{is_on, is_over}, Outboxes.left_after, Table.{SessionData, turn}}
 use Rattle.gx_session.specs.Happenings as happens
-use Rattle.gx_session.specs.Outboxes.{left_after}
-use Rattle.gx_session.specs.Table.{SessionData, turn}
-use Rattle.gx_serve.specs.declared.seat.outgoing.Due.{Due}
-use Rattle.gx_serve.specs.declared.seat.outgoing.Due.TheVariants as dues
-use Rattle.gx_serve.specs.declared.seat.outgoing.Finished.{Finished}
-use Rattle.gx_serve.specs.Marks.{fetched, given, FetchedData, Given, Mark}
-use Rattle.gx_serve.specs.Seats.{HasLooked, WasTold, WasToldRefusal}
-use Rattle.gx_serve.specs.Speech.{IsShown}
+use Rattle.gx_serve.specs.{declared.seat.outgoing.{Due.Due, Finished.Finished}, Marks.{fetched, given, FetchedData, Given, Mark}, Seats.{HasLooked, WasTold, WasToldRefusal}, Speech.IsShown}
 
 -- there is nothing to greet with: for good where the session is over, else for now
 abbrev pub IsQuiet : Bool → Option (Result Given Finished) → Type 0
@@ -45,10 +32,10 @@ WasGreeted None policy user moment session was session' is greeting =
 
 -- the session is over, and nothing is left to be sent
 abbrev pub IsOver : Due → Type 0
-IsOver (dues.Sign sign) = ⊥
-IsOver (dues.Reports found) = ⊥
-IsOver dues.Nothing = ⊥
-IsOver (dues.Over finished) = Unit {0}
+IsOver (Due.Sign sign) = ⊥
+IsOver (Due.Reports found) = ⊥
+IsOver Due.Nothing = ⊥
+IsOver (Due.Over finished) = Unit {0}
 
 -- a pull brought nothing, and more may come
 abbrev pub is_bare : FetchedData → Bool
@@ -56,7 +43,7 @@ is_bare f = (length f.pulled.reports == 0) && not f.pulled.ended
 
 -- what a pull brought is due, unless it is nothing
 abbrev pub due_of : FetchedData → Due
-due_of f = cond (is_bare f) dues.Nothing (dues.Reports f)
+due_of f = cond (is_bare f) Due.Nothing (Due.Reports f)
 
 -- and in the latter case all records were seen
 abbrev pub watch_after : WatchData → FetchedData → WatchData
@@ -68,7 +55,7 @@ pub record WasIdle (session : SessionData) (was : Holds) (watch : WatchData) (se
   pub idle : IsFalse (has_news watch is.told)
   pub same : session' ≡ session
   pub seen : watch' ≡ watch
-  pub nothing : due ≡ dues.Nothing
+  pub nothing : due ≡ Due.Nothing
 
 -- there was news, and the user's reports were pulled, as they stood once so many records were told
 pub record WasFetched (policy : PolicyData) (m : Mark) (session : SessionData) (was : Holds) (watch : WatchData) (session' : SessionData) (is : Holds) (watch' : WatchData) (due : Due) : Type 0 where
@@ -86,10 +73,10 @@ pub record WasFetched (policy : PolicyData) (m : Mark) (session : SessionData) (
 pub record WasUnfetched (policy : PolicyData) (user : UserName) (m : Mark) (moment : ℕ) (session : SessionData) (was : Holds) (watch : WatchData) (session' : SessionData) (is : Holds) (watch' : WatchData) (due : Due) : Type 0 where
   pub between : Holds
   pub looked : HasLooked was between
-  pub told : WasToldRefusal policy user faults.OutOfMemory moment session between session' is
+  pub told : WasToldRefusal policy user StepFault.OutOfMemory moment session between session' is
       ⊎ ((line_of between.front (folded_user m.user) ≢ Some was.line) × WasTold policy user happens.Fault moment session between session' is)
   pub seen : watch' ≡ watch
-  pub nothing : due ≡ dues.Nothing
+  pub nothing : due ≡ Due.Nothing
 
 -- what came of looking for the user's reports
 abbrev pub WasPulled : PolicyData → UserName → Mark → ℕ → SessionData → Holds → WatchData → SessionData → Holds → WatchData → Due → Type 0
@@ -105,11 +92,11 @@ Stays session was watch session' is watch' = ((session' ≡ session) × (is ≡ 
 -- reports are looked for while a user is logged in
 abbrev pub LooksWhere : Bool → PolicyData → UserName → Mark → ℕ → SessionData → Holds → WatchData → SessionData → Holds → WatchData → Due → Type 0
 LooksWhere true policy user m moment session was watch session' is watch' due = WasPulled policy user m moment session was watch session' is watch' due
-LooksWhere false policy user m moment session was watch session' is watch' due = Stays session was watch session' is watch' × (due ≡ dues.Nothing)
+LooksWhere false policy user m moment session was watch session' is watch' due = Stays session was watch session' is watch' × (due ≡ Due.Nothing)
 
 -- the packet that is left is due, and left no more; else nothing any more once the session is over; else this holds
 abbrev pub DueElse : Option Sign → Outbox → Bool → SessionData → Holds → WatchData → SessionData → Holds → WatchData → Due → Type 0 → Type 0
-DueElse (Some sign) left' over session was watch session' is watch' due Else = Stays session was watch session' is watch' × (due ≡ dues.Sign sign) × (left'.sign ≡ None)
+DueElse (Some sign) left' over session was watch session' is watch' due Else = Stays session was watch session' is watch' × (due ≡ Due.Sign sign) × (left'.sign ≡ None)
 DueElse None left' true session was watch session' is watch' due Else = Stays session was watch session' is watch' × IsOver due
 DueElse None left' false session was watch session' is watch' due Else = Else
 

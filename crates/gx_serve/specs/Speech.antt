@@ -1,36 +1,20 @@
 -- What a connection is sent.
-use Rattle.std.specs.Prelude.{◌≡◌, ◌⊎◌, ℕ, Bool, true, false, IsTrue, is_some, Option, List, [], ◌∷◌, ◌++◌}
-use Rattle.std.specs.List.{flat_map}
-use Rattle.std.specs.Io.KnownBytes.{Appends}
-use Rattle.gx_units.specs.declared.names.LoginRejection.{LoginRejection}
-use Rattle.gx_units.specs.declared.names.SessionName.{SessionName}
-use Rattle.gx_units.specs.declared.names.UserName.{UserName}
-use Rattle.gx_units.specs.Spelling.{folded_user}
+use Rattle.std.specs.{Prelude.{◌≡◌, ◌⊎◌, ℕ, Bool, true, false, IsTrue, is_some, Option, List, [], ◌∷◌, ◌++◌}, List.flat_map, Io.KnownBytes.Appends}
+use Rattle.gx_units.specs.{declared.names.{LoginRejection.LoginRejection, SessionName.SessionName, UserName.UserName}, Spelling.folded_user}
 use Rattle.gx_policy.specs.declared.policy.PolicyData.{PolicyData}
-use Rattle.gx_history.specs.declared.record.RecordData.{RecordData}
-use Rattle.gx_history.specs.InForce.{line_of}
-use Rattle.gx_history.specs.Verdicts.{IsLegal}
-use Rattle.gx_answers.specs.declared.outcome.LoginAnswer.{LoginAnswer}
-use Rattle.gx_answers.specs.declared.outcome.LoginAnswer.TheVariants as answers
-use Rattle.gx_answers.specs.declared.pulled.Pulled.{Pulled}
+use Rattle.gx_history.specs.{declared.record.RecordData.RecordData, InForce.line_of, Verdicts.IsLegal}
+use Rattle.gx_answers.specs.declared.{outcome.LoginAnswer.LoginAnswer, pulled.Pulled.Pulled}
 use Rattle.gx_devices.specs.Devices.{IsFront}
-use Rattle.gx_session.specs.declared.event.Control.TheVariants as controls
-use Rattle.gx_session.specs.declared.event.Sign.{Sign}
-use Rattle.gx_session.specs.declared.event.Sign.TheVariants as signs
-use Rattle.gx_session.specs.Sending.{control_bytes, reports_text}
+use Rattle.gx_session.specs.{declared.event.{Control.Control, Sign.Sign}, Sending.{control_bytes, reports_text}}
 use Rattle.gx_door.specs.Acts.{gate_at, most_pulled, IsPulled}
-use Rattle.gx_serve.specs.declared.seat.outgoing.Due.{Due}
-use Rattle.gx_serve.specs.declared.seat.outgoing.Due.TheVariants as dues
-use Rattle.gx_serve.specs.Marks.{mark}
-use Rattle.gx_serve.specs.declared.seat.outgoing.Greeted.{Greeted}
-use Rattle.gx_serve.specs.declared.seat.outgoing.Greeted.TheVariants as greeteds
+use Rattle.gx_serve.specs.{declared.seat.outgoing.{Due.Due, Greeted.Greeted}, Marks.mark}
 
 -- what is written of what is due: a packet of the session's own, or one for each report
 abbrev pub due_text : Due → List ℕ
-due_text (dues.Sign sign) = control_bytes (controls.Sign sign)
-due_text (dues.Reports fetched) = reports_text fetched.pulled.reports
-due_text dues.Nothing = []
-due_text (dues.Over finished) = []
+due_text (Due.Sign sign) = control_bytes (Control.Sign sign)
+due_text (Due.Reports fetched) = reports_text fetched.pulled.reports
+due_text Due.Nothing = []
+due_text (Due.Over finished) = []
 
 -- the user's reports from this number on, as the records of a legal day owe them to him, in which he is logged in
 pub record IsShown (policy : PolicyData) (user : UserName) (from : ℕ) (pulled : Pulled) : Type 0 where
@@ -41,29 +25,29 @@ pub record IsShown (policy : PolicyData) (user : UserName) (from : ℕ) (pulled 
 
 -- where reports are due, they are the user's from this number on
 abbrev pub IsDue : PolicyData → UserName → ℕ → Due → Type 0
-IsDue policy user from (dues.Sign sign) = Unit {0}
-IsDue policy user from (dues.Reports fetched) = IsShown policy user from fetched.pulled
-IsDue policy user from dues.Nothing = Unit {0}
-IsDue policy user from (dues.Over finished) = Unit {0}
+IsDue policy user from (Due.Sign sign) = Unit {0}
+IsDue policy user from (Due.Reports fetched) = IsShown policy user from fetched.pulled
+IsDue policy user from Due.Nothing = Unit {0}
+IsDue policy user from (Due.Over finished) = Unit {0}
 
 -- it ends the session
 abbrev pub is_ending : Sign → Bool
-is_ending signs.Heartbeat = false
-is_ending signs.EndOfSession = true
+is_ending Sign.Heartbeat = false
+is_ending Sign.EndOfSession = true
 
 -- nothing is sent behind it
 abbrev pub is_last : Due → Bool
-is_last (dues.Sign sign) = is_ending sign
-is_last (dues.Reports fetched) = false
-is_last dues.Nothing = false
-is_last (dues.Over finished) = true
+is_last (Due.Sign sign) = is_ending sign
+is_last (Due.Reports fetched) = false
+is_last Due.Nothing = false
+is_last (Due.Over finished) = true
 
 -- the number of the next report behind it
 abbrev pub next_after : Due → ℕ → ℕ
-next_after (dues.Sign sign) next = next
-next_after (dues.Reports fetched) next = fetched.pulled.next
-next_after dues.Nothing next = next
-next_after (dues.Over finished) next = next
+next_after (Due.Sign sign) next = next
+next_after (Due.Reports fetched) next = fetched.pulled.next
+next_after Due.Nothing next = next
+next_after (Due.Over finished) next = next
 
 -- a part of what a user who is on is sent: a heartbeat, or reports
 pub data Part : Type 0 where
@@ -71,7 +55,7 @@ pub data Part : Type 0 where
   Shown : Pulled → Part
 
 abbrev pub part_text : Part → List ℕ
-part_text Beat = control_bytes (controls.Sign signs.Heartbeat)
+part_text Beat = control_bytes (Control.Sign Sign.Heartbeat)
 part_text (Shown pulled) = reports_text pulled.reports
 
 -- the parts are heartbeats, and the user's reports from this number on, each once and in order, up to that number
@@ -88,7 +72,7 @@ pub record IsSpoken (policy : PolicyData) (user : UserName) (from : ℕ) (text :
 
 -- the end of the session was written, or nothing
 abbrev pub IsEnding : List ℕ → Type 0
-IsEnding text = (text ≡ []) ⊎ (text ≡ control_bytes (controls.Sign signs.EndOfSession))
+IsEnding text = (text ≡ []) ⊎ (text ≡ control_bytes (Control.Sign Sign.EndOfSession))
 
 -- a login that was accepted: its answer, its user's reports from the number that it names on, and perhaps the end of the
 -- session
@@ -101,12 +85,12 @@ pub record IsWelcome (policy : PolicyData) (text : List ℕ) : Type 0 where
   pub speech : IsSpoken policy user first spoken to
   pub ending : List ℕ
   pub ends : IsEnding ending
-  pub whole : text ≡ (control_bytes (controls.Answer (answers.Accepted session first)) ++ spoken) ++ ending
+  pub whole : text ≡ (control_bytes (Control.Answer (LoginAnswer.Accepted session first)) ++ spoken) ++ ending
 
 -- what a connection is sent: nothing, the rejection of its login, or its acceptance and what follows
 abbrev pub IsConversation : PolicyData → List ℕ → Type 0
 IsConversation policy text =
-    (text ≡ []) ⊎ (((reason : LoginRejection) × (text ≡ control_bytes (controls.Answer (answers.Rejected reason)))) ⊎ IsWelcome policy text)
+    (text ≡ []) ⊎ (((reason : LoginRejection) × (text ≡ control_bytes (Control.Answer (LoginAnswer.Rejected reason)))) ⊎ IsWelcome policy text)
 
 -- the text was written whole, or a front of it
 abbrev pub Writes : Bool → Option (List ℕ) → Option (List ℕ) → List ℕ → Type 0
@@ -130,22 +114,22 @@ pub record WasSpoken (whole : Bool) (policy : PolicyData) (user : UserName) (fro
 
 -- the answer to a login was written, or a front of it
 abbrev pub IsGreeted : Option (List ℕ) → Option (List ℕ) → Greeted → Type 0
-IsGreeted before after (greeteds.On m) = (session : SessionName) × Appends before after (control_bytes (controls.Answer (answers.Accepted session m.next)))
-IsGreeted before after (greeteds.Over finished) =
-    Appends before after [] ⊎ ((reason : LoginRejection) × Appends before after (control_bytes (controls.Answer (answers.Rejected reason))))
-IsGreeted before after greeteds.Cut = (answer : LoginAnswer) × IsFront before after (control_bytes (controls.Answer answer))
+IsGreeted before after (Greeted.On m) = (session : SessionName) × Appends before after (control_bytes (Control.Answer (LoginAnswer.Accepted session m.next)))
+IsGreeted before after (Greeted.Over finished) =
+    Appends before after [] ⊎ ((reason : LoginRejection) × Appends before after (control_bytes (Control.Answer (LoginAnswer.Rejected reason))))
+IsGreeted before after Greeted.Cut = (answer : LoginAnswer) × IsFront before after (control_bytes (Control.Answer answer))
 
 -- what comes of a login that a user was answered so
 abbrev pub Begins : UserName → LoginAnswer → Greeted → Type 0
-Begins user (answers.Accepted session next) (greeteds.On m) = m ≡ mark user next
-Begins user (answers.Accepted session next) (greeteds.Over finished) = ⊥
-Begins user (answers.Accepted session next) greeteds.Cut = ⊥
-Begins user (answers.Rejected reason) (greeteds.On m) = ⊥
-Begins user (answers.Rejected reason) (greeteds.Over finished) = Unit {0}
-Begins user (answers.Rejected reason) greeteds.Cut = ⊥
+Begins user (LoginAnswer.Accepted session next) (Greeted.On m) = m ≡ mark user next
+Begins user (LoginAnswer.Accepted session next) (Greeted.Over finished) = ⊥
+Begins user (LoginAnswer.Accepted session next) Greeted.Cut = ⊥
+Begins user (LoginAnswer.Rejected reason) (Greeted.On m) = ⊥
+Begins user (LoginAnswer.Rejected reason) (Greeted.Over finished) = Unit {0}
+Begins user (LoginAnswer.Rejected reason) Greeted.Cut = ⊥
 
 -- the fact, where a user is on
 abbrev pub IfOn : Greeted → Type 0 → Type 0
-IfOn (greeteds.On m) Fact = Fact
-IfOn (greeteds.Over finished) Fact = Unit {0}
-IfOn greeteds.Cut Fact = Unit {0}
+IfOn (Greeted.On m) Fact = Fact
+IfOn (Greeted.Over finished) Fact = Unit {0}
+IfOn Greeted.Cut Fact = Unit {0}

@@ -3,9 +3,8 @@ use Rattle.std.specs.Prelude.{◌≡◌}
 use Rattle.gx_soup.specs.declared.packet.ClientPacket.{ClientPacket}
 use Rattle.gx_session.specs.Happenings as happens
 use Rattle.gx_serve.specs.declared.seat.taking.Taken.{Taken}
-use Rattle.gx_serve.specs.declared.seat.taking.Taken.TheVariants as takens
 
 -- the session was told of the packet, or that it ends
 abbrev pub IsTakenIn : ClientPacket → Taken → Type 0
-IsTakenIn packet (takens.Told told) = told.event ≡ happens.Packet packet
-IsTakenIn packet (takens.Excluded why told) = told ≡ happens.Fault
+IsTakenIn packet (Taken.Told told) = told.event ≡ happens.Packet packet
+IsTakenIn packet (Taken.Excluded why told) = told ≡ happens.Fault

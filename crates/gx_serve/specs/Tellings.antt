@@ -1,11 +1,9 @@
 -- What a session was told, as those see it who do not see the session.
+use Rattle.gx_devices.specs.declared.fault.WriteFault.{WriteFault}
 use Rattle.std.specs.Prelude.{Bool, false, length, Option}
-use Rattle.gx_answers.specs.declared.outcome.StepFault.TheVariants as step_faults
-use Rattle.gx_session.specs.declared.fault.SendFault.{SendFault}
-use Rattle.gx_session.specs.declared.fault.SendFault.TheVariants as send_faults
-use Rattle.gx_serve.specs.declared.announcing.EndedOrders.{EndedOrders}
-use Rattle.gx_answers.specs.declared.pulled.Pulled.{Pulled}
+use Rattle.gx_answers.specs.declared.{outcome.StepFault.StepFault, pulled.Pulled.Pulled}
 use Rattle.gx_session.specs.Happenings.{Happening}
+use Rattle.gx_serve.specs.declared.announcing.EndedOrders.{EndedOrders}
 use Rattle.gx_session.specs.Happenings as happens
 use Rattle.gx_reception.specs.Openings.{is_idle}
 
@@ -25,6 +23,6 @@ abbrev pub sent_of : Pulled → Happening
 sent_of pulled = happens.Pulled (length pulled.reports) pulled.ended
 
 -- what a session is told where a packet was not sent: want of memory as such, all else as a fault
-abbrev pub told_of : SendFault → Happening
-told_of send_faults.OutOfMemory = happens.Refused step_faults.OutOfMemory
-told_of send_faults.WriteFailed = happens.Fault
+abbrev pub told_of : WriteFault → Happening
+told_of WriteFault.OutOfMemory = happens.Refused StepFault.OutOfMemory
+told_of WriteFault.WriteFailed = happens.Fault

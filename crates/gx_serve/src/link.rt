@@ -1,10 +1,7 @@
 //! A connection's lock.
 
 ghost use Rattle.std.specs.Prelude.{◌≡◌};
-ghost use Rattle.gx_serve.specs.Breaks.{break_of};
-ghost use Rattle.gx_serve.specs.Takings.{IsTakenIn};
-ghost use Rattle.gx_serve.specs.Marks.{mark_sent};
-ghost use Rattle.gx_serve.specs.Speech.{IsDue};
+ghost use Rattle.gx_serve.specs.{Breaks.break_of, Takings.IsTakenIn, Marks.mark_sent, Speech.IsDue};
 
 use crate::seat::outgoing::{Answered, Bookmark, Due, Fetched, Finished};
 use crate::seat::taking::Taken;

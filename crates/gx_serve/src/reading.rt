@@ -1,8 +1,7 @@
 //! The reader of a connection.
 
 ghost use Rattle.std.specs.Prelude.{◌≡◌, ℕ, List, ◌++◌, IsFalse, IsTrue, is_some};
-ghost use Rattle.gx_soup.specs.Feeding.{HasRead};
-ghost use Rattle.gx_soup.specs.Packets.{packets_of};
+ghost use Rattle.gx_soup.specs.{Feeding.HasRead, Packets.packets_of};
 ghost use Rattle.gx_reception.specs.Openings.{is_idle, IsOpening};
 ghost use Rattle.gx_serve.specs.Readings.{cut_in, IfOpen, IsCut, IsKept, IsLeft, Stands, WasHeard};
 

@@ -4,19 +4,11 @@ ghost use Rattle.std.specs.Prelude.{◌≡◌, IsFalse, IsTrue, is_some, true, I
 ghost use Rattle.gx_history.specs.declared.record.Request.TheVariants as requests;
 ghost use Rattle.gx_history.specs.Showing.{has_its_first};
 ghost use Rattle.gx_lobby.specs.Watches.{watch_of};
-ghost use Rattle.gx_session.specs.Events.{is_over, CanAsk};
-ghost use Rattle.gx_session.specs.Happenings.{happening};
+ghost use Rattle.gx_session.specs.{Events.{is_over, CanAsk}, Happenings.happening, Outboxes.{empty, left_after}, Table.{turn, new_session}};
 ghost use Rattle.gx_session.specs.Happenings as happens;
-ghost use Rattle.gx_session.specs.Outboxes.{empty, left_after};
-ghost use Rattle.gx_session.specs.Table.{turn, new_session};
-ghost use Rattle.gx_door.specs.Acts.{asked_on};
-ghost use Rattle.gx_serve.specs.Seats.{user_after};
-ghost use Rattle.gx_door.specs.Acts.{gate_met, met};
+ghost use Rattle.gx_door.specs.Acts.{asked_on, gate_met, met};
+ghost use Rattle.gx_serve.specs.{Seats.{user_after, Follows, Heeds, WasAnswered, WasLoggedOut, WasRefused, WasTaken, WasTold, WasToldRefusal, WasTurned}, Announcements.{Announces, WasAnnounced}, Breaks.break_of, Tellings.is_idle_event};
 ghost use Rattle.gx_answers.specs.Matches.{matching_of};
-ghost use Rattle.gx_serve.specs.Announcements.{Announces, WasAnnounced};
-ghost use Rattle.gx_serve.specs.Breaks.{break_of};
-ghost use Rattle.gx_serve.specs.Tellings.{is_idle_event};
-ghost use Rattle.gx_serve.specs.Seats.{Follows, Heeds, WasAnswered, WasLoggedOut, WasRefused, WasTaken, WasTold, WasToldRefusal, WasTurned};
 
 pub mod outgoing;
 pub mod resting;

@@ -1,41 +1,36 @@
 //! The writer of a connection.
 
-ghost use Rattle.std.specs.Prelude.{◌≡◌, ◌-◌, ◌^◌, ◌<◌, is_some, IfErr, OnOk, OnErr};
-ghost use Rattle.std.specs.Io.KnownBytes.{Appends};
-ghost use Rattle.gx_devices.specs.Devices.{IsFront};
-ghost use Rattle.gx_session.specs.Faults.{IsBlamed};
-ghost use Rattle.gx_session.specs.Sending.{control_bytes};
-ghost use Rattle.gx_serve.specs.Speech.{due_text, is_last, next_after};
-ghost use Rattle.gx_serve.specs.Tellings.{told_of};
-ghost use Rattle.gx_serve.specs.Breaks.{break_of};
-ghost use Rattle.gx_serve.specs.Speech.{IfOn, IsGreeted, WasSaid, WasSpoken};
+ghost use Rattle.gx_devices.specs.{Blaming.IsBlamed, Devices.IsFront};
+ghost use Rattle.std.specs.{Prelude.{◌≡◌, ◌-◌, ◌^◌, ◌<◌, is_some, IfErr, OnOk, OnErr}, Io.KnownBytes.Appends};
+ghost use Rattle.gx_session.specs.{Sending.control_bytes};
+ghost use Rattle.gx_serve.specs.{Speech.{due_text, is_last, next_after, IfOn, IsGreeted, WasSaid, WasSpoken}, Tellings.told_of, Breaks.break_of};
 
 use crate::link::Link;
 use crate::seat::Break;
 use crate::seat::outgoing::{Bookmark, Due, Finished, Greeted};
 use gx_answers::{LoginAnswer, StepFault};
-use gx_devices::Counted;
+use gx_devices::{Counted, WriteFault};
 use gx_door::{Dial, Door};
 use gx_lobby::{Chime, Stop};
-use gx_session::{Control, SendFault, send_control, send_pulled};
+use gx_session::{Control, send_control, send_pulled};
 use std::alloc::Global;
 use std::io::Write;
 use std::sync::Wait;
 use std::time::{Clock, Duration};
 
 /// What breaks a session off where a packet was not sent.
-fn cause_of(fault: SendFault) -> Break
+fn cause_of(fault: WriteFault) -> Break
     ensures { break_of result ≡ told_of fault }
 {
     match fault {
-        SendFault::OutOfMemory => Break::Refused(StepFault::OutOfMemory),
-        SendFault::WriteFailed => Break::Fault,
+        WriteFault::OutOfMemory => Break::Refused(StepFault::OutOfMemory),
+        WriteFault::WriteFailed => Break::Fault,
     }
 }
 
 /// Sends what is due: a packet of the session's own, or one for each report, in order; and nothing
 /// else.
-fn send<O: Write>(alloc: Global, due: &Due, writer: &mut Counted<O>) -> Result<(), SendFault>
+fn send<O: Write>(alloc: Global, due: &Due, writer: &mut Counted<O>) -> Result<(), WriteFault>
     requires { writer.old.failed < 2 ^ 64 - 1 }
     ensures sent { OnOk result (Appends
         (O.contents writer.old.device) (O.contents writer.new.device) (due_text due.now)) }

@@ -1,13 +1,9 @@
 -- On which policy a gate opens, and what is told of a policy file.
 use Rattle.std.specs.Prelude.{◌≡◌, ℕ, List, Option, Some, None, Result, Ok, Err}
 use Rattle.gx_policy.specs.declared.policy.PolicyData.{PolicyData}
-use Rattle.gx_policyfile.specs.declared.fault.FaultKind.{FaultKind}
-use Rattle.gx_policyfile.specs.Policies.{means}
-use Rattle.gx_policyfile.specs.Sample.{sample}
-use Rattle.gx_pipe.specs.declared.fault.PipeFault.TheVariants as pipe_faults
-use Rattle.gx_server.specs.declared.program_fault.ProgramFault.{ProgramFault}
-use Rattle.gx_server.specs.declared.program_fault.ProgramFault.TheVariants.{Pipe, Policy}
-use Rattle.gx_server.specs.Policies.{policy_line}
+use Rattle.gx_policyfile.specs.{declared.fault.FaultKind.FaultKind, Policies.means, Sample.sample}
+use Rattle.gx_pipe.specs.declared.fault.PipeFault.{PipeFault}
+use Rattle.gx_server.specs.{declared.program_fault.ProgramFault.{ProgramFault, TheVariants.{Pipe, Policy}}, Policies.policy_line}
 
 -- the policy to open on: what the file means, or else the sample policy
 abbrev pub policy_for : Option (List ℕ) → Result PolicyData FaultKind
@@ -17,7 +13,7 @@ policy_for None = Ok sample
 -- What is meant has this fault; where memory ran out nothing is said.
 abbrev pub IsFaultOf : {X : Type 0} → Result X FaultKind → ProgramFault → Type 0
 IsFaultOf meant (Policy fault) = meant ≡ Err fault.kind
-IsFaultOf meant (Pipe pipe_faults.OutOfMemory) = Unit {0}
+IsFaultOf meant (Pipe PipeFault.OutOfMemory) = Unit {0}
 IsFaultOf meant other = ⊥
 
 -- what is told of the policy that is meant by a file of this version

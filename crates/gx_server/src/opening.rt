@@ -2,8 +2,7 @@
 
 ghost use Rattle.std.specs.Prelude.{◌≡◌, [], None, Ok, option_copied, IfOk, IfErr};
 ghost use Rattle.gx_policyfile.specs.Policies.{means, version_of};
-ghost use Rattle.gx_server.specs.Opening.{policy_for, line_for, IsFaultOf};
-ghost use Rattle.gx_server.specs.Telling.{out_of_memory};
+ghost use Rattle.gx_server.specs.{Opening.{policy_for, line_for, IsFaultOf}, Telling.out_of_memory};
 
 use crate::policies::{policy_line, sample_policy};
 use crate::program_fault::ProgramFault;

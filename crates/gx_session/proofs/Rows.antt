@@ -1,17 +1,10 @@
 -- What follows a row of events, by the phase.
-use Rattle.std.proofs.Common.{◌≡◌, ℕ, ◌+◌, ◌≤◌, Bool, true, false, ◌&&◌, cond, List, [], ◌∷◌, refl, arith, count_by, lit≤}
+use Rattle.std.proofs.{Common.{◌≡◌, ℕ, ◌+◌, ◌≤◌, Bool, true, false, ◌&&◌, cond, List, [], ◌∷◌, refl, arith, count_by, lit≤}, lemmas.List.Sums.sum_by-cons}
 use Rattle.std.specs.List.{list_all}
-use Rattle.std.proofs.lemmas.List.Sums.{sum_by-cons}
 use Rattle.gx_soup.specs.declared.packet.ClientPacket.{ClientPacket}
-use Rattle.gx_soup.specs.declared.packet.ClientPacket.TheVariants as client
-use Rattle.gx_answers.specs.declared.outcome.LoginAnswer.TheVariants as answers
-use Rattle.gx_session.specs.Happenings.{Happening}
+use Rattle.gx_answers.specs.declared.outcome.LoginAnswer.{LoginAnswer}
+use Rattle.gx_session.specs.{Happenings.Happening, declared.session.{Phase.{Phase, TheVariants.{Fresh, Waiting, On, Abandoned, Done}}, Row.Row}, Table.{SessionData, fresh_packet, on_packet, row_in, turn, new_session}, Events.{Timed, replies, is_on, is_over, is_last, is_parting, is_wordless, is_no_answer, is_acceptance, asks_login, asks_logout}}
 use Rattle.gx_session.specs.Happenings as happens
-use Rattle.gx_session.specs.declared.session.Phase.{Phase}
-use Rattle.gx_session.specs.declared.session.Phase.TheVariants.{Fresh, Waiting, On, Abandoned, Done}
-use Rattle.gx_session.specs.declared.session.Row.{Row}
-use Rattle.gx_session.specs.Table.{SessionData, fresh_packet, on_packet, row_in, turn, new_session}
-use Rattle.gx_session.specs.Events.{Timed, replies, is_on, is_over, is_last, is_parting, is_wordless, is_no_answer, is_acceptance, asks_login, asks_logout}
 
 -- After a logout or a close the session is over.
 
@@ -19,18 +12,18 @@ abbrev EndsOver : Row → Type 0
 EndsOver r = is_last r.reply.next ≡ true → is_over r.phase ≡ true
 
 fresh_ends : (p : ClientPacket) → EndsOver (fresh_packet p)
-fresh_ends (client.Login login) h = cc
-fresh_ends (client.Data payload) h = refl
-fresh_ends client.Logout h = refl
-fresh_ends client.Heartbeat h = cc
-fresh_ends client.Debug h = cc
+fresh_ends (ClientPacket.Login login) h = cc
+fresh_ends (ClientPacket.Data payload) h = refl
+fresh_ends ClientPacket.Logout h = refl
+fresh_ends ClientPacket.Heartbeat h = cc
+fresh_ends ClientPacket.Debug h = cc
 
 on_ends : (p : ClientPacket) → EndsOver (on_packet p)
-on_ends (client.Login login) h = refl
-on_ends (client.Data payload) h = cc
-on_ends client.Logout h = refl
-on_ends client.Heartbeat h = cc
-on_ends client.Debug h = cc
+on_ends (ClientPacket.Login login) h = refl
+on_ends (ClientPacket.Data payload) h = cc
+on_ends ClientPacket.Logout h = refl
+on_ends ClientPacket.Heartbeat h = cc
+on_ends ClientPacket.Debug h = cc
 
 row_ends : (p : Phase) (e : Happening) (silent quiet : Bool) → EndsOver (row_in p e silent quiet)
 row_ends Fresh (happens.Packet p) silent quiet h = fresh_ends p h
@@ -42,8 +35,8 @@ row_ends Fresh happens.Tick false quiet h = cc
 row_ends Fresh happens.Fault silent quiet h = refl
 row_ends Fresh happens.End silent quiet h = refl
 row_ends Waiting (happens.Packet p) silent quiet h = cc
-row_ends Waiting (happens.Answered (answers.Accepted name next)) silent quiet h = cc
-row_ends Waiting (happens.Answered (answers.Rejected reason)) silent quiet h = refl
+row_ends Waiting (happens.Answered (LoginAnswer.Accepted name next)) silent quiet h = cc
+row_ends Waiting (happens.Answered (LoginAnswer.Rejected reason)) silent quiet h = refl
 row_ends Waiting (happens.Refused f) silent quiet h = refl
 row_ends Waiting (happens.Pulled n e) silent quiet h = cc
 row_ends Waiting happens.Tick true quiet h = refl
@@ -61,8 +54,8 @@ row_ends On happens.Tick false false h = cc
 row_ends On happens.Fault silent quiet h = refl
 row_ends On happens.End silent quiet h = refl
 row_ends Abandoned (happens.Packet p) silent quiet h = cc
-row_ends Abandoned (happens.Answered (answers.Accepted name next)) silent quiet h = refl
-row_ends Abandoned (happens.Answered (answers.Rejected reason)) silent quiet h = refl
+row_ends Abandoned (happens.Answered (LoginAnswer.Accepted name next)) silent quiet h = refl
+row_ends Abandoned (happens.Answered (LoginAnswer.Rejected reason)) silent quiet h = refl
 row_ends Abandoned (happens.Refused f) silent quiet h = cc
 row_ends Abandoned (happens.Pulled n e) silent quiet h = cc
 row_ends Abandoned happens.Tick silent quiet h = cc
@@ -81,8 +74,8 @@ row_parts Fresh e silent quiet h = cc
 row_parts Waiting e silent quiet h = cc
 row_parts On e silent quiet h = cc
 row_parts Abandoned (happens.Packet p) silent quiet h = (refl, refl)
-row_parts Abandoned (happens.Answered (answers.Accepted name next)) silent quiet h = (refl, refl)
-row_parts Abandoned (happens.Answered (answers.Rejected reason)) silent quiet h = (refl, refl)
+row_parts Abandoned (happens.Answered (LoginAnswer.Accepted name next)) silent quiet h = (refl, refl)
+row_parts Abandoned (happens.Answered (LoginAnswer.Rejected reason)) silent quiet h = (refl, refl)
 row_parts Abandoned (happens.Refused f) silent quiet h = (refl, refl)
 row_parts Abandoned (happens.Pulled n e) silent quiet h = (refl, refl)
 row_parts Abandoned happens.Tick silent quiet h = (refl, refl)
@@ -138,23 +131,23 @@ abbrev logins_of : Row → ℕ
 logins_of r = cond (asks_login r.reply) 1 0 + logins_left r.phase
 
 fresh_logins : (p : ClientPacket) → logins_of (fresh_packet p) ≤ 1
-fresh_logins (client.Login login) = lit≤ tt
-fresh_logins (client.Data payload) = lit≤ tt
-fresh_logins client.Logout = lit≤ tt
-fresh_logins client.Heartbeat = lit≤ tt
-fresh_logins client.Debug = lit≤ tt
+fresh_logins (ClientPacket.Login login) = lit≤ tt
+fresh_logins (ClientPacket.Data payload) = lit≤ tt
+fresh_logins ClientPacket.Logout = lit≤ tt
+fresh_logins ClientPacket.Heartbeat = lit≤ tt
+fresh_logins ClientPacket.Debug = lit≤ tt
 
 on_logins : (p : ClientPacket) → logins_of (on_packet p) ≤ 0
-on_logins (client.Login login) = lit≤ tt
-on_logins (client.Data payload) = lit≤ tt
-on_logins client.Logout = lit≤ tt
-on_logins client.Heartbeat = lit≤ tt
-on_logins client.Debug = lit≤ tt
+on_logins (ClientPacket.Login login) = lit≤ tt
+on_logins (ClientPacket.Data payload) = lit≤ tt
+on_logins ClientPacket.Logout = lit≤ tt
+on_logins ClientPacket.Heartbeat = lit≤ tt
+on_logins ClientPacket.Debug = lit≤ tt
 
 row_logins : (p : Phase) (e : Happening) (silent quiet : Bool) → logins_of (row_in p e silent quiet) ≤ logins_left p
 row_logins Fresh (happens.Packet p) silent quiet = fresh_logins p
-row_logins Fresh (happens.Answered (answers.Accepted name next)) silent quiet = lit≤ tt
-row_logins Fresh (happens.Answered (answers.Rejected reason)) silent quiet = lit≤ tt
+row_logins Fresh (happens.Answered (LoginAnswer.Accepted name next)) silent quiet = lit≤ tt
+row_logins Fresh (happens.Answered (LoginAnswer.Rejected reason)) silent quiet = lit≤ tt
 row_logins Fresh (happens.Refused f) silent quiet = lit≤ tt
 row_logins Fresh (happens.Pulled n e) silent quiet = lit≤ tt
 row_logins Fresh happens.Tick true quiet = lit≤ tt
@@ -162,8 +155,8 @@ row_logins Fresh happens.Tick false quiet = lit≤ tt
 row_logins Fresh happens.Fault silent quiet = lit≤ tt
 row_logins Fresh happens.End silent quiet = lit≤ tt
 row_logins Waiting (happens.Packet p) silent quiet = lit≤ tt
-row_logins Waiting (happens.Answered (answers.Accepted name next)) silent quiet = lit≤ tt
-row_logins Waiting (happens.Answered (answers.Rejected reason)) silent quiet = lit≤ tt
+row_logins Waiting (happens.Answered (LoginAnswer.Accepted name next)) silent quiet = lit≤ tt
+row_logins Waiting (happens.Answered (LoginAnswer.Rejected reason)) silent quiet = lit≤ tt
 row_logins Waiting (happens.Refused f) silent quiet = lit≤ tt
 row_logins Waiting (happens.Pulled n e) silent quiet = lit≤ tt
 row_logins Waiting happens.Tick true quiet = lit≤ tt
@@ -171,8 +164,8 @@ row_logins Waiting happens.Tick false quiet = lit≤ tt
 row_logins Waiting happens.Fault silent quiet = lit≤ tt
 row_logins Waiting happens.End silent quiet = lit≤ tt
 row_logins On (happens.Packet p) silent quiet = on_logins p
-row_logins On (happens.Answered (answers.Accepted name next)) silent quiet = lit≤ tt
-row_logins On (happens.Answered (answers.Rejected reason)) silent quiet = lit≤ tt
+row_logins On (happens.Answered (LoginAnswer.Accepted name next)) silent quiet = lit≤ tt
+row_logins On (happens.Answered (LoginAnswer.Rejected reason)) silent quiet = lit≤ tt
 row_logins On (happens.Refused f) silent quiet = lit≤ tt
 row_logins On (happens.Pulled n true) silent quiet = lit≤ tt
 row_logins On (happens.Pulled n false) silent quiet = lit≤ tt
@@ -182,8 +175,8 @@ row_logins On happens.Tick false false = lit≤ tt
 row_logins On happens.Fault silent quiet = lit≤ tt
 row_logins On happens.End silent quiet = lit≤ tt
 row_logins Abandoned (happens.Packet p) silent quiet = lit≤ tt
-row_logins Abandoned (happens.Answered (answers.Accepted name next)) silent quiet = lit≤ tt
-row_logins Abandoned (happens.Answered (answers.Rejected reason)) silent quiet = lit≤ tt
+row_logins Abandoned (happens.Answered (LoginAnswer.Accepted name next)) silent quiet = lit≤ tt
+row_logins Abandoned (happens.Answered (LoginAnswer.Rejected reason)) silent quiet = lit≤ tt
 row_logins Abandoned (happens.Refused f) silent quiet = lit≤ tt
 row_logins Abandoned (happens.Pulled n e) silent quiet = lit≤ tt
 row_logins Abandoned happens.Tick silent quiet = lit≤ tt
@@ -204,23 +197,23 @@ abbrev logouts_of : Row → ℕ
 logouts_of r = cond (asks_logout r.reply) 1 0 + users_on r.phase
 
 fresh_logouts : (p : ClientPacket) → logouts_of (fresh_packet p) ≤ 0
-fresh_logouts (client.Login login) = lit≤ tt
-fresh_logouts (client.Data payload) = lit≤ tt
-fresh_logouts client.Logout = lit≤ tt
-fresh_logouts client.Heartbeat = lit≤ tt
-fresh_logouts client.Debug = lit≤ tt
+fresh_logouts (ClientPacket.Login login) = lit≤ tt
+fresh_logouts (ClientPacket.Data payload) = lit≤ tt
+fresh_logouts ClientPacket.Logout = lit≤ tt
+fresh_logouts ClientPacket.Heartbeat = lit≤ tt
+fresh_logouts ClientPacket.Debug = lit≤ tt
 
 on_logouts : (p : ClientPacket) → logouts_of (on_packet p) ≤ 1
-on_logouts (client.Login login) = lit≤ tt
-on_logouts (client.Data payload) = lit≤ tt
-on_logouts client.Logout = lit≤ tt
-on_logouts client.Heartbeat = lit≤ tt
-on_logouts client.Debug = lit≤ tt
+on_logouts (ClientPacket.Login login) = lit≤ tt
+on_logouts (ClientPacket.Data payload) = lit≤ tt
+on_logouts ClientPacket.Logout = lit≤ tt
+on_logouts ClientPacket.Heartbeat = lit≤ tt
+on_logouts ClientPacket.Debug = lit≤ tt
 
 row_logouts : (p : Phase) (e : Happening) (silent quiet : Bool) → logouts_of (row_in p e silent quiet) ≤ users_on p + cond (is_acceptance e) 1 0
 row_logouts Fresh (happens.Packet p) silent quiet = fresh_logouts p
-row_logouts Fresh (happens.Answered (answers.Accepted name next)) silent quiet = lit≤ tt
-row_logouts Fresh (happens.Answered (answers.Rejected reason)) silent quiet = lit≤ tt
+row_logouts Fresh (happens.Answered (LoginAnswer.Accepted name next)) silent quiet = lit≤ tt
+row_logouts Fresh (happens.Answered (LoginAnswer.Rejected reason)) silent quiet = lit≤ tt
 row_logouts Fresh (happens.Refused f) silent quiet = lit≤ tt
 row_logouts Fresh (happens.Pulled n e) silent quiet = lit≤ tt
 row_logouts Fresh happens.Tick true quiet = lit≤ tt
@@ -228,8 +221,8 @@ row_logouts Fresh happens.Tick false quiet = lit≤ tt
 row_logouts Fresh happens.Fault silent quiet = lit≤ tt
 row_logouts Fresh happens.End silent quiet = lit≤ tt
 row_logouts Waiting (happens.Packet p) silent quiet = lit≤ tt
-row_logouts Waiting (happens.Answered (answers.Accepted name next)) silent quiet = lit≤ tt
-row_logouts Waiting (happens.Answered (answers.Rejected reason)) silent quiet = lit≤ tt
+row_logouts Waiting (happens.Answered (LoginAnswer.Accepted name next)) silent quiet = lit≤ tt
+row_logouts Waiting (happens.Answered (LoginAnswer.Rejected reason)) silent quiet = lit≤ tt
 row_logouts Waiting (happens.Refused f) silent quiet = lit≤ tt
 row_logouts Waiting (happens.Pulled n e) silent quiet = lit≤ tt
 row_logouts Waiting happens.Tick true quiet = lit≤ tt
@@ -237,8 +230,8 @@ row_logouts Waiting happens.Tick false quiet = lit≤ tt
 row_logouts Waiting happens.Fault silent quiet = lit≤ tt
 row_logouts Waiting happens.End silent quiet = lit≤ tt
 row_logouts On (happens.Packet p) silent quiet = on_logouts p
-row_logouts On (happens.Answered (answers.Accepted name next)) silent quiet = lit≤ tt
-row_logouts On (happens.Answered (answers.Rejected reason)) silent quiet = lit≤ tt
+row_logouts On (happens.Answered (LoginAnswer.Accepted name next)) silent quiet = lit≤ tt
+row_logouts On (happens.Answered (LoginAnswer.Rejected reason)) silent quiet = lit≤ tt
 row_logouts On (happens.Refused f) silent quiet = lit≤ tt
 row_logouts On (happens.Pulled n true) silent quiet = lit≤ tt
 row_logouts On (happens.Pulled n false) silent quiet = lit≤ tt
@@ -248,8 +241,8 @@ row_logouts On happens.Tick false false = lit≤ tt
 row_logouts On happens.Fault silent quiet = lit≤ tt
 row_logouts On happens.End silent quiet = lit≤ tt
 row_logouts Abandoned (happens.Packet p) silent quiet = lit≤ tt
-row_logouts Abandoned (happens.Answered (answers.Accepted name next)) silent quiet = lit≤ tt
-row_logouts Abandoned (happens.Answered (answers.Rejected reason)) silent quiet = lit≤ tt
+row_logouts Abandoned (happens.Answered (LoginAnswer.Accepted name next)) silent quiet = lit≤ tt
+row_logouts Abandoned (happens.Answered (LoginAnswer.Rejected reason)) silent quiet = lit≤ tt
 row_logouts Abandoned (happens.Refused f) silent quiet = lit≤ tt
 row_logouts Abandoned (happens.Pulled n e) silent quiet = lit≤ tt
 row_logouts Abandoned happens.Tick silent quiet = lit≤ tt
@@ -274,8 +267,8 @@ row_late Fresh e silent quiet h = cc
 row_late Waiting e silent quiet h = cc
 row_late On e silent quiet h = cc
 row_late Abandoned (happens.Packet p) silent quiet h = lit≤ tt
-row_late Abandoned (happens.Answered (answers.Accepted name next)) silent quiet h = lit≤ tt
-row_late Abandoned (happens.Answered (answers.Rejected reason)) silent quiet h = lit≤ tt
+row_late Abandoned (happens.Answered (LoginAnswer.Accepted name next)) silent quiet h = lit≤ tt
+row_late Abandoned (happens.Answered (LoginAnswer.Rejected reason)) silent quiet h = lit≤ tt
 row_late Abandoned (happens.Refused f) silent quiet h = lit≤ tt
 row_late Abandoned (happens.Pulled n e) silent quiet h = lit≤ tt
 row_late Abandoned happens.Tick silent quiet h = lit≤ tt
@@ -308,16 +301,16 @@ abbrev IsQuiet : Row → Type 0
 IsQuiet r = (is_wordless r.reply ≡ true) × (users_on r.phase ≡ 0)
 
 fresh_wordless : (p : ClientPacket) → IsQuiet (fresh_packet p)
-fresh_wordless (client.Login login) = (refl, refl)
-fresh_wordless (client.Data payload) = (refl, refl)
-fresh_wordless client.Logout = (refl, refl)
-fresh_wordless client.Heartbeat = (refl, refl)
-fresh_wordless client.Debug = (refl, refl)
+fresh_wordless (ClientPacket.Login login) = (refl, refl)
+fresh_wordless (ClientPacket.Data payload) = (refl, refl)
+fresh_wordless ClientPacket.Logout = (refl, refl)
+fresh_wordless ClientPacket.Heartbeat = (refl, refl)
+fresh_wordless ClientPacket.Debug = (refl, refl)
 
 row_wordless : (p : Phase) (e : Happening) (silent quiet : Bool) → users_on p ≡ 0 → is_no_answer e ≡ true → IsQuiet (row_in p e silent quiet)
 row_wordless Fresh (happens.Packet p) silent quiet h k = fresh_wordless p
-row_wordless Fresh (happens.Answered (answers.Accepted name next)) silent quiet h k = cc
-row_wordless Fresh (happens.Answered (answers.Rejected reason)) silent quiet h k = cc
+row_wordless Fresh (happens.Answered (LoginAnswer.Accepted name next)) silent quiet h k = cc
+row_wordless Fresh (happens.Answered (LoginAnswer.Rejected reason)) silent quiet h k = cc
 row_wordless Fresh (happens.Refused f) silent quiet h k = (refl, refl)
 row_wordless Fresh (happens.Pulled n e) silent quiet h k = (refl, refl)
 row_wordless Fresh happens.Tick true quiet h k = (refl, refl)
@@ -325,8 +318,8 @@ row_wordless Fresh happens.Tick false quiet h k = (refl, refl)
 row_wordless Fresh happens.Fault silent quiet h k = (refl, refl)
 row_wordless Fresh happens.End silent quiet h k = (refl, refl)
 row_wordless Waiting (happens.Packet p) silent quiet h k = (refl, refl)
-row_wordless Waiting (happens.Answered (answers.Accepted name next)) silent quiet h k = cc
-row_wordless Waiting (happens.Answered (answers.Rejected reason)) silent quiet h k = cc
+row_wordless Waiting (happens.Answered (LoginAnswer.Accepted name next)) silent quiet h k = cc
+row_wordless Waiting (happens.Answered (LoginAnswer.Rejected reason)) silent quiet h k = cc
 row_wordless Waiting (happens.Refused f) silent quiet h k = (refl, refl)
 row_wordless Waiting (happens.Pulled n e) silent quiet h k = (refl, refl)
 row_wordless Waiting happens.Tick true quiet h k = (refl, refl)
@@ -335,8 +328,8 @@ row_wordless Waiting happens.Fault silent quiet h k = (refl, refl)
 row_wordless Waiting happens.End silent quiet h k = (refl, refl)
 row_wordless On e silent quiet h k = cc
 row_wordless Abandoned (happens.Packet p) silent quiet h k = (refl, refl)
-row_wordless Abandoned (happens.Answered (answers.Accepted name next)) silent quiet h k = cc
-row_wordless Abandoned (happens.Answered (answers.Rejected reason)) silent quiet h k = cc
+row_wordless Abandoned (happens.Answered (LoginAnswer.Accepted name next)) silent quiet h k = cc
+row_wordless Abandoned (happens.Answered (LoginAnswer.Rejected reason)) silent quiet h k = cc
 row_wordless Abandoned (happens.Refused f) silent quiet h k = (refl, refl)
 row_wordless Abandoned (happens.Pulled n e) silent quiet h k = (refl, refl)
 row_wordless Abandoned happens.Tick silent quiet h k = (refl, refl)

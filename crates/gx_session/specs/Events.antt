@@ -1,19 +1,10 @@
 -- What follows a row of happens.
 use Rattle.std.specs.Prelude.{ℕ, Bool, true, false, ◌&&◌, not, is_none, Option, Some, None, List, [], ◌∷◌, IsTrue}
-use Rattle.gx_soup.specs.declared.packet.ClientPacket.{ClientPacket}
-use Rattle.gx_soup.specs.declared.packet.ClientPacket.TheVariants as client
-use Rattle.gx_soup.specs.declared.packet.LoginRequest.{LoginRequest}
+use Rattle.gx_soup.specs.declared.packet.{ClientPacket.ClientPacket, LoginRequest.LoginRequest}
 use Rattle.gx_history.specs.Showing.{has_its_first}
 use Rattle.gx_answers.specs.declared.outcome.LoginAnswer.{LoginAnswer}
-use Rattle.gx_answers.specs.declared.outcome.LoginAnswer.TheVariants as answers
-use Rattle.gx_session.specs.Happenings.{Happening}
+use Rattle.gx_session.specs.{Happenings.Happening, declared.{event.{Next.{Next, TheVariants.{Idle, Login, Act, Logout, Close}}, Reply.Reply}, session.Phase.{Phase, TheVariants.{On, Abandoned, Done}}}, Table.{SessionData, turn}}
 use Rattle.gx_session.specs.Happenings as happens
-use Rattle.gx_session.specs.declared.event.Next.{Next}
-use Rattle.gx_session.specs.declared.event.Next.TheVariants.{Idle, Login, Act, Logout, Close}
-use Rattle.gx_session.specs.declared.event.Reply.{Reply}
-use Rattle.gx_session.specs.declared.session.Phase.{Phase}
-use Rattle.gx_session.specs.declared.session.Phase.TheVariants.{On, Abandoned, Done}
-use Rattle.gx_session.specs.Table.{SessionData, turn}
 
 -- an event and its moment
 pub record Timed : Type 0 where
@@ -57,7 +48,7 @@ asks_logout reply = is_logout reply.next
 
 -- the login that a packet asks for, where the session wants it made
 abbrev pub login_in : ClientPacket → Next → Option LoginRequest
-login_in (client.Login login) Login = Some login
+login_in (ClientPacket.Login login) Login = Some login
 login_in packet next = None
 
 -- what it asks for is a step of a gate
@@ -110,8 +101,8 @@ is_no_answer happens.Fault = true
 is_no_answer happens.End = true
 
 abbrev pub is_accepted : LoginAnswer → Bool
-is_accepted (answers.Accepted name next) = true
-is_accepted (answers.Rejected reason) = false
+is_accepted (LoginAnswer.Accepted name next) = true
+is_accepted (LoginAnswer.Rejected reason) = false
 
 -- a login's answer is told, and it is Accepted
 abbrev pub is_acceptance : Happening → Bool

@@ -3,4 +3,3 @@ pub mod Table
 pub mod Events
 pub mod Outboxes
 pub mod Sending
-pub mod Faults

@@ -1,19 +1,9 @@
 -- The session table: how far a session has come, what happens, and what follows, a row a line.
 use Rattle.std.specs.Prelude.{ℕ, ◌-◌, max, min, nat_lt, nat_le, Bool, ◌||◌, if◌then◌else◌, Option, Some, None, is_some}
 use Rattle.gx_soup.specs.declared.packet.ClientPacket.{ClientPacket}
-use Rattle.gx_soup.specs.declared.packet.ClientPacket.TheVariants as client
 use Rattle.gx_history.specs.Payloads.{request_of}
-use Rattle.gx_answers.specs.declared.outcome.LoginAnswer.TheVariants as answers
-use Rattle.gx_session.specs.declared.event.Control.{Control}
-use Rattle.gx_session.specs.declared.event.Control.TheVariants as controls
-use Rattle.gx_session.specs.declared.event.Sign.TheVariants as signs
-use Rattle.gx_session.specs.declared.event.Next.{Next}
-use Rattle.gx_session.specs.declared.event.Next.TheVariants.{Idle, Login, Act, Logout, Close}
-use Rattle.gx_session.specs.declared.event.Reply.{Reply}
-use Rattle.gx_session.specs.declared.session.Phase.{Phase}
-use Rattle.gx_session.specs.declared.session.Phase.TheVariants.{Fresh, Waiting, On, Abandoned, Done}
-use Rattle.gx_session.specs.declared.session.Row.{Row}
-use Rattle.gx_session.specs.Happenings.{Happening}
+use Rattle.gx_answers.specs.declared.outcome.LoginAnswer.{LoginAnswer}
+use Rattle.gx_session.specs.{declared.{event.{Control.Control, Sign.Sign, Next.{Next, TheVariants.{Idle, Login, Act, Logout, Close}}, Reply.Reply}, session.{Phase.{Phase, TheVariants.{Fresh, Waiting, On, Abandoned, Done}}, Row.Row}}, Happenings.Happening}
 use Rattle.gx_session.specs.Happenings as happens
 
 -- how far a session has come, and the moments of the last packets received and sent
@@ -35,11 +25,11 @@ row phase send next = record { phase = phase; reply = record { send = send; next
 
 -- no login has come
 abbrev pub fresh_packet : ClientPacket → Row
-fresh_packet (client.Login login) = row Waiting None Login
-fresh_packet (client.Data payload) = row Done None Close
-fresh_packet client.Logout = row Done None Close
-fresh_packet client.Heartbeat = row Fresh None Idle
-fresh_packet client.Debug = row Fresh None Idle
+fresh_packet (ClientPacket.Login login) = row Waiting None Login
+fresh_packet (ClientPacket.Data payload) = row Done None Close
+fresh_packet ClientPacket.Logout = row Done None Close
+fresh_packet ClientPacket.Heartbeat = row Fresh None Idle
+fresh_packet ClientPacket.Debug = row Fresh None Idle
 
 abbrev pub fresh_row : Happening → Bool → Row
 fresh_row (happens.Packet packet) silent = fresh_packet packet
@@ -53,8 +43,8 @@ fresh_row happens.End silent = row Done None Close
 -- a login has come, and its answer has not
 abbrev pub waiting_row : Happening → Bool → Row
 waiting_row (happens.Packet packet) silent = row Waiting None Idle
-waiting_row (happens.Answered (answers.Accepted name next)) silent = row On (Some (controls.Answer (answers.Accepted name next))) Idle
-waiting_row (happens.Answered (answers.Rejected reason)) silent = row Done (Some (controls.Answer (answers.Rejected reason))) Close
+waiting_row (happens.Answered (LoginAnswer.Accepted name next)) silent = row On (Some (Control.Answer (LoginAnswer.Accepted name next))) Idle
+waiting_row (happens.Answered (LoginAnswer.Rejected reason)) silent = row Done (Some (Control.Answer (LoginAnswer.Rejected reason))) Close
 waiting_row (happens.Refused fault) silent = row Abandoned None Close
 waiting_row (happens.Pulled count ended) silent = row Waiting None Idle
 waiting_row happens.Tick silent = if silent then row Abandoned None Close else row Waiting None Idle
@@ -63,25 +53,25 @@ waiting_row happens.End silent = row Abandoned None Close
 
 -- a user is logged in: a payload is one request, and a second login ends the session
 abbrev pub on_packet : ClientPacket → Row
-on_packet (client.Login login) = row Done None Logout
-on_packet (client.Data payload) = row On None (Act (request_of payload))
-on_packet client.Logout = row Done None Logout
-on_packet client.Heartbeat = row On None Idle
-on_packet client.Debug = row On None Idle
+on_packet (ClientPacket.Login login) = row Done None Logout
+on_packet (ClientPacket.Data payload) = row On None (Act (request_of payload))
+on_packet ClientPacket.Logout = row Done None Logout
+on_packet ClientPacket.Heartbeat = row On None Idle
+on_packet ClientPacket.Debug = row On None Idle
 
 abbrev pub on_row : Happening → Bool → Bool → Row
 on_row (happens.Packet packet) silent quiet = on_packet packet
 on_row (happens.Answered answer) silent quiet = row On None Idle
 on_row (happens.Refused fault) silent quiet = row Done None Logout
-on_row (happens.Pulled count ended) silent quiet = if ended then row Done (Some (controls.Sign signs.EndOfSession)) Logout else row On None Idle
-on_row happens.Tick silent quiet = if silent then row Done None Logout else (if quiet then row On (Some (controls.Sign signs.Heartbeat)) Idle else row On None Idle)
+on_row (happens.Pulled count ended) silent quiet = if ended then row Done (Some (Control.Sign Sign.EndOfSession)) Logout else row On None Idle
+on_row happens.Tick silent quiet = if silent then row Done None Logout else (if quiet then row On (Some (Control.Sign Sign.Heartbeat)) Idle else row On None Idle)
 on_row happens.Fault silent quiet = row Done None Logout
 on_row happens.End silent quiet = row Done None Logout
 
 -- the session is over, and the answer to its login has not come
 abbrev pub abandoned_row : Happening → Row
-abandoned_row (happens.Answered (answers.Accepted name next)) = row Done None Logout
-abandoned_row (happens.Answered (answers.Rejected reason)) = row Done None Idle
+abandoned_row (happens.Answered (LoginAnswer.Accepted name next)) = row Done None Logout
+abandoned_row (happens.Answered (LoginAnswer.Rejected reason)) = row Done None Idle
 abandoned_row other = row Abandoned None Idle
 
 abbrev pub row_in : Phase → Happening → Bool → Bool → Row

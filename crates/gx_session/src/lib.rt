@@ -3,14 +3,12 @@
 #![tactic(auto)]
 
 mod event;
-mod fault;
 mod laws;
 mod outbox;
 mod sending;
 mod session;
 
 pub use event::{Control, Event, Next, Reply, Sign};
-pub use fault::SendFault;
 pub use laws::{
     ended_sessions_are_silent, no_logout_without_a_login, one_login, silent_before_an_answer,
 };

@@ -1,15 +1,12 @@
 //! Sending reports, and packets of the session's own.
 
-ghost use Rattle.std.specs.Prelude.{◌≡◌, ◌-◌, ◌^◌, ◌<◌, [], ◌++◌, IfOk, IfErr, OnOk, OnErr};
-ghost use Rattle.std.specs.Io.KnownBytes.{Appends};
-ghost use Rattle.gx_devices.specs.Devices.{IsFront};
-ghost use Rattle.gx_session.specs.Faults.{IsBlamed};
-ghost use Rattle.gx_session.specs.Sending.{control_bytes, report_packet, reports_text};
+ghost use Rattle.gx_devices.specs.{Blaming.IsBlamed, Devices.IsFront};
+ghost use Rattle.std.specs.{Prelude.{◌≡◌, ◌-◌, ◌^◌, ◌<◌, [], ◌++◌, IfOk, IfErr, OnOk, OnErr}, Io.KnownBytes.Appends};
+ghost use Rattle.gx_session.specs.{Sending.{control_bytes, report_packet, reports_text}};
 
 use crate::event::{Control, Sign};
-use crate::fault::SendFault;
 use gx_answers::{LoginAnswer, Pulled};
-use gx_devices::{Counted, write_whole};
+use gx_devices::{Counted, WriteFault, write_whole};
 use gx_history::report::Report;
 use gx_ouch::MESSAGE_ROOM;
 use gx_soup::{ServerPacket, append_sequenced, encode};
@@ -45,7 +42,7 @@ pub fn send_pulled<W: Write>(
     alloc: Global,
     pulled: &Pulled,
     writer: &mut Counted<W>,
-) -> Result<(), SendFault>
+) -> Result<(), WriteFault>
     requires { writer.old.failed < 2 ^ 64 - 1 }
     ensures sent { OnOk result (Appends
         (W.contents writer.old.device) (W.contents writer.new.device)
@@ -53,7 +50,7 @@ pub fn send_pulled<W: Write>(
     ensures front { OnErr result (IsFront
         (W.contents writer.old.device) (W.contents writer.new.device)
         (reports_text pulled.now.reports)) }
-    ensures nothing { IfErr result (λ fault. fault ≡ SendFault.OutOfMemory → Appends
+    ensures nothing { IfErr result (λ fault. fault ≡ WriteFault.OutOfMemory → Appends
         (W.contents writer.old.device) (W.contents writer.new.device) []) }
     ensures kept { OnOk result (writer.new.failed ≡ writer.old.failed) }
     ensures told { IfErr result (IsBlamed writer.old.failed writer.new.failed) }
@@ -69,13 +66,13 @@ pub fn send_control<W: Write>(
     alloc: Global,
     control: Control,
     writer: &mut Counted<W>,
-) -> Result<(), SendFault>
+) -> Result<(), WriteFault>
     requires { writer.old.failed < 2 ^ 64 - 1 }
     ensures sent { OnOk result (Appends
         (W.contents writer.old.device) (W.contents writer.new.device) (control_bytes control)) }
     ensures front { OnErr result (IsFront
         (W.contents writer.old.device) (W.contents writer.new.device) (control_bytes control)) }
-    ensures nothing { IfErr result (λ fault. fault ≡ SendFault.OutOfMemory → Appends
+    ensures nothing { IfErr result (λ fault. fault ≡ WriteFault.OutOfMemory → Appends
         (W.contents writer.old.device) (W.contents writer.new.device) []) }
     ensures kept { OnOk result (writer.new.failed ≡ writer.old.failed) }
     ensures told { IfErr result (IsBlamed writer.old.failed writer.new.failed) }

@@ -1,12 +1,7 @@
 //! The session table.
 
 ghost use Rattle.std.specs.Prelude.{◌≡◌, None};
-ghost use Rattle.gx_session.specs.declared.event.Next.TheVariants.{Idle};
-ghost use Rattle.gx_session.specs.Table.{is_silent, fresh_packet, fresh_row, waiting_row, on_packet, on_row};
-ghost use Rattle.gx_session.specs.Table.{abandoned_row, row, row_at, is_sending, heard_after, sent_after};
-ghost use Rattle.gx_session.specs.Table.{turn, new_session, rest_of};
-ghost use Rattle.gx_session.specs.Happenings.{happening};
-ghost use Rattle.gx_session.specs.Events.{is_on, is_over, CanAsk};
+ghost use Rattle.gx_session.specs.{declared.event.Next.TheVariants.Idle, Table.{is_silent, fresh_packet, fresh_row, waiting_row, on_packet, on_row, abandoned_row, row, row_at, is_sending, heard_after, sent_after, turn, new_session, rest_of}, Happenings.happening, Events.{is_on, is_over, CanAsk}};
 
 use crate::event::{Control, Event, Next, Reply, Sign};
 use gx_answers::LoginAnswer;

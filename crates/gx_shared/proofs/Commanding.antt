@@ -1,38 +1,15 @@
 -- What a command ends; and none is granted but to an officer.
-use Rattle.std.proofs.Common.{◌≡◌, ◌≤◌, Bool, true, false, List, [], ◌∷◌, length, cond, ◌⊎◌, inl, inr, ℕ, refl, ap, arith, ◌∙◌}
-use Rattle.std.specs.Prelude.{Option, Some, None, option_and_then, if◌then◌else◌}
-use Rattle.std.specs.List.{filter}
-use Rattle.std.specs.Option.{option_map_or}
-use Rattle.std.proofs.lemmas.Bool.{not-false}
-use Rattle.gx_units.specs.declared.names.AccountName.{AccountName}
-use Rattle.gx_units.specs.declared.names.RuleId.{RuleId}
-use Rattle.gx_units.specs.declared.names.Symbol.{Symbol}
-use Rattle.gx_desk.specs.declared.Action.{Action}
-use Rattle.gx_desk.specs.declared.Action.TheVariants as actions
-use Rattle.gx_desk.specs.declared.WrittenName.{WrittenName}
-use Rattle.gx_policy.specs.declared.policy.PolicyData.{PolicyData}
-use Rattle.gx_policy.specs.declared.policy.Role.{Role}
-use Rattle.gx_policy.specs.declared.rule_name.RuleName.TheVariants.{G2}
-use Rattle.gx_policy.specs.People.{is_officer, role_in}
-use Rattle.gx_history.specs.declared.live_order.LiveOrder.{LiveOrder}
-use Rattle.gx_history.specs.declared.record.Asked.{Asked}
-use Rattle.gx_history.specs.declared.record.RecordData.{RecordData}
-use Rattle.gx_history.specs.declared.record.Request.{Request}
-use Rattle.gx_history.specs.declared.record.Request.TheVariants as requests
-use Rattle.gx_history.specs.declared.record.Step.TheVariants as steps
-use Rattle.gx_history.specs.declared.record.Verdict.{Verdict}
-use Rattle.gx_history.specs.declared.record.Verdict.TheVariants as verdicts
-use Rattle.gx_history.specs.Asking.{facts, fits_role}
-use Rattle.gx_history.specs.Live.{live}
-use Rattle.gx_history.specs.Requests.{action_of, is_granted}
-use Rattle.gx_history.specs.Verdicts.{IsLegal, day_limit, next}
+use Rattle.std.proofs.{Common.{◌≡◌, ◌≤◌, Bool, true, false, List, [], ◌∷◌, length, cond, ◌⊎◌, inl, inr, ℕ, refl, ap, arith, ◌∙◌}, lemmas.Bool.not-false}
+use Rattle.std.specs.{Prelude.{Option, Some, None, option_and_then, if◌then◌else◌}, List.filter, Option.option_map_or}
+use Rattle.gx_units.specs.declared.names.{AccountName.AccountName, RuleId.RuleId, Symbol.Symbol}
+use Rattle.gx_desk.specs.declared.{Action.Action, WrittenName.WrittenName}
+use Rattle.gx_policy.specs.{declared.{policy.{PolicyData.PolicyData, Role.Role}, rule_name.RuleName.TheVariants.G2}, People.{is_officer, role_in}}
+use Rattle.gx_history.specs.{declared.{live_order.LiveOrder.LiveOrder, «record».{Asked.Asked, RecordData.RecordData, Request.Request, Step.Step, Verdict.Verdict}}, Asking.{facts, fits_role}, Live.live, Requests.{action_of, is_granted}, Verdicts.{IsLegal, day_limit, next}}
 use Rattle.gx_history_laws.proofs.Granting.{is_no_bar}
 use Rattle.gx_positions.proofs.Sound.{live_are_few}
 use Rattle.gx_slab.specs.Slabs.{of_account}
-use Rattle.gx_answers.specs.declared.outcome.Outcome.{Outcome}
-use Rattle.gx_answers.specs.Gates.{left_by}
-use Rattle.gx_door.specs.declared.ended.Ended.{Ended}
-use Rattle.gx_door.specs.Endings.{ended_among, ended_by, sums_of}
+use Rattle.gx_answers.specs.{declared.outcome.Outcome.Outcome, Gates.left_by}
+use Rattle.gx_door.specs.{declared.ended.Ended.Ended, Endings.{ended_among, ended_by, sums_of}}
 use Rattle.gx_shared.specs.Endings.{ends_of}
 
 few_pass : {X : Type 0} (p : X → Bool) (xs : List X) → length (filter p xs) ≤ length xs
@@ -61,18 +38,18 @@ few_of_account policy records account legal =
     omega (arith, some, few_live policy records legal)
 
 -- a Close Day ends all
-pub close_ends_all : (found : List LiveOrder) → ended_among found actions.CloseDay ≡ found
+pub close_ends_all : (found : List LiveOrder) → ended_among found Action.CloseDay ≡ found
 close_ends_all found = all_pass found
 
 -- neither a Kill nor a Close Day
 abbrev IsOther : Action → Type 0
 IsOther action =
-    ((account : AccountName) × action ≡ actions.Lift account)
-    ⊎ (((rule : RuleId) × (limit : ℕ) × action ≡ actions.SetLimit rule limit)
-    ⊎ (((rule : RuleId) × (stock : Symbol) × action ≡ actions.Restrict rule stock)
-    ⊎ (((rule : RuleId) × (stock : Symbol) × action ≡ actions.Unrestrict rule stock)
-    ⊎ (((reader : WrittenName) × (account : AccountName) × action ≡ actions.Grant reader account)
-    ⊎ ((reader : WrittenName) × (account : AccountName) × action ≡ actions.Revoke reader account)))))
+    ((account : AccountName) × action ≡ Action.Lift account)
+    ⊎ (((rule : RuleId) × (limit : ℕ) × action ≡ Action.SetLimit rule limit)
+    ⊎ (((rule : RuleId) × (stock : Symbol) × action ≡ Action.Restrict rule stock)
+    ⊎ (((rule : RuleId) × (stock : Symbol) × action ≡ Action.Unrestrict rule stock)
+    ⊎ (((reader : WrittenName) × (account : AccountName) × action ≡ Action.Grant reader account)
+    ⊎ ((reader : WrittenName) × (account : AccountName) × action ≡ Action.Revoke reader account)))))
 
 -- any other command none
 pub others_end_none : (found : List LiveOrder) (action : Action) → IsOther action → ended_among found action ≡ []
@@ -84,7 +61,7 @@ others_end_none found action (inr (inr (inr (inr (inl (reader, account, is))))))
 others_end_none found action (inr (inr (inr (inr (inr (reader, account, is)))))) = ap (ended_among found) is ∙ none_pass found
 
 -- the role is one that the request may be granted to
-fits : (policy : PolicyData) (earlier : List RecordData) (a : Asked) (r : RecordData) → next policy earlier (steps.Asked a) ≡ Some r → r.verdict ≡ verdicts.Granted
+fits : (policy : PolicyData) (earlier : List RecordData) (a : Asked) (r : RecordData) → next policy earlier (Step.Asked a) ≡ Some r → r.verdict ≡ Verdict.Granted
     → fits_role (role_in policy.users a.user) a.request ≡ true
 unfolding facts
 fits policy earlier a r e granted = not-false (fits_role (role_in policy.users a.user) a.request) (is_no_bar policy earlier a r e granted G2)
@@ -103,25 +80,25 @@ either false = refl
 -- that an officer asks says nothing of what is no command
 officers_alone : (role : Option Role) (q : Request) (found : List LiveOrder) → fits_role role q ≡ true
     → (if is_officer role then ends_among found (action_of q) else []) ≡ ends_among found (action_of q)
-officers_alone role (requests.Login m) found fit = either (is_officer role)
-officers_alone role requests.Logout found fit = either (is_officer role)
-officers_alone role (requests.Unreadable m) found fit = either (is_officer role)
-officers_alone role (requests.Enter m) found fit = either (is_officer role)
-officers_alone role (requests.Replace m) found fit = either (is_officer role)
-officers_alone role (requests.Cancel m) found fit = either (is_officer role)
-officers_alone role (requests.Command c) found fit = ap (λ (b : Bool). if b then ended_among found c.action else []) fit
+officers_alone role (Request.Login m) found fit = either (is_officer role)
+officers_alone role Request.Logout found fit = either (is_officer role)
+officers_alone role (Request.Unreadable m) found fit = either (is_officer role)
+officers_alone role (Request.Enter m) found fit = either (is_officer role)
+officers_alone role (Request.Replace m) found fit = either (is_officer role)
+officers_alone role (Request.Cancel m) found fit = either (is_officer role)
+officers_alone role (Request.Command c) found fit = ap (λ (b : Bool). if b then ended_among found c.action else []) fit
 
-is_granted_by : (v : Verdict) → is_granted v ≡ true → v ≡ verdicts.Granted
-is_granted_by verdicts.Granted h = refl
-is_granted_by (verdicts.Denied rule) h = cc
-is_granted_by (verdicts.Filled f) h = cc
-is_granted_by (verdicts.Rested number) h = cc
-is_granted_by (verdicts.Expired number) h = cc
+is_granted_by : (v : Verdict) → is_granted v ≡ true → v ≡ Verdict.Granted
+is_granted_by Verdict.Granted h = refl
+is_granted_by (Verdict.Denied rule) h = cc
+is_granted_by (Verdict.Filled f) h = cc
+is_granted_by (Verdict.Rested number) h = cc
+is_granted_by (Verdict.Expired number) h = cc
 
 -- what was counted in front of the step is what its record ended, where that grants the request, and else it ended nothing
 pub told_so : (policy : PolicyData) (earlier : List RecordData) (a : Asked) (o : Outcome) (ends told : Ended)
     → ends ≡ sums_of (ends_of policy earlier a) → told ≡ (if is_granted o.verdict then ends else sums_of [])
-    → next policy earlier (steps.Asked a) ≡ Some (left_by a o) → told ≡ sums_of (ended_by policy earlier (left_by a o))
+    → next policy earlier (Step.Asked a) ≡ Some (left_by a o) → told ≡ sums_of (ended_by policy earlier (left_by a o))
 told_so policy earlier a o ends told counted once e = once ∙ by (is_granted o.verdict) refl
   where
     ended_where : Bool → List LiveOrder

@@ -1,11 +1,8 @@
 -- Where a matching step leaves no record, nothing is matched.
-use Rattle.std.proofs.Common.{◌≡◌, ℕ, Option, Some, None, refl, sym}
+use Rattle.std.proofs.{Common.{◌≡◌, ℕ, Option, Some, None, refl, sym}, lemmas.Option.none-some}
 use Rattle.std.specs.Prelude.{option_map}
-use Rattle.std.proofs.lemmas.Option.{none-some}
-use Rattle.gx_history.specs.Matching.{matching}
-use Rattle.gx_history.specs.Verdicts.{next, step_verdict}
-use Rattle.gx_answers.specs.Gates.{GateData}
-use Rattle.gx_answers.specs.Matches.{matching_of, next_match}
+use Rattle.gx_history.specs.{Matching.matching, Verdicts.{next, step_verdict}}
+use Rattle.gx_answers.specs.{Gates.GateData, Matches.{matching_of, next_match}}
 
 none_mapped : {X Y : Type 0} (f : X → Y) (o : Option X) → option_map f o ≡ None → o ≡ None
 none_mapped f None e = refl

@@ -1,18 +1,11 @@
 -- Matching steps, one behind the other: none of their records is a pass's own.
-use Rattle.std.proofs.Common.{◌≡◌, ℕ, ◌+◌, ◌<◌, ◌≤◌, map, List, [], ◌∷◌, ◌++◌, length, Option, Some, refl, sym, ◌∙◌, ap, subst, arith, append-nil, append_assoc, length-append}
-use Rattle.std.proofs.lemmas.List.{map-append}
-use Rattle.std.proofs.lemmas.List.Elements.{filter-append}
+use Rattle.std.proofs.{Common.{◌≡◌, ℕ, ◌+◌, ◌<◌, ◌≤◌, map, List, [], ◌∷◌, ◌++◌, length, Option, Some, refl, sym, ◌∙◌, ap, subst, arith, append-nil, append_assoc, length-append}, lemmas.List.{map-append, Elements.filter-append}}
 use Rattle.std.specs.Prelude.{◌==◌}
 use mathlib.Core.List.{IsPrefix}
 use Rattle.gx_history.specs.declared.record.RecordData.{RecordData}
-use Rattle.gx_answers.specs.declared.outcome.Outcome.{Outcome}
-use Rattle.gx_answers.specs.Gates.{GateData, matched_by}
-use Rattle.gx_answers.specs.Matches.{with_match}
-use Rattle.gx_pass.specs.declared.view.Holds.{Holds}
-use Rattle.gx_pass.specs.Rules.{IsMet}
-use Rattle.gx_pass.specs.Views.{line_in, of_line}
-use Rattle.gx_pass.proofs.Fronts.{prefix_trans, prefix_length}
-use Rattle.gx_pass.proofs.Lines.{of_line_other}
+use Rattle.gx_answers.specs.{declared.outcome.Outcome.Outcome, Gates.{GateData, matched_by}, Matches.with_match}
+use Rattle.gx_pass.specs.{declared.view.Holds.Holds, Rules.IsMet, Views.{line_in, of_line}}
+use Rattle.gx_pass.proofs.{Fronts.{prefix_trans, prefix_length}, Lines.of_line_other}
 use Rattle.gx_door.specs.Matching.{AddsMatches}
 
 pub none_made : (moment : ℕ) (records : List RecordData) → AddsMatches moment 0 records records

@@ -2,19 +2,10 @@
 use Rattle.std.proofs.Common.{◌≡◌, ℕ, ◌<◌, List, [], ◌∷◌, ◌++◌, length, Option, Some, None, Result, Ok, Err, IfOk, OnErr, refl, sym, ◌∙◌, ap, subst, arith, append-nil}
 use mathlib.Core.List.{IsPrefix}
 use Rattle.gx_policy.specs.declared.policy.PolicyData.{PolicyData}
-use Rattle.gx_history.specs.declared.record.Asked.{Asked}
-use Rattle.gx_history.specs.declared.record.RecordData.{RecordData}
-use Rattle.gx_history.specs.Verdicts.{IsLegal}
-use Rattle.gx_answers.specs.declared.outcome.Outcome.{Outcome}
-use Rattle.gx_answers.specs.declared.outcome.StepFault.{StepFault}
-use Rattle.gx_answers.specs.Gates.{GateData, left_by, matched_by}
-use Rattle.gx_answers.specs.Matches.{with_match}
-use Rattle.gx_answers.specs.Steps.{with_record}
-use Rattle.gx_pass.specs.declared.view.Holds.{Holds}
-use Rattle.gx_pass.specs.Rules.{IsMet}
-use Rattle.gx_pass.specs.Views.{holds, mine}
-use Rattle.gx_pass.proofs.Fronts.{prefix_trans, prefix_length}
-use Rattle.gx_pass.proofs.Lines.{of_line_other, of_line_own}
+use Rattle.gx_history.specs.{declared.record.{Asked.Asked, RecordData.RecordData}, Verdicts.IsLegal}
+use Rattle.gx_answers.specs.{declared.outcome.{Outcome.Outcome, StepFault.StepFault}, Gates.{GateData, left_by, matched_by}, Matches.with_match, Steps.with_record}
+use Rattle.gx_pass.specs.{declared.view.Holds.Holds, Rules.IsMet, Views.{holds, mine}}
+use Rattle.gx_pass.proofs.{Fronts.{prefix_trans, prefix_length}, Lines.{of_line_other, of_line_own}}
 use Rattle.gx_door.specs.Acts.{AddsOwn, IsLater}
 
 -- the pass holds all records of the gate

@@ -1,15 +1,10 @@
 -- The lines of records that were there before, in the keeper's hand.
-use Rattle.std.proofs.Common.{◌≡◌, ◌≢◌, ℕ, zero, suc, ◌+◌, ◌<◌, ◌≤◌, fold, map, max, pred, List, [], ◌∷◌, ◌++◌, take, drop, refl, sym, ap, ◌∙◌, subst, inl, inr, arith}
-use Rattle.std.proofs.Math.Seq.{take-add}
-use Rattle.std.proofs.lemmas.List.{map-append}
-use Rattle.std.proofs.lemmas.List.Sums.{fold-append}
+use Rattle.std.proofs.{Common.{◌≡◌, ◌≢◌, ℕ, zero, suc, ◌+◌, ◌<◌, ◌≤◌, fold, map, max, pred, List, [], ◌∷◌, ◌++◌, take, drop, refl, sym, ap, ◌∙◌, subst, inl, inr, arith}, Math.Seq.take-add, lemmas.List.{map-append, Sums.fold-append}}
 use mathlib.Core.Logic.{dite}
 use native.Mathlib.Decide.{ℕ_discrete}
 use Rattle.gx_history.specs.declared.record.RecordData.{RecordData}
 use Rattle.gx_policy.specs.Lists.{slice}
-use Rattle.gx_pass.specs.declared.view.Keeps.{Keeps}
-use Rattle.gx_pass.specs.Rules.{Has, MayNote}
-use Rattle.gx_pass.specs.Views.{highest_line, keeps, line_in}
+use Rattle.gx_pass.specs.{declared.view.Keeps.Keeps, Rules.{Has, MayNote}, Views.{highest_line, keeps, line_in}}
 use Rattle.gx_shared.specs.Lines.{IsResuming, lines_to}
 
 -- a keeper that has nothing yet

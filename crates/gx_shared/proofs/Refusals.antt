@@ -2,10 +2,7 @@
 use Rattle.std.proofs.Common.{◌≡◌, Bool, true, false, Result, Ok, Err, IfErr, OnErr, is_ok, refl, ap, subst}
 use Rattle.gx_policy.specs.declared.policy.PolicyData.{PolicyData}
 use Rattle.gx_history.specs.declared.record.Asked.{Asked}
-use Rattle.gx_answers.specs.declared.outcome.StepFault.{StepFault}
-use Rattle.gx_answers.specs.declared.outcome.StepFault.TheVariants as faults
-use Rattle.gx_answers.specs.Gates.{GateData}
-use Rattle.gx_answers.specs.Steps.{IsFull, has_its_places}
+use Rattle.gx_answers.specs.{declared.outcome.StepFault.StepFault, Gates.GateData, Steps.{IsFull, has_its_places}}
 use Rattle.gx_door.specs.Acts.{IsToldFull, MayBeRefused, gate_at}
 
 -- it is no granted Kill or Logout
@@ -18,12 +15,12 @@ is_no_granted_end gate a (Err e) sure = by (has_its_places gate a) sure
     by true clash = let c : false ≡ true = clash refl in cc
 
 abbrev error_in : {T : Type 0} → Result T StepFault → StepFault
-error_in (Ok x) = faults.OutOfMemory
+error_in (Ok x) = StepFault.OutOfMemory
 error_in (Err e) = e
 
 -- it is told so exactly where the day is full
-pub is_told_full : {T : Type 0} (gate : GateData) (a : Asked) (r : Result T StepFault) → (has_its_places gate a ≡ true → is_ok r ≡ true) → (IsFull gate → has_its_places gate a ≡ false → r ≡ Err faults.DayFull)
-    → IfErr r (λ e. e ≡ faults.DayFull → IsFull gate) → IfErr r (IsToldFull gate)
+pub is_told_full : {T : Type 0} (gate : GateData) (a : Asked) (r : Result T StepFault) → (has_its_places gate a ≡ true → is_ok r ≡ true) → (IsFull gate → has_its_places gate a ≡ false → r ≡ Err StepFault.DayFull)
+    → IfErr r (λ e. e ≡ StepFault.DayFull → IsFull gate) → IfErr r (IsToldFull gate)
 is_told_full gate a (Ok x) sure full day_full = tt
 is_told_full {T} gate a (Err e) sure full day_full = (day_full, λ f. ap (λ (x : Result T StepFault). error_in x) (full f (is_no_granted_end {T = T} gate a (Err e) sure)))
 

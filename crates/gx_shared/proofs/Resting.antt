@@ -1,7 +1,7 @@
 -- What is put behind the last record of a day, and what a day that goes on begins with.
-use Rattle.std.proofs.Common.{◌≡◌, ℕ, ◌+◌, ◌≤◌, Bool, false, List, Option, Some, None, length, take, drop, is_some, refl, sym, ap, ◌∙◌, subst, arith}
+use Rattle.gx_devices.specs.declared.fault.WriteFault.{WriteFault}
+use Rattle.std.proofs.{Common.{◌≡◌, ℕ, ◌+◌, ◌≤◌, Bool, false, List, Option, Some, None, length, take, drop, is_some, refl, sym, ap, ◌∙◌, subst, arith}, lemmas.List.{length-take, length-drop, take_all}}
 use Rattle.std.specs.Io.KnownBytes.{Appends}
-use Rattle.std.proofs.lemmas.List.{length-take, length-drop, take_all}
 use mathlib.Core.List.{IsPrefix}
 use Rattle.gx_policy.specs.declared.policy.PolicyData.{PolicyData}
 use Rattle.gx_history.specs.declared.record.RecordData.{RecordData}
@@ -10,16 +10,14 @@ use Rattle.gx_audit_bytes.specs.declared.version.AuditVersion.{AuditVersion}
 use Rattle.gx_door.specs.Acts.{gate_at}
 use Rattle.gx_pass.proofs.Fronts.{prefix_length, prefix_trans}
 use Rattle.gx_leaving.specs.Logouts.{AddsLogouts, NobodyIsOn}
-use Rattle.gx_journal.specs.declared.fault.JournalFault.{JournalFault}
 use Rattle.gx_journal.specs.Journals.{added, is_broken, journal_bytes, IsGrown, IsKept, JournalData, TapeData}
-use Rattle.gx_journal.proofs.Keeping.{earlier_begin, sound_of}
-use Rattle.gx_journal.proofs.Rolling.{added_later, more_appended, whole_written}
+use Rattle.gx_journal.proofs.{Keeping.{earlier_begin, sound_of}, Rolling.{added_later, more_appended, whole_written}}
 use Rattle.gx_shared.specs.GoingOn.{GoesOn}
 
 pub sound_at : (tape : TapeData) (answer : Bool) → answer ≡ is_broken tape → answer ≡ false → tape.fault ≡ None
 sound_at tape answer is denied = none_of tape.fault (sym is ∙ denied)
   where
-    none_of : (fault : Option JournalFault) → is_some fault ≡ false → fault ≡ None
+    none_of : (fault : Option WriteFault) → is_some fault ≡ false → fault ≡ None
     none_of None e = refl
     none_of (Some fault) e = absurd (cc e)
 

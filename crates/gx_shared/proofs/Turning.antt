@@ -2,19 +2,11 @@
 use Rattle.std.proofs.Common.{◌≡◌, ℕ, ◌<◌, map, List, [], ◌∷◌, ◌++◌, length, Result, Ok, Err, IfOk, OnErr, refl, sym, ◌∙◌, ap, subst, arith, append-nil}
 use mathlib.Core.List.{IsPrefix}
 use Rattle.gx_policy.specs.declared.policy.PolicyData.{PolicyData}
-use Rattle.gx_history.specs.declared.record.Asked.{Asked}
-use Rattle.gx_history.specs.declared.record.RecordData.{RecordData}
-use Rattle.gx_answers.specs.declared.outcome.StepFault.{StepFault}
-use Rattle.gx_answers.specs.Gates.{GateData, left_by, matched_by}
-use Rattle.gx_answers.specs.Steps.{with_record}
-use Rattle.gx_pass.specs.declared.view.Holds.{Holds}
-use Rattle.gx_pass.specs.Rules.{IsMet}
-use Rattle.gx_pass.specs.Views.{holds, mine}
-use Rattle.gx_pass.proofs.Fronts.{prefix_self, prefix_trans}
-use Rattle.gx_pass.proofs.Lines.{of_line_own}
-use Rattle.gx_door.specs.declared.matched.Turned.{Turned}
-use Rattle.gx_door.specs.Endings.{ended_by, sums_of}
-use Rattle.gx_door.specs.Matching.{AddsMatches, Matches, Turns}
+use Rattle.gx_history.specs.declared.record.{Asked.Asked, RecordData.RecordData}
+use Rattle.gx_answers.specs.{declared.outcome.StepFault.StepFault, Gates.{GateData, left_by, matched_by}, Steps.with_record}
+use Rattle.gx_pass.specs.{declared.view.Holds.Holds, Rules.IsMet, Views.{holds, mine}}
+use Rattle.gx_pass.proofs.{Fronts.{prefix_self, prefix_trans}, Lines.of_line_own}
+use Rattle.gx_door.specs.{declared.matched.Turned.Turned, Endings.{ended_by, sums_of}, Matching.{AddsMatches, Matches, Turns}}
 use Rattle.gx_shared.proofs.Matchings.{still_met}
 
 -- whoever holds all has met all

@@ -1,7 +1,6 @@
 -- What a keeper has of records that were there before it.
 use Rattle.std.specs.Prelude.{◌≡◌, ℕ, zero, suc, List, [], ◌∷◌}
-use Rattle.gx_pass.specs.declared.view.Keeps.{Keeps}
-use Rattle.gx_pass.specs.Views.{highest_line}
+use Rattle.gx_pass.specs.{declared.view.Keeps.Keeps, Views.highest_line}
 
 -- the lines up to this one, the last first
 abbrev pub lines_to : ℕ → List ℕ

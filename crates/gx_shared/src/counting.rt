@@ -3,8 +3,7 @@
 ghost use Rattle.std.specs.Prelude.{◌≡◌, ◌+◌, ◌<◌, ◌≤◌, ◌^◌, ◌++◌, ◌∷◌, [], length, IfErr, IfOk, OnErr, OnOk};
 ghost use Rattle.gx_shared.specs.Permits.{all_parts};
 ghost use Rattle.gx_pass.specs.declared.pass.PassFault.TheVariants as faults;
-ghost use Rattle.gx_pass.specs.Rules.{IsMet, IsAbsent, Has, MayNote};
-ghost use Rattle.gx_pass.specs.Views.{keeps, holds, line_in, mine, without};
+ghost use Rattle.gx_pass.specs.{Rules.{IsMet, IsAbsent, Has, MayNote}, Views.{keeps, holds, line_in, mine, without}};
 
 use crate::permit::{BlankLedgers, LinesOf, Permits};
 use crate::ticket::Ticket;

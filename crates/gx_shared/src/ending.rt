@@ -1,9 +1,7 @@
 //! What a command ends, counted in front of its step.
 
 ghost use Rattle.std.specs.Prelude.{◌≡◌, ◌≤◌, [], length, if◌then◌else◌};
-ghost use Rattle.gx_history.specs.Live.{live};
-ghost use Rattle.gx_history.specs.Requests.{is_granted};
-ghost use Rattle.gx_history.specs.Verdicts.{day_limit};
+ghost use Rattle.gx_history.specs.{Live.live, Requests.is_granted, Verdicts.day_limit};
 ghost use Rattle.gx_door.specs.Endings.{ended_among, sums_of};
 ghost use Rattle.gx_shared.specs.Endings.{ends_of};
 

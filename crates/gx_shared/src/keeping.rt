@@ -4,9 +4,8 @@ ghost use Rattle.std.specs.Prelude.{◌≡◌, ◌≤◌, [], drop, length, IfOk
 ghost use Rattle.gx_events.specs.Known.{known_of};
 ghost use mathlib.Core.List.{IsPrefix};
 ghost use Rattle.gx_history.specs.Verdicts.{IsLegal};
-ghost use Rattle.gx_shared.specs.Permits.{all_parts};
+ghost use Rattle.gx_shared.specs.{Permits.all_parts, GoingOn.GoesOn};
 ghost use Rattle.gx_journal.specs.Journals.{journal_bytes, IsGrown};
-ghost use Rattle.gx_shared.specs.GoingOn.{GoesOn};
 
 use crate::entrance::Entrance;
 use crate::logging::day_log;
@@ -15,7 +14,8 @@ use crate::rest::put_rest;
 use crate::shared::SharedGate;
 use crate::ticket::Ticket;
 use gx_audit_bytes::AuditVersion;
-use gx_journal::{Journal, JournalFault, JournalName, Journaled};
+use gx_devices::WriteFault;
+use gx_journal::{Journal, JournalName, Journaled};
 use gx_leaving::log_out_at_last;
 use gx_listen::{DayLog, Ending, serve_door};
 use gx_lobby::Lobby;
@@ -35,7 +35,7 @@ pub struct Kept<G, W> {
     /// The gate that was served: its records are a legal day.
     pub gate: G,
     /// Why no more records were kept, if so. The server was asked to end then.
-    pub fault: Option<JournalFault>,
+    pub fault: Option<WriteFault>,
     /// The device of the journal.
     pub device: W,
 }

@@ -1,11 +1,11 @@
 //! What a journal lacks of a day that has ended.
 
-ghost use Rattle.std.specs.Prelude.{◌≡◌, ◌+◌, ◌<◌, ◌≤◌, ◌^◌, drop, length, take, None, IsTrue, IsFalse};
-ghost use Rattle.std.specs.Io.KnownBytes.{Appends};
+ghost use Rattle.std.specs.{Prelude.{◌≡◌, ◌+◌, ◌<◌, ◌≤◌, ◌^◌, drop, length, take, None, IsTrue, IsFalse}, Io.KnownBytes.Appends};
 ghost use Rattle.gx_journal.specs.Journals.{is_broken, journal_bytes};
 
 use gx_answers::AccessGate;
-use gx_journal::{JournalFault, Tape};
+use gx_devices::WriteFault;
+use gx_journal::Tape;
 use std::io::Write;
 
 /// How many records are written at a time.
@@ -26,7 +26,7 @@ fn put_piece<G: AccessGate, W: Write>(gate: &G, tape: &mut Tape<W>, most: u64) -
     match gate.records(tape.done() + 1, most) {
         Ok(records) => tape.put(records.as_slice()),
         Err(_) => {
-            tape.give_up(JournalFault::OutOfMemory);
+            tape.give_up(WriteFault::OutOfMemory);
             false
         }
     }

@@ -4,19 +4,14 @@ ghost use Rattle.std.specs.Prelude.{◌≡◌, ◌≢◌, ◌↔◌, ◌+◌, �
 ghost use mathlib.Core.List.{IsPrefix};
 ghost use Rattle.gx_units.specs.Spelling.{folded_user};
 ghost use Rattle.gx_history.specs.declared.record.Request.TheVariants as requests;
-ghost use Rattle.gx_history.specs.InForce.{line_of};
+ghost use Rattle.gx_history.specs.{InForce.line_of, Showing.has_its_first, Verdicts.IsLegal};
 ghost use Rattle.gx_policy.specs.Lists.{slice};
-ghost use Rattle.gx_history.specs.Showing.{has_its_first};
-ghost use Rattle.gx_history.specs.Verdicts.{IsLegal};
-ghost use Rattle.gx_answers.specs.Gates.{left_by, matched_by};
-ghost use Rattle.gx_answers.specs.Matches.{matching_of};
+ghost use Rattle.gx_answers.specs.{Gates.{left_by, matched_by}, Matches.matching_of};
 ghost use Rattle.gx_pass.specs.declared.pass.PassFault.TheVariants as pass_faults;
 ghost use Rattle.gx_pass.specs.Views.{highest_line, mine, of_line};
 ghost use Rattle.gx_door.specs.declared.fault.PullFault.TheVariants as pull_faults;
-ghost use Rattle.gx_door.specs.Acts.{asked_on, gate_met, login_on};
-ghost use Rattle.gx_door.specs.Callers.{caller_of};
+ghost use Rattle.gx_door.specs.{Acts.{asked_on, gate_met, login_on, AddsOwn, EndsWith, IsLater, IsPulled, IsToldFull, LogsIn, MayBeRefused}, Callers.caller_of};
 ghost use Rattle.gx_shared.specs.Permits.{all_parts};
-ghost use Rattle.gx_door.specs.Acts.{AddsOwn, EndsWith, IsLater, IsPulled, IsToldFull, LogsIn, MayBeRefused};
 
 use crate::desk::Desk;
 use crate::permit::{BlankLedgers, Permits};

@@ -2,18 +2,11 @@
 
 ghost use Rattle.std.specs.Prelude.{◌≡◌, ◌≢◌, ◌↔◌, ◌+◌, ◌<◌, length, IsTrue, IfErr, IfNone, IfOk, IfSome, OnErr, OnOk, Some, None, is_some};
 ghost use Rattle.gx_units.specs.Spelling.{folded_user};
-ghost use Rattle.gx_history.specs.InForce.{line_of};
-ghost use Rattle.gx_history.specs.Showing.{has_its_first, is_askable};
-ghost use Rattle.gx_history.specs.Verdicts.{IsLegal};
-ghost use Rattle.gx_answers.specs.Matches.{matching_of, with_match};
-ghost use Rattle.gx_answers.specs.Gates.{left_by};
-ghost use Rattle.gx_answers.specs.Steps.{next_of, with_record};
-ghost use Rattle.gx_pass.specs.Rules.{Has};
-ghost use Rattle.gx_pass.specs.Views.{holds, keeps, without};
+ghost use Rattle.gx_history.specs.{InForce.line_of, Showing.{has_its_first, is_askable}, Verdicts.IsLegal};
+ghost use Rattle.gx_answers.specs.{Matches.{matching_of, with_match}, Gates.left_by, Steps.{next_of, with_record}};
+ghost use Rattle.gx_pass.specs.{Rules.Has, Views.{holds, keeps, without}};
 ghost use Rattle.gx_door.specs.declared.fault.PullFault.TheVariants as pull_faults;
-ghost use Rattle.gx_door.specs.Acts.{asked_on, IsPulled, IsToldFull, MayBeRefused};
-ghost use Rattle.gx_door.specs.Endings.{ended_by, sums_of};
-ghost use Rattle.gx_door.specs.Matching.{AddsMatches, EndsSo};
+ghost use Rattle.gx_door.specs.{Acts.{asked_on, IsPulled, IsToldFull, MayBeRefused}, Endings.{ended_by, sums_of}, Matching.{AddsMatches, EndsSo}};
 
 use crate::counting::CountingKeeper;
 use crate::ending::{ends_of, if_granted};

@@ -1,8 +1,7 @@
 //! Texts as a fault shows them: no more than a front of a long one.
 #![tactic(auto)]
 
-ghost use Rattle.std.specs.Prelude.{◌≡◌, ◌≤◌, ◌<◌, length, IsTrue, IsFalse};
-ghost use Rattle.std.specs.Io.{StartsWith};
+ghost use Rattle.std.specs.{Prelude.{◌≡◌, ◌≤◌, ◌<◌, length, IsTrue, IsFalse}, Io.StartsWith};
 
 use std::fmt;
 

@@ -1,17 +1,10 @@
 -- What one more record adds to the chosen ones.
-use Rattle.std.proofs.Common.{◌≡◌, ℕ, Bool, true, false, List, [], ◌∷◌, ◌++◌, refl, ◌∙◌, ap, sym, cond, ◌+◌, ◌<◌, length, get_or, take}
-use Rattle.std.specs.Prelude.{Option, option_to_list}
-use Rattle.std.specs.List.{cons_option, filter_map}
-use Rattle.std.proofs.lemmas.List.{take_more}
-use Rattle.std.proofs.lemmas.List.Elements.{filter_map-append}
-use Rattle.gx_policy.specs.declared.policy.PolicyData.{PolicyData}
-use Rattle.gx_policy.specs.Lists.{each_with_earlier, where_true}
+use Rattle.std.proofs.{Common.{◌≡◌, ℕ, Bool, true, false, List, [], ◌∷◌, ◌++◌, refl, ◌∙◌, ap, sym, cond, ◌+◌, ◌<◌, length, get_or, take}, lemmas.List.{take_more, Elements.filter_map-append}}
+use Rattle.std.specs.{Prelude.{Option, option_to_list}, List.{cons_option, filter_map}}
+use Rattle.gx_policy.specs.{declared.policy.PolicyData.PolicyData, Lists.{each_with_earlier, where_true}}
 use Rattle.gx_history.specs.declared.record.RecordData.{RecordData}
 use Rattle.gx_history_laws.proofs.Pushing.{each_after_next}
-use Rattle.gx_show.specs.declared.choice.Choice.{Choice}
-use Rattle.gx_show.specs.declared.known_order.KnownOrder.{KnownOrder}
-use Rattle.gx_show.specs.Choosing.{chosen, is_asked_for, is_chosen}
-use Rattle.gx_show.specs.Known.{known_orders, made}
+use Rattle.gx_show.specs.{declared.{choice.Choice.Choice, known_order.KnownOrder.KnownOrder}, Choosing.{chosen, is_asked_for, is_chosen}, Known.{known_orders, made}}
 use Rattle.gx_show.proofs.KnownNext.{known_next}
 
 pub chosen_none : (policy : PolicyData) (choice : Choice) → chosen policy choice [] ≡ []

@@ -1,16 +1,10 @@
 -- What is found among orders once one more is there.
-use Rattle.std.proofs.Common.{◌≡◌, ℕ, Bool, true, false, List, [], ◌∷◌, ◌++◌, refl, ◌∙◌, ap, sym, cond}
-use Rattle.std.specs.Prelude.{Option, Some, None}
-use Rattle.std.specs.Option.{option_or}
-use Rattle.std.specs.List.{filter, last_or}
-use Rattle.std.proofs.lemmas.List.Elements.{filter-append}
-use Rattle.std.proofs.lemmas.List.Folds.{find-append}
+use Rattle.std.proofs.{Common.{◌≡◌, ℕ, Bool, true, false, List, [], ◌∷◌, ◌++◌, refl, ◌∙◌, ap, sym, cond}, lemmas.List.{Elements.filter-append, Folds.find-append}}
+use Rattle.std.specs.{Prelude.{Option, Some, None}, Option.option_or, List.{filter, last_or}}
 use Rattle.gx_history.specs.declared.live_order.UserToken.{UserToken}
 use Rattle.gx_history_laws.proofs.Pushing.{last_or-append}
 use Rattle.gx_policy.specs.Lists.{last_such, where_true}
-use Rattle.gx_show.specs.declared.known_order.KnownOrder.{KnownOrder}
-use Rattle.gx_show.specs.Known.{has_number, is_under, numbered}
-use Rattle.gx_show.specs.Tables.{AreFound, FindsNumber, FindsToken}
+use Rattle.gx_show.specs.{declared.known_order.KnownOrder.KnownOrder, Known.{has_number, is_under, numbered}, Tables.{AreFound, FindsNumber, FindsToken}}
 
 pub last_such_next : {X : Type 0} (test : X → Bool) (xs : List X) (x : X) → last_such test (xs ++ x ∷ []) ≡ cond (test x) (Some x) (last_such test xs)
 last_such_next {X} test xs x =

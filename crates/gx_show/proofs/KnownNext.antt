@@ -1,24 +1,11 @@
 -- What one more record adds to the orders that are known.
-use Rattle.std.proofs.Common.{◌≡◌, Bool, true, false, List, [], ◌∷◌, ◌++◌, map, refl, ◌∙◌, ap, sym, cond}
-use Rattle.std.specs.Prelude.{Option, Some, None, ◌&&◌, option_and_then, option_map, option_to_list}
-use Rattle.std.specs.List.{filter, last_or}
-use Rattle.std.specs.Option.{option_map_or}
-use Rattle.std.proofs.lemmas.List.{map-append}
-use Rattle.gx_units.specs.declared.names.AccountName.{AccountName}
-use Rattle.gx_units.specs.declared.names.Token.{Token}
-use Rattle.gx_units.specs.declared.names.UserName.{UserName}
-use Rattle.gx_units.specs.Names.{same_user, same_token}
-use Rattle.gx_policy.specs.declared.policy.PolicyData.{PolicyData}
-use Rattle.gx_policy.specs.People.{account_of}
-use Rattle.gx_history.specs.declared.record.Asked.{Asked}
-use Rattle.gx_history.specs.declared.record.RecordData.{RecordData}
-use Rattle.gx_history.specs.declared.record.Request.{Request}
-use Rattle.gx_history.specs.declared.record.Request.TheVariants as requests
-use Rattle.gx_history.specs.Orders.{Order, entered, order_under, orders, orders_added, orders_made, replacing}
-use Rattle.gx_history.specs.Requests.{granted}
+use Rattle.std.proofs.{Common.{◌≡◌, Bool, true, false, List, [], ◌∷◌, ◌++◌, map, refl, ◌∙◌, ap, sym, cond}, lemmas.List.map-append}
+use Rattle.std.specs.{Prelude.{Option, Some, None, ◌&&◌, option_and_then, option_map, option_to_list}, List.{filter, last_or}, Option.option_map_or}
+use Rattle.gx_units.specs.{declared.names.{AccountName.AccountName, Token.Token, UserName.UserName}, Names.{same_user, same_token}}
+use Rattle.gx_policy.specs.{declared.policy.PolicyData.PolicyData, People.account_of}
+use Rattle.gx_history.specs.{declared.record.{Asked.Asked, RecordData.RecordData, Request.Request}, Orders.{Order, entered, order_under, orders, orders_added, orders_made, replacing}, Requests.granted}
 use Rattle.gx_history_laws.proofs.NextOrders.{orders_next, orders_none}
-use Rattle.gx_show.specs.declared.known_order.KnownOrder.{KnownOrder}
-use Rattle.gx_show.specs.Known.{is_under, known_of, known_orders, made, made_by, under}
+use Rattle.gx_show.specs.{declared.known_order.KnownOrder.KnownOrder, Known.{is_under, known_of, known_orders, made, made_by, under}}
 
 pub known_none : (policy : PolicyData) → known_orders policy [] ≡ []
 unfolding known_orders
@@ -44,14 +31,14 @@ under_mapped known user token =
 
 made_mapped : (policy : PolicyData) (known : List Order) (r : RecordData) (user : UserName) (request : Request)
     → map known_of (orders_made policy known r user request) ≡ option_to_list (made_by policy (map known_of known) r.number user request)
-made_mapped policy known r user (requests.Enter m) = by (account_of policy user)
+made_mapped policy known r user (Request.Enter m) = by (account_of policy user)
   where
     by : (account : Option AccountName)
         → map known_of (option_map_or (λ account. entered policy r user account m ∷ []) account [])
         ≡ option_to_list (option_map (λ (account : AccountName). record { number = r.number; user = user; account = account; token = m.token; stock = m.stock }) account)
     by (Some account) = refl
     by None = refl
-made_mapped policy known r user (requests.Replace m) =
+made_mapped policy known r user (Request.Replace m) =
     by (order_under known user m.existing_token)
     ∙ ap (λ (o : Option KnownOrder). option_to_list (option_map again o)) (sym (under_mapped known user m.existing_token))
   where
@@ -61,11 +48,11 @@ made_mapped policy known r user (requests.Replace m) =
     by : (o : Option Order) → map known_of (option_map_or (λ o. replacing r m o ∷ []) o []) ≡ option_to_list (option_map again (option_map known_of o))
     by (Some o) = refl
     by None = refl
-made_mapped policy known r user (requests.Login m) = refl
-made_mapped policy known r user requests.Logout = refl
-made_mapped policy known r user (requests.Unreadable m) = refl
-made_mapped policy known r user (requests.Cancel m) = refl
-made_mapped policy known r user (requests.Command m) = refl
+made_mapped policy known r user (Request.Login m) = refl
+made_mapped policy known r user Request.Logout = refl
+made_mapped policy known r user (Request.Unreadable m) = refl
+made_mapped policy known r user (Request.Cancel m) = refl
+made_mapped policy known r user (Request.Command m) = refl
 
 added_mapped : (policy : PolicyData) (known : List Order) (r : RecordData) → map known_of (orders_added policy known r) ≡ option_to_list (made policy (map known_of known) r)
 added_mapped policy known r = by (granted r)

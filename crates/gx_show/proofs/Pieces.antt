@@ -1,12 +1,8 @@
 -- From a record of an audit to the next.
-use Rattle.std.proofs.Common.{◌≡◌, ℕ, ◌+◌, List, [], ◌∷◌, ◌++◌, take, drop, subst, sym, ap, ◌∙◌, append_assoc}
+use Rattle.std.proofs.{Common.{◌≡◌, ℕ, ◌+◌, List, [], ◌∷◌, ◌++◌, take, drop, subst, sym, ap, ◌∙◌, append_assoc}, lemmas.List.{take-append-drop, drop-drop}}
 use Rattle.std.specs.Prelude.{Some}
-use Rattle.std.proofs.lemmas.List.{take-append-drop, drop-drop}
 use Rattle.gx_history.specs.declared.record.RecordData.{RecordData}
-use Rattle.gx_audit_bytes.specs.declared.version.AuditVersion.{AuditVersion}
-use Rattle.gx_audit_bytes.specs.Audits.{all_bytes}
-use Rattle.gx_audit_bytes.specs.Reading.{record_of}
-use Rattle.gx_audit_bytes.specs.Records.{record_bytes}
+use Rattle.gx_audit_bytes.specs.{declared.version.AuditVersion.AuditVersion, Audits.all_bytes, Reading.record_of, Records.record_bytes}
 use Rattle.gx_history_laws.proofs.Pushing.{all_next}
 use Rattle.gx_show.specs.Reading.{AreReadBack}
 use Rattle.gx_audit_bytes.proofs.Joined.{more_bytes, no_bytes}

@@ -1,30 +1,10 @@
 -- Which records of a day are shown.
-use Rattle.std.specs.Prelude.{ℕ, Bool, true, false, ◌&&◌, ◌||◌, ◌==◌, nat_le, not, List, Option, option_and_then}
-use Rattle.std.specs.List.{filter_map}
-use Rattle.std.specs.Option.{option_map_or}
-use Rattle.gx_units.specs.declared.names.AccountName.{AccountName}
-use Rattle.gx_units.specs.declared.names.RuleId.{RuleId}
-use Rattle.gx_units.specs.declared.names.Symbol.{Symbol}
-use Rattle.gx_units.specs.declared.names.UserName.{UserName}
-use Rattle.gx_units.specs.Names.{same_account, same_rule, same_stock, same_user}
+use Rattle.std.specs.{Prelude.{ℕ, Bool, true, false, ◌&&◌, ◌||◌, ◌==◌, nat_le, not, List, Option, option_and_then}, List.filter_map, Option.option_map_or}
+use Rattle.gx_units.specs.{declared.names.{AccountName.AccountName, RuleId.RuleId, Symbol.Symbol, UserName.UserName}, Names.{same_account, same_rule, same_stock, same_user}}
 use Rattle.gx_desk.specs.declared.Action.{Action}
-use Rattle.gx_desk.specs.declared.Action.TheVariants as actions
-use Rattle.gx_policy.specs.declared.policy.FileRule.{FileRule}
-use Rattle.gx_policy.specs.declared.policy.PolicyData.{PolicyData}
-use Rattle.gx_policy.specs.Lists.{each_with_earlier, where_true}
-use Rattle.gx_policy.specs.People.{account_of, covers, rule_in}
-use Rattle.gx_policy.specs.RuleNames.{rule_id}
-use Rattle.gx_history.specs.declared.record.Asked.{Asked}
-use Rattle.gx_history.specs.declared.record.RecordData.{RecordData}
-use Rattle.gx_history.specs.declared.record.Request.{Request}
-use Rattle.gx_history.specs.declared.record.Request.TheVariants as requests
-use Rattle.gx_history.specs.declared.record.Verdict.{Verdict}
-use Rattle.gx_history.specs.declared.record.Verdict.TheVariants as verdicts
-use Rattle.gx_history.specs.Requests.{action_of, asked, named_token}
-use Rattle.gx_show.specs.declared.choice.Choice.{Choice}
-use Rattle.gx_show.specs.declared.choice.OrderLife.{OrderLife}
-use Rattle.gx_show.specs.declared.known_order.KnownOrder.{KnownOrder}
-use Rattle.gx_show.specs.Known.{has_number, known_orders, made, numbered, under}
+use Rattle.gx_policy.specs.{declared.policy.{FileRule.FileRule, PolicyData.PolicyData}, Lists.{each_with_earlier, where_true}, People.{account_of, covers, rule_in}, RuleNames.rule_id}
+use Rattle.gx_history.specs.{declared.record.{Asked.Asked, RecordData.RecordData, Request.Request, Verdict.Verdict}, Requests.{action_of, asked, named_token}}
+use Rattle.gx_show.specs.{declared.{choice.{Choice.Choice, OrderLife.OrderLife}, known_order.KnownOrder.KnownOrder}, Known.{has_number, known_orders, made, numbered, under}}
 
 -- there is an order, and it passes the test
 abbrev pub is_such : (KnownOrder → Bool) → Option KnownOrder → Bool
@@ -36,9 +16,9 @@ named known r = option_and_then (λ (a : Asked). option_and_then (under known a.
 
 -- an order that was matched passes the test: of a fill either side
 abbrev pub is_matched : List KnownOrder → (KnownOrder → Bool) → Verdict → Bool
-is_matched known test (verdicts.Filled f) = is_such test (numbered known f.taker) || is_such test (numbered known f.maker)
-is_matched known test (verdicts.Rested number) = is_such test (numbered known number)
-is_matched known test (verdicts.Expired number) = is_such test (numbered known number)
+is_matched known test (Verdict.Filled f) = is_such test (numbered known f.taker) || is_such test (numbered known f.maker)
+is_matched known test (Verdict.Rested number) = is_such test (numbered known number)
+is_matched known test (Verdict.Expired number) = is_such test (numbered known number)
 is_matched known test other = false
 
 -- the record speaks of such an order: it makes one, or names one, or one was matched
@@ -63,14 +43,14 @@ rule_covers policy account name = option_map_or (λ (rule : FileRule). covers ru
 
 -- the command names the account, is on a rule that covers it, or closes the day
 abbrev pub acts_on : PolicyData → AccountName → Action → Bool
-acts_on policy account (actions.Kill named) = same_account named account
-acts_on policy account (actions.Lift named) = same_account named account
-acts_on policy account (actions.Grant reader named) = same_account named account
-acts_on policy account (actions.Revoke reader named) = same_account named account
-acts_on policy account (actions.SetLimit rule limit) = rule_covers policy account rule
-acts_on policy account (actions.Restrict rule stock) = rule_covers policy account rule
-acts_on policy account (actions.Unrestrict rule stock) = rule_covers policy account rule
-acts_on policy account actions.CloseDay = true
+acts_on policy account (Action.Kill named) = same_account named account
+acts_on policy account (Action.Lift named) = same_account named account
+acts_on policy account (Action.Grant reader named) = same_account named account
+acts_on policy account (Action.Revoke reader named) = same_account named account
+acts_on policy account (Action.SetLimit rule limit) = rule_covers policy account rule
+acts_on policy account (Action.Restrict rule stock) = rule_covers policy account rule
+acts_on policy account (Action.Unrestrict rule stock) = rule_covers policy account rule
+acts_on policy account Action.CloseDay = true
 
 -- a request of one of the account's traders, or a command that acts on it
 abbrev pub is_of_account : PolicyData → AccountName → Asked → Bool
@@ -86,13 +66,13 @@ concerns_user policy known r user = is_asked (λ (a : Asked). same_user a.user u
 
 -- the command puts the stock on a list, or takes it off
 abbrev pub lists : Symbol → Action → Bool
-lists stock (actions.Restrict rule named) = same_stock named stock
-lists stock (actions.Unrestrict rule named) = same_stock named stock
+lists stock (Action.Restrict rule named) = same_stock named stock
+lists stock (Action.Unrestrict rule named) = same_stock named stock
 lists stock other = false
 
 -- an Enter in the stock, or a command that names it
 abbrev pub is_in_stock : Symbol → Request → Bool
-is_in_stock stock (requests.Enter m) = same_stock m.stock stock
+is_in_stock stock (Request.Enter m) = same_stock m.stock stock
 is_in_stock stock other = is_commanded (lists stock) other
 
 -- the record concerns the stock, or an order in it
@@ -101,14 +81,14 @@ concerns_stock policy known r stock = is_asked (λ (a : Asked). is_in_stock stoc
 
 -- the command is on the rule
 abbrev pub is_on_rule : RuleId → Action → Bool
-is_on_rule rule (actions.SetLimit named limit) = same_rule named rule
-is_on_rule rule (actions.Restrict named stock) = same_rule named rule
-is_on_rule rule (actions.Unrestrict named stock) = same_rule named rule
+is_on_rule rule (Action.SetLimit named limit) = same_rule named rule
+is_on_rule rule (Action.Restrict named stock) = same_rule named rule
+is_on_rule rule (Action.Unrestrict named stock) = same_rule named rule
 is_on_rule rule other = false
 
 -- the verdict is a denial by the rule
 abbrev pub denies_by : RuleId → Verdict → Bool
-denies_by rule (verdicts.Denied name) = same_rule (rule_id name) rule
+denies_by rule (Verdict.Denied name) = same_rule (rule_id name) rule
 denies_by rule other = false
 
 -- a denial by the rule, or a command on it
@@ -117,7 +97,7 @@ concerns_rule r rule = denies_by rule r.verdict || is_asked (λ (a : Asked). is_
 
 -- the request was denied
 abbrev pub is_denied : Verdict → Bool
-is_denied (verdicts.Denied rule) = true
+is_denied (Verdict.Denied rule) = true
 is_denied other = false
 
 -- the record speaks of the order, or is the Kill or Close Day that it ended by

@@ -1,19 +1,8 @@
 -- What is kept of the orders of a day, to tell which order a record speaks of.
-use Rattle.std.specs.Prelude.{ℕ, Bool, ◌&&◌, ◌==◌, List, map, Option, None, option_map, option_and_then}
-use Rattle.std.specs.List.{find}
-use Rattle.gx_units.specs.declared.names.Token.{Token}
-use Rattle.gx_units.specs.declared.names.UserName.{UserName}
-use Rattle.gx_units.specs.declared.names.AccountName.{AccountName}
-use Rattle.gx_units.specs.Names.{same_user, same_token}
-use Rattle.gx_policy.specs.declared.policy.PolicyData.{PolicyData}
-use Rattle.gx_policy.specs.Lists.{last_such}
-use Rattle.gx_policy.specs.People.{account_of}
-use Rattle.gx_history.specs.declared.record.Asked.{Asked}
-use Rattle.gx_history.specs.declared.record.Request.{Request}
-use Rattle.gx_history.specs.declared.record.Request.TheVariants as requests
-use Rattle.gx_history.specs.declared.record.RecordData.{RecordData}
-use Rattle.gx_history.specs.Orders.{Order, orders}
-use Rattle.gx_history.specs.Requests.{granted}
+use Rattle.std.specs.{Prelude.{ℕ, Bool, ◌&&◌, ◌==◌, List, map, Option, None, option_map, option_and_then}, List.find}
+use Rattle.gx_units.specs.{declared.names.{Token.Token, UserName.UserName, AccountName.AccountName}, Names.{same_user, same_token}}
+use Rattle.gx_policy.specs.{declared.policy.PolicyData.PolicyData, Lists.last_such, People.account_of}
+use Rattle.gx_history.specs.{declared.record.{Asked.Asked, Request.Request, RecordData.RecordData}, Orders.{Order, orders}, Requests.granted}
 use Rattle.gx_show.specs.declared.known_order.KnownOrder.{KnownOrder}
 
 -- what is kept of an order
@@ -42,9 +31,9 @@ under known user token = last_such (is_under user token) known
 
 -- the order that a granted request makes, where these were made before
 abbrev pub made_by : PolicyData → List KnownOrder → ℕ → UserName → Request → Option KnownOrder
-made_by policy known number user (requests.Enter m) =
+made_by policy known number user (Request.Enter m) =
     option_map (λ (account : AccountName). record { number = number; user = user; account = account; token = m.token; stock = m.stock }) (account_of policy user)
-made_by policy known number user (requests.Replace m) =
+made_by policy known number user (Request.Replace m) =
     option_map (λ (o : KnownOrder). record { number = number; user = o.user; account = o.account; token = m.replacement_token; stock = o.stock })
     (under known user m.existing_token)
 made_by policy known number user other = None

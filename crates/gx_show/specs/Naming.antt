@@ -1,15 +1,7 @@
 -- What a name stands for that is asked for.
 use Rattle.std.specs.Prelude.{ℕ, Bool, ◌||◌, List, Option, Some, None, nat_le, length, is_some, option_and_then, option_map, if◌then◌else◌}
-use Rattle.gx_units.specs.declared.names.AccountName.{AccountName}
-use Rattle.gx_units.specs.declared.names.RuleId.{RuleId}
-use Rattle.gx_units.specs.declared.names.Symbol.{Symbol}
-use Rattle.gx_units.specs.declared.names.UserName.{UserName}
-use Rattle.gx_units.specs.Spelling.{folded_user, padded}
-use Rattle.gx_policy.specs.declared.policy.PolicyData.{PolicyData}
-use Rattle.gx_policy.specs.declared.policy.User.{User}
-use Rattle.gx_policy.specs.Lists.{where_true}
-use Rattle.gx_policy.specs.People.{account_named, rule_in, stock_named, user_in}
-use Rattle.gx_policy.specs.RuleNames.{is_built_in}
+use Rattle.gx_units.specs.{declared.names.{AccountName.AccountName, RuleId.RuleId, Symbol.Symbol, UserName.UserName}, Spelling.{folded_user, padded}}
+use Rattle.gx_policy.specs.{declared.policy.{PolicyData.PolicyData, User.User}, Lists.where_true, People.{account_named, rule_in, stock_named, user_in}, RuleNames.is_built_in}
 
 -- the text as a field of so many bytes, if it has room there
 abbrev pub field_of : ℕ → List ℕ → Option (List ℕ)

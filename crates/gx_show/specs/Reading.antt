@@ -1,22 +1,15 @@
 -- Which records an audit shows.
-use Rattle.std.specs.Prelude.{◌≡◌, ℕ, ◌+◌, ◌<◌, ◌≤◌, List, ◌++◌, length, take, drop, Option, Some, None}
-use Rattle.std.specs.List.{AllByRecursion}
+use Rattle.std.specs.{Prelude.{◌≡◌, ℕ, ◌+◌, ◌<◌, ◌≤◌, List, ◌++◌, length, take, drop, Option, Some, None}, List.AllByRecursion}
 use Rattle.gx_policy.specs.declared.policy.PolicyData.{PolicyData}
 use Rattle.gx_history.specs.declared.record.RecordData.{RecordData}
-use Rattle.gx_audit_bytes.specs.declared.version.AuditVersion.{AuditVersion}
-use Rattle.gx_audit_bytes.specs.declared.version.AuditVersion.TheVariants as versions
-use Rattle.gx_audit_bytes.specs.Audits.{all_bytes, record_size}
-use Rattle.gx_audit_bytes.specs.Reading.{record_of}
-use Rattle.gx_audit_bytes.specs.Records.{record_bytes}
-use Rattle.gx_audit_bytes.specs.Versions.{version_of}
-use Rattle.gx_show.specs.declared.choice.Choice.{Choice}
-use Rattle.gx_show.specs.Choosing.{chosen}
+use Rattle.gx_audit_bytes.specs.{declared.version.AuditVersion.AuditVersion, Audits.{all_bytes, record_size}, Reading.record_of, Records.record_bytes, Versions.version_of}
+use Rattle.gx_show.specs.{declared.choice.Choice.Choice, Choosing.chosen}
 
 -- how many bytes stand in front of the records: a header's, where there is one
 abbrev pub front_size : AuditVersion → ℕ
-front_size versions.One = 0
-front_size versions.Two = record_size
-front_size (versions.Three day) = record_size
+front_size AuditVersion.One = 0
+front_size AuditVersion.Two = record_size
+front_size (AuditVersion.Three day) = record_size
 
 -- the bytes behind the header
 abbrev pub behind_header : List ℕ → List ℕ

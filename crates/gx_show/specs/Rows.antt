@@ -1,21 +1,9 @@
 -- The cells that a record is shown by.
 use Rattle.std.specs.Prelude.{List, Option, Some, None, option_and_then}
 use Rattle.gx_units.specs.declared.names.AccountName.{AccountName}
-use Rattle.gx_policy.specs.declared.policy.PolicyData.{PolicyData}
-use Rattle.gx_policy.specs.declared.rule_name.RuleName.{RuleName}
-use Rattle.gx_policy.specs.People.{account_of}
-use Rattle.gx_history.specs.declared.record.Asked.{Asked}
-use Rattle.gx_history.specs.declared.record.RecordData.{RecordData}
-use Rattle.gx_history.specs.declared.record.Verdict.{Verdict}
-use Rattle.gx_history.specs.declared.record.Verdict.TheVariants as verdicts
-use Rattle.gx_history.specs.Reasons.{reject_reason}
-use Rattle.gx_history.specs.Requests.{asked}
-use Rattle.gx_fields.specs.declared.cell.Beside.{Beside}
-use Rattle.gx_fields.specs.declared.cell.Cell.{Cell}
-use Rattle.gx_fields.specs.declared.cell.EndedOrders.{EndedOrders}
-use Rattle.gx_fields.specs.Cells.{cells_of}
-use Rattle.gx_fields.specs.Reasons.{reason_of}
-use Rattle.gx_fields.specs.Rows.{row_of}
+use Rattle.gx_policy.specs.{declared.{policy.PolicyData.PolicyData, rule_name.RuleName.RuleName}, People.account_of}
+use Rattle.gx_history.specs.{declared.record.{Asked.Asked, RecordData.RecordData, Verdict.Verdict}, Reasons.reject_reason, Requests.asked}
+use Rattle.gx_fields.specs.{declared.cell.{Beside.Beside, Cell.Cell, EndedOrders.EndedOrders}, Cells.cells_of, Reasons.reason_of, Rows.row_of}
 
 -- the account of the trader who asked
 abbrev pub account_asked : PolicyData → RecordData → Option AccountName
@@ -23,7 +11,7 @@ account_asked policy r = option_and_then (λ (a : Asked). account_of policy a.us
 
 -- the rule that denied the request
 abbrev pub denied_by : Verdict → Option RuleName
-denied_by (verdicts.Denied rule) = Some rule
+denied_by (Verdict.Denied rule) = Some rule
 denied_by other = None
 
 -- what is told beside the fields of a record: the account of who asked, why it was denied, and what it ended

@@ -1,15 +1,9 @@
 -- How orders are found in tables.
-use Rattle.std.specs.Prelude.{◌≡◌, ℕ, ◌&&◌, List, nat_eq, Bool, Some, if◌then◌else◌}
-use Rattle.std.specs.Option.{option_or}
-use Rattle.std.specs.Map.{lookup}
-use Rattle.gx_units.specs.declared.names.Token.{Token}
-use Rattle.gx_units.specs.declared.names.UserName.{UserName}
-use Rattle.gx_units.specs.Names.{same_user, same_token}
-use Rattle.gx_history.specs.declared.live_order.UserToken.{UserToken}
-use Rattle.gx_history.specs.LiveOrders.{key}
-use Rattle.gx_show.specs.declared.known_order.KnownOrder.{KnownOrder}
+use Rattle.std.specs.{Prelude.{◌≡◌, ℕ, ◌&&◌, List, nat_eq, Bool, Some, if◌then◌else◌}, Option.option_or, Map.lookup}
+use Rattle.gx_units.specs.{declared.names.{Token.Token, UserName.UserName}, Names.{same_user, same_token}}
+use Rattle.gx_history.specs.{declared.live_order.UserToken.UserToken, LiveOrders.key}
+use Rattle.gx_show.specs.{declared.known_order.KnownOrder.KnownOrder, Known.{has_number, is_under, numbered, under}}
 use Rattle.gx_policy.specs.Lists.{where_true}
-use Rattle.gx_show.specs.Known.{has_number, is_under, numbered, under}
 
 -- two tokens of users are the same
 abbrev pub same_user_token : UserToken → UserToken → Bool

@@ -2,8 +2,7 @@
 
 ghost use Rattle.std.specs.Prelude.{◌≡◌, IfOk, IfErr, OnErr, Some, None, option_copied, option_map};
 ghost use Rattle.gx_show.specs.declared.asking.UnknownName.TheVariants as unknown;
-ghost use Rattle.gx_show.specs.Naming.{account_in, rule_known, stock_in, user_known};
-ghost use Rattle.gx_show.specs.Asking.{IsNamed, IsUnknown};
+ghost use Rattle.gx_show.specs.{Naming.{account_in, rule_known, stock_in, user_known}, Asking.{IsNamed, IsUnknown}};
 
 use crate::choice::Choice;
 use crate::naming::{account_in, rule_known, stock_in, user_known};

@@ -1,15 +1,13 @@
 //! The records of a day that are asked for.
 
 ghost use Rattle.std.specs.Prelude.{◌≡◌, IfOk, OnOk, [], ◌∷◌, ◌++◌, option_to_list, if◌then◌else◌};
-ghost use Rattle.gx_show.specs.Known.{made};
-ghost use Rattle.gx_show.specs.Choosing.{chosen, concerns_account, concerns_order, concerns_rule, concerns_stock, concerns_user, denies_by, is_asked_for, is_in_span, is_in_stock, is_of_account, is_wanted, trades_for};
+ghost use Rattle.gx_show.specs.{Known.made, Choosing.{chosen, concerns_account, concerns_order, concerns_rule, concerns_stock, concerns_user, denies_by, is_asked_for, is_in_span, is_in_stock, is_of_account, is_wanted, trades_for}};
 
 use crate::choice::{Choice, OrderLife};
 use crate::commands::{action_of, acts_on, is_on_rule, lists};
 use crate::known_order::OrderTest;
 use crate::known_orders::KnownOrders;
 use crate::making::{account_of, asked_in, made, speaks_of};
-use gx_audit_bytes::rule_bytes;
 use gx_history::record::{Asked, Record, RecordData, Request, Verdict};
 use gx_policy::Policy;
 use gx_units::{AccountName, OutOfMemory, RuleId, Symbol, UserName};
@@ -103,7 +101,7 @@ fn denies_by(rule: RuleId, verdict: &Verdict) -> bool
     ensures { result ≡ denies_by rule verdict.now }
 {
     match verdict {
-        Verdict::Denied(name) => rule_bytes(*name) == rule.bytes,
+        Verdict::Denied(name) => name.id() == rule,
         _ => false,
     }
 }

@@ -2,8 +2,7 @@
 
 ghost use Rattle.std.specs.Prelude.{◌≡◌, ◌<◌, [], ◌∷◌, ◌++◌, IsOk, OnOk, OnErr};
 ghost use Rattle.indexmap.specs.IndexMap.{spare};
-ghost use Rattle.gx_show.specs.Known.{numbered, under};
-ghost use Rattle.gx_show.specs.Tables.{FindsNumber, FindsToken};
+ghost use Rattle.gx_show.specs.{Known.{numbered, under}, Tables.{FindsNumber, FindsToken}};
 
 use crate::known_order::KnownOrder;
 use gx_history::live_order::UserToken;

@@ -2,9 +2,7 @@
 
 ghost use Rattle.std.specs.Prelude.{◌≡◌, option_copied};
 ghost use Rattle.gx_policy.specs.People.{account_of, user_in};
-ghost use Rattle.gx_show.specs.Choosing.{is_matched, is_such, named, speaks_of};
-ghost use Rattle.gx_show.specs.Known.{made, made_by};
-ghost use Rattle.gx_show.specs.Testing.{passes};
+ghost use Rattle.gx_show.specs.{Choosing.{is_matched, is_such, named, speaks_of}, Known.{made, made_by}, Testing.passes};
 ghost use Rattle.gx_history.specs.Requests.{asked, granted, named_token};
 
 use crate::known_order::{KnownOrder, OrderTest};

@@ -6,9 +6,8 @@ ghost use Rattle.gx_policy.specs.People.{account_named, stock_named};
 ghost use Rattle.gx_show.specs.Naming.{account_in, is_rule, rule_known, stock_in, user_known};
 
 use crate::making::user_in;
-use gx_audit_bytes::is_built_in;
 use gx_fields::rule_in;
-use gx_policy::{Account, Policy, Stock};
+use gx_policy::{Account, Policy, Stock, is_built_in};
 use gx_units::{AccountName, RuleId, Symbol, UserName, padded};
 
 /// The account of this name.
@@ -81,7 +80,7 @@ pub fn user_known(policy: &Policy, text: &[u8]) -> Option<UserName>
 fn is_rule(policy: &Policy, rule: RuleId) -> bool
     ensures { result ≡ is_rule policy.now rule }
 {
-    is_built_in(&rule) || rule_in(policy.rules(), rule).is_some()
+    is_built_in(rule) || rule_in(policy.rules(), rule).is_some()
 }
 
 /// The rule that the text names, byte for byte: one of the policy, or a built-in one.

@@ -4,9 +4,8 @@ ghost use Rattle.std.specs.Prelude.{◌≡◌, ◌^◌, ◌-◌, ◌<◌, OnOk};
 
 use crate::style::{ShownForm, Style};
 use crate::table::{denied_by, record_csv, record_json};
-use gx_audit::AuditingFault;
 use gx_audit_bytes::{RECORD_SIZE, message_shown, write_record};
-use gx_devices::{Counted, write_whole};
+use gx_devices::{Counted, WriteFault, write_whole};
 use gx_endings::endings::Ending;
 use gx_fields::{EndedOrders, csv_names, reason_of, reject_of};
 use gx_history::record::{Asked, Login, Record, RecordData, Request, Step, Unreadable, Verdict};
@@ -292,7 +291,7 @@ fn write_head<W: Write>(
     alloc: Global,
     style: &Style,
     writer: &mut Counted<W>,
-) -> Result<(), AuditingFault>
+) -> Result<(), WriteFault>
     requires writer { writer.old.failed < 2 ^ 64 - 1 }
     ensures same { OnOk result (writer.new.failed ≡ writer.old.failed) }
 {
@@ -338,7 +337,7 @@ pub fn write_records<W: Write>(
     records: &[Record],
     endings: &[Ending],
     writer: &mut Counted<W>,
-) -> Result<(), AuditingFault>
+) -> Result<(), WriteFault>
     requires writer { writer.old.failed < 2 ^ 64 - 1 }
 {
     write_head(alloc, style, writer)?;

@@ -1,11 +1,7 @@
 -- An order is found by its number among those that are live.
-use Rattle.std.proofs.Common.{◌≡◌, ◌≤◌, ℕ, zero, suc, ◌+◌, Bool, true, false, not, cond, List, [], ◌∷◌, length, refl, ◌∙◌, sym, ap, arith, if◌then◌else◌}
-use Rattle.std.specs.Prelude.{Option, Some, None, ◌&&◌, nat_lt, slice_get}
-use Rattle.std.specs.List.{find, position, position_or_len}
-use Rattle.std.proofs.lemmas.Bool.{eqb-true, lt-ltb, le-ltb, ltb-false}
-use Rattle.std.proofs.lemmas.Option.{slice_get_within, slice_get_past}
-use Rattle.gx_units.specs.Names.{same_account}
-use Rattle.gx_units.specs.declared.names.AccountName.{AccountName}
+use Rattle.std.proofs.{Common.{◌≡◌, ◌≤◌, ℕ, zero, suc, ◌+◌, Bool, true, false, not, cond, List, [], ◌∷◌, length, refl, ◌∙◌, sym, ap, arith, if◌then◌else◌}, lemmas.{Bool.{eqb-true, lt-ltb, le-ltb, ltb-false}, Option.{slice_get_within, slice_get_past}}}
+use Rattle.std.specs.{Prelude.{Option, Some, None, ◌&&◌, nat_lt, slice_get}, List.{find, position, position_or_len}}
+use Rattle.gx_units.specs.{Names.same_account, declared.names.AccountName.AccountName}
 use Rattle.gx_history.specs.declared.live_order.LiveOrder.{LiveOrder}
 use Rattle.gx_slab.specs.Slabs.{IsPlaced, has_number, is_open, open_ones, live_numbered, order_of, stands_for}
 

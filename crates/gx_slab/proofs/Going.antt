@@ -1,13 +1,6 @@
 -- The rows that pass a test, one by one.
-use Rattle.std.proofs.Common.{◌≡◌, ◌<◌, ◌≤◌, ◌-◌, take, ltb, ℕ, zero, suc, ◌+◌, Bool, true, false, cond, List, [], ◌∷◌, length, refl, ◌∙◌, sym, ap, drop, get_or, position, add-one, arith}
-use Rattle.std.specs.Prelude.{Option, Some, None}
-use Rattle.std.specs.List.{cons_option, filter, filter_map, position_or_len}
-use Rattle.std.proofs.Math.ListN.{drop_of_length-le}
-use Rattle.std.proofs.lemmas.Bool.{ltb-false}
-use Rattle.std.proofs.lemmas.List.Sums.{fails_before_first}
-use Rattle.std.proofs.lemmas.List.Quantifiers.{position-Some}
-use Rattle.std.proofs.lemmas.Grind.{common_steps}
-use Rattle.std.proofs.lemmas.List.{drop_more}
+use Rattle.std.proofs.{Common.{◌≡◌, ◌<◌, ◌≤◌, ◌-◌, take, ltb, ℕ, zero, suc, ◌+◌, Bool, true, false, cond, List, [], ◌∷◌, length, refl, ◌∙◌, sym, ap, drop, get_or, position, add-one, arith}, Math.ListN.drop_of_length-le, lemmas.{Bool.ltb-false, List.{Sums.fails_before_first, Quantifiers.position-Some, drop_more}, Grind.common_steps}}
+use Rattle.std.specs.{Prelude.{Option, Some, None}, List.{cons_option, filter, filter_map, position_or_len}}
 
 -- where the first row that passes stands at i, those before it are not shown
 passed : {X : Type 0} (p : X → Bool) (rows : List X) (i : ℕ) (d : X) → i < length rows → p (get_or rows i d) ≡ true → ((k : ℕ) → k < i → p (get_or rows k d) ≡ false)

@@ -1,9 +1,6 @@
 -- An order is put last.
-use Rattle.std.proofs.Common.{◌≡◌, ◌<◌, ℕ, zero, suc, ◌+◌, Bool, true, false, cond, List, [], ◌∷◌, ◌++◌, length, set, refl, ◌∙◌, sym, ap, subst, arith, ◌⊎◌, inl, inr}
+use Rattle.std.proofs.{Common.{◌≡◌, ◌<◌, ℕ, zero, suc, ◌+◌, Bool, true, false, cond, List, [], ◌∷◌, ◌++◌, length, set, refl, ◌∙◌, sym, ap, subst, arith, ◌⊎◌, inl, inr}, lemmas.{Bool.eq-eqb, List.{length-append, Elements.filter-append}}}
 use Rattle.std.specs.Prelude.{Some, None, slice_get}
-use Rattle.std.proofs.lemmas.Bool.{eq-eqb}
-use Rattle.std.proofs.lemmas.List.{length-append}
-use Rattle.std.proofs.lemmas.List.Elements.{filter-append}
 use Rattle.gx_history.specs.declared.live_order.LiveOrder.{LiveOrder}
 use Rattle.gx_slab.proofs.Finding.{some_is}
 use Rattle.gx_slab.specs.Slabs.{HasRoom, IsPlaced, IsTable, first_place, has_number, is_open, open_ones, live_numbered}

@@ -1,12 +1,8 @@
 -- The orders that have ended are taken out.
-use Rattle.std.proofs.Common.{◌≡◌, ◌<◌, ◌≤◌, ℕ, zero, suc, ◌+◌, Bool, true, false, cond, List, [], ◌∷◌, length, take, set, refl, ◌∙◌, sym, ap, arith, ◌==◌}
+use Rattle.std.proofs.{Common.{◌≡◌, ◌<◌, ◌≤◌, ℕ, zero, suc, ◌+◌, Bool, true, false, cond, List, [], ◌∷◌, length, take, set, refl, ◌∙◌, sym, ap, arith, ◌==◌}, lemmas.{Bool.{eqb-true, eqb-false}, List.length-set, Option.slice_get_within}}
 use Rattle.std.specs.Prelude.{Some, None, slice_get}
-use Rattle.std.proofs.lemmas.Bool.{eqb-true, eqb-false}
-use Rattle.std.proofs.lemmas.List.{length-set}
-use Rattle.std.proofs.lemmas.Option.{slice_get_within}
 use Rattle.gx_history.specs.declared.live_order.LiveOrder.{LiveOrder}
-use Rattle.gx_slab.proofs.Finding.{some_is}
-use Rattle.gx_slab.proofs.Putting.{is_set, others_stay}
+use Rattle.gx_slab.proofs.{Finding.some_is, Putting.{is_set, others_stay}}
 use Rattle.gx_slab.specs.Slabs.{CanBePlaced, IsPlaced, is_open, open_ones}
 
 -- where a live row stood among all, and so many live ones before it

@@ -1,8 +1,6 @@
 -- Where the first order that waits stands.
-use Rattle.std.proofs.Common.{◌≡◌, ◌<◌, ◌≤◌, ℕ, zero, suc, ◌+◌, Bool, true, false, not, cond, List, [], ◌∷◌, ◌++◌, length, get_or, set, refl, sym, ap, arith, if◌then◌else◌}
-use Rattle.std.specs.Prelude.{min, ◌&&◌}
-use Rattle.std.specs.List.{position_or_len}
-use Rattle.std.proofs.lemmas.List.Sums.{prefix_len-le-length}
+use Rattle.std.proofs.{Common.{◌≡◌, ◌<◌, ◌≤◌, ℕ, zero, suc, ◌+◌, Bool, true, false, not, cond, List, [], ◌∷◌, ◌++◌, length, get_or, set, refl, sym, ap, arith, if◌then◌else◌}, lemmas.List.Sums.prefix_len-le-length}
+use Rattle.std.specs.{Prelude.{min, ◌&&◌}, List.position_or_len}
 use Rattle.gx_history.specs.declared.live_order.LiveOrder.{LiveOrder}
 use Rattle.gx_slab.specs.Slabs.{first_place, is_open, is_waiting}
 

@@ -1,13 +1,8 @@
 -- An order is written in the place of the one of its number.
-use Rattle.std.proofs.Common.{◌≡◌, ◌<◌, ◌-◌, ℕ, zero, suc, ◌+◌, Bool, true, false, cond, List, [], ◌∷◌, map, length, set, refl, ◌∙◌, sym, ap, arith, ◌==◌, if◌then◌else◌}
-use Rattle.std.specs.Prelude.{Some, None, slice_get, ◌&&◌, get_or}
-use Rattle.std.specs.List.{position}
-use Rattle.std.proofs.lemmas.Bool.{eqb-true, eqb-false}
-use Rattle.std.proofs.lemmas.List.Quantifiers.{position-Some}
-use Rattle.std.proofs.lemmas.Option.{slice_get_within, slice_get-get_or}
+use Rattle.std.proofs.{Common.{◌≡◌, ◌<◌, ◌-◌, ℕ, zero, suc, ◌+◌, Bool, true, false, cond, List, [], ◌∷◌, map, length, set, refl, ◌∙◌, sym, ap, arith, ◌==◌, if◌then◌else◌}, lemmas.{Bool.{eqb-true, eqb-false}, List.Quantifiers.position-Some, Option.{slice_get_within, slice_get-get_or}}}
+use Rattle.std.specs.{Prelude.{Some, None, slice_get, ◌&&◌, get_or}, List.position}
 use Rattle.gx_history.specs.declared.live_order.LiveOrder.{LiveOrder}
-use Rattle.gx_slab.proofs.Finding.{alone, both_true, found_nowhere, not_true, some_is}
-use Rattle.gx_slab.proofs.Putting.{fresh_apart, is_set, others_stay}
+use Rattle.gx_slab.proofs.{Finding.{alone, both_true, found_nowhere, not_true, some_is}, Putting.{fresh_apart, is_set, others_stay}}
 use Rattle.gx_slab.specs.Slabs.{IsPlaced, has_number, is_open, open_ones, stands_for, written}
 
 -- the order in the place of the one of its number

@@ -1,9 +1,6 @@
 //! Live orders, one by one.
 
-ghost use Rattle.std.specs.Iterator.{at_most};
-ghost use Rattle.std.specs.Map.Iter.{TakesFirst, deref};
-ghost use Rattle.std.specs.Prelude.{◌≡◌, [], ◌∷◌, length, MatchOption};
-ghost use Rattle.std.specs.List.{position};
+ghost use Rattle.std.specs.{Iterator.at_most, Map.Iter.{TakesFirst, deref}, Prelude.{◌≡◌, [], ◌∷◌, length, MatchOption}, List.position};
 ghost use Rattle.gx_slab.specs.Slabs.{IsPlaced, is_open, numbered_of, open_ones};
 
 use crate::places::order_of;

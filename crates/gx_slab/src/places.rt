@@ -1,7 +1,6 @@
 //! Where the order of each number stands.
 
-ghost use Rattle.std.specs.Prelude.{◌≡◌, ◌≤◌, OnErr, OnOk, length, option_copied, slice_get};
-ghost use Rattle.std.specs.List.{position};
+ghost use Rattle.std.specs.{Prelude.{◌≡◌, ◌≤◌, OnErr, OnOk, length, option_copied, slice_get}, List.position};
 ghost use Rattle.gx_slab.specs.Slabs.{CanBePlaced, HasRoom, IsDense, IsPlaced, first_place, open_ones, order_of, stands_for};
 
 use crate::rows::{first_place, is_open, row};

@@ -1,14 +1,8 @@
 -- A number that was written with spaces in front is read back.
-use Rattle.std.proofs.Common.{◌≡◌, ℕ, zero, suc, ◌-◌, ◌^◌, ◌<◌, min, true, false, cond, ◌&&◌, List, [], ◌∷◌, ◌++◌, length, replicate, fold, Some, None, refl, ap, ◌∙◌, arith, rules, decimal}
-use Rattle.std.specs.Int.{IsInRange}
-use Rattle.std.specs.List.{list_all}
-use Rattle.std.specs.Char.{is_ascii_digit}
-use Rattle.std.proofs.lemmas.Bool.Decides.{nat_tests}
-use Rattle.std.proofs.lemmas.Str.Parse.{IsNumeralModel, numerals_by_fold}
-use Rattle.std.proofs.lemmas.Fmt.{digits_value-decimal, decimal_is_IsNumeral}
+use Rattle.std.proofs.{Common.{◌≡◌, ℕ, zero, suc, ◌-◌, ◌^◌, ◌<◌, min, true, false, cond, ◌&&◌, List, [], ◌∷◌, ◌++◌, length, replicate, fold, Some, None, refl, ap, ◌∙◌, arith, rules, decimal}, lemmas.{Bool.Decides.nat_tests, Str.Parse.{IsNumeralModel, numerals_by_fold}, Fmt.{digits_value-decimal, decimal_is_IsNumeral}}}
+use Rattle.std.specs.{Int.IsInRange, List.list_all, Char.is_ascii_digit}
 use Rattle.gx_units.specs.Spelling.{is_space, is_blank, without_left_spaces, without_right_spaces, trimmed}
-use Rattle.gx_soup.specs.Login.{greatest, with_digit, spelled, number_of}
-use Rattle.gx_soup.specs.Writing.{number_field}
+use Rattle.gx_soup.specs.{Login.{greatest, with_digit, spelled, number_of}, Writing.number_field}
 
 abbrev AreDigits : List ℕ → Type 0
 AreDigits [] = Unit {0}

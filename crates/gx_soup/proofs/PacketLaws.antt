@@ -1,14 +1,7 @@
 -- The laws of src/laws.rt, each under its function's name, for proofs of the crates above.
 use Rattle.std.proofs.Common.{◌≡◌, ℕ, ◌<◌, true, List, [], ◌++◌, length, Option, Some, None, is_some, refl, sym, ap, ◌∙◌, append-nil, slice_index, arith}
-use Rattle.gx_soup.specs.declared.packet.ClientPacket.{ClientPacket}
-use Rattle.gx_soup.specs.declared.packet.SoupFault.{SoupFault}
-use Rattle.gx_soup.specs.Standard.{longest_packet}
-use Rattle.gx_soup.specs.Packets.{Soup, with_packet, packets_of}
-use Rattle.gx_soup.specs.Writing.{client_bytes, IsPacket}
-use Rattle.gx_soup.proofs.Soup.{joined, packets_join}
-use Rattle.gx_soup.proofs.Steps.{joined_stuck}
-use Rattle.gx_soup.proofs.Written.{packet_read}
-use Rattle.gx_soup.proofs.Bounds.{rest_len}
+use Rattle.gx_soup.specs.{declared.packet.{ClientPacket.ClientPacket, SoupFault.SoupFault}, Standard.longest_packet, Packets.{Soup, with_packet, packets_of}, Writing.{client_bytes, IsPacket}}
+use Rattle.gx_soup.proofs.{Soup.{joined, packets_join}, Steps.joined_stuck, Written.packet_read, Bounds.rest_len}
 
 -- a client's packet is read back as itself
 pub read_back : (packet : ClientPacket) (rest : List ℕ) → IsPacket packet → packets_of (client_bytes packet ++ rest) ≡ with_packet packet (packets_of rest)

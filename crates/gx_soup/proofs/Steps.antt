@@ -1,12 +1,6 @@
 -- The steps of the loop that cuts packets off, and what a feeder gives for a piece.
-use Rattle.std.proofs.Common.{◌≡◌, ℕ, ◌+◌, ◌-◌, ◌≤◌, true, false, List, [], ◌∷◌, ◌++◌, length, take, drop, Option, Some, None, refl, sym, ap, ◌∙◌, append_assoc, append-nil, arith, is_some}
-use Rattle.std.proofs.lemmas.List.{take_rest, drop_all, drop-drop, length-drop}
-use Rattle.gx_soup.specs.declared.packet.ClientPacket.{ClientPacket}
-use Rattle.gx_soup.specs.declared.packet.SoupFault.{SoupFault}
-use Rattle.gx_soup.specs.declared.front.Front.{Front}
-use Rattle.gx_soup.specs.declared.front.Front.TheVariants.{Short, Faulty, Whole}
-use Rattle.gx_soup.specs.Packets.{front, Soup, packets_of}
-use Rattle.gx_soup.specs.Feeding.{Held, HasRead, Gives}
+use Rattle.std.proofs.{Common.{◌≡◌, ℕ, ◌+◌, ◌-◌, ◌≤◌, true, false, List, [], ◌∷◌, ◌++◌, length, take, drop, Option, Some, None, refl, sym, ap, ◌∙◌, append_assoc, append-nil, arith, is_some}, lemmas.List.{take_rest, drop_all, drop-drop, length-drop}}
+use Rattle.gx_soup.specs.{declared.{packet.{ClientPacket.ClientPacket, SoupFault.SoupFault}, front.Front.{Front, TheVariants.{Short, Faulty, Whole}}}, Packets.{front, Soup, packets_of}, Feeding.{Held, HasRead, Gives}}
 use Rattle.gx_soup.proofs.Soup.{behind, joined, front_takes, packets_short, packets_faulty, packets_whole, packets_join, packets_nil}
 
 module _ (bytes : List ℕ) (used : ℕ) (ps : List ClientPacket) (told : behind ps (packets_of (drop used bytes)) ≡ packets_of bytes) where

@@ -1,21 +1,7 @@
 -- A client's packet is read back as itself.
-use Rattle.std.proofs.Common.{◌≡◌, ℕ, ◌+◌, ◌-◌, ◌*◌, ◌/◌, ◌%◌, ◌^◌, ◌<◌, Bool, true, false, cond, not, ◌&&◌, ◌==◌, nat_lt, List, [], ◌∷◌, ◌++◌, length, take, drop, Some, refl, sym, ap, ◌∙◌, append_assoc, arith, decimal, replicate}
-use Rattle.std.proofs.lemmas.Bool.Decides.{nat_tests}
-use Rattle.std.proofs.lemmas.List.{take_at, take_all, drop_at, length-append, length-replicate}
-use Rattle.std.proofs.lemmas.Fmt.{length-decimal-le}
-use Rattle.gx_soup.specs.declared.packet.ClientPacket.{ClientPacket}
-use Rattle.gx_soup.specs.declared.packet.ClientPacket.TheVariants as client
-use Rattle.gx_soup.specs.declared.packet.LoginRequest.{LoginRequest}
-use Rattle.gx_soup.specs.declared.front.Front.{Front}
-use Rattle.gx_soup.specs.declared.front.Front.TheVariants.{Short, Faulty, Whole}
-use Rattle.gx_soup.specs.declared.packet.SoupFault.{SoupFault}
-use Rattle.gx_soup.specs.declared.packet.SoupFault.TheVariants.{ZeroLength}
-use Rattle.gx_soup.specs.Standard.{login_request, login_length, unsequenced_data, client_heartbeat, logout_request, debug}
-use Rattle.gx_soup.specs.Login.{number_of}
-use Rattle.gx_soup.specs.Packets.{front, counted_front, typed_front, whole_front, login_front, is_client_type, with_packet, packets_of}
-use Rattle.gx_soup.specs.Writing.{framed, number_field, login_payload, FitsFields, client_bytes, IsPacket}
-use Rattle.gx_soup.proofs.Soup.{packets_whole}
-use Rattle.gx_soup.proofs.Numbers.{number_read}
+use Rattle.std.proofs.{Common.{◌≡◌, ℕ, ◌+◌, ◌-◌, ◌*◌, ◌/◌, ◌%◌, ◌^◌, ◌<◌, Bool, true, false, cond, not, ◌&&◌, ◌==◌, nat_lt, List, [], ◌∷◌, ◌++◌, length, take, drop, Some, refl, sym, ap, ◌∙◌, append_assoc, arith, decimal, replicate}, lemmas.{Bool.Decides.nat_tests, List.{take_at, take_all, drop_at, length-append, length-replicate}, Fmt.length-decimal-le}}
+use Rattle.gx_soup.specs.{declared.{packet.{ClientPacket.ClientPacket, LoginRequest.LoginRequest, SoupFault.{SoupFault, TheVariants.ZeroLength}}, front.Front.{Front, TheVariants.{Short, Faulty, Whole}}}, Standard.{login_request, login_length, unsequenced_data, client_heartbeat, logout_request, debug}, Login.number_of, Packets.{front, counted_front, typed_front, whole_front, login_front, is_client_type, with_packet, packets_of}, Writing.{framed, number_field, login_payload, FitsFields, client_bytes, IsPacket}}
+use Rattle.gx_soup.proofs.{Soup.packets_whole, Numbers.number_read}
 
 told : (u l s : Bool) (x y : SoupFault) (w : Front) → u ≡ true → l ≡ false → s ≡ false → cond (not u) (Faulty x) (cond l (Faulty y) (cond s Short w)) ≡ w
 told true false false x y w a b c = refl
@@ -87,26 +73,26 @@ module _ (user password session number : List ℕ) (u : length user ≡ 6) (p : 
   payload_len : length (user ++ (password ++ (session ++ number))) ≡ 46
   payload_len = omega (arith, length-append user (password ++ (session ++ number)), length-append password (session ++ number), length-append session number)
 
-  login_front_is : (wanted : ℕ) → number_of number ≡ Some wanted → login_front (user ++ (password ++ (session ++ number))) (number_of (take 20 (drop 26 (user ++ (password ++ (session ++ number)))))) ≡ Whole (client.Login (record { user = record { bytes = user }; password = record { bytes = password }; session = record { bytes = session }; wanted = wanted })) (length (user ++ (password ++ (session ++ number))) + 3)
+  login_front_is : (wanted : ℕ) → number_of number ≡ Some wanted → login_front (user ++ (password ++ (session ++ number))) (number_of (take 20 (drop 26 (user ++ (password ++ (session ++ number)))))) ≡ Whole (ClientPacket.Login (record { user = record { bytes = user }; password = record { bytes = password }; session = record { bytes = session }; wanted = wanted })) (length (user ++ (password ++ (session ++ number))) + 3)
   login_front_is wanted e =
       let payload = user ++ (password ++ (session ++ number)) in
       ap (login_front payload) (ap number_of at_number ∙ e)
-      ∙ (ap (λ x. Whole (client.Login (login_with x (take 10 (drop 6 payload)) (take 10 (drop 16 payload)) wanted)) 49) at_user
-      ∙ (ap (λ x. Whole (client.Login (login_with user x (take 10 (drop 16 payload)) wanted)) 49) at_password
-      ∙ (ap (λ x. Whole (client.Login (login_with user password x wanted)) 49) at_session
-      ∙ ap (λ m. Whole (client.Login (login_with user password session wanted)) (m + 3)) (sym payload_len))))
+      ∙ (ap (λ x. Whole (ClientPacket.Login (login_with x (take 10 (drop 6 payload)) (take 10 (drop 16 payload)) wanted)) 49) at_user
+      ∙ (ap (λ x. Whole (ClientPacket.Login (login_with user x (take 10 (drop 16 payload)) wanted)) 49) at_password
+      ∙ (ap (λ x. Whole (ClientPacket.Login (login_with user password x wanted)) 49) at_session
+      ∙ ap (λ m. Whole (ClientPacket.Login (login_with user password session wanted)) (m + 3)) (sym payload_len))))
 
-login_read : (login : LoginRequest) (rest : List ℕ) → FitsFields login → packets_of (framed login_request (login_payload login) ++ rest) ≡ with_packet (client.Login login) (packets_of rest)
+login_read : (login : LoginRequest) (rest : List ℕ) → FitsFields login → packets_of (framed login_request (login_payload login) ++ rest) ≡ with_packet (ClientPacket.Login login) (packets_of rest)
 login_read login rest h =
     let n = padded_len login.wanted h.3 in
-    framed_read login_request (login_payload login) rest (client.Login login) refl
+    framed_read login_request (login_payload login) rest (ClientPacket.Login login) refl
     (λ e. payload_len login.user.bytes login.password.bytes login.session.bytes (number_field login.wanted) h.0 h.1 h.2 n)
     (login_front_is login.user.bytes login.password.bytes login.session.bytes (number_field login.wanted) h.0 h.1 h.2 n login.wanted (number_read login.wanted h.3))
 
 pub packet_read : (packet : ClientPacket) (rest : List ℕ) → IsPacket packet → packets_of (client_bytes packet ++ rest) ≡ with_packet packet (packets_of rest)
 unfolding client_bytes
-packet_read (client.Login login) rest h = login_read login rest h
-packet_read (client.Data payload) rest h = framed_read unsequenced_data payload rest _ refl (λ e. cc) refl
-packet_read client.Heartbeat rest h = framed_read client_heartbeat [] rest _ refl (λ e. cc) refl
-packet_read client.Logout rest h = framed_read logout_request [] rest _ refl (λ e. cc) refl
-packet_read client.Debug rest h = framed_read debug [] rest _ refl (λ e. cc) refl
+packet_read (ClientPacket.Login login) rest h = login_read login rest h
+packet_read (ClientPacket.Data payload) rest h = framed_read unsequenced_data payload rest _ refl (λ e. cc) refl
+packet_read ClientPacket.Heartbeat rest h = framed_read client_heartbeat [] rest _ refl (λ e. cc) refl
+packet_read ClientPacket.Logout rest h = framed_read logout_request [] rest _ refl (λ e. cc) refl
+packet_read ClientPacket.Debug rest h = framed_read debug [] rest _ refl (λ e. cc) refl

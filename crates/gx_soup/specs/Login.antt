@@ -1,7 +1,5 @@
 -- How a Login Request spells the number that it asks for.
-use Rattle.std.specs.Prelude.{ℕ, ◌+◌, ◌-◌, ◌*◌, ◌^◌, min, nat_lt, if◌then◌else◌, List, Option, Some, None, fold}
-use Rattle.std.specs.List.{list_all}
-use Rattle.std.specs.Char.{is_ascii_digit}
+use Rattle.std.specs.{Prelude.{ℕ, ◌+◌, ◌-◌, ◌*◌, ◌^◌, min, nat_lt, if◌then◌else◌, List, Option, Some, None, fold}, List.list_all, Char.is_ascii_digit}
 use Rattle.gx_units.specs.Spelling.{trimmed}
 
 -- the greatest number of 64 bits

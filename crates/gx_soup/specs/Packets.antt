@@ -1,14 +1,6 @@
 -- The packets of a text.
 use Rattle.std.specs.Prelude.{ℕ, zero, suc, ◌+◌, ◌-◌, ◌*◌, Bool, not, ◌&&◌, ◌||◌, ◌==◌, nat_lt, if◌then◌else◌, List, [], ◌∷◌, length, take, drop, slice_range, Option, Some, None}
-use Rattle.gx_soup.specs.declared.packet.SoupFault.{SoupFault}
-use Rattle.gx_soup.specs.declared.packet.SoupFault.TheVariants.{ZeroLength, UnknownType, BadLogin}
-use Rattle.gx_soup.specs.declared.packet.LoginRequest.{LoginRequest}
-use Rattle.gx_soup.specs.declared.packet.ClientPacket.{ClientPacket}
-use Rattle.gx_soup.specs.declared.packet.ClientPacket.TheVariants.{Login, Data, Heartbeat, Logout, Debug}
-use Rattle.gx_soup.specs.declared.front.Front.{Front}
-use Rattle.gx_soup.specs.declared.front.Front.TheVariants.{Short, Faulty, Whole}
-use Rattle.gx_soup.specs.Standard.{login_request, unsequenced_data, client_heartbeat, logout_request, debug, login_length}
-use Rattle.gx_soup.specs.Login.{number_of}
+use Rattle.gx_soup.specs.{declared.{packet.{SoupFault.{SoupFault, TheVariants.{ZeroLength, UnknownType, BadLogin}}, LoginRequest.LoginRequest, ClientPacket.{ClientPacket, TheVariants.{Login, Data, Heartbeat, Logout, Debug}}}, front.Front.{Front, TheVariants.{Short, Faulty, Whole}}}, Standard.{login_request, unsequenced_data, client_heartbeat, logout_request, debug, login_length}, Login.number_of}
 
 -- a type that a client sends
 abbrev pub is_client_type : ℕ → Bool

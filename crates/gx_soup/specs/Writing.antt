@@ -1,15 +1,7 @@
 -- The bytes of a packet.
 use Rattle.std.specs.Prelude.{◌≡◌, ℕ, ◌+◌, ◌≤◌, ◌<◌, ◌^◌, ◌/◌, ◌%◌, List, [], ◌∷◌, ◌++◌, length, decimal}
-use Rattle.gx_units.specs.declared.names.LoginRejection.{LoginRejection}
-use Rattle.gx_units.specs.declared.names.LoginRejection.TheVariants.{NotAuthorized, SessionNotAvailable}
-use Rattle.gx_units.specs.declared.names.SessionName.{SessionName}
-use Rattle.gx_units.specs.Spelling.{padded_left, trimmed}
-use Rattle.gx_soup.specs.declared.packet.LoginRequest.{LoginRequest}
-use Rattle.gx_soup.specs.declared.packet.ClientPacket.{ClientPacket}
-use Rattle.gx_soup.specs.declared.packet.ClientPacket.TheVariants as client
-use Rattle.gx_soup.specs.declared.packet.ServerPacket.{ServerPacket}
-use Rattle.gx_soup.specs.declared.packet.ServerPacket.TheVariants.{Accepted, Rejected, Sequenced, Heartbeat, EndOfSession}
-use Rattle.gx_soup.specs.Standard.{login_request, unsequenced_data, client_heartbeat, logout_request, debug, login_accepted, login_rejected, sequenced_data, server_heartbeat, end_of_session, not_authorized, session_not_available, longest_payload}
+use Rattle.gx_units.specs.{declared.names.{LoginRejection.{LoginRejection, TheVariants.{NotAuthorized, SessionNotAvailable}}, SessionName.SessionName}, Spelling.{padded_left, trimmed}}
+use Rattle.gx_soup.specs.{declared.packet.{LoginRequest.LoginRequest, ClientPacket.ClientPacket, ServerPacket.{ServerPacket, TheVariants.{Accepted, Rejected, Sequenced, Heartbeat, EndOfSession}}}, Standard.{login_request, unsequenced_data, client_heartbeat, logout_request, debug, login_accepted, login_rejected, sequenced_data, server_heartbeat, end_of_session, not_authorized, session_not_available, longest_payload}}
 
 -- the length, of the type and all behind it, in two bytes; the type; what the packet carries
 abbrev pub framed : ℕ → List ℕ → List ℕ
@@ -50,19 +42,19 @@ login_payload login = login.user.bytes ++ (login.password.bytes ++ (login.sessio
 
 -- a client's packet; the others carry nothing
 unfoldable pub client_bytes : ClientPacket → List ℕ
-client_bytes (client.Login login) = framed login_request (login_payload login)
-client_bytes (client.Data payload) = framed unsequenced_data payload
-client_bytes client.Heartbeat = framed client_heartbeat []
-client_bytes client.Logout = framed logout_request []
-client_bytes client.Debug = framed debug []
+client_bytes (ClientPacket.Login login) = framed login_request (login_payload login)
+client_bytes (ClientPacket.Data payload) = framed unsequenced_data payload
+client_bytes ClientPacket.Heartbeat = framed client_heartbeat []
+client_bytes ClientPacket.Logout = framed logout_request []
+client_bytes ClientPacket.Debug = framed debug []
 
 -- the length can count what the client's packet carries
 abbrev pub ClientHasRoom : ClientPacket → Type 0
-ClientHasRoom (client.Data payload) = length payload ≤ longest_payload
-ClientHasRoom (client.Login login) = Unit {0}
-ClientHasRoom client.Heartbeat = Unit {0}
-ClientHasRoom client.Logout = Unit {0}
-ClientHasRoom client.Debug = Unit {0}
+ClientHasRoom (ClientPacket.Data payload) = length payload ≤ longest_payload
+ClientHasRoom (ClientPacket.Login login) = Unit {0}
+ClientHasRoom ClientPacket.Heartbeat = Unit {0}
+ClientHasRoom ClientPacket.Logout = Unit {0}
+ClientHasRoom ClientPacket.Debug = Unit {0}
 
 -- the widths of a login's fields, and 64 bits for its number
 abbrev pub FitsFields : LoginRequest → Type 0
@@ -70,8 +62,8 @@ FitsFields login = (length login.user.bytes ≡ 6) × (length login.password.byt
 
 -- a packet as the program holds it, with room for what it carries
 abbrev pub IsPacket : ClientPacket → Type 0
-IsPacket (client.Login login) = FitsFields login
-IsPacket (client.Data payload) = length payload ≤ longest_payload
-IsPacket client.Heartbeat = Unit {0}
-IsPacket client.Logout = Unit {0}
-IsPacket client.Debug = Unit {0}
+IsPacket (ClientPacket.Login login) = FitsFields login
+IsPacket (ClientPacket.Data payload) = length payload ≤ longest_payload
+IsPacket ClientPacket.Heartbeat = Unit {0}
+IsPacket ClientPacket.Logout = Unit {0}
+IsPacket ClientPacket.Debug = Unit {0}

@@ -1,9 +1,7 @@
 //! Packets of a text that comes in pieces.
 
 ghost use Rattle.std.specs.Prelude.{◌≡◌, ℕ, ◌≤◌, ◌<◌, List, [], drop, length, is_some, IsTrue, IfOk, OnErr};
-ghost use Rattle.gx_soup.specs.Standard.{longest_packet};
-ghost use Rattle.gx_soup.specs.Packets.{packets_of};
-ghost use Rattle.gx_soup.specs.Feeding.{HasRead, Gives};
+ghost use Rattle.gx_soup.specs.{Standard.longest_packet, Packets.packets_of, Feeding.{HasRead, Gives}};
 
 use crate::front::{Front, read_front};
 use crate::packet::{ClientPacket, SoupFault};

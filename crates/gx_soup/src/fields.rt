@@ -1,8 +1,6 @@
 //! Text fields: fixed bytes, spaces and numbers.
 
-ghost use Rattle.std.specs.Prelude.{◌≡◌, ◌≤◌, length, None, IfNone, IfOk, IfSome};
-ghost use Rattle.std.specs.Char.{is_ascii_digit};
-ghost use Rattle.std.specs.List.{list_all};
+ghost use Rattle.std.specs.{Prelude.{◌≡◌, ◌≤◌, length, None, IfNone, IfOk, IfSome}, Char.is_ascii_digit, List.list_all};
 ghost use Rattle.gx_units.specs.Spelling.{padded_left};
 ghost use Rattle.gx_soup.specs.Login.{in_64_bits, number_of, spelled, with_digit};
 

@@ -1,8 +1,7 @@
 //! What stands first in a text.
 
 ghost use Rattle.std.specs.Prelude.{◌≡◌, ◌<◌, length, slice_range, IfOk};
-ghost use Rattle.gx_soup.specs.Login.{number_of};
-ghost use Rattle.gx_soup.specs.Packets.{front, login_front, plain_packet, is_client_type, typed_front};
+ghost use Rattle.gx_soup.specs.{Login.number_of, Packets.{front, login_front, plain_packet, is_client_type, typed_front}};
 
 use crate::fields::{fixed, number_of};
 use crate::packet::{ClientPacket, LoginRequest, SoupFault};

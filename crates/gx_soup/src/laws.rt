@@ -2,10 +2,7 @@
 //! under the same names, for proofs of the crates above.
 
 ghost use Rattle.std.specs.Prelude.{◌≡◌, ℕ, ◌<◌, List, ◌++◌, length, is_some, IsTrue, slice_index};
-ghost use Rattle.gx_soup.specs.declared.packet.ClientPacket.{ClientPacket};
-ghost use Rattle.gx_soup.specs.Standard.{longest_packet};
-ghost use Rattle.gx_soup.specs.Packets.{packets_of, with_packet};
-ghost use Rattle.gx_soup.specs.Writing.{client_bytes, IsPacket};
+ghost use Rattle.gx_soup.specs.{declared.packet.ClientPacket.ClientPacket, Standard.longest_packet, Packets.{packets_of, with_packet}, Writing.{client_bytes, IsPacket}};
 
 /// An encoded client's packet is read back as itself, whatever follows it.
 pub fn read_back()

@@ -1,9 +1,7 @@
 //! Packets as bytes.
 
 ghost use Rattle.std.specs.Prelude.{◌≡◌, ◌≤◌, ◌++◌, length, IfOk, OnOk};
-ghost use Rattle.gx_soup.specs.declared.packet.ServerPacket.TheVariants.{Sequenced};
-ghost use Rattle.gx_soup.specs.Standard.{longest_payload};
-ghost use Rattle.gx_soup.specs.Writing.{framed, server_bytes, HasRoom, client_bytes, ClientHasRoom, number_field, session_field, login_payload, reason_code};
+ghost use Rattle.gx_soup.specs.{declared.packet.ServerPacket.TheVariants.Sequenced, Standard.longest_payload, Writing.{framed, server_bytes, HasRoom, client_bytes, ClientHasRoom, number_field, session_field, login_payload, reason_code}};
 
 use crate::fields::padded_left;
 use crate::packet::{ClientPacket, LoginRequest, ServerPacket};

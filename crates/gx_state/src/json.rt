@@ -12,7 +12,7 @@ use gx_overview::executed::{Executed, ExecutedRow, executed_rows};
 use gx_overview::rules::{
     GrossRow, LimitRow, ListingRow, NetRow, gross_rows, limit_rows, listing_rows, net_rows,
 };
-use gx_policy::{Account, FileRule, RuleKind};
+use gx_policy::{Account, ExposureLimit, FileRule, RuleKind};
 use gx_records::{ShowsRecords, ShowsState};
 use gx_slab::live::LiveOrders;
 use gx_text::{
@@ -265,14 +265,14 @@ fn append_standing<G: ShowsState>(
     requires { commands.now ≡ granted_commands (G.seen gate.now).records }
 {
     match &rule.kind {
-        RuleKind::GrossShares(_, _) | RuleKind::GrossValue(_, _) => {
+        RuleKind::Exposure(ExposureLimit::GrossShares | ExposureLimit::GrossValue, _, _) => {
             let rows = gross_rows(alloc, gate, rule.name)?;
             append_gross(text, rows.as_slice())
         }
-        RuleKind::NetShares(_, _) => {
+        RuleKind::Exposure(ExposureLimit::NetShares, _, _) => {
             append_net(text, alloc, gate, rule, gate.policy().accounts())
         }
-        RuleKind::Halt(_) | RuleKind::Restricted(_) => {
+        RuleKind::Listed(_, _) => {
             let rows = listing_rows(alloc, gate, commands, rule.name)?;
             append_listings(text, rows.as_slice())
         }

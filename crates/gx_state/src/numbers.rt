@@ -1,7 +1,7 @@
 //! Numbers and marks, as both forms show them.
 
 use gx_overview::commands::GrantedCommand;
-use gx_policy::RuleKind;
+use gx_policy::{ExposureLimit, OrderLimit, RuleKind};
 use gx_text::{Decimals, append, append_moment, append_name, append_number, append_with_zeros};
 use gx_units::{OutOfMemory, unpadded};
 use itoa::{Buffer, Integer};
@@ -19,8 +19,9 @@ pub(crate) enum Unit {
 /// What the limit of a rule of this kind counts.
 pub(crate) fn unit_of(kind: &RuleKind) -> Unit {
     match kind {
-        RuleKind::OrderValue(_) | RuleKind::GrossValue(_, _) => Unit::Value,
-        RuleKind::Collar(_) => Unit::Parts,
+        RuleKind::Order(OrderLimit::Value, _)
+        | RuleKind::Exposure(ExposureLimit::GrossValue, _, _) => Unit::Value,
+        RuleKind::Order(OrderLimit::Collar, _) => Unit::Parts,
         _ => Unit::Shares,
     }
 }

@@ -14,7 +14,7 @@ use gx_overview::executed::{Executed, ExecutedRow, executed_rows};
 use gx_overview::rules::{
     GrossRow, LimitRow, ListingRow, NetRow, gross_rows, limit_rows, listing_rows, net_rows,
 };
-use gx_policy::{Account, Count, FileRule, RuleKind};
+use gx_policy::{Account, Count, ExposureLimit, FileRule, RuleKind};
 use gx_records::{ShowsRecords, ShowsState};
 use gx_text::{Decimals, append, append_moment, append_name, append_number};
 use gx_units::{AccountName, OutOfMemory, RuleId};
@@ -273,7 +273,7 @@ fn append_standing<G: ShowsState>(
     requires { commands.now ≡ granted_commands (G.seen gate.now).records }
 {
     match &rule.kind {
-        RuleKind::GrossShares(_, count) | RuleKind::GrossValue(_, count) => {
+        RuleKind::Exposure(ExposureLimit::GrossShares | ExposureLimit::GrossValue, _, count) => {
             let rows = gross_rows(alloc, gate, rule.name)?;
             append_gross(
                 text,
@@ -283,10 +283,10 @@ fn append_standing<G: ShowsState>(
                 *count,
             )
         }
-        RuleKind::NetShares(_, _) => {
+        RuleKind::Exposure(ExposureLimit::NetShares, _, _) => {
             append_net_of_all(text, alloc, gate, rule.name, gate.policy().accounts())
         }
-        RuleKind::Halt(_) | RuleKind::Restricted(_) => {
+        RuleKind::Listed(_, _) => {
             let rows = listing_rows(alloc, gate, commands, rule.name)?;
             append_listings(text, rule.name, rows.as_slice())
         }

@@ -1,16 +1,9 @@
 -- A span that begins with the mask in force changes nothing that is shown.
 use Rattle.std.proofs.Common.{◌≡◌, ℕ, Bool, true, false, cond, List, [], ◌∷◌, refl, ◌∙◌, sym, ap, if◌then◌else◌}
-use Rattle.std.specs.Prelude.{Option, Some, Result, Ok, Err, OnErr, OnOk, option_map}
-use Rattle.std.specs.List.{find}
-use Rattle.gx_units.specs.Names.{same_user}
-use Rattle.gx_units.specs.declared.names.UserName.{UserName}
+use Rattle.std.specs.{Prelude.{Option, Some, Result, Ok, Err, OnErr, OnOk, option_map}, List.find}
+use Rattle.gx_units.specs.{Names.same_user, declared.names.UserName.UserName}
 use Rattle.gx_history_laws.proofs.Order.{some_same}
-use Rattle.gx_streams.specs.declared.entry.Entry.{Entry}
-use Rattle.gx_streams.specs.declared.fill.ToldFill.{ToldFill}
-use Rattle.gx_streams.specs.Kept.{UserList, at_first}
-use Rattle.gx_streams.specs.Spans.{ReaderSpans, is_named}
-use Rattle.gx_streams.specs.Streams.{AllStreams, ReaderMask, entitled, mask_in, with_mask}
-use Rattle.gx_streams.specs.Table.{streams_of}
+use Rattle.gx_streams.specs.{declared.{entry.Entry.Entry, fill.ToldFill.ToldFill}, Kept.{UserList, at_first}, Spans.{ReaderSpans, is_named}, Streams.{AllStreams, ReaderMask, entitled, mask_in, with_mask}, Table.streams_of}
 use Rattle.gx_streams.proofs.Shown.{mask_found}
 
 -- the mask that he has, given again

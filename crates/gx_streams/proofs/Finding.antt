@@ -1,22 +1,11 @@
 -- The list of a user among those of all.
 use Rattle.std.proofs.Common.{◌≡◌, Bool, true, false, not, ◌&&◌, cond, List, [], ◌∷◌, map, refl, ◌∙◌, ap, sym}
-use Rattle.std.specs.Prelude.{Option, Some, None, find, is_some}
-use Rattle.std.specs.Option.{option_map_or}
-use Rattle.gx_units.specs.Names.{same_user}
-use Rattle.gx_units.specs.declared.names.UserName.{UserName}
-use Rattle.gx_policy.specs.declared.policy.PolicyData.{PolicyData}
-use Rattle.gx_policy.specs.declared.policy.User.{User}
-use Rattle.gx_history.specs.declared.record.RecordData.{RecordData}
-use Rattle.gx_history.specs.declared.report.Report.{Report}
-use Rattle.gx_policy.specs.People.{is_reader, role_in, user_in}
-use Rattle.gx_history.specs.Streams.{stream}
-use Rattle.gx_history.specs.Verdicts.{IsLegal}
-use Rattle.gx_history_laws.proofs.Adding.{user_is}
-use Rattle.gx_history_laws.proofs.Names.{same_user_flip}
-use Rattle.gx_streams.specs.Kept.{UserList, is_known, items_in, list_of}
-use Rattle.gx_streams.specs.Sending.{KnowsReaders}
-use Rattle.gx_streams.specs.Streams.{AllStreams, is_told, mask_of, reports_in}
-use Rattle.gx_streams.specs.Telling.{UserReports, shown, shown_list, told_after, told_of}
+use Rattle.std.specs.{Prelude.{Option, Some, None, find, is_some}, Option.option_map_or}
+use Rattle.gx_units.specs.{Names.same_user, declared.names.UserName.UserName}
+use Rattle.gx_policy.specs.{declared.policy.{PolicyData.PolicyData, User.User}, People.{is_reader, role_in, user_in}}
+use Rattle.gx_history.specs.{declared.{«record».RecordData.RecordData, report.Report.Report}, Streams.stream, Verdicts.IsLegal}
+use Rattle.gx_history_laws.proofs.{Adding.user_is, Names.same_user_flip}
+use Rattle.gx_streams.specs.{Kept.{UserList, is_known, items_in, list_of}, Sending.KnowsReaders, Streams.{AllStreams, is_told, mask_of, reports_in}, Telling.{UserReports, shown, shown_list, told_after, told_of}}
 use Rattle.gx_streams.proofs.OnlyKnown.{only_known}
 
 abbrev found_for : UserName → List UserReports → Option UserReports

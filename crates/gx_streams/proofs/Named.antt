@@ -1,24 +1,12 @@
 -- Readers under their names.
-use Rattle.std.proofs.Common.{◌≡◌, ℕ, zero, suc, ◌+◌, ◌<◌, Bool, true, false, cond, List, [], ◌∷◌, ◌++◌, map, take, drop, length, get_or, set, refl, ◌∙◌, sym, ap, subst, if◌then◌else◌}
-use Rattle.std.specs.Prelude.{Some, None, slice_get}
-use Rattle.std.specs.List.{AllByRecursion, find, flat_map}
-use Rattle.std.specs.Map.{keys_of, lookup, set_value, values_of}
-use Rattle.std.proofs.lemmas.List.{map-append, take_more}
-use Rattle.std.proofs.lemmas.Grind.{flat_map-append}
-use Rattle.std.proofs.lemmas.Map.Entries.{length-values_of}
-use Rattle.std.proofs.lemmas.Option.{get_or_from_slice_get}
+use Rattle.std.proofs.{Common.{◌≡◌, ℕ, zero, suc, ◌+◌, ◌<◌, Bool, true, false, cond, List, [], ◌∷◌, ◌++◌, map, take, drop, length, get_or, set, refl, ◌∙◌, sym, ap, subst, if◌then◌else◌}, lemmas.{List.{map-append, take_more}, Grind.flat_map-append, Map.Entries.length-values_of, Option.get_or_from_slice_get}}
+use Rattle.std.specs.{Prelude.{Some, None, slice_get}, List.{AllByRecursion, find, flat_map}, Map.{keys_of, lookup, set_value, values_of}}
 use Rattle.indexmap.specs.IndexMap.{insert_entry, set_value_at}
 use Rattle.indexmap.proofs.MapLemmas.{insert_entry-absent}
-use Rattle.gx_units.specs.Names.{same_user}
-use Rattle.gx_units.specs.declared.names.UserName.{UserName}
-use Rattle.gx_policy.specs.Lists.{are_distinct}
-use Rattle.gx_policy.specs.People.{is_reader}
-use Rattle.gx_policy.specs.declared.policy.User.{User}
-use Rattle.gx_history_laws.proofs.Names.{same_user_flip}
-use Rattle.gx_history_laws.proofs.Order.{some_same}
-use Rattle.gx_history_laws.proofs.Tables.{new_next}
-use Rattle.gx_streams.specs.Kept.{at_first}
-use Rattle.gx_streams.specs.Spans.{AreNamed, ReaderSpans, is_named, no_spans, spans_for}
+use Rattle.gx_units.specs.{Names.same_user, declared.names.UserName.UserName}
+use Rattle.gx_policy.specs.{Lists.are_distinct, People.is_reader, declared.policy.User.User}
+use Rattle.gx_history_laws.proofs.{Names.same_user_flip, Order.some_same, Tables.new_next}
+use Rattle.gx_streams.specs.{Kept.at_first, Spans.{AreNamed, ReaderSpans, is_named, no_spans, spans_for}}
 use Rattle.gx_streams.proofs.Spanning.{item_at, one_more_changed}
 
 -- the first reader of a name is the one under it

@@ -1,60 +1,13 @@
 -- A legal history tells a user who neither trades nor gives commands of drop copies alone, and nothing to one whom the policy does not know.
-use Rattle.std.proofs.Common.{◌≡◌, ℕ, Bool, true, false, cond, List, [], ◌∷◌, ◌++◌, append_assoc, length, map, take, drop, not, refl, ◌∙◌, ap, sym, subst, inl, inr, ◌⊎◌}
-use Rattle.std.specs.Prelude.{Option, Some, None, filter, flat_map, find, option_and_then, option_map, option_to_list, ◌&&◌, ◌==◌, nat_lt}
-use Rattle.std.specs.Option.{option_map_or}
-use Rattle.std.specs.List.{AllByRecursion, cons_option, filter_map}
-use Rattle.std.proofs.lemmas.List.{append-nil}
-use Rattle.gx_units.specs.Names.{same_user}
-use Rattle.gx_units.specs.declared.names.UserName.{UserName}
-use Rattle.gx_ouch.specs.declared.letters.CancelReason.TheVariants as cancels
-use Rattle.gx_ouch.specs.declared.letters.EventCode.TheVariants as events
-use Rattle.gx_ouch.specs.declared.outbound.Outbound.TheVariants as outbounds
-use Rattle.gx_units.specs.declared.names.AccountName.{AccountName}
-use Rattle.gx_ouch.specs.declared.letters.Liquidity.{Liquidity}
-use Rattle.gx_ouch.specs.declared.letters.Liquidity.TheVariants as liquidities
+use Rattle.std.proofs.{Common.{◌≡◌, ℕ, Bool, true, false, cond, List, [], ◌∷◌, ◌++◌, append_assoc, length, map, take, drop, not, refl, ◌∙◌, ap, sym, subst, inl, inr, ◌⊎◌}, lemmas.List.append-nil}
+use Rattle.std.specs.{Prelude.{Option, Some, None, filter, flat_map, find, option_and_then, option_map, option_to_list, ◌&&◌, ◌==◌, nat_lt}, Option.option_map_or, List.{AllByRecursion, cons_option, filter_map}}
+use Rattle.gx_units.specs.{Names.same_user, declared.names.{UserName.UserName, AccountName.AccountName}}
+use Rattle.gx_ouch.specs.declared.{letters.{CancelReason.CancelReason, EventCode.EventCode, Liquidity.Liquidity}, outbound.Outbound.Outbound}
 use Rattle.gx_desk.specs.declared.Action.{Action}
-use Rattle.gx_desk.specs.declared.Action.TheVariants as actions
-use Rattle.gx_history.specs.declared.facts.Facts.{Facts}
-use Rattle.gx_history.specs.declared.facts.RuleFigures.{RuleFigures}
-use Rattle.gx_policy.specs.declared.policy.FileRule.{FileRule}
-use Rattle.gx_policy.specs.declared.policy.PolicyData.{PolicyData}
-use Rattle.gx_policy.specs.declared.policy.Role.{Role}
-use Rattle.gx_policy.specs.declared.policy.Role.TheVariants as roles
-use Rattle.gx_policy.specs.declared.policy.User.{User}
-use Rattle.gx_history.specs.declared.record.Asked.{Asked}
-use Rattle.gx_history.specs.declared.record.Fill.{Fill}
-use Rattle.gx_history.specs.declared.record.RecordData.{RecordData}
-use Rattle.gx_history.specs.declared.record.Request.{Request}
-use Rattle.gx_history.specs.declared.record.Request.TheVariants as requests
-use Rattle.gx_policy.specs.declared.rule_name.RuleName.{RuleName}
-use Rattle.gx_policy.specs.declared.rule_name.RuleName.TheVariants as names
-use Rattle.gx_history.specs.declared.record.Step.{Step}
-use Rattle.gx_history.specs.declared.record.Step.TheVariants as steps
-use Rattle.gx_history.specs.declared.record.Verdict.{Verdict}
-use Rattle.gx_history.specs.declared.record.Verdict.TheVariants as verdicts
-use Rattle.gx_history.specs.declared.report.Message.{Message}
-use Rattle.gx_history.specs.declared.report.Message.TheVariants as messages
-use Rattle.gx_history.specs.declared.report.Report.{Report}
-use Rattle.gx_history.specs.Asking.{facts, fits_role}
-use Rattle.gx_history.specs.declared.live_order.LiveOrder.{LiveOrder}
-use Rattle.gx_history.specs.Executions.{Execution, done, executions, side_of, sides}
-use Rattle.gx_history.specs.Live.{has_come, live, live_numbered, open_now, open_order}
-use Rattle.gx_history.specs.Book.{rested}
-use Rattle.gx_history.specs.LiveOrders.{shares_open}
-use Rattle.gx_history.specs.InForce.{grant_or_revoke_of, in_role, is_entitled, last_mark}
-use Rattle.gx_history.specs.Orders.{Order, ends_account, is_dead, order_numbered, orders, total}
-use Rattle.gx_policy.specs.People.{account_of, account_of_role, is_officer, is_reader, is_trader, role_in, user_in}
-use Rattle.gx_history.specs.Requests.{is_login}
-use Rattle.gx_policy.specs.RuleNames.{rules_before, rules_behind}
-use Rattle.gx_history.specs.Rules.{BuiltIn, OfFile, applies, first_forbidding, name_of, written_order}
-use Rattle.gx_history.specs.Streams.{answer, canceled_of, copies, copies_of, copy_of, day_end, ended_of, executed_message, expired_of, granted_code, reported, reports_of, reports_of_denial, reports_of_execution, reports_of_grant, reports_of_verdict, stream, to_user}
+use Rattle.gx_history.specs.{declared.{facts.{Facts.Facts, RuleFigures.RuleFigures}, «record».{Asked.Asked, Fill.Fill, RecordData.RecordData, Request.Request, Step.Step, Verdict.Verdict}, report.{Message.Message, Report.Report}, live_order.LiveOrder.LiveOrder}, Asking.{facts, fits_role}, Executions.{Execution, done, executions, side_of, sides}, Live.{has_come, live, live_numbered, open_now, open_order}, Book.rested, LiveOrders.shares_open, InForce.{grant_or_revoke_of, in_role, is_entitled, last_mark}, Orders.{Order, ends_account, is_dead, order_numbered, orders, total}, Requests.is_login, Rules.{BuiltIn, OfFile, applies, first_forbidding, name_of, written_order}, Streams.{answer, canceled_of, copies, copies_of, copy_of, day_end, ended_of, executed_message, expired_of, granted_code, reported, reports_of, reports_of_denial, reports_of_execution, reports_of_grant, reports_of_verdict, stream, to_user}, Verdicts.{Follows, IsLegal, facts_now, next, rules_now, verdict_by}}
+use Rattle.gx_policy.specs.{declared.{policy.{FileRule.FileRule, PolicyData.PolicyData, Role.Role, User.User}, rule_name.RuleName.RuleName}, People.{account_of, account_of_role, is_officer, is_reader, is_trader, role_in, user_in}, RuleNames.{rules_before, rules_behind}}
 use Rattle.gx_streams.specs.Sending.{is_fill}
-use Rattle.gx_history.specs.Verdicts.{Follows, IsLegal, facts_now, next, rules_now, verdict_by}
-use Rattle.gx_history_laws.proofs.Adding.{user_is}
-use Rattle.gx_history_laws.proofs.Granting.{legal_keeps, verdict_left}
-use Rattle.gx_history_laws.proofs.NextReports.{copies_next, copies_none, stream_next, stream_none}
-use Rattle.gx_history_laws.proofs.Numbers.{all_weaker}
-use Rattle.gx_history_laws.proofs.Owners.{IsHisAccounts, all_both, orders_are_their_users}
+use Rattle.gx_history_laws.proofs.{Adding.user_is, Granting.{legal_keeps, verdict_left}, NextReports.{copies_next, copies_none, stream_next, stream_none}, Numbers.all_weaker, Owners.{IsHisAccounts, all_both, orders_are_their_users}}
 
 -- the user neither trades nor gives commands
 pub record IsNoParty (policy : PolicyData) (user : UserName) : Type 0 where
@@ -63,19 +16,19 @@ pub record IsNoParty (policy : PolicyData) (user : UserName) : Type 0 where
 
 no_account : (role : Option Role) → is_trader role ≡ false → option_and_then account_of_role role ≡ None
 no_account None h = refl
-no_account (Some (roles.Trader account)) h = cc
-no_account (Some (roles.Officer powers scope)) h = refl
-no_account (Some (roles.Reader accounts)) h = refl
+no_account (Some (Role.Trader account)) h = cc
+no_account (Some (Role.Officer powers scope)) h = refl
+no_account (Some (Role.Reader accounts)) h = refl
 
 -- no request that needs a role fits him
 fits_none : (role : Option Role) → is_trader role ≡ false → is_officer role ≡ false → (q : Request) → fits_role role q ≡ fits_role None q
-fits_none role t o (requests.Enter m) = t
-fits_none role t o (requests.Replace m) = t
-fits_none role t o (requests.Cancel m) = t
-fits_none role t o (requests.Command c) = o
-fits_none role t o (requests.Login m) = refl
-fits_none role t o requests.Logout = refl
-fits_none role t o (requests.Unreadable m) = refl
+fits_none role t o (Request.Enter m) = t
+fits_none role t o (Request.Replace m) = t
+fits_none role t o (Request.Cancel m) = t
+fits_none role t o (Request.Command c) = o
+fits_none role t o (Request.Login m) = refl
+fits_none role t o Request.Logout = refl
+fits_none role t o (Request.Unreadable m) = refl
 
 -- only users with an account have orders
 abbrev IsApart : UserName → Order → Type 0
@@ -143,39 +96,39 @@ live_apart policy history user h = by (orders policy history) (all_apart policy 
 -- no order of his ends by a command
 none_ended : (policy : PolicyData) (history : List RecordData) (action : Action) (user : UserName) → IsNoParty policy user → ended_of (live policy history) action user ≡ []
 none_ended policy history action user h =
-    ap (λ (xs : List LiveOrder). flat_map (λ (o : LiveOrder). canceled_of cancels.Supervisory (shares_open o) o) xs)
+    ap (λ (xs : List LiveOrder). flat_map (λ (o : LiveOrder). canceled_of CancelReason.Supervisory (shares_open o) o) xs)
     (none_left (λ (o : LiveOrder). same_user o.user user && ends_account o.account action) (live policy history)
     (all_weaker (IsNotHis user) (λ (o : LiveOrder). (same_user o.user user && ends_account o.account action) ≡ false)
     (λ o is. ap (λ b. b && ends_account o.account action) is) (live policy history) (live_apart policy history user h)))
 
 -- the day's end is told to traders alone
 no_day_end : (policy : PolicyData) (action : Action) (user : UserName) → IsNoParty policy user → day_end policy action user ≡ []
-no_day_end policy (actions.Kill account) user h = refl
-no_day_end policy (actions.Lift account) user h = refl
-no_day_end policy (actions.SetLimit rule limit) user h = refl
-no_day_end policy (actions.Restrict rule stock) user h = refl
-no_day_end policy (actions.Unrestrict rule stock) user h = refl
-no_day_end policy (actions.Grant reader account) user h = refl
-no_day_end policy (actions.Revoke reader account) user h = refl
-no_day_end policy actions.CloseDay user h =
-    ap (λ b. cond b (messages.Order (outbounds.SystemEvent events.EndOfDay) ∷ []) []) h.trades_not
+no_day_end policy (Action.Kill account) user h = refl
+no_day_end policy (Action.Lift account) user h = refl
+no_day_end policy (Action.SetLimit rule limit) user h = refl
+no_day_end policy (Action.Restrict rule stock) user h = refl
+no_day_end policy (Action.Unrestrict rule stock) user h = refl
+no_day_end policy (Action.Grant reader account) user h = refl
+no_day_end policy (Action.Revoke reader account) user h = refl
+no_day_end policy Action.CloseDay user h =
+    ap (λ b. cond b (Message.Order (Outbound.SystemEvent EventCode.EndOfDay) ∷ []) []) h.trades_not
 
 -- where the role does not fit, a rule that is not answered comes first
 abbrev first_named : List (FileRule × RuleFigures) → Facts → Request → Bool → Bool → Bool → Option RuleName
 first_named rules given q login on fits =
     option_map name_of
-    (cond (login && not given.may_log_in) (Some (BuiltIn names.L1))
-    (cond (login && given.is_logged_in) (Some (BuiltIn names.L2))
-    (cond (login && not given.session_is_available) (Some (BuiltIn names.L3))
-    (cond (not login && not on) (Some (BuiltIn names.G1))
-    (cond (not fits) (Some (BuiltIn names.G2)) (find (applies given q) ((map BuiltIn (drop 5 rules_before) ++ map OfFile rules) ++ map BuiltIn rules_behind)))))))
+    (cond (login && not given.may_log_in) (Some (BuiltIn RuleName.L1))
+    (cond (login && given.is_logged_in) (Some (BuiltIn RuleName.L2))
+    (cond (login && not given.session_is_available) (Some (BuiltIn RuleName.L3))
+    (cond (not login && not on) (Some (BuiltIn RuleName.G1))
+    (cond (not fits) (Some (BuiltIn RuleName.G2)) (find (applies given q) ((map BuiltIn (drop 5 rules_before) ++ map OfFile rules) ++ map BuiltIn rules_behind)))))))
 
 first_is : (rules : List (FileRule × RuleFigures)) (given : Facts) (q : Request) → first_forbidding rules given q ≡ first_named rules given q (is_login q) given.is_on_this_line given.role_fits
 unfolding first_forbidding written_order rules_before
 first_is rules given q = refl
 
 turned_away : (rules : List (FileRule × RuleFigures)) (given : Facts) (q : Request) (on : Bool) → given.is_on_this_line ≡ on → is_login q ≡ false → given.role_fits ≡ false
-    → (first_forbidding rules given q ≡ Some names.G1) ⊎ (first_forbidding rules given q ≡ Some names.G2)
+    → (first_forbidding rules given q ≡ Some RuleName.G1) ⊎ (first_forbidding rules given q ≡ Some RuleName.G2)
 turned_away rules given q on is login fits = by on
     (first_is rules given q
     ∙ ap (λ b. first_named rules given q b given.is_on_this_line given.role_fits) login
@@ -183,19 +136,19 @@ turned_away rules given q on is login fits = by on
     ∙ ap (first_named rules given q false on) fits)
   where
     by : (b : Bool) → first_forbidding rules given q ≡ first_named rules given q false b false
-        → (first_forbidding rules given q ≡ Some names.G1) ⊎ (first_forbidding rules given q ≡ Some names.G2)
+        → (first_forbidding rules given q ≡ Some RuleName.G1) ⊎ (first_forbidding rules given q ≡ Some RuleName.G2)
     by true e = inr e
     by false e = inl e
 
 -- the verdict is a denial that is not answered
 abbrev IsTurnedAway : RecordData → Type 0
-IsTurnedAway r = (r.verdict ≡ verdicts.Denied names.G1) ⊎ (r.verdict ≡ verdicts.Denied names.G2)
+IsTurnedAway r = (r.verdict ≡ Verdict.Denied RuleName.G1) ⊎ (r.verdict ≡ Verdict.Denied RuleName.G2)
 
 role_fits_is : (policy : PolicyData) (history : List RecordData) (a : Asked) → (facts_now policy history a).role_fits ≡ fits_role (role_in policy.users a.user) a.request
 unfolding facts
 role_fits_is policy history a = refl
 
-unknown_denied : (policy : PolicyData) (history : List RecordData) (a : Asked) (r : RecordData) → next policy history (steps.Asked a) ≡ Some r → IsNoParty policy a.user
+unknown_denied : (policy : PolicyData) (history : List RecordData) (a : Asked) (r : RecordData) → next policy history (Step.Asked a) ≡ Some r → IsNoParty policy a.user
     → is_login a.request ≡ false → fits_role None a.request ≡ false → IsTurnedAway r
 unknown_denied policy history a r left h login fits =
     by (turned_away (rules_now policy history a) (facts_now policy history a) a.request (facts_now policy history a).is_on_this_line refl login
@@ -204,7 +157,7 @@ unknown_denied policy history a r left h login fits =
     first : Option RuleName
     first = first_forbidding (rules_now policy history a) (facts_now policy history a) a.request
 
-    by : (first ≡ Some names.G1) ⊎ (first ≡ Some names.G2) → IsTurnedAway r
+    by : (first ≡ Some RuleName.G1) ⊎ (first ≡ Some RuleName.G2) → IsTurnedAway r
     by (inl e) = inl (sym (verdict_left policy history a r left) ∙ ap verdict_by e)
     by (inr e) = inr (sym (verdict_left policy history a r left) ∙ ap verdict_by e)
 
@@ -213,73 +166,73 @@ record Case (policy : PolicyData) (history : List RecordData) (r : RecordData) (
   pub is_no_party : IsNoParty policy user
   pub follows : Follows policy (history, r)
 
-left_by : (policy : PolicyData) (history : List RecordData) (r : RecordData) (user : UserName) → Case policy history r user → (a : Asked) → r.step ≡ steps.Asked a
-    → next policy history (steps.Asked a) ≡ Some r
+left_by : (policy : PolicyData) (history : List RecordData) (r : RecordData) (user : UserName) → Case policy history r user → (a : Asked) → r.step ≡ Step.Asked a
+    → next policy history (Step.Asked a) ≡ Some r
 left_by policy history r user c a asks = ap (next policy history) (sym asks) ∙ c.follows.is_next
 
 -- who was turned away, if he asked
-his_denial : (policy : PolicyData) (history : List RecordData) (r : RecordData) (user : UserName) → Case policy history r user → (a : Asked) (q : Request) → r.step ≡ steps.Asked a → a.request ≡ q
+his_denial : (policy : PolicyData) (history : List RecordData) (r : RecordData) (user : UserName) → Case policy history r user → (a : Asked) (q : Request) → r.step ≡ Step.Asked a → a.request ≡ q
     → same_user a.user user ≡ true → is_login q ≡ false → fits_role None q ≡ false → IsTurnedAway r
 his_denial policy history r user c a q asks e is login fits =
     let named : user ≡ a.user = sym (user_is a.user user is) in
     unknown_denied policy history a r (left_by policy history r user c a asks) (subst (IsNoParty policy) named c.is_no_party) (ap is_login e ∙ login) (ap (fits_role None) e ∙ fits)
 
 -- a granted request of a trader or an officer is another's
-not_his : (policy : PolicyData) (history : List RecordData) (r : RecordData) (user : UserName) → Case policy history r user → (a : Asked) (q : Request) → r.step ≡ steps.Asked a → a.request ≡ q
-    → r.verdict ≡ verdicts.Granted → is_login q ≡ false → fits_role None q ≡ false → same_user a.user user ≡ false
+not_his : (policy : PolicyData) (history : List RecordData) (r : RecordData) (user : UserName) → Case policy history r user → (a : Asked) (q : Request) → r.step ≡ Step.Asked a → a.request ≡ q
+    → r.verdict ≡ Verdict.Granted → is_login q ≡ false → fits_role None q ≡ false → same_user a.user user ≡ false
 not_his policy history r user c a q asks e granted login fits = by (same_user a.user user) refl
   where
     never : IsTurnedAway r → ⊥
-    never (inl denied) = let no : verdicts.Granted ≡ verdicts.Denied names.G1 = sym granted ∙ denied in cc
-    never (inr denied) = let no : verdicts.Granted ≡ verdicts.Denied names.G2 = sym granted ∙ denied in cc
+    never (inl denied) = let no : Verdict.Granted ≡ Verdict.Denied RuleName.G1 = sym granted ∙ denied in cc
+    never (inr denied) = let no : Verdict.Granted ≡ Verdict.Denied RuleName.G2 = sym granted ∙ denied in cc
 
     by : (b : Bool) → same_user a.user user ≡ b → b ≡ false
     by true is = absurd (never (his_denial policy history r user c a q asks e is login fits))
     by false is = refl
 
-grant_owes : (policy : PolicyData) (history : List RecordData) (r : RecordData) (user : UserName) → Case policy history r user → (a : Asked) (q : Request) → r.step ≡ steps.Asked a → a.request ≡ q
-    → r.verdict ≡ verdicts.Granted → reports_of_grant policy history r a.user q user ≡ []
-grant_owes policy history r user c a (requests.Login m) asks e granted = refl
-grant_owes policy history r user c a requests.Logout asks e granted = refl
-grant_owes policy history r user c a (requests.Unreadable m) asks e granted = refl
-grant_owes policy history r user c a (requests.Enter m) asks e granted = not_to a.user user _ (not_his policy history r user c a (requests.Enter m) asks e granted refl refl)
-grant_owes policy history r user c a (requests.Replace m) asks e granted = not_to a.user user _ (not_his policy history r user c a (requests.Replace m) asks e granted refl refl)
-grant_owes policy history r user c a (requests.Cancel m) asks e granted = not_to a.user user _ (not_his policy history r user c a (requests.Cancel m) asks e granted refl refl)
-grant_owes policy history r user c a (requests.Command m) asks e granted =
+grant_owes : (policy : PolicyData) (history : List RecordData) (r : RecordData) (user : UserName) → Case policy history r user → (a : Asked) (q : Request) → r.step ≡ Step.Asked a → a.request ≡ q
+    → r.verdict ≡ Verdict.Granted → reports_of_grant policy history r a.user q user ≡ []
+grant_owes policy history r user c a (Request.Login m) asks e granted = refl
+grant_owes policy history r user c a Request.Logout asks e granted = refl
+grant_owes policy history r user c a (Request.Unreadable m) asks e granted = refl
+grant_owes policy history r user c a (Request.Enter m) asks e granted = not_to a.user user _ (not_his policy history r user c a (Request.Enter m) asks e granted refl refl)
+grant_owes policy history r user c a (Request.Replace m) asks e granted = not_to a.user user _ (not_his policy history r user c a (Request.Replace m) asks e granted refl refl)
+grant_owes policy history r user c a (Request.Cancel m) asks e granted = not_to a.user user _ (not_his policy history r user c a (Request.Cancel m) asks e granted refl refl)
+grant_owes policy history r user c a (Request.Command m) asks e granted =
     let told : List Message = answer r m (granted_code policy (history ++ r ∷ []) m.action) in
     ap (λ (ms : List Message). (ms ++ day_end policy m.action user) ++ to_user a.user user told) (none_ended policy history m.action user c.is_no_party)
     ∙ ap (λ (ms : List Message). ms ++ to_user a.user user told) (no_day_end policy m.action user c.is_no_party)
-    ∙ not_to a.user user told (not_his policy history r user c a (requests.Command m) asks e granted refl refl)
+    ∙ not_to a.user user told (not_his policy history r user c a (Request.Command m) asks e granted refl refl)
 
 nothing_to : (b : Bool) → cond {A = List Message} b [] [] ≡ []
 nothing_to true = refl
 nothing_to false = refl
 
-rule_is : (rule name : RuleName) → verdicts.Denied rule ≡ verdicts.Denied name → rule ≡ name
+rule_is : (rule name : RuleName) → Verdict.Denied rule ≡ Verdict.Denied name → rule ≡ name
 rule_is rule name e = cc
 
-denied_told : (policy : PolicyData) (history : List RecordData) (r : RecordData) (user : UserName) → Case policy history r user → (a : Asked) (q : Request) (rule : RuleName) → r.step ≡ steps.Asked a → a.request ≡ q
-    → r.verdict ≡ verdicts.Denied rule → is_login q ≡ false → fits_role None q ≡ false
-    → reports_of_denial policy r names.G1 q ≡ [] → reports_of_denial policy r names.G2 q ≡ [] → to_user a.user user (reports_of_denial policy r rule q) ≡ []
+denied_told : (policy : PolicyData) (history : List RecordData) (r : RecordData) (user : UserName) → Case policy history r user → (a : Asked) (q : Request) (rule : RuleName) → r.step ≡ Step.Asked a → a.request ≡ q
+    → r.verdict ≡ Verdict.Denied rule → is_login q ≡ false → fits_role None q ≡ false
+    → reports_of_denial policy r RuleName.G1 q ≡ [] → reports_of_denial policy r RuleName.G2 q ≡ [] → to_user a.user user (reports_of_denial policy r rule q) ≡ []
 denied_told policy history r user c a q rule asks e denied login fits first second = by (same_user a.user user) refl
   where
     silent : IsTurnedAway r → reports_of_denial policy r rule q ≡ []
-    silent (inl is) = ap (λ (n : RuleName). reports_of_denial policy r n q) (rule_is rule names.G1 (sym denied ∙ is)) ∙ first
-    silent (inr is) = ap (λ (n : RuleName). reports_of_denial policy r n q) (rule_is rule names.G2 (sym denied ∙ is)) ∙ second
+    silent (inl is) = ap (λ (n : RuleName). reports_of_denial policy r n q) (rule_is rule RuleName.G1 (sym denied ∙ is)) ∙ first
+    silent (inr is) = ap (λ (n : RuleName). reports_of_denial policy r n q) (rule_is rule RuleName.G2 (sym denied ∙ is)) ∙ second
 
     by : (b : Bool) → same_user a.user user ≡ b → to_user a.user user (reports_of_denial policy r rule q) ≡ []
     by true is = ap (to_user a.user user) (silent (his_denial policy history r user c a q asks e is login fits)) ∙ nothing_to (same_user a.user user)
     by false is = not_to a.user user (reports_of_denial policy r rule q) is
 
-denial_owes : (policy : PolicyData) (history : List RecordData) (r : RecordData) (user : UserName) → Case policy history r user → (a : Asked) (q : Request) (rule : RuleName) → r.step ≡ steps.Asked a → a.request ≡ q
-    → r.verdict ≡ verdicts.Denied rule → to_user a.user user (reports_of_denial policy r rule q) ≡ []
-denial_owes policy history r user c a (requests.Login m) rule asks e denied = nothing_to (same_user a.user user)
-denial_owes policy history r user c a requests.Logout rule asks e denied = nothing_to (same_user a.user user)
-denial_owes policy history r user c a (requests.Unreadable m) rule asks e denied = nothing_to (same_user a.user user)
-denial_owes policy history r user c a (requests.Enter m) rule asks e denied = denied_told policy history r user c a (requests.Enter m) rule asks e denied refl refl refl refl
-denial_owes policy history r user c a (requests.Replace m) rule asks e denied = denied_told policy history r user c a (requests.Replace m) rule asks e denied refl refl refl refl
-denial_owes policy history r user c a (requests.Cancel m) rule asks e denied = denied_told policy history r user c a (requests.Cancel m) rule asks e denied refl refl refl refl
-denial_owes policy history r user c a (requests.Command m) rule asks e denied = denied_told policy history r user c a (requests.Command m) rule asks e denied refl refl refl refl
+denial_owes : (policy : PolicyData) (history : List RecordData) (r : RecordData) (user : UserName) → Case policy history r user → (a : Asked) (q : Request) (rule : RuleName) → r.step ≡ Step.Asked a → a.request ≡ q
+    → r.verdict ≡ Verdict.Denied rule → to_user a.user user (reports_of_denial policy r rule q) ≡ []
+denial_owes policy history r user c a (Request.Login m) rule asks e denied = nothing_to (same_user a.user user)
+denial_owes policy history r user c a Request.Logout rule asks e denied = nothing_to (same_user a.user user)
+denial_owes policy history r user c a (Request.Unreadable m) rule asks e denied = nothing_to (same_user a.user user)
+denial_owes policy history r user c a (Request.Enter m) rule asks e denied = denied_told policy history r user c a (Request.Enter m) rule asks e denied refl refl refl refl
+denial_owes policy history r user c a (Request.Replace m) rule asks e denied = denied_told policy history r user c a (Request.Replace m) rule asks e denied refl refl refl refl
+denial_owes policy history r user c a (Request.Cancel m) rule asks e denied = denied_told policy history r user c a (Request.Cancel m) rule asks e denied refl refl refl refl
+denial_owes policy history r user c a (Request.Command m) rule asks e denied = denied_told policy history r user c a (Request.Command m) rule asks e denied refl refl refl refl
 
 -- the orders of a fill are others'
 abbrev IsNoSideOf : UserName → Execution → Type 0
@@ -291,33 +244,33 @@ side_apart known f liquidity number user h =
     (all_found (IsApart user) (λ (o : Order). o.number == number) known h)
 
 fill_owes : (policy : PolicyData) (history : List RecordData) (r : RecordData) (user : UserName) (f : Fill) → IsNoParty policy user
-    → flat_map (reports_of_execution r user) (sides policy history (verdicts.Filled f)) ≡ []
+    → flat_map (reports_of_execution r user) (sides policy history (Verdict.Filled f)) ≡ []
 fill_owes policy history r user f h =
     let known : List Order = orders policy history in
     let others : AllByRecursion (IsApart user) known = all_apart policy history user h in
-    none_mapped (reports_of_execution r user) (sides policy history (verdicts.Filled f))
+    none_mapped (reports_of_execution r user) (sides policy history (Verdict.Filled f))
     (all_weaker (IsNoSideOf user) (λ (e : Execution). reports_of_execution r user e ≡ [])
-    (λ e is. not_to e.order.user user (messages.Order (outbounds.Executed (executed_message r e)) ∷ []) is) (sides policy history (verdicts.Filled f))
-    (all_both (IsNoSideOf user) (side_of known f liquidities.Removed f.taker) (side_of known f liquidities.Added f.maker)
-    (side_apart known f liquidities.Removed f.taker user others) (side_apart known f liquidities.Added f.maker user others)))
+    (λ e is. not_to e.order.user user (Message.Order (Outbound.Executed (executed_message r e)) ∷ []) is) (sides policy history (Verdict.Filled f))
+    (all_both (IsNoSideOf user) (side_of known f Liquidity.Removed f.taker) (side_of known f Liquidity.Added f.maker)
+    (side_apart known f Liquidity.Removed f.taker user others) (side_apart known f Liquidity.Added f.maker user others)))
 
 expiry_owes : (policy : PolicyData) (history : List RecordData) (user : UserName) (number : ℕ) → IsNoParty policy user → expired_of (live policy history) number user ≡ []
 expiry_owes policy history user number h =
     let found : List LiveOrder = option_to_list (live_numbered (live policy history) number) in
-    let told : LiveOrder → List Message = λ (o : LiveOrder). to_user o.user user (canceled_of cancels.ImmediateOrCancel (shares_open o) o) in
+    let told : LiveOrder → List Message = λ (o : LiveOrder). to_user o.user user (canceled_of CancelReason.ImmediateOrCancel (shares_open o) o) in
     none_mapped told found
-    (all_weaker (IsNotHis user) (λ (o : LiveOrder). told o ≡ []) (λ o is. not_to o.user user (canceled_of cancels.ImmediateOrCancel (shares_open o) o) is) found
+    (all_weaker (IsNotHis user) (λ (o : LiveOrder). told o ≡ []) (λ o is. not_to o.user user (canceled_of CancelReason.ImmediateOrCancel (shares_open o) o) is) found
     (all_found (IsNotHis user) (λ (o : LiveOrder). o.number == number) (live policy history) (live_apart policy history user h)))
 
 verdict_owes : (policy : PolicyData) (history : List RecordData) (r : RecordData) (user : UserName) → Case policy history r user → (v : Verdict) (step : Step) → r.verdict ≡ v → r.step ≡ step
     → reports_of_verdict policy history r v step user ≡ []
-verdict_owes policy history r user c verdicts.Granted (steps.Asked a) is asks = grant_owes policy history r user c a a.request asks refl is
-verdict_owes policy history r user c verdicts.Granted (steps.Matching handed) is asks = refl
-verdict_owes policy history r user c (verdicts.Denied rule) (steps.Asked a) is asks = denial_owes policy history r user c a a.request rule asks refl is
-verdict_owes policy history r user c (verdicts.Denied rule) (steps.Matching handed) is asks = refl
-verdict_owes policy history r user c (verdicts.Filled f) step is asks = fill_owes policy history r user f c.is_no_party
-verdict_owes policy history r user c (verdicts.Rested number) step is asks = refl
-verdict_owes policy history r user c (verdicts.Expired number) step is asks = expiry_owes policy history user number c.is_no_party
+verdict_owes policy history r user c Verdict.Granted (Step.Asked a) is asks = grant_owes policy history r user c a a.request asks refl is
+verdict_owes policy history r user c Verdict.Granted (Step.Matching handed) is asks = refl
+verdict_owes policy history r user c (Verdict.Denied rule) (Step.Asked a) is asks = denial_owes policy history r user c a a.request rule asks refl is
+verdict_owes policy history r user c (Verdict.Denied rule) (Step.Matching handed) is asks = refl
+verdict_owes policy history r user c (Verdict.Filled f) step is asks = fill_owes policy history r user f c.is_no_party
+verdict_owes policy history r user c (Verdict.Rested number) step is asks = refl
+verdict_owes policy history r user c (Verdict.Expired number) step is asks = expiry_owes policy history user number c.is_no_party
 
 -- so he is told of drop copies alone
 pub copies_alone : (policy : PolicyData) (history : List RecordData) (r : RecordData) (user : UserName) → IsNoParty policy user → Follows policy (history, r)
@@ -337,9 +290,9 @@ streams_are_copies policy history user legal h =
 
 reader_is_no_party : (role : Option Role) → is_reader role ≡ true → (is_trader role ≡ false) × (is_officer role ≡ false)
 reader_is_no_party None h = cc
-reader_is_no_party (Some (roles.Trader account)) h = cc
-reader_is_no_party (Some (roles.Officer powers scope)) h = cc
-reader_is_no_party (Some (roles.Reader accounts)) h = (refl, refl)
+reader_is_no_party (Some (Role.Trader account)) h = cc
+reader_is_no_party (Some (Role.Officer powers scope)) h = cc
+reader_is_no_party (Some (Role.Reader accounts)) h = (refl, refl)
 
 -- a reader
 pub readers_are : (policy : PolicyData) (user : UserName) → is_reader (role_in policy.users user) ≡ true → IsNoParty policy user
@@ -368,7 +321,7 @@ pub no_copies : (policy : PolicyData) (history : List RecordData) (r : RecordDat
 no_copies policy history r user h =
     ap (map (reported r))
     (none_of_each (copy_of (is_entitled policy history) r user)
-    (λ e. ap (λ b. cond b (messages.DropCopy (record { executed = executed_message r e; account = e.order.account; side = e.order.terms.side }) ∷ []) []) (not_entitled policy history user e.order.account h))
+    (λ e. ap (λ b. cond b (Message.DropCopy (record { executed = executed_message r e; account = e.order.account; side = e.order.terms.side }) ∷ []) []) (not_entitled policy history user e.order.account h))
     (sides policy history r.verdict))
 
 pub only_known : (policy : PolicyData) (history : List RecordData) (user : UserName) → IsLegal policy history → user_in policy.users user ≡ None → stream policy history user ≡ []
@@ -383,11 +336,11 @@ only_known policy history user legal h =
 
 -- only a fill sends copies
 no_sides : (policy : PolicyData) (history : List RecordData) (v : Verdict) → is_fill v ≡ false → sides policy history v ≡ []
-no_sides policy history verdicts.Granted h = refl
-no_sides policy history (verdicts.Denied rule) h = refl
-no_sides policy history (verdicts.Filled f) h = cc
-no_sides policy history (verdicts.Rested number) h = refl
-no_sides policy history (verdicts.Expired number) h = refl
+no_sides policy history Verdict.Granted h = refl
+no_sides policy history (Verdict.Denied rule) h = refl
+no_sides policy history (Verdict.Filled f) h = cc
+no_sides policy history (Verdict.Rested number) h = refl
+no_sides policy history (Verdict.Expired number) h = refl
 
 pub none_sent : (policy : PolicyData) (history : List RecordData) (r : RecordData) (user : UserName) → is_fill r.verdict ≡ false → copies_of policy user (history, r) ≡ []
 none_sent policy history r user h = ap (λ (es : List Execution). map (reported r) (flat_map (copy_of (is_entitled policy history) r user) es)) (no_sides policy history r.verdict h)

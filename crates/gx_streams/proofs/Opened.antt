@@ -1,21 +1,11 @@
 -- Streams as they open.
 use Rattle.std.proofs.Common.{◌≡◌, List, [], ◌∷◌, ◌++◌, map, cond, refl, ◌∙◌, sym, ap, subst, if◌then◌else◌, true, false, arith}
-use Rattle.std.specs.Prelude.{Option, Some, is_some}
-use Rattle.std.specs.Option.{option_map_or}
-use Rattle.std.specs.List.{AllByRecursion, find, flat_map}
-use Rattle.gx_units.specs.Names.{same_user}
-use Rattle.gx_units.specs.declared.names.UserName.{UserName}
-use Rattle.gx_policy.specs.declared.policy.User.{User}
-use Rattle.gx_policy.specs.declared.policy.PolicyData.{PolicyData}
+use Rattle.std.specs.{Prelude.{Option, Some, is_some}, Option.option_map_or, List.{AllByRecursion, find, flat_map}}
+use Rattle.gx_units.specs.{Names.same_user, declared.names.UserName.UserName}
+use Rattle.gx_policy.specs.{declared.policy.{User.User, PolicyData.PolicyData}, People.is_reader}
 use Rattle.gx_history.specs.declared.report.Report.{Report}
-use Rattle.gx_policy.specs.People.{is_reader}
 use Rattle.gx_history_laws.proofs.Adding.{user_is_itself}
-use Rattle.gx_streams.specs.declared.entry.Entry.{Entry}
-use Rattle.gx_streams.specs.declared.fill.ToldFill.{ToldFill}
-use Rattle.gx_streams.specs.Kept.{Kept, UserList, list_of, nothing_kept, nothing_told, told_nothing}
-use Rattle.gx_streams.specs.Spans.{IsSound, ReaderSpans, first_spans, is_named, no_spans, spans_for}
-use Rattle.gx_streams.specs.Streams.{AllStreams, ReaderMask, empty_streams, no_mask}
-use Rattle.gx_streams.specs.Table.{IsSoundTable, IsThere, kept_copies, list_shown, reader_mask, streams_of}
+use Rattle.gx_streams.specs.{declared.{entry.Entry.Entry, fill.ToldFill.ToldFill}, Kept.{Kept, UserList, list_of, nothing_kept, nothing_told, told_nothing}, Spans.{IsSound, ReaderSpans, first_spans, is_named, no_spans, spans_for}, Streams.{AllStreams, ReaderMask, empty_streams, no_mask}, Table.{IsSoundTable, IsThere, kept_copies, list_shown, reader_mask, streams_of}}
 use Rattle.gx_streams.proofs.Shown.{AllKnown}
 
 -- whoever is found among readers without spans has nothing

@@ -1,20 +1,12 @@
 -- Streams that open on the policy's users.
-use Rattle.std.proofs.Common.{◌≡◌, ℕ, ◌+◌, ◌<◌, true, false, List, [], ◌∷◌, ◌++◌, map, ◌∙◌, sym, ap, subst, length, take, get_or}
-use Rattle.std.specs.List.{AllByRecursion}
-use Rattle.std.specs.Map.{keys_of}
-use Rattle.std.proofs.lemmas.List.{map-append, take-map, take_more}
-use Rattle.std.proofs.lemmas.Simd.{map-map}
+use Rattle.std.proofs.{Common.{◌≡◌, ℕ, ◌+◌, ◌<◌, true, false, List, [], ◌∷◌, ◌++◌, map, ◌∙◌, sym, ap, subst, length, take, get_or}, lemmas.{List.{map-append, take-map, take_more}, Simd.map-map}}
+use Rattle.std.specs.{List.AllByRecursion, Map.keys_of}
 use Rattle.indexmap.specs.IndexMap.{insert_entry}
 use Rattle.indexmap.proofs.MapLemmas.{insert_entry-absent}
-use Rattle.gx_units.specs.Names.{same_user}
-use Rattle.gx_units.specs.declared.names.UserName.{UserName}
-use Rattle.gx_policy.specs.declared.policy.User.{User}
-use Rattle.gx_policy.specs.Lists.{are_distinct}
-use Rattle.gx_history_laws.proofs.Names.{same_user_flip}
-use Rattle.gx_history_laws.proofs.Tables.{new_next}
-use Rattle.gx_streams.specs.declared.entry.Entry.{Entry}
-use Rattle.gx_streams.specs.Kept.{Kept, UserList, nothing_kept, told_nothing}
-use Rattle.gx_streams.specs.Table.{lists_of, user_list}
+use Rattle.gx_units.specs.{Names.same_user, declared.names.UserName.UserName}
+use Rattle.gx_policy.specs.{declared.policy.User.User, Lists.are_distinct}
+use Rattle.gx_history_laws.proofs.{Names.same_user_flip, Tables.new_next}
+use Rattle.gx_streams.specs.{declared.entry.Entry.Entry, Kept.{Kept, UserList, nothing_kept, told_nothing}, Table.{lists_of, user_list}}
 
 abbrev opened : List User → List (UserList Entry)
 opened users = map (told_nothing {X = Entry}) users

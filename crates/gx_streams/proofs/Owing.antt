@@ -1,29 +1,18 @@
 -- What a command owes for the orders that it ends, user by user.
-use Rattle.std.proofs.Common.{◌≡◌, suc, length, Bool, true, false, cond, List, [], ◌∷◌, ◌++◌, map, refl, ◌∙◌, ap, sym}
-use Rattle.std.specs.Prelude.{filter, ◌&&◌}
-use Rattle.std.specs.List.{flat_map}
-use Rattle.std.proofs.lemmas.List.{append-nil}
-use Rattle.gx_units.specs.Names.{same_user}
-use Rattle.gx_units.specs.declared.names.UserName.{UserName}
-use Rattle.gx_ouch.specs.declared.letters.CancelReason.TheVariants as cancels
+use Rattle.std.proofs.{Common.{◌≡◌, suc, length, Bool, true, false, cond, List, [], ◌∷◌, ◌++◌, map, refl, ◌∙◌, ap, sym}, lemmas.List.append-nil}
+use Rattle.std.specs.{Prelude.{filter, ◌&&◌}, List.flat_map}
+use Rattle.gx_units.specs.{Names.same_user, declared.names.UserName.UserName}
+use Rattle.gx_ouch.specs.declared.letters.CancelReason.{CancelReason}
 use Rattle.gx_desk.specs.declared.Action.{Action}
 use Rattle.gx_policy.specs.declared.policy.PolicyData.{PolicyData}
-use Rattle.gx_history.specs.declared.record.RecordData.{RecordData}
-use Rattle.gx_history.specs.declared.report.Message.{Message}
-use Rattle.gx_history.specs.declared.report.Report.{Report}
-use Rattle.gx_history.specs.declared.live_order.LiveOrder.{LiveOrder}
-use Rattle.gx_history.specs.LiveOrders.{shares_open}
-use Rattle.gx_history.specs.Live.{live}
-use Rattle.gx_history.specs.Orders.{ends_account}
-use Rattle.gx_history.specs.Streams.{canceled_of, ended_of, reported, stream, to_user}
-use Rattle.gx_streams.specs.Laws.{TellsAll, TellsNobody, TellsOne}
-use Rattle.gx_streams.specs.Telling.{owed_for, owed_for_ended, owed_message, owed_to}
+use Rattle.gx_history.specs.{declared.{«record».RecordData.RecordData, report.{Message.Message, Report.Report}, live_order.LiveOrder.LiveOrder}, LiveOrders.shares_open, Live.live, Orders.ends_account, Streams.{canceled_of, ended_of, reported, stream, to_user}}
+use Rattle.gx_streams.specs.{Laws.{TellsAll, TellsNobody, TellsOne}, Telling.{owed_for, owed_for_ended, owed_message, owed_to}}
 
 abbrev is_his : UserName → UserName × Report → Bool
 is_his user o = same_user o.0 user
 
 abbrev canceled_now : LiveOrder → List Message
-canceled_now o = canceled_of cancels.Supervisory (shares_open o) o
+canceled_now o = canceled_of CancelReason.Supervisory (shares_open o) o
 
 each_is_owed : (r : RecordData) (user : UserName) (ends : LiveOrder → Bool) (found : List LiveOrder)
     → map (reported r) (flat_map canceled_now (filter (λ (o : LiveOrder). same_user o.user user && ends o) found))

@@ -1,15 +1,10 @@
 -- The lists of users after one of them changed, and the places that are kept.
 use Rattle.std.proofs.Common.{◌≡◌, ℕ, ◌+◌, ◌-◌, ◌<◌, ◌≤◌, max, Bool, true, false, not, ◌&&◌, cond, List, [], ◌∷◌, ◌++◌, length, map, refl, ◌∙◌, ap, sym, arith, true≢false, if◌then◌else◌}
-use Rattle.std.specs.Prelude.{Option, Some, None, is_some, filter}
-use Rattle.std.specs.Option.{option_map_or}
-use Rattle.gx_units.specs.Names.{same_user}
-use Rattle.gx_units.specs.declared.names.UserName.{UserName}
+use Rattle.std.specs.{Prelude.{Option, Some, None, is_some, filter}, Option.option_map_or}
+use Rattle.gx_units.specs.{Names.same_user, declared.names.UserName.UserName}
 use Rattle.gx_history.specs.declared.report.Report.{Report}
-use Rattle.gx_history_laws.proofs.Adding.{user_is, user_is_itself}
-use Rattle.gx_history_laws.proofs.Judging.{both}
-use Rattle.gx_streams.specs.Kept.{Kept, UserList, is_known, list_of, on_user, places_in, with_kept_last, with_last, with_places}
-use Rattle.gx_streams.specs.Streams.{AllStreams, is_told, mask_of, on_told}
-use Rattle.gx_streams.specs.Telling.{owed_to, with_all_owed, with_owed}
+use Rattle.gx_history_laws.proofs.{Adding.{user_is, user_is_itself}, Judging.both}
+use Rattle.gx_streams.specs.{Kept.{Kept, UserList, is_known, list_of, on_user, places_in, with_kept_last, with_last, with_places}, Streams.{AllStreams, is_told, mask_of, on_told}, Telling.{owed_to, with_all_owed, with_owed}}
 use Rattle.gx_streams.proofs.Users.{known_after}
 
 abbrev picked : (Kept Report → Kept Report) → UserList Report → Bool → UserList Report

@@ -1,26 +1,13 @@
 -- What is read of a stream.
 use Rattle.std.proofs.Common.{◌≡◌, ℕ, zero, suc, ◌+◌, ◌-◌, ◌<◌, ◌≤◌, Bool, true, false, cond, List, [], ◌∷◌, ◌++◌, length, map, take, drop, get_or, true≢false, refl, ◌∙◌, sym, ap, arith}
-use Rattle.std.specs.Prelude.{Option, Some, None, is_some, Result, Ok, Err, IfOk}
-use Rattle.std.specs.Option.{option_map_or}
-use Rattle.std.specs.List.{find}
-use Rattle.gx_units.specs.Names.{same_user}
-use Rattle.gx_units.specs.declared.names.UserName.{UserName}
+use Rattle.std.specs.{Prelude.{Option, Some, None, is_some, Result, Ok, Err, IfOk}, Option.option_map_or, List.find}
+use Rattle.gx_units.specs.{Names.same_user, declared.names.UserName.UserName}
 use Rattle.gx_policy.specs.Lists.{slice}
-use Rattle.gx_history_laws.proofs.Adding.{user_is}
-use Rattle.gx_history_laws.proofs.Order.{some_same}
+use Rattle.gx_history_laws.proofs.{Adding.user_is, Order.some_same}
 use Rattle.gx_history.specs.declared.report.Report.{Report}
-use Rattle.gx_streams.specs.declared.fill.ToldFill.{ToldFill}
-use Rattle.gx_streams.specs.declared.span.Span.{Span}
-use Rattle.gx_streams.specs.declared.entry.Entry.{Entry}
-use Rattle.gx_streams.specs.Fills.{copies_of, copies_of_all}
-use Rattle.gx_streams.specs.Kept.{Kept, UserList, is_known, items_in, list_of, places_in}
-use Rattle.gx_streams.specs.Spans.{AreNumbered, IsSound, ReaderSpans, between, copies_before, copies_in, is_named, next_of}
-use Rattle.gx_streams.specs.Streams.{AllStreams, reports_in}
-use Rattle.gx_streams.specs.Table.{IsSoundTable, kept_copies, kept_reports, report_of, streams_of}
-use Rattle.gx_streams.specs.Windows.{Taken, after, is_full, window}
+use Rattle.gx_streams.specs.{declared.{fill.ToldFill.ToldFill, span.Span.Span, entry.Entry.Entry}, Fills.{copies_of, copies_of_all}, Kept.{Kept, UserList, is_known, items_in, list_of, places_in}, Spans.{AreNumbered, IsSound, ReaderSpans, between, copies_before, copies_in, is_named, next_of}, Streams.{AllStreams, reports_in}, Table.{IsSoundTable, kept_copies, kept_reports, report_of, streams_of}, Windows.{Taken, after, is_full, window}}
 use Rattle.gx_history.proofs.Slicing.{slice_is}
-use Rattle.gx_streams.proofs.Shown.{found_reader, found_shown}
-use Rattle.gx_streams.proofs.Windows.{after_both, after_full}
+use Rattle.gx_streams.proofs.{Shown.{found_reader, found_shown}, Windows.{after_both, after_full}}
 
 -- a reader reads his copies
 pub read_copies : (fills : List ToldFill) (told : List (UserList Entry)) (readers : List ReaderSpans) (self : AllStreams) (user : UserName) (r : ReaderSpans)

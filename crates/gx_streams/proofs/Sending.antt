@@ -1,45 +1,15 @@
 -- What a fill tells each user.
-use Rattle.std.proofs.Common.{◌≡◌, ℕ, ◌≤◌, length, Bool, true, false, true≢false, List, [], ◌∷◌, ◌++◌, map, refl, ◌∙◌, ap, sym, if◌then◌else◌}
-use Rattle.std.specs.Prelude.{Option, Some, None, option_to_list, ◌==◌}
-use Rattle.std.specs.Option.{option_map_or}
-use Rattle.std.specs.List.{AllByRecursion, flat_map}
-use Rattle.std.proofs.lemmas.List.{append-nil}
-use Rattle.gx_units.specs.Names.{same_user}
-use Rattle.gx_units.specs.declared.names.UserName.{UserName}
-use Rattle.gx_ouch.specs.declared.outbound.Executed.{Executed}
-use Rattle.gx_ouch.specs.declared.outbound.Outbound.TheVariants as outbounds
+use Rattle.std.proofs.{Common.{◌≡◌, ℕ, ◌≤◌, length, Bool, true, false, true≢false, List, [], ◌∷◌, ◌++◌, map, refl, ◌∙◌, ap, sym, if◌then◌else◌}, lemmas.List.append-nil}
+use Rattle.std.specs.{Prelude.{Option, Some, None, option_to_list, ◌==◌}, Option.option_map_or, List.{AllByRecursion, flat_map}}
+use Rattle.gx_units.specs.{Names.same_user, declared.names.UserName.UserName}
+use Rattle.gx_ouch.specs.declared.{outbound.{Executed.Executed, Outbound.Outbound}, letters.Liquidity.Liquidity}
 use Rattle.gx_desk.specs.declared.DropCopy.{DropCopy}
-use Rattle.gx_policy.specs.declared.policy.PolicyData.{PolicyData}
-use Rattle.gx_history.specs.declared.record.RecordData.{RecordData}
-use Rattle.gx_history.specs.declared.record.Verdict.{Verdict}
-use Rattle.gx_history.specs.declared.record.Verdict.TheVariants as verdicts
-use Rattle.gx_history.specs.declared.report.Message.{Message}
-use Rattle.gx_history.specs.declared.report.Message.TheVariants as messages
-use Rattle.gx_history.specs.declared.report.Report.{Report}
-use Rattle.gx_history.specs.declared.record.Fill.{Fill}
-use Rattle.gx_ouch.specs.declared.letters.Liquidity.{Liquidity}
-use Rattle.gx_ouch.specs.declared.letters.Liquidity.TheVariants as liquidities
-use Rattle.gx_history.specs.Executions.{Execution, sides, side_of as side_of_fill}
-use Rattle.gx_history.specs.Orders.{Order, order_numbered, orders}
-use Rattle.gx_history.specs.InForce.{is_entitled}
-use Rattle.gx_history.specs.Masks.{mask_by}
-use Rattle.gx_policy.specs.People.{is_reader, role_in}
-use Rattle.gx_history.specs.Streams.{copies_of, copy_of as drop_copy_of, executed_message, reported, reports_of, reports_of_execution, reports_of_verdict}
-use Rattle.gx_history_laws.proofs.Adding.{user_is}
-use Rattle.gx_history_laws.proofs.Masks.{has_where}
-use Rattle.gx_history_laws.proofs.NextReports.{stream_next}
-use Rattle.gx_streams.specs.declared.fill.Party.{Party}
-use Rattle.gx_streams.specs.declared.fill.Party.TheVariants as parties
-use Rattle.gx_streams.specs.declared.fill.ToldFill.{ToldFill}
-use Rattle.gx_streams.specs.Fills.{copy_of, copy_report, executed_of, executed_report, executed_to, side_of}
+use Rattle.gx_policy.specs.{declared.policy.PolicyData.PolicyData, People.{is_reader, role_in}}
+use Rattle.gx_history.specs.{declared.{«record».{RecordData.RecordData, Verdict.Verdict, Fill.Fill}, report.{Message.Message, Report.Report}}, Executions.{Execution, sides, side_of as side_of_fill}, Orders.{Order, order_numbered, orders}, InForce.is_entitled, Masks.mask_by, Streams.{copies_of, copy_of as drop_copy_of, executed_message, reported, reports_of, reports_of_execution, reports_of_verdict}}
+use Rattle.gx_history_laws.proofs.{Adding.user_is, Masks.has_where, NextReports.stream_next, Owners.{IsHisAccounts, all_both, orders_are_their_users}}
+use Rattle.gx_streams.specs.{declared.fill.{Party.Party, ToldFill.ToldFill}, Fills.{copy_of, copy_report, executed_of, executed_report, executed_to, side_of}, Kept.UserList, Sending.{AreSent, IsMadeBy, IsSide}, Streams.{AllStreams, ReaderMask, told_by_fill, with_fill, with_fill_told}, Telling.{each_told, shown, shown_list, told_after, with_more}}
 use Rattle.gx_streams.specs.Fills as fills
-use Rattle.gx_streams.specs.Kept.{UserList}
-use Rattle.gx_streams.specs.Sending.{AreSent, IsMadeBy, IsSide}
-use Rattle.gx_streams.specs.Streams.{AllStreams, ReaderMask, told_by_fill, with_fill, with_fill_told}
-use Rattle.gx_streams.specs.Telling.{each_told, shown, shown_list, told_after, with_more}
-use Rattle.gx_history_laws.proofs.Owners.{IsHisAccounts, all_both, orders_are_their_users}
-use Rattle.gx_streams.proofs.OnlyKnown.{all_found, all_mapped, not_entitled}
-use Rattle.gx_streams.proofs.Telling.{each_told_same, more_told}
+use Rattle.gx_streams.proofs.{OnlyKnown.{all_found, all_mapped, not_entitled}, Telling.{each_told_same, more_told}}
 
 -- ---- a fill is shown last of those whom it tells
 
@@ -64,10 +34,10 @@ two_reported r false true m n = refl
 two_reported r false false m n = refl
 
 executed_to_him : RecordData → Execution → Message
-executed_to_him r e = messages.Order (outbounds.Executed (executed_message r e))
+executed_to_him r e = Message.Order (Outbound.Executed (executed_message r e))
 
 copy_for_him : RecordData → Execution → Message
-copy_for_him r e = messages.DropCopy (record { executed = executed_message r e; account = e.order.account; side = e.order.terms.side })
+copy_for_him r e = Message.DropCopy (record { executed = executed_message r e; account = e.order.account; side = e.order.terms.side })
 
 -- what the record owes, by whose each side is and who is entitled to it
 owed_by : (policy : PolicyData) (history : List RecordData) (r : RecordData) (user : UserName) (f : ToldFill) (is : IsMadeBy policy history r f)
@@ -85,10 +55,10 @@ owed_by policy history r user f is =
     (two_reported r (is_entitled policy history user is.taker.order.account) (is_entitled policy history user is.maker.order.account) (copy_for_him r is.taker) (copy_for_him r is.maker))
 
 order_report : ℕ → Executed → Report
-order_report moment e = record { timestamp = moment; message = messages.Order (outbounds.Executed e) }
+order_report moment e = record { timestamp = moment; message = Message.Order (Outbound.Executed e) }
 
 copied : ℕ → DropCopy → Report
-copied moment c = record { timestamp = moment; message = messages.DropCopy c }
+copied moment c = record { timestamp = moment; message = Message.DropCopy c }
 
 executed_is : (policy : PolicyData) (r : RecordData) (e : Execution) (f : ToldFill) (party : Party) → f.moment ≡ r.moment → IsSide policy r e f party → executed_report f party ≡ reported r (executed_to_him r e)
 unfolding order_report executed_to_him
@@ -149,14 +119,14 @@ told_is_owed policy history r streams f few sent is user =
         ≡ own (same_user is.taker.order.user user) (same_user is.maker.order.user user) ++ seen (is_entitled policy history user is.taker.order.account) (is_entitled policy history user is.maker.order.account)
     by true reads =
         ap told reads
-        ∙ ap (λ (rs : List Report). rs ++ copy_of (mask_by (is_entitled policy history user) policy.accounts) f parties.Maker) (copied_where policy history r user is.taker f parties.Taker few is.moment is.takers)
-        ∙ ap (λ (rs : List Report). one_if (is_entitled policy history user is.taker.order.account) (reported r (copy_for_him r is.taker)) ++ rs) (copied_where policy history r user is.maker f parties.Maker few is.moment is.makers)
-        ∙ sym (ap (λ a. own a (same_user is.maker.order.user user) ++ seen (is_entitled policy history user is.taker.order.account) (is_entitled policy history user is.maker.order.account)) (not_his policy r user is.taker f parties.Taker is.takers reads)
-        ∙ ap (λ b. own false b ++ seen (is_entitled policy history user is.taker.order.account) (is_entitled policy history user is.maker.order.account)) (not_his policy r user is.maker f parties.Maker is.makers reads))
+        ∙ ap (λ (rs : List Report). rs ++ copy_of (mask_by (is_entitled policy history user) policy.accounts) f Party.Maker) (copied_where policy history r user is.taker f Party.Taker few is.moment is.takers)
+        ∙ ap (λ (rs : List Report). one_if (is_entitled policy history user is.taker.order.account) (reported r (copy_for_him r is.taker)) ++ rs) (copied_where policy history r user is.maker f Party.Maker few is.moment is.makers)
+        ∙ sym (ap (λ a. own a (same_user is.maker.order.user user) ++ seen (is_entitled policy history user is.taker.order.account) (is_entitled policy history user is.maker.order.account)) (not_his policy r user is.taker f Party.Taker is.takers reads)
+        ∙ ap (λ b. own false b ++ seen (is_entitled policy history user is.taker.order.account) (is_entitled policy history user is.maker.order.account)) (not_his policy r user is.maker f Party.Maker is.makers reads))
     by false reads_not =
         ap told reads_not
-        ∙ ap (λ (rs : List Report). rs ++ executed_to f user parties.Maker) (executed_where policy r user is.taker f parties.Taker is.moment is.takers)
-        ∙ ap (λ (rs : List Report). one_if (same_user is.taker.order.user user) (reported r (executed_to_him r is.taker)) ++ rs) (executed_where policy r user is.maker f parties.Maker is.moment is.makers)
+        ∙ ap (λ (rs : List Report). rs ++ executed_to f user Party.Maker) (executed_where policy r user is.taker f Party.Taker is.moment is.takers)
+        ∙ ap (λ (rs : List Report). one_if (same_user is.taker.order.user user) (reported r (executed_to_him r is.taker)) ++ rs) (executed_where policy r user is.maker f Party.Maker is.moment is.makers)
         ∙ sym (append-nil (own (same_user is.taker.order.user user) (same_user is.maker.order.user user)))
         ∙ sym (ap (λ a. own (same_user is.taker.order.user user) (same_user is.maker.order.user user) ++ seen a (is_entitled policy history user is.maker.order.account)) (not_entitled policy history user is.taker.order.account reads_not)
         ∙ ap (λ b. own (same_user is.taker.order.user user) (same_user is.maker.order.user user) ++ seen false b) (not_entitled policy history user is.maker.order.account reads_not))
@@ -178,9 +148,9 @@ side_is_his policy known f liquidity number h =
     (all_found (IsHisAccounts policy) (λ (o : Order). o.number == number) known h)
 
 -- each side of a fill is of an order for its user's account
-pub sides_are_his : (policy : PolicyData) (history : List RecordData) (f : Fill) → AllByRecursion (λ (e : Execution). IsHisAccounts policy e.order) (sides policy history (verdicts.Filled f))
+pub sides_are_his : (policy : PolicyData) (history : List RecordData) (f : Fill) → AllByRecursion (λ (e : Execution). IsHisAccounts policy e.order) (sides policy history (Verdict.Filled f))
 sides_are_his policy history f =
     let known : List Order = orders policy history in
     let his : AllByRecursion (IsHisAccounts policy) known = orders_are_their_users policy history in
-    all_both (λ (e : Execution). IsHisAccounts policy e.order) (side_of_fill known f liquidities.Removed f.taker) (side_of_fill known f liquidities.Added f.maker)
-    (side_is_his policy known f liquidities.Removed f.taker his) (side_is_his policy known f liquidities.Added f.maker his)
+    all_both (λ (e : Execution). IsHisAccounts policy e.order) (side_of_fill known f Liquidity.Removed f.taker) (side_of_fill known f Liquidity.Added f.maker)
+    (side_is_his policy known f Liquidity.Removed f.taker his) (side_is_his policy known f Liquidity.Added f.maker his)

@@ -1,26 +1,11 @@
 -- The lists that entries and spans stand for.
-use Rattle.std.proofs.Common.{◌≡◌, ℕ, zero, suc, ◌+◌, ◌-◌, ◌<◌, ◌≤◌, Bool, true, false, cond, not, List, [], ◌∷◌, ◌++◌, length, map, refl, ◌∙◌, sym, ap, subst, arith, true≢false, append_assoc, if◌then◌else◌}
-use Rattle.std.specs.Prelude.{Option, Some, None, is_some, option_map}
-use Rattle.std.specs.Option.{option_map_or}
-use Rattle.std.specs.List.{AllByRecursion, find, slice_get}
-use Rattle.std.proofs.lemmas.List.{append-nil, length-append, map-append}
-use Rattle.gx_units.specs.Names.{same_user}
-use Rattle.gx_units.specs.declared.names.UserName.{UserName}
+use Rattle.std.proofs.{Common.{◌≡◌, ℕ, zero, suc, ◌+◌, ◌-◌, ◌<◌, ◌≤◌, Bool, true, false, cond, not, List, [], ◌∷◌, ◌++◌, length, map, refl, ◌∙◌, sym, ap, subst, arith, true≢false, append_assoc, if◌then◌else◌}, lemmas.List.{append-nil, length-append, map-append}}
+use Rattle.std.specs.{Prelude.{Option, Some, None, is_some, option_map}, Option.option_map_or, List.{AllByRecursion, find, slice_get}}
+use Rattle.gx_units.specs.{Names.same_user, declared.names.UserName.UserName}
 use Rattle.gx_history.specs.declared.report.Report.{Report}
-use Rattle.gx_history_laws.proofs.Adding.{user_is}
-use Rattle.gx_history_laws.proofs.Order.{some_same}
-use Rattle.gx_streams.specs.declared.fill.ToldFill.{ToldFill}
-use Rattle.gx_streams.specs.declared.fill.Party.{Party}
-use Rattle.gx_streams.specs.declared.fill.Party.TheVariants as parties
-use Rattle.gx_streams.specs.declared.entry.Entry.{Entry}
-use Rattle.gx_streams.specs.declared.entry.Entry.TheVariants as entries
-use Rattle.gx_streams.specs.Fills.{copies_of, executed_report, side_of}
-use Rattle.gx_streams.specs.Kept.{Kept, UserList, at_first, is_known, list_of, on_user, places_in, with_kept_last, with_last, with_places}
-use Rattle.gx_streams.specs.Spans.{IsSound, ReaderSpans, counted, entitled_from, is_named}
-use Rattle.gx_streams.specs.Streams.{ReaderMask, mask_in, with_fill_told}
-use Rattle.gx_streams.specs.Table.{IsThere, kept_copies, kept_reports, list_shown, no_report, reader_mask, report_of}
-use Rattle.gx_streams.proofs.Spanning.{none_yet, one_more}
-use Rattle.gx_streams.proofs.Users.{known_after}
+use Rattle.gx_history_laws.proofs.{Adding.user_is, Order.some_same}
+use Rattle.gx_streams.specs.{declared.{fill.{ToldFill.ToldFill, Party.Party}, entry.Entry.Entry}, Fills.{copies_of, executed_report, side_of}, Kept.{Kept, UserList, at_first, is_known, list_of, on_user, places_in, with_kept_last, with_last, with_places}, Spans.{IsSound, ReaderSpans, counted, entitled_from, is_named}, Streams.{ReaderMask, mask_in, with_fill_told}, Table.{IsThere, kept_copies, kept_reports, list_shown, no_report, reader_mask, report_of}}
+use Rattle.gx_streams.proofs.{Spanning.{none_yet, one_more}, Users.known_after}
 
 abbrev row : UserName → Kept Report → UserList Report
 row user k = record { user = user; kept = k }
@@ -166,8 +151,8 @@ pub there_with_places : (n places : ℕ) (user : UserName) (ls : List (UserList 
 there_with_places n places user ls all = there_changed n (with_places places) user ls (λ k h. h) all
 
 there_more : (m n : ℕ) (e : Entry) → m ≤ n → IsThere m e → IsThere n e
-there_more m n (entries.Typed report) h here = tt
-there_more m n (entries.Filled place party) h here = omega (arith, h, here)
+there_more m n (Entry.Typed report) h here = tt
+there_more m n (Entry.Filled place party) h here = omega (arith, h, here)
 
 there_all_more : (m n : ℕ) (items : List Entry) → m ≤ n → AllByRecursion (IsThere m) items → AllByRecursion (IsThere n) items
 there_all_more m n [] h all = tt
@@ -189,8 +174,8 @@ get_last [] f = refl
 get_last (g ∷ fills) f = get_last fills f
 
 same_report : (fills : List ToldFill) (f : ToldFill) (e : Entry) → IsThere (length fills) e → report_of (fills ++ f ∷ []) e ≡ report_of fills e
-same_report fills f (entries.Typed report) here = refl
-same_report fills f (entries.Filled place party) here = ap (λ (o : Option ToldFill). option_map_or (λ (g : ToldFill). executed_report g party) o no_report) (get_before fills f place here)
+same_report fills f (Entry.Typed report) here = refl
+same_report fills f (Entry.Filled place party) here = ap (λ (o : Option ToldFill). option_map_or (λ (g : ToldFill). executed_report g party) o no_report) (get_before fills f place here)
 
 same_reports : (fills : List ToldFill) (f : ToldFill) (items : List Entry) → AllByRecursion (IsThere (length fills)) items → map (report_of (fills ++ f ∷ [])) items ≡ map (report_of fills) items
 same_reports fills f [] all = refl
@@ -198,11 +183,11 @@ same_reports fills f (e ∷ es) all = ap (λ x. x ∷ map (report_of (fills ++ f
 
 -- both sides of the fill at this place put last, the taker's first
 abbrev pub with_sides : ToldFill → ℕ → List (UserList Entry) → List (UserList Entry)
-with_sides f place told = on_user f.maker.user (with_last (entries.Filled place parties.Maker)) (on_user f.taker.user (with_last (entries.Filled place parties.Taker)) told)
+with_sides f place told = on_user f.maker.user (with_last (Entry.Filled place Party.Maker)) (on_user f.taker.user (with_last (Entry.Filled place Party.Taker)) told)
 
 -- a list with a party's side last, if it is the party's user's
 abbrev with_side : ToldFill → ℕ → Party → UserList Entry → UserList Entry
-with_side f place party l = if same_user (side_of f party).user l.user then record { user = l.user; kept = with_last (entries.Filled place party) l.kept } else l
+with_side f place party l = if same_user (side_of f party).user l.user then record { user = l.user; kept = with_last (Entry.Filled place party) l.kept } else l
 
 found_counted : (f : ToldFill) (rs : List ReaderSpans) (name : UserName) → find (is_named name) (map (counted f) rs) ≡ option_map (counted f) (find (is_named name) rs)
 found_counted f [] name = refl
@@ -221,25 +206,25 @@ found_reader P (x ∷ xs) name r found all = by (same_user name x.user) found (�
 
 -- the list of one user after the fill, by whether either side is his
 one_list : (fills : List ToldFill) (f : ToldFill) (rs : List ReaderSpans) (l : UserList Entry) → AllByRecursion (IsSound fills) rs → AllByRecursion (IsThere (length fills)) l.kept.items
-    → list_shown (fills ++ f ∷ []) (map (counted f) rs) (with_side f (length fills) parties.Maker (with_side f (length fills) parties.Taker l)) ≡ with_fill_told (map reader_mask rs) f (list_shown fills rs l)
+    → list_shown (fills ++ f ∷ []) (map (counted f) rs) (with_side f (length fills) Party.Maker (with_side f (length fills) Party.Taker l)) ≡ with_fill_told (map reader_mask rs) f (list_shown fills rs l)
 one_list fills f rs l sound there =
     ap (list_shown both (map (counted f) rs))
-    (elim (same_user f.taker.user l.user) as (λ a. with_side f (length fills) parties.Maker (taken a) ≡ sides a (same_user f.maker.user l.user)) [ true ↦ refl | false ↦ refl ])
+    (elim (same_user f.taker.user l.user) as (λ a. with_side f (length fills) Party.Maker (taken a) ≡ sides a (same_user f.maker.user l.user)) [ true ↦ refl | false ↦ refl ])
     ∙ by (same_user f.taker.user l.user) (same_user f.maker.user l.user)
   where
     both : List ToldFill
     both = fills ++ f ∷ []
 
     taken : Bool → UserList Entry
-    taken a = if a then record { user = l.user; kept = with_last (entries.Filled (length fills) parties.Taker) l.kept } else l
+    taken a = if a then record { user = l.user; kept = with_last (Entry.Filled (length fills) Party.Taker) l.kept } else l
 
     sides : Bool → Bool → UserList Entry
-    sides a b = let y = taken a in if b then record { user = y.user; kept = with_last (entries.Filled (length fills) parties.Maker) y.kept } else y
+    sides a b = let y = taken a in if b then record { user = y.user; kept = with_last (Entry.Filled (length fills) Party.Maker) y.kept } else y
 
     own : Bool → Bool → List Report
-    own a b = (if a then executed_report f parties.Taker ∷ [] else []) ++ (if b then executed_report f parties.Maker ∷ [] else [])
+    own a b = (if a then executed_report f Party.Taker ∷ [] else []) ++ (if b then executed_report f Party.Maker ∷ [] else [])
 
-    shows : (party : Party) → report_of both (entries.Filled (length fills) party) ≡ executed_report f party
+    shows : (party : Party) → report_of both (Entry.Filled (length fills) party) ≡ executed_report f party
     shows party = ap (λ (o : Option ToldFill). option_map_or (λ (g : ToldFill). executed_report g party) o no_report) (get_last fills f)
 
     was : map (report_of both) l.kept.items ≡ map (report_of fills) l.kept.items
@@ -276,28 +261,28 @@ one_list fills f rs l sound there =
     items_state : List Report → Kept Report
     items_state items = record { items = items; spare = l.kept.spare }
 
-    taker_last : map (report_of both) (l.kept.items ++ entries.Filled (length fills) parties.Taker ∷ []) ≡ map (report_of fills) l.kept.items ++ executed_report f parties.Taker ∷ []
+    taker_last : map (report_of both) (l.kept.items ++ Entry.Filled (length fills) Party.Taker ∷ []) ≡ map (report_of fills) l.kept.items ++ executed_report f Party.Taker ∷ []
     taker_last =
-        map-append (report_of both) l.kept.items (entries.Filled (length fills) parties.Taker ∷ [])
-        ∙ ap (λ xs. xs ++ report_of both (entries.Filled (length fills) parties.Taker) ∷ []) was
-        ∙ ap (λ r. map (report_of fills) l.kept.items ++ r ∷ []) (shows parties.Taker)
+        map-append (report_of both) l.kept.items (Entry.Filled (length fills) Party.Taker ∷ [])
+        ∙ ap (λ xs. xs ++ report_of both (Entry.Filled (length fills) Party.Taker) ∷ []) was
+        ∙ ap (λ r. map (report_of fills) l.kept.items ++ r ∷ []) (shows Party.Taker)
 
     by : (a b : Bool) → list_shown both (map (counted f) rs) (sides a b)
         ≡ row l.user (add (kept_shown fills (find (is_named l.user) rs) l.kept) (option_map_or (λ (mask : ℕ). copies_of mask f) (mask_in (map reader_mask rs) l.user) (own a b)))
     by true true =
         shown (sides true true).kept (own true true)
         (ap items_state
-        (map-append (report_of both) (l.kept.items ++ entries.Filled (length fills) parties.Taker ∷ []) (entries.Filled (length fills) parties.Maker ∷ [])
-        ∙ ap (λ xs. xs ++ report_of both (entries.Filled (length fills) parties.Maker) ∷ []) taker_last
-        ∙ ap (λ r. (map (report_of fills) l.kept.items ++ executed_report f parties.Taker ∷ []) ++ r ∷ []) (shows parties.Maker)
-        ∙ append_assoc (map (report_of fills) l.kept.items) (executed_report f parties.Taker ∷ []) (executed_report f parties.Maker ∷ [])))
+        (map-append (report_of both) (l.kept.items ++ Entry.Filled (length fills) Party.Taker ∷ []) (Entry.Filled (length fills) Party.Maker ∷ [])
+        ∙ ap (λ xs. xs ++ report_of both (Entry.Filled (length fills) Party.Maker) ∷ []) taker_last
+        ∙ ap (λ r. (map (report_of fills) l.kept.items ++ executed_report f Party.Taker ∷ []) ++ r ∷ []) (shows Party.Maker)
+        ∙ append_assoc (map (report_of fills) l.kept.items) (executed_report f Party.Taker ∷ []) (executed_report f Party.Maker ∷ [])))
     by true false = shown (sides true false).kept (own true false) (ap items_state taker_last)
     by false true =
         shown (sides false true).kept (own false true)
         (ap items_state
-        (map-append (report_of both) l.kept.items (entries.Filled (length fills) parties.Maker ∷ [])
-        ∙ ap (λ xs. xs ++ report_of both (entries.Filled (length fills) parties.Maker) ∷ []) was
-        ∙ ap (λ r. map (report_of fills) l.kept.items ++ r ∷ []) (shows parties.Maker)))
+        (map-append (report_of both) l.kept.items (Entry.Filled (length fills) Party.Maker ∷ [])
+        ∙ ap (λ xs. xs ++ report_of both (Entry.Filled (length fills) Party.Maker) ∷ []) was
+        ∙ ap (λ r. map (report_of fills) l.kept.items ++ r ∷ []) (shows Party.Maker)))
     by false false = shown l.kept [] (ap items_state (was ∙ sym (append-nil (map (report_of fills) l.kept.items))))
 
 pub fill_shown : (fills : List ToldFill) (f : ToldFill) (rs : List ReaderSpans) (ls : List (UserList Entry)) → AllByRecursion (IsSound fills) rs → AllThere (length fills) ls
@@ -311,8 +296,8 @@ pub fill_there : (fills : List ToldFill) (f : ToldFill) (ls : List (UserList Ent
 fill_there fills f ls all =
     let more : length (fills ++ f ∷ []) ≡ length fills + 1 = length-append fills (f ∷ []) in
     let n = length (fills ++ f ∷ []) in
-    there_with_last n (entries.Filled (length fills) parties.Maker) f.maker.user (on_user f.taker.user (with_last (entries.Filled (length fills) parties.Taker)) ls) (omega (arith, more))
-    (there_with_last n (entries.Filled (length fills) parties.Taker) f.taker.user ls (omega (arith, more)) (there_more_fills (length fills) n ls (omega (arith, more)) all))
+    there_with_last n (Entry.Filled (length fills) Party.Maker) f.maker.user (on_user f.taker.user (with_last (Entry.Filled (length fills) Party.Taker)) ls) (omega (arith, more))
+    (there_with_last n (Entry.Filled (length fills) Party.Taker) f.taker.user ls (omega (arith, more)) (there_more_fills (length fills) n ls (omega (arith, more)) all))
 
 -- ---- another mask
 

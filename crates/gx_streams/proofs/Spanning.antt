@@ -1,17 +1,9 @@
 -- Spans, when a fill is put last and when a mask changes.
-use Rattle.std.proofs.Common.{◌≡◌, ℕ, zero, suc, ◌+◌, ◌*◌, ◌-◌, ◌<◌, ◌≤◌, true, false, get_or, set, List, [], ◌∷◌, ◌++◌, length, map, take, drop, refl, ◌∙◌, sym, ap, subst, arith, append_assoc, if◌then◌else◌}
+use Rattle.std.proofs.{Common.{◌≡◌, ℕ, zero, suc, ◌+◌, ◌*◌, ◌-◌, ◌<◌, ◌≤◌, true, false, get_or, set, List, [], ◌∷◌, ◌++◌, length, map, take, drop, refl, ◌∙◌, sym, ap, subst, arith, append_assoc, if◌then◌else◌}, lemmas.List.{length-append, length-drop, drop-append-le, take-append-le}}
 use Rattle.std.specs.List.{AllByRecursion}
-use Rattle.std.proofs.lemmas.List.{length-append, length-drop, drop-append-le, take-append-le}
 use Rattle.gx_history.specs.declared.report.Report.{Report}
-use Rattle.gx_units.specs.Names.{same_user}
-use Rattle.gx_units.specs.declared.names.UserName.{UserName}
-use Rattle.gx_streams.specs.declared.fill.ToldFill.{ToldFill}
-use Rattle.gx_streams.specs.declared.span.Span.{Span}
-use Rattle.gx_streams.specs.Fills.{copies_of, copies_of_all}
-use Rattle.gx_streams.specs.Kept.{at_first}
-use Rattle.gx_streams.specs.Spans.{AreNumbered, IsSound, ReaderSpans, between, copies_before, copies_in, counted, entitled_from, is_named, next_of}
-use Rattle.gx_streams.specs.Streams.{ReaderMask, with_mask}
-use Rattle.gx_streams.specs.Table.{reader_mask}
+use Rattle.gx_units.specs.{Names.same_user, declared.names.UserName.UserName}
+use Rattle.gx_streams.specs.{declared.{fill.ToldFill.ToldFill, span.Span.Span}, Fills.{copies_of, copies_of_all}, Kept.at_first, Spans.{AreNumbered, IsSound, ReaderSpans, between, copies_before, copies_in, counted, entitled_from, is_named, next_of}, Streams.{ReaderMask, with_mask}, Table.reader_mask}
 
 nil_right : {X : Type 0} (xs : List X) → xs ++ [] ≡ xs
 nil_right [] = refl

@@ -1,21 +1,11 @@
 -- What is told to lists of users, and what changed lists show.
-use Rattle.std.proofs.Common.{◌≡◌, ℕ, true, false, List, [], ◌∷◌, ◌++◌, refl, ◌∙◌, ap, sym, map, append_assoc, if◌then◌else◌}
+use Rattle.std.proofs.{Common.{◌≡◌, ℕ, true, false, List, [], ◌∷◌, ◌++◌, refl, ◌∙◌, ap, sym, map, append_assoc, if◌then◌else◌}, lemmas.List.{append-nil, Sums.fold_push}}
 use Rattle.std.specs.Prelude.{filter}
-use Rattle.std.proofs.lemmas.List.{append-nil}
-use Rattle.std.proofs.lemmas.List.Sums.{fold_push}
-use Rattle.gx_units.specs.Names.{same_user}
-use Rattle.gx_units.specs.declared.names.UserName.{UserName}
-use Rattle.gx_policy.specs.declared.policy.PolicyData.{PolicyData}
-use Rattle.gx_policy.specs.declared.policy.User.{User}
-use Rattle.gx_history.specs.declared.record.RecordData.{RecordData}
-use Rattle.gx_history.specs.declared.report.Message.{Message}
-use Rattle.gx_history.specs.declared.report.Report.{Report}
-use Rattle.gx_history.specs.Streams.{reported, reports_of, stream, to_user}
+use Rattle.gx_units.specs.{Names.same_user, declared.names.UserName.UserName}
+use Rattle.gx_policy.specs.declared.policy.{PolicyData.PolicyData, User.User}
+use Rattle.gx_history.specs.{declared.{«record».RecordData.RecordData, report.{Message.Message, Report.Report}}, Streams.{reported, reports_of, stream, to_user}}
 use Rattle.gx_history_laws.proofs.NextReports.{stream_next, stream_none}
-use Rattle.gx_streams.specs.Kept.{Kept, UserList, on_user, told_nothing, with_kept_last, with_last, with_places}
-use Rattle.gx_streams.specs.Laws.{OwesAll, OwesNothing, OwesTo, TellsAll, TellsNobody, TellsOne}
-use Rattle.gx_streams.specs.Streams.{AllStreams, empty_streams, on_told}
-use Rattle.gx_streams.specs.Telling.{UserReports, each_told, only_to, owed_message, owed_to, shown, shown_list, told_after, told_of, told_to, with_all_owed, with_more, with_owed}
+use Rattle.gx_streams.specs.{Kept.{Kept, UserList, on_user, told_nothing, with_kept_last, with_last, with_places}, Laws.{OwesAll, OwesNothing, OwesTo, TellsAll, TellsNobody, TellsOne}, Streams.{AllStreams, empty_streams, on_told}, Telling.{UserReports, each_told, only_to, owed_message, owed_to, shown, shown_list, told_after, told_of, told_to, with_all_owed, with_more, with_owed}}
 
 abbrev told_with : UserReports → List Report → UserReports
 told_with t more = record { user = t.user; reports = t.reports ++ more }

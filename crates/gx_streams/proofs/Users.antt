@@ -1,19 +1,9 @@
 -- What the table of streams says of the users that it stands for.
-use Rattle.std.proofs.Common.{◌≡◌, ◌-◌, ◌+◌, ◌++◌, arith, length, take, Bool, true, false, cond, List, [], ◌∷◌, refl, ◌∙◌, sym, ap, if◌then◌else◌}
-use Rattle.std.specs.Prelude.{Some, is_some}
-use Rattle.std.specs.Option.{option_map_or}
-use Rattle.std.specs.List.{IsDistinct}
-use Rattle.std.specs.Map.{keys_of, lookup, set_value}
-use Rattle.std.proofs.lemmas.List.{length_push}
-use Rattle.std.proofs.lemmas.Map.Steps.{set_value_same}
-use Rattle.gx_units.specs.Names.{same_user}
-use Rattle.gx_units.specs.declared.names.UserName.{UserName}
-use Rattle.gx_history_laws.proofs.Adding.{user_is}
-use Rattle.gx_history_laws.proofs.Order.{some_same}
-use Rattle.gx_history_laws.proofs.Tables.{changed_in_place}
-use Rattle.gx_streams.specs.declared.entry.Entry.{Entry}
-use Rattle.gx_streams.specs.Kept.{Kept, UserList, is_known, items_in, list_of, on_user, places_in, with_last, without_last}
-use Rattle.gx_streams.specs.Table.{lists_of, user_list}
+use Rattle.std.proofs.{Common.{◌≡◌, ◌-◌, ◌+◌, ◌++◌, arith, length, take, Bool, true, false, cond, List, [], ◌∷◌, refl, ◌∙◌, sym, ap, if◌then◌else◌}, lemmas.{List.length_push, Map.Steps.set_value_same}}
+use Rattle.std.specs.{Prelude.{Some, is_some}, Option.option_map_or, List.IsDistinct, Map.{keys_of, lookup, set_value}}
+use Rattle.gx_units.specs.{Names.same_user, declared.names.UserName.UserName}
+use Rattle.gx_history_laws.proofs.{Adding.user_is, Order.some_same, Tables.changed_in_place}
+use Rattle.gx_streams.specs.{declared.entry.Entry.Entry, Kept.{Kept, UserList, is_known, items_in, list_of, on_user, places_in, with_last, without_last}, Table.{lists_of, user_list}}
 
 -- what the list found says, the table's says
 kept_found : {Y : Type 0} (of : Kept Entry → Y) (otherwise : Y) (es : List (UserName × Kept Entry)) (user : UserName)

@@ -1,20 +1,11 @@
 -- All streams, after one of their parts changed.
 use Rattle.std.proofs.Common.{◌≡◌, ℕ, ◌<◌, true, not, ◌&&◌, List, [], ◌∷◌, ◌++◌, length, map, refl, ◌∙◌, sym, ap, subst}
-use Rattle.std.specs.Prelude.{Option, Some, None, Result, Ok, Err, OnOk, OnErr, is_some, option_map}
-use Rattle.std.specs.List.{find}
+use Rattle.std.specs.{Prelude.{Option, Some, None, Result, Ok, Err, OnOk, OnErr, is_some, option_map}, List.find}
 use Rattle.gx_units.specs.declared.names.UserName.{UserName}
 use Rattle.gx_history.specs.declared.report.Report.{Report}
 use Rattle.gx_history_laws.proofs.Judging.{both}
-use Rattle.gx_streams.specs.declared.fill.ToldFill.{ToldFill}
-use Rattle.gx_streams.specs.declared.fill.Party.TheVariants as parties
-use Rattle.gx_streams.specs.declared.entry.Entry.{Entry}
-use Rattle.gx_streams.specs.declared.entry.Entry.TheVariants as entries
-use Rattle.gx_streams.specs.Kept.{Kept, UserList, at_first, is_known, on_user, places_in, with_last}
-use Rattle.gx_streams.specs.Spans.{ReaderSpans, counted, entitled_from, is_named}
-use Rattle.gx_streams.specs.Streams.{AllStreams, ReaderMask, entitled, is_told, mask_in, on_told, with_fill, with_fill_told}
-use Rattle.gx_streams.specs.Table.{IsSoundTable, list_shown, reader_mask, streams_of}
-use Rattle.gx_streams.proofs.Shown.{fill_shown, fill_there, known_changed, known_counted, known_masked, known_shown, mask_found, mask_shown, no_reader, place_shown, with_sides}
-use Rattle.gx_streams.proofs.Spanning.{all_masked, all_noted, masks_changed, masks_noted}
+use Rattle.gx_streams.specs.{declared.{fill.{ToldFill.ToldFill, Party.Party}, entry.Entry.Entry}, Kept.{Kept, UserList, at_first, is_known, on_user, places_in, with_last}, Spans.{ReaderSpans, counted, entitled_from, is_named}, Streams.{AllStreams, ReaderMask, entitled, is_told, mask_in, on_told, with_fill, with_fill_told}, Table.{IsSoundTable, list_shown, reader_mask, streams_of}}
+use Rattle.gx_streams.proofs.{Shown.{fill_shown, fill_there, known_changed, known_counted, known_masked, known_shown, mask_found, mask_shown, no_reader, place_shown, with_sides}, Spanning.{all_masked, all_noted, masks_changed, masks_noted}}
 
 -- a user who is told, among entries and readers
 pub record IsToldHere (told : List (UserList Entry)) (readers : List ReaderSpans) (user : UserName) : Type 0 where
@@ -89,8 +80,8 @@ filled_sound fills seen after told now readers noted f pushed at done counts sou
     let good : IsSoundTable all (with_sides f (length fills) told) (map (counted f) readers) = record {
       there = fill_there fills f told sound.there;
       sound = all_noted fills f readers sound.sound;
-      known = known_changed _ f.maker.user (with_last (entries.Filled (length fills) parties.Maker)) (map (counted f) readers)
-          (known_changed told f.taker.user (with_last (entries.Filled (length fills) parties.Taker)) (map (counted f) readers) (known_counted told f readers sound.known));
+      known = known_changed _ f.maker.user (with_last (Entry.Filled (length fills) Party.Maker)) (map (counted f) readers)
+          (known_changed told f.taker.user (with_last (Entry.Filled (length fills) Party.Taker)) (map (counted f) readers) (known_counted told f readers sound.known));
     } in
     subst (λ l. IsSoundTable l now noted) (sym pushed)
     (subst (λ t. IsSoundTable all t noted) (sym (done ∙ ap (λ l. with_sides f (length l) told) at))

@@ -1,23 +1,10 @@
 -- What the streams show, beside what a day's records tell each user.
 use Rattle.std.specs.Prelude.{◌≡◌, ◌-◌, ◌<◌, ◌≤◌, ℕ, max, IsTrue, IsFalse, is_some, length, take, List, [], ◌∷◌, ◌++◌, map, filter, None, ◌&&◌, not, false}
-use Rattle.gx_units.specs.Names.{same_user}
-use Rattle.gx_units.specs.declared.names.UserName.{UserName}
+use Rattle.gx_units.specs.{Names.same_user, declared.names.UserName.UserName}
 use Rattle.gx_desk.specs.declared.Action.{Action}
-use Rattle.gx_policy.specs.declared.policy.PolicyData.{PolicyData}
-use Rattle.gx_history.specs.declared.record.RecordData.{RecordData}
-use Rattle.gx_history.specs.declared.report.Message.{Message}
-use Rattle.gx_history.specs.declared.report.Report.{Report}
-use Rattle.gx_history.specs.declared.live_order.LiveOrder.{LiveOrder}
-use Rattle.gx_history.specs.Live.{live}
-use Rattle.gx_history.specs.Orders.{ends_account}
-use Rattle.gx_policy.specs.People.{is_reader, role_in, user_in}
-use Rattle.gx_history.specs.Streams.{copies, ended_of, reported, reports_of, stream, to_user}
-use Rattle.gx_history.specs.Verdicts.{IsLegal}
-use Rattle.gx_streams.specs.Kept.{Kept, places_in, with_kept_last, with_last, with_places}
-use Rattle.gx_streams.specs.declared.fill.ToldFill.{ToldFill}
-use Rattle.gx_streams.specs.Sending.{AreSent, IsMadeBy, KnowsReaders, is_fill}
-use Rattle.gx_streams.specs.Streams.{AllStreams, empty_streams, is_told, on_told, reports_in, told_by_fill, with_fill}
-use Rattle.gx_streams.specs.Telling.{each_told, owed_for_ended, owed_message, owed_to, shown, told_after, told_to, with_all_owed, with_owed}
+use Rattle.gx_policy.specs.{declared.policy.PolicyData.PolicyData, People.{is_reader, role_in, user_in}}
+use Rattle.gx_history.specs.{declared.{«record».RecordData.RecordData, report.{Message.Message, Report.Report}, live_order.LiveOrder.LiveOrder}, Live.live, Orders.ends_account, Streams.{copies, ended_of, reported, reports_of, stream, to_user}, Verdicts.IsLegal}
+use Rattle.gx_streams.specs.{Kept.{Kept, places_in, with_kept_last, with_last, with_places}, declared.fill.ToldFill.ToldFill, Sending.{AreSent, IsMadeBy, KnowsReaders, is_fill}, Streams.{AllStreams, empty_streams, is_told, on_told, reports_in, told_by_fill, with_fill}, Telling.{each_told, owed_for_ended, owed_message, owed_to, shown, told_after, told_to, with_all_owed, with_owed}}
 
 -- the record owes messages to one user alone
 abbrev pub OwesTo : PolicyData → List RecordData → RecordData → UserName → List Message → Type 0

@@ -1,23 +1,9 @@
 -- Whose fills each reader gets, and the fill that a record makes as it is told.
-use Rattle.std.specs.Prelude.{◌≡◌, ℕ, Bool, true, false, IsFalse, List, [], ◌∷◌, Option, Some, None, is_some, option_map, if◌then◌else◌}
-use Rattle.std.specs.List.{slice_get}
+use Rattle.std.specs.{Prelude.{◌≡◌, ℕ, Bool, true, false, IsFalse, List, [], ◌∷◌, Option, Some, None, is_some, option_map, if◌then◌else◌}, List.slice_get}
 use Rattle.gx_units.specs.declared.names.UserName.{UserName}
-use Rattle.gx_policy.specs.declared.policy.Account.{Account}
-use Rattle.gx_policy.specs.declared.policy.PolicyData.{PolicyData}
-use Rattle.gx_history.specs.declared.record.Fill.{Fill}
-use Rattle.gx_history.specs.declared.record.RecordData.{RecordData}
-use Rattle.gx_history.specs.declared.record.Verdict.{Verdict}
-use Rattle.gx_history.specs.declared.record.Verdict.TheVariants as verdicts
-use Rattle.gx_history.specs.Executions.{Execution, sides}
-use Rattle.gx_history.specs.InForce.{is_entitled}
-use Rattle.gx_history.specs.Masks.{mask_by}
-use Rattle.gx_policy.specs.People.{is_reader, role_in}
-use Rattle.gx_history.specs.Streams.{executed_message}
-use Rattle.gx_streams.specs.declared.fill.Party.{Party}
-use Rattle.gx_streams.specs.declared.fill.Party.TheVariants as parties
-use Rattle.gx_streams.specs.declared.fill.ToldFill.{ToldFill}
-use Rattle.gx_streams.specs.Fills.{executed, side_of}
-use Rattle.gx_streams.specs.Streams.{AllStreams, mask_of}
+use Rattle.gx_policy.specs.{declared.policy.{Account.Account, PolicyData.PolicyData}, People.{is_reader, role_in}}
+use Rattle.gx_history.specs.{declared.record.{Fill.Fill, RecordData.RecordData, Verdict.Verdict}, Executions.{Execution, sides}, InForce.is_entitled, Masks.mask_by, Streams.executed_message}
+use Rattle.gx_streams.specs.{declared.fill.{Party.Party, ToldFill.ToldFill}, Fills.{executed, side_of}, Streams.{AllStreams, mask_of}}
 
 -- the accounts that are the user's by these records, if he is a reader
 abbrev pub mask_in_force : PolicyData → List RecordData → UserName → Option ℕ
@@ -34,7 +20,7 @@ KnowsReaders policy streams = (user : UserName) → is_some (mask_of streams use
 
 -- the record makes a fill
 abbrev pub is_fill : Verdict → Bool
-is_fill (verdicts.Filled f) = true
+is_fill (Verdict.Filled f) = true
 is_fill other = false
 
 -- a party's side of the told fill is this side of the record's, for an order of one who is no reader
@@ -51,8 +37,8 @@ pub record IsMadeBy (policy : PolicyData) (history : List RecordData) (r : Recor
   pub made : Fill
   pub taker : Execution
   pub maker : Execution
-  pub fills : r.verdict ≡ verdicts.Filled made
+  pub fills : r.verdict ≡ Verdict.Filled made
   pub sides_are : sides policy history r.verdict ≡ taker ∷ maker ∷ []
-  pub takers : IsSide policy r taker f parties.Taker
-  pub makers : IsSide policy r maker f parties.Maker
+  pub takers : IsSide policy r taker f Party.Taker
+  pub makers : IsSide policy r maker f Party.Maker
   pub moment : f.moment ≡ r.moment

@@ -1,15 +1,9 @@
 -- What a reader is told, from the spans of fills in which one mask was in force.
-use Rattle.std.specs.Prelude.{◌≡◌, ◌≤◌, ℕ, Bool, Some, if◌then◌else◌, ◌+◌, ◌*◌, ◌-◌, List, [], ◌∷◌, ◌++◌, length, take, drop}
-use Rattle.std.specs.List.{AllByRecursion, flat_map}
-use Rattle.gx_units.specs.Names.{same_user}
-use Rattle.gx_policy.specs.declared.policy.User.{User}
-use Rattle.gx_policy.specs.declared.policy.PolicyData.{PolicyData}
-use Rattle.gx_policy.specs.People.{is_reader}
-use Rattle.gx_units.specs.declared.names.UserName.{UserName}
+use Rattle.std.specs.{Prelude.{◌≡◌, ◌≤◌, ℕ, Bool, Some, if◌then◌else◌, ◌+◌, ◌*◌, ◌-◌, List, [], ◌∷◌, ◌++◌, length, take, drop}, List.{AllByRecursion, flat_map}}
+use Rattle.gx_units.specs.{Names.same_user, declared.names.UserName.UserName}
+use Rattle.gx_policy.specs.{declared.policy.{User.User, PolicyData.PolicyData}, People.is_reader}
 use Rattle.gx_history.specs.declared.report.Report.{Report}
-use Rattle.gx_streams.specs.declared.fill.ToldFill.{ToldFill}
-use Rattle.gx_streams.specs.declared.span.Span.{Span}
-use Rattle.gx_streams.specs.Fills.{copies_of, copies_of_all}
+use Rattle.gx_streams.specs.{declared.{fill.ToldFill.ToldFill, span.Span.Span}, Fills.{copies_of, copies_of_all}}
 
 -- a reader's spans, and how many reports he has
 pub record ReaderSpans : Type 0 where

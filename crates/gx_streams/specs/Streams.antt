@@ -1,16 +1,9 @@
 -- Streams: the reports of each user, the places kept for more, and the mask in force of each reader.
-use Rattle.std.specs.Prelude.{ℕ, Bool, ◌&&◌, not, is_some, List, [], ◌∷◌, ◌++◌, Option, Some, map, option_map, if◌then◌else◌}
-use Rattle.std.specs.Option.{option_map_or}
-use Rattle.std.specs.List.{find, flat_map}
-use Rattle.gx_units.specs.Names.{same_user}
-use Rattle.gx_units.specs.declared.names.UserName.{UserName}
-use Rattle.gx_policy.specs.declared.policy.PolicyData.{PolicyData}
-use Rattle.gx_policy.specs.declared.policy.User.{User}
+use Rattle.std.specs.{Prelude.{ℕ, Bool, ◌&&◌, not, is_some, List, [], ◌∷◌, ◌++◌, Option, Some, map, option_map, if◌then◌else◌}, Option.option_map_or, List.{find, flat_map}}
+use Rattle.gx_units.specs.{Names.same_user, declared.names.UserName.UserName}
+use Rattle.gx_policy.specs.{declared.policy.{PolicyData.PolicyData, User.User}, People.is_reader}
 use Rattle.gx_history.specs.declared.report.Report.{Report}
-use Rattle.gx_policy.specs.People.{is_reader}
-use Rattle.gx_streams.specs.declared.fill.ToldFill.{ToldFill}
-use Rattle.gx_streams.specs.Fills.{copies_of, executed_of}
-use Rattle.gx_streams.specs.Kept.{Kept, UserList, at_first, is_known, items_in, nothing_told, on_user}
+use Rattle.gx_streams.specs.{declared.fill.ToldFill.ToldFill, Fills.{copies_of, executed_of}, Kept.{Kept, UserList, at_first, is_known, items_in, nothing_told, on_user}}
 
 -- a reader, and the accounts whose later fills he gets, in the file's order, the first in the lowest bit
 pub record ReaderMask : Type 0 where

@@ -1,19 +1,9 @@
 -- The streams that the tables stand for.
-use Rattle.std.specs.Prelude.{◌<◌, ℕ, IsTrue, List, length, map}
-use Rattle.std.specs.Option.{option_map_or}
-use Rattle.std.specs.List.{AllByRecursion, find, slice_get}
+use Rattle.std.specs.{Prelude.{◌<◌, ℕ, IsTrue, List, length, map}, Option.option_map_or, List.{AllByRecursion, find, slice_get}}
 use Rattle.gx_units.specs.declared.names.UserName.{UserName}
-use Rattle.gx_ouch.specs.declared.outbound.Outbound.TheVariants as outbounds
-use Rattle.gx_ouch.specs.declared.letters.EventCode.TheVariants as events
-use Rattle.gx_history.specs.declared.report.Message.TheVariants as messages
-use Rattle.gx_history.specs.declared.report.Report.{Report}
-use Rattle.gx_streams.specs.declared.fill.ToldFill.{ToldFill}
-use Rattle.gx_streams.specs.declared.entry.Entry.{Entry}
-use Rattle.gx_streams.specs.declared.entry.Entry.TheVariants as entries
-use Rattle.gx_streams.specs.Fills.{executed_report}
-use Rattle.gx_streams.specs.Kept.{Kept, UserList, is_known}
-use Rattle.gx_streams.specs.Spans.{ReaderSpans, IsSound, copies_in, is_named}
-use Rattle.gx_streams.specs.Streams.{AllStreams, ReaderMask}
+use Rattle.gx_ouch.specs.declared.{outbound.Outbound.Outbound, letters.EventCode.EventCode}
+use Rattle.gx_history.specs.declared.report.{Message.Message, Report.Report}
+use Rattle.gx_streams.specs.{declared.{fill.ToldFill.ToldFill, entry.Entry.Entry}, Fills.executed_report, Kept.{Kept, UserList, is_known}, Spans.{ReaderSpans, IsSound, copies_in, is_named}, Streams.{AllStreams, ReaderMask}}
 
 -- the user of an entry
 abbrev pub user_list : UserName × Kept Entry → UserList Entry
@@ -25,17 +15,17 @@ lists_of es = map user_list es
 
 -- stands for a fill that is not there, which no entry names
 abbrev pub no_report : Report
-no_report = record { timestamp = 0; message = messages.Order (outbounds.SystemEvent events.EndOfDay) }
+no_report = record { timestamp = 0; message = Message.Order (Outbound.SystemEvent EventCode.EndOfDay) }
 
 -- the report that an entry stands for
 abbrev pub report_of : List ToldFill → Entry → Report
-report_of fills (entries.Typed report) = report
-report_of fills (entries.Filled place party) = option_map_or (λ (f : ToldFill). executed_report f party) (slice_get fills place) no_report
+report_of fills (Entry.Typed report) = report
+report_of fills (Entry.Filled place party) = option_map_or (λ (f : ToldFill). executed_report f party) (slice_get fills place) no_report
 
 -- the fill of the entry, if it has one, is there
 abbrev pub IsThere : ℕ → Entry → Type 0
-IsThere count (entries.Typed report) = Unit {0}
-IsThere count (entries.Filled place party) = place < count
+IsThere count (Entry.Typed report) = Unit {0}
+IsThere count (Entry.Filled place party) = place < count
 
 -- the reports that entries stand for
 abbrev pub kept_reports : List ToldFill → Kept Entry → Kept Report

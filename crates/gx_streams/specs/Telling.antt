@@ -1,22 +1,11 @@
 -- What the streams show, and what each user is told by a day's records.
 use Rattle.std.specs.Prelude.{List, [], ◌++◌, map, filter, fold, if◌then◌else◌}
-use Rattle.gx_units.specs.Names.{same_user}
-use Rattle.gx_units.specs.declared.names.UserName.{UserName}
-use Rattle.gx_ouch.specs.declared.letters.CancelReason.TheVariants as cancels
-use Rattle.gx_ouch.specs.declared.outbound.Outbound.TheVariants as outbounds
+use Rattle.gx_units.specs.{Names.same_user, declared.names.UserName.UserName}
+use Rattle.gx_ouch.specs.declared.{letters.CancelReason.CancelReason, outbound.Outbound.Outbound}
 use Rattle.gx_desk.specs.declared.Action.{Action}
-use Rattle.gx_policy.specs.declared.policy.PolicyData.{PolicyData}
-use Rattle.gx_policy.specs.declared.policy.User.{User}
-use Rattle.gx_history.specs.declared.record.RecordData.{RecordData}
-use Rattle.gx_history.specs.declared.report.Message.{Message}
-use Rattle.gx_history.specs.declared.report.Message.TheVariants as messages
-use Rattle.gx_history.specs.declared.report.Report.{Report}
-use Rattle.gx_history.specs.declared.live_order.LiveOrder.{LiveOrder}
-use Rattle.gx_history.specs.LiveOrders.{shares_open}
-use Rattle.gx_history.specs.Orders.{ends_account}
-use Rattle.gx_history.specs.Streams.{reported, stream}
-use Rattle.gx_streams.specs.Kept.{UserList, with_kept_last}
-use Rattle.gx_streams.specs.Streams.{AllStreams, on_told}
+use Rattle.gx_policy.specs.declared.policy.{PolicyData.PolicyData, User.User}
+use Rattle.gx_history.specs.{declared.{«record».RecordData.RecordData, report.{Message.Message, Report.Report}, live_order.LiveOrder.LiveOrder}, LiveOrders.shares_open, Orders.ends_account, Streams.{reported, stream}}
+use Rattle.gx_streams.specs.{Kept.{UserList, with_kept_last}, Streams.{AllStreams, on_told}}
 
 -- a user's reports
 pub record UserReports : Type 0 where
@@ -73,7 +62,7 @@ owed_message r o = (o.0, reported r o.1)
 
 -- Canceled, with the user who is told so
 abbrev pub owed_for : LiveOrder → UserName × Message
-owed_for o = (o.user, messages.Order (outbounds.Canceled (record { token = o.token; decrement = shares_open o; reason = cancels.Supervisory })))
+owed_for o = (o.user, Message.Order (Outbound.Canceled (record { token = o.token; decrement = shares_open o; reason = CancelReason.Supervisory })))
 
 -- what a command owes for those of the live orders that it ends
 abbrev pub owed_for_ended : List LiveOrder → Action → List (UserName × Message)

@@ -2,8 +2,7 @@
 
 ghost use Rattle.std.specs.Prelude.{◌≡◌, ◌≤◌, length};
 ghost use Rattle.gx_history.specs.Masks.{has_account};
-ghost use Rattle.gx_streams.specs.Fills.{copies_of, copy_report, executed, executed_report};
-ghost use Rattle.gx_streams.specs.Fills.{liquidity_of, side_of};
+ghost use Rattle.gx_streams.specs.Fills.{copies_of, copy_report, executed, executed_report, liquidity_of, side_of};
 
 use gx_desk::DropCopy;
 use gx_history::report::{Message, Report};

@@ -1,7 +1,6 @@
 //! Laws of the definitions, each as what a function without a body ensures.
 
-ghost use Rattle.gx_streams.specs.Laws.{AllAreTold, AllOwedAreShown, AllOwedAreTold, EachHasAPlace, EndedAndAnswerAreTold, EndedAreCounted, EndedAreOwed, EndedAreTold, FirstNothingIsTold, KeptLastIsShown, KnownAreThePolicys, LastIsShown, NoPlaceIsTaken, NoneForOneIsNone, NobodyIsTold, NothingOwedIsTold, OneOwedIsTold, OnePlaceIsTaken, OneIsAmongAll, OneIsTold, OnlyKnownAreTold, OthersKeepPlaces, OwedGoOn, OwedTakePlaces, PlacesAreKept, PlacesAreNotShown, ReportsAreStreams, StaysToldByAll, StaysToldByNone, StaysToldByOne, TellingGoesOn, TwoAreAmongAll, UsersStay};
-ghost use Rattle.gx_streams.specs.Laws.{FillsAloneAreSent, FillsAreShown, ReadersAreSentCopies, SentIsKept, StaysToldByFill};
+ghost use Rattle.gx_streams.specs.Laws.{AllAreTold, AllOwedAreShown, AllOwedAreTold, EachHasAPlace, EndedAndAnswerAreTold, EndedAreCounted, EndedAreOwed, EndedAreTold, FirstNothingIsTold, KeptLastIsShown, KnownAreThePolicys, LastIsShown, NoPlaceIsTaken, NoneForOneIsNone, NobodyIsTold, NothingOwedIsTold, OneOwedIsTold, OnePlaceIsTaken, OneIsAmongAll, OneIsTold, OnlyKnownAreTold, OthersKeepPlaces, OwedGoOn, OwedTakePlaces, PlacesAreKept, PlacesAreNotShown, ReportsAreStreams, StaysToldByAll, StaysToldByNone, StaysToldByOne, TellingGoesOn, TwoAreAmongAll, UsersStay, FillsAloneAreSent, FillsAreShown, ReadersAreSentCopies, SentIsKept, StaysToldByFill};
 
 /// What a day's records tell each user goes on record by record: each adds what it owes to the end.
 pub fn streams_go_on()

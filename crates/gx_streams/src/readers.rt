@@ -1,11 +1,8 @@
 //! The spans of all readers.
 
-ghost use Rattle.std.specs.Prelude.{◌≡◌, ◌<◌, ◌+◌, ◌^◌, IfOk, IfSome, OnOk, OnErr, Some, length, map};
-ghost use Rattle.std.specs.Prelude.{option_map};
-ghost use Rattle.std.specs.List.{AllByRecursion, find};
+ghost use Rattle.std.specs.{Prelude.{◌≡◌, ◌<◌, ◌+◌, ◌^◌, IfOk, IfSome, OnOk, OnErr, Some, length, map, option_map}, List.{AllByRecursion, find}};
 ghost use Rattle.gx_policy.specs.People.{is_reader};
-ghost use Rattle.gx_streams.specs.Kept.{at_first};
-ghost use Rattle.gx_streams.specs.Spans.{counted, entitled_from, first_spans, is_named};
+ghost use Rattle.gx_streams.specs.{Kept.at_first, Spans.{counted, entitled_from, first_spans, is_named}};
 
 use crate::fill::ToldFill;
 use crate::reader::Reader;

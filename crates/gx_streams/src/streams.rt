@@ -1,13 +1,8 @@
 //! The streams of all users.
 
-ghost use Rattle.std.specs.Prelude.{◌≡◌, ◌<◌, ◌^◌, ◌≤◌, length, map, option_map};
-ghost use Rattle.std.specs.Prelude.{IsTrue, IfOk, IsOk, OnOk, OnErr};
+ghost use Rattle.std.specs.Prelude.{◌≡◌, ◌<◌, ◌^◌, ◌≤◌, length, map, option_map, IsTrue, IfOk, IsOk, OnOk, OnErr};
 ghost use Rattle.gx_policy.specs.Lists.{slice};
-ghost use Rattle.gx_streams.specs.Kept.{places_in, with_kept_last, with_last, with_places};
-ghost use Rattle.gx_streams.specs.Spans.{copies_in, AreNumbered};
-ghost use Rattle.gx_streams.specs.Streams.{empty_streams, entitled, is_told, on_told, reports_in};
-ghost use Rattle.gx_streams.specs.Streams.{with_fill};
-ghost use Rattle.gx_streams.specs.Table.{no_report, report_of};
+ghost use Rattle.gx_streams.specs.{Kept.{places_in, with_kept_last, with_last, with_places}, Spans.{copies_in, AreNumbered}, Streams.{empty_streams, entitled, is_told, on_told, reports_in, with_fill}, Table.{no_report, report_of}};
 
 use crate::entry::Entry;
 use crate::fill::{Party, ToldFill};

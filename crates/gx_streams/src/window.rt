@@ -1,9 +1,7 @@
 //! Reports that are asked for, among those that pass by.
 
 ghost use Rattle.std.specs.Prelude.{◌≡◌, [], ◌∷◌, ◌&&◌, ◌==◌, nat_le, length, OnOk};
-ghost use Rattle.gx_streams.specs.Fills.{copies_of, copies_of_all, copy_of};
-ghost use Rattle.gx_streams.specs.Spans.{copies_in, next_of, AreNumbered};
-ghost use Rattle.gx_streams.specs.Windows.{after, is_full, window};
+ghost use Rattle.gx_streams.specs.{Fills.{copies_of, copies_of_all, copy_of}, Spans.{copies_in, next_of, AreNumbered}, Windows.{after, is_full, window}};
 
 use crate::fill::{Party, ToldFill};
 use crate::span::Span;

@@ -1,9 +1,6 @@
 -- How a line is cut into the words between its spaces.
-use Rattle.std.proofs.Common.{◌≡◌, ℕ, suc, ◌+◌, ◌-◌, ◌<◌, Bool, true, false, not, cond, List, [], ◌∷◌, length, take, drop, Some, None, refl, sym, ap, ◌∙◌, arith, ltb}
-use Rattle.std.proofs.lemmas.Option.{cond_some}
-use Rattle.std.proofs.lemmas.Bool.Decides.{nat_tests}
-use Rattle.std.specs.Prelude.{position, slice_index, filter}
-use Rattle.std.specs.List.{position_or_len}
+use Rattle.std.proofs.{Common.{◌≡◌, ℕ, suc, ◌+◌, ◌-◌, ◌<◌, Bool, true, false, not, cond, List, [], ◌∷◌, length, take, drop, Some, None, refl, sym, ap, ◌∙◌, arith, ltb}, lemmas.{Option.cond_some, Bool.Decides.nat_tests}}
+use Rattle.std.specs.{Prelude.{position, slice_index, filter}, List.position_or_len}
 use Rattle.gx_units.specs.Spelling.{is_space}
 use Rattle.gx_script.specs.Words.{words_of, is_empty}
 use Rattle.gx_script.proofs.Cutting.{cut_found, cut_missed}

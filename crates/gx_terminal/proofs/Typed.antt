@@ -1,21 +1,11 @@
 -- A price that is typed as it is shown is the same price.
-use Rattle.std.proofs.Common.{◌≡◌, ℕ, zero, suc, ◌+◌, ◌*◌, ◌-◌, ◌/◌, ◌%◌, ◌^◌, ◌<◌, ◌≤◌, Bool, true, false, not, cond, ◌&&◌, List, [], ◌∷◌, ◌++◌, length, drop, replicate, fold, Some, None, refl, ap, ◌∙◌, arith, rules, decimal, nat_le, nat_lt, length-append, append_assoc}
-use Rattle.std.specs.Int.{IsInRange}
-use Rattle.std.specs.Prelude.{◌==◌, position, option_map}
-use Rattle.std.specs.List.{list_all, position_or_len}
-use Rattle.std.specs.Char.{is_ascii_digit}
-use Rattle.std.proofs.lemmas.Bool.Decides.{nat_tests}
-use Rattle.std.proofs.lemmas.Bool.{eqb-true}
-use Rattle.std.proofs.lemmas.List.{length-replicate}
-use Rattle.std.proofs.lemmas.Str.Parse.{IsNumeralModel, numerals_by_fold}
-use Rattle.std.proofs.lemmas.Fmt.{digits_value-decimal, decimal_is_IsNumeral, decimal_nonempty, length-decimal-le}
-use Rattle.std.proofs.Math.Seq.{take-append_seam, drop-append-add}
+use Rattle.std.proofs.{Common.{◌≡◌, ℕ, zero, suc, ◌+◌, ◌*◌, ◌-◌, ◌/◌, ◌%◌, ◌^◌, ◌<◌, ◌≤◌, Bool, true, false, not, cond, ◌&&◌, List, [], ◌∷◌, ◌++◌, length, drop, replicate, fold, Some, None, refl, ap, ◌∙◌, arith, rules, decimal, nat_le, nat_lt, length-append, append_assoc}, lemmas.{Bool.{Decides.nat_tests, eqb-true}, List.length-replicate, Str.Parse.{IsNumeralModel, numerals_by_fold}, Fmt.{digits_value-decimal, decimal_is_IsNumeral, decimal_nonempty, length-decimal-le}}, Math.Seq.{take-append_seam, drop-append-add}}
+use Rattle.std.specs.{Int.IsInRange, Prelude.{◌==◌, position, option_map}, List.{list_all, position_or_len}, Char.is_ascii_digit}
 use Rattle.gx_soup.specs.Login.{with_digit, spelled}
 use Rattle.gx_script.specs.Words.{is_empty, number_of}
 use Rattle.gx_lines.specs.Showing.{decimals_text, price_text}
 use Rattle.gx_text.specs.Moments.{with_zeros}
-use Rattle.gx_terminal.specs.Prices.{is_point, in_32_bits, decimals_of, pointed_price, price_at, price_of}
-use Rattle.gx_terminal.specs.PriceLaws.{PricesAreReadBack}
+use Rattle.gx_terminal.specs.{Prices.{is_point, in_32_bits, decimals_of, pointed_price, price_at, price_of}, PriceLaws.PricesAreReadBack}
 
 abbrev AreDigits : List ℕ → Type 0
 AreDigits [] = Unit {0}

@@ -1,9 +1,7 @@
 -- The words of a line, taken one after the other.
 use Rattle.std.specs.Prelude.{ℕ, ◌+◌, not, List, [], ◌∷◌, filter, Option, Some, None, Result, Ok, Err, ◌≡◌}
 use Rattle.gx_script.specs.Words.{words_of, is_empty}
-use Rattle.gx_terminal.specs.declared.wrong.Wanted.{Wanted}
-use Rattle.gx_terminal.specs.declared.wrong.Wanted.TheVariants.{End}
-use Rattle.gx_terminal.specs.declared.wrong.Wrong.{Wrong}
+use Rattle.gx_terminal.specs.declared.wrong.{Wanted.{Wanted, TheVariants.End}, Wrong.Wrong}
 
 -- what stands between the spaces of a line, one or more of them
 abbrev pub words_between : List ℕ → List (List ℕ)

@@ -1,80 +1,59 @@
 -- What the words of a line ask for.
 use Rattle.std.specs.Prelude.{ℕ, Bool, ◌==◌, if◌then◌else◌, List, [], ◌∷◌, codes, bytes_eq, slice_index, Option, Some, None, option_map, Result, Ok, Err}
-use Rattle.gx_units.specs.declared.names.AccountName.{AccountName}
-use Rattle.gx_units.specs.declared.names.RuleId.{RuleId}
-use Rattle.gx_units.specs.declared.names.Symbol.{Symbol}
-use Rattle.gx_units.specs.declared.names.Token.{Token}
-use Rattle.gx_desk.specs.declared.Action.TheVariants as actions
-use Rattle.gx_desk.specs.declared.Command.{Command}
-use Rattle.gx_desk.specs.declared.Tag.{Tag}
-use Rattle.gx_desk.specs.declared.WrittenName.{WrittenName}
-use Rattle.gx_ouch.specs.declared.inbound.EnterOrder.{EnterOrder}
-use Rattle.gx_ouch.specs.declared.inbound.ReplaceOrder.{ReplaceOrder}
-use Rattle.gx_ouch.specs.declared.inbound.Inbound.{Inbound}
-use Rattle.gx_ouch.specs.declared.inbound.Inbound.TheVariants as inbounds
+use Rattle.gx_units.specs.declared.names.{AccountName.AccountName, RuleId.RuleId, Symbol.Symbol, Token.Token}
+use Rattle.gx_desk.specs.declared.{Action.Action, Command.Command, Tag.Tag, WrittenName.WrittenName}
+use Rattle.gx_ouch.specs.declared.inbound.{EnterOrder.EnterOrder, ReplaceOrder.ReplaceOrder, Inbound.Inbound}
 use Rattle.gx_history.specs.OuchValues.{side_buy, side_sell, immediate_or_cancel, system_hours}
-use Rattle.gx_script.specs.Words.{name_of, number_of}
-use Rattle.gx_script.specs.ScriptLines.{without_cr, plain_order, plain_replace}
-use Rattle.gx_terminal.specs.declared.wrong.Wanted.TheVariants as wanted
-use Rattle.gx_terminal.specs.declared.wrong.Wrong.{Wrong}
-use Rattle.gx_terminal.specs.declared.wish.Side.{Side}
-use Rattle.gx_terminal.specs.declared.wish.Side.TheVariants as sides
-use Rattle.gx_terminal.specs.declared.wish.Lifetime.{Lifetime}
-use Rattle.gx_terminal.specs.declared.wish.Lifetime.TheVariants as lifetimes
-use Rattle.gx_terminal.specs.declared.wish.NewOrder.{NewOrder}
-use Rattle.gx_terminal.specs.declared.wish.NewTerms.{NewTerms}
-use Rattle.gx_terminal.specs.declared.wish.Wish.{Wish}
-use Rattle.gx_terminal.specs.declared.wish.Wish.TheVariants as wishes
-use Rattle.gx_terminal.specs.Cursor.{Left, left_of, words_between, wrong_at, ◌>>=◌, next, next_or, ended}
-use Rattle.gx_terminal.specs.Prices.{price_of}
+use Rattle.gx_script.specs.{Words.{name_of, number_of}, ScriptLines.{without_cr, plain_order, plain_replace}}
+use Rattle.gx_terminal.specs.{declared.{wrong.{Wanted.Wanted, Wrong.Wrong}, wish.{Side.Side, Lifetime.Lifetime, NewOrder.NewOrder, NewTerms.NewTerms, Wish.Wish}}, Cursor.{Left, left_of, words_between, wrong_at, ◌>>=◌, next, next_or, ended}, Prices.price_of}
 
 -- `--all`, or an account
 abbrev pub killed_of : List ℕ → Option Wish
 killed_of word =
-    if bytes_eq word (codes "--all") then Some wishes.KillAll
-    else option_map (λ bytes. wishes.Ask (actions.Kill (record { bytes = bytes }))) (name_of 8 word)
+    if bytes_eq word (codes "--all") then Some Wish.KillAll
+    else option_map (λ bytes. Wish.Ask (Action.Kill (record { bytes = bytes }))) (name_of 8 word)
 
 -- `ACCOUNT`, or `--all`
 unfoldable pub kill_form : Left → Result Wish Wrong
 kill_form left = do
-  kill ← next wanted.AccountOrAll killed_of left
+  kill ← next Wanted.AccountOrAll killed_of left
   ended kill.0 kill.1
 
 -- `ACCOUNT`
 unfoldable pub lift_form : Left → Result Wish Wrong
 lift_form left = do
-  account ← next wanted.Account (name_of 8) left
-  ended (wishes.Ask (actions.Lift (record { bytes = account.0 }))) account.1
+  account ← next Wanted.Account (name_of 8) left
+  ended (Wish.Ask (Action.Lift (record { bytes = account.0 }))) account.1
 
 -- `RULE VALUE`
 unfoldable pub limit_form : Left → Result Wish Wrong
 limit_form left = do
-  rule ← next wanted.Rule (name_of 8) left
-  limit ← next wanted.Value (number_of 64) rule.1
-  ended (wishes.Ask (actions.SetLimit (record { bytes = rule.0 }) limit.0)) limit.1
+  rule ← next Wanted.Rule (name_of 8) left
+  limit ← next Wanted.Value (number_of 64) rule.1
+  ended (Wish.Ask (Action.SetLimit (record { bytes = rule.0 }) limit.0)) limit.1
 
 -- `RULE STOCK`
 unfoldable pub stock_form : Left → Result (RuleId × Symbol) Wrong
 stock_form left = do
-  rule ← next wanted.Rule (name_of 8) left
-  stock ← next wanted.Stock (name_of 8) rule.1
+  rule ← next Wanted.Rule (name_of 8) left
+  stock ← next Wanted.Stock (name_of 8) rule.1
   ended (record { bytes = rule.0 }, record { bytes = stock.0 }) stock.1
 
 -- `READER ACCOUNT`: the reader as he is written, in either case of letters
 unfoldable pub reader_form : Left → Result (WrittenName × AccountName) Wrong
 reader_form left = do
-  reader ← next wanted.Reader (name_of 6) left
-  account ← next wanted.Account (name_of 8) reader.1
+  reader ← next Wanted.Reader (name_of 6) left
+  account ← next Wanted.Account (name_of 8) reader.1
   ended (record { bytes = reader.0 }, record { bytes = account.0 }) account.1
 
 -- `--yes`
 unfoldable pub close_of : List ℕ → Option Wish
-close_of word = if bytes_eq word (codes "--yes") then Some (wishes.Ask actions.CloseDay) else None
+close_of word = if bytes_eq word (codes "--yes") then Some (Wish.Ask Action.CloseDay) else None
 
 -- `--yes`: without it the day is not closed
 unfoldable pub close_form : Left → Result Wish Wrong
 close_form left = do
-  close ← next wanted.Yes close_of left
+  close ← next Wanted.Yes close_of left
   ended close.0 close.1
 
 -- the command of an officer that the word names, of the words behind it
@@ -83,50 +62,50 @@ command_form name left =
     if bytes_eq name (codes "kill") then kill_form left
     else (if bytes_eq name (codes "lift") then lift_form left
     else (if bytes_eq name (codes "limit") then limit_form left
-    else (if bytes_eq name (codes "restrict") then (stock_form left >>= λ named. Ok (wishes.Ask (actions.Restrict named.0 named.1)))
-    else (if bytes_eq name (codes "unrestrict") then (stock_form left >>= λ named. Ok (wishes.Ask (actions.Unrestrict named.0 named.1)))
-    else (if bytes_eq name (codes "grant") then (reader_form left >>= λ named. Ok (wishes.Ask (actions.Grant named.0 named.1)))
-    else (if bytes_eq name (codes "revoke") then (reader_form left >>= λ named. Ok (wishes.Ask (actions.Revoke named.0 named.1)))
+    else (if bytes_eq name (codes "restrict") then (stock_form left >>= λ named. Ok (Wish.Ask (Action.Restrict named.0 named.1)))
+    else (if bytes_eq name (codes "unrestrict") then (stock_form left >>= λ named. Ok (Wish.Ask (Action.Unrestrict named.0 named.1)))
+    else (if bytes_eq name (codes "grant") then (reader_form left >>= λ named. Ok (Wish.Ask (Action.Grant named.0 named.1)))
+    else (if bytes_eq name (codes "revoke") then (reader_form left >>= λ named. Ok (Wish.Ask (Action.Revoke named.0 named.1)))
     else (if bytes_eq name (codes "close") then close_form left
-    else Err (wrong_at left.taken wanted.Form))))))))
+    else Err (wrong_at left.taken Wanted.Form))))))))
 
 -- `day`: the order rests until the day is closed; `ioc`: what is not executed at once is canceled
 abbrev pub lifetime_of : List ℕ → Option Lifetime
 lifetime_of word =
-    if bytes_eq word (codes "day") then Some lifetimes.Day
-    else (if bytes_eq word (codes "ioc") then Some lifetimes.ImmediateOrCancel
+    if bytes_eq word (codes "day") then Some Lifetime.Day
+    else (if bytes_eq word (codes "ioc") then Some Lifetime.ImmediateOrCancel
     else None)
 
 -- `SHARES STOCK PRICE`, and `day` or `ioc`; without either it is `day`
 unfoldable pub enter_form : Side → Left → Result Wish Wrong
 enter_form side left = do
-  shares ← next wanted.Shares (number_of 32) left
-  stock ← next wanted.Stock (name_of 8) shares.1
-  price ← next wanted.Price price_of stock.1
-  lifetime ← next_or lifetimes.Day wanted.Lifetime lifetime_of price.1
-  ended (wishes.Enter (record { side = side; shares = shares.0; stock = record { bytes = stock.0 }; price = price.0; lifetime = lifetime.0 })) lifetime.1
+  shares ← next Wanted.Shares (number_of 32) left
+  stock ← next Wanted.Stock (name_of 8) shares.1
+  price ← next Wanted.Price price_of stock.1
+  lifetime ← next_or Lifetime.Day Wanted.Lifetime lifetime_of price.1
+  ended (Wish.Enter (record { side = side; shares = shares.0; stock = record { bytes = stock.0 }; price = price.0; lifetime = lifetime.0 })) lifetime.1
 
 -- `TOKEN SHARES PRICE`, and `day` or `ioc`; without either it is `day`
 unfoldable pub replace_form : Left → Result Wish Wrong
 replace_form left = do
-  token ← next wanted.Token (name_of 14) left
-  shares ← next wanted.Shares (number_of 32) token.1
-  price ← next wanted.Price price_of shares.1
-  lifetime ← next_or lifetimes.Day wanted.Lifetime lifetime_of price.1
-  ended (wishes.Replace (record { token = record { bytes = token.0 }; shares = shares.0; price = price.0; lifetime = lifetime.0 })) lifetime.1
+  token ← next Wanted.Token (name_of 14) left
+  shares ← next Wanted.Shares (number_of 32) token.1
+  price ← next Wanted.Price price_of shares.1
+  lifetime ← next_or Lifetime.Day Wanted.Lifetime lifetime_of price.1
+  ended (Wish.Replace (record { token = record { bytes = token.0 }; shares = shares.0; price = price.0; lifetime = lifetime.0 })) lifetime.1
 
 -- `TOKEN`, and the new size of the order; without it nothing stays open
 unfoldable pub cancel_form : Left → Result Wish Wrong
 cancel_form left = do
-  token ← next wanted.Token (name_of 14) left
-  shares ← next_or 0 wanted.Shares (number_of 32) token.1
-  ended (wishes.Cancel (record { token = record { bytes = token.0 }; shares = shares.0 })) shares.1
+  token ← next Wanted.Token (name_of 14) left
+  shares ← next_or 0 Wanted.Shares (number_of 32) token.1
+  ended (Wish.Cancel (record { token = record { bytes = token.0 }; shares = shares.0 })) shares.1
 
 -- what a trader asks for, or else the command of an officer
 unfoldable pub order_form : List ℕ → Left → Result Wish Wrong
 order_form name left =
-    if bytes_eq name (codes "buy") then enter_form sides.Buy left
-    else (if bytes_eq name (codes "sell") then enter_form sides.Sell left
+    if bytes_eq name (codes "buy") then enter_form Side.Buy left
+    else (if bytes_eq name (codes "sell") then enter_form Side.Sell left
     else (if bytes_eq name (codes "replace") then replace_form left
     else (if bytes_eq name (codes "cancel") then cancel_form left
     else command_form name left)))
@@ -134,9 +113,9 @@ order_form name left =
 -- what the word names, of the words behind it
 unfoldable pub wish_form : List ℕ → Left → Result Wish Wrong
 wish_form name left =
-    if bytes_eq name (codes "watch") then ended wishes.Watch left
-    else (if bytes_eq name (codes "help") then ended wishes.Help left
-    else (if bytes_eq name (codes "quit") then ended wishes.Quit left
+    if bytes_eq name (codes "watch") then ended Wish.Watch left
+    else (if bytes_eq name (codes "help") then ended Wish.Help left
+    else (if bytes_eq name (codes "quit") then ended Wish.Quit left
     else order_form name left))
 
 -- a first word that makes its line a comment begins with `#`
@@ -145,8 +124,8 @@ is_comment word = slice_index word 0 == 35
 
 -- a line by its words
 abbrev pub wish_of_words : List (List ℕ) → Result Wish Wrong
-wish_of_words [] = Ok wishes.Nothing
-wish_of_words (word ∷ words) = if is_comment word then Ok wishes.Nothing else wish_form word (left_of 1 words)
+wish_of_words [] = Ok Wish.Nothing
+wish_of_words (word ∷ words) = if is_comment word then Ok Wish.Nothing else wish_form word (left_of 1 words)
 
 -- what a line asks for, its bytes without the LF; or which of its words is wrong, and what was wanted there
 unfoldable pub wish_of : List ℕ → Result Wish Wrong
@@ -154,25 +133,25 @@ wish_of line = wish_of_words (words_between (without_cr line))
 
 -- the command that is wished, under this tag
 abbrev pub command_of : Tag → Wish → Option Command
-command_of tag (wishes.Ask action) = Some (record { tag = tag; action = action })
-command_of tag wishes.Nothing = None
-command_of tag wishes.KillAll = None
-command_of tag (wishes.Enter order) = None
-command_of tag (wishes.Replace order) = None
-command_of tag (wishes.Cancel order) = None
-command_of tag wishes.Watch = None
-command_of tag wishes.Help = None
-command_of tag wishes.Quit = None
+command_of tag (Wish.Ask action) = Some (record { tag = tag; action = action })
+command_of tag Wish.Nothing = None
+command_of tag Wish.KillAll = None
+command_of tag (Wish.Enter order) = None
+command_of tag (Wish.Replace order) = None
+command_of tag (Wish.Cancel order) = None
+command_of tag Wish.Watch = None
+command_of tag Wish.Help = None
+command_of tag Wish.Quit = None
 
 -- the Buy/Sell Indicator
 abbrev pub indicator_of : Side → ℕ
-indicator_of sides.Buy = side_buy
-indicator_of sides.Sell = side_sell
+indicator_of Side.Buy = side_buy
+indicator_of Side.Sell = side_sell
 
 -- the Time in Force
 abbrev pub time_in_force_of : Lifetime → ℕ
-time_in_force_of lifetimes.Day = system_hours
-time_in_force_of lifetimes.ImmediateOrCancel = immediate_or_cancel
+time_in_force_of Lifetime.Day = system_hours
+time_in_force_of Lifetime.ImmediateOrCancel = immediate_or_cancel
 
 -- the new order under this token
 abbrev pub entered : Token → NewOrder → EnterOrder
@@ -186,12 +165,12 @@ replacing token terms =
 
 -- the message of a trader that is wished, a new order under this token
 abbrev pub order_of : Token → Wish → Option Inbound
-order_of token (wishes.Enter order) = Some (inbounds.Enter (entered token order))
-order_of token (wishes.Replace terms) = Some (inbounds.Replace (replacing token terms))
-order_of token (wishes.Cancel order) = Some (inbounds.Cancel order)
-order_of token (wishes.Ask action) = None
-order_of token wishes.Nothing = None
-order_of token wishes.KillAll = None
-order_of token wishes.Watch = None
-order_of token wishes.Help = None
-order_of token wishes.Quit = None
+order_of token (Wish.Enter order) = Some (Inbound.Enter (entered token order))
+order_of token (Wish.Replace terms) = Some (Inbound.Replace (replacing token terms))
+order_of token (Wish.Cancel order) = Some (Inbound.Cancel order)
+order_of token (Wish.Ask action) = None
+order_of token Wish.Nothing = None
+order_of token Wish.KillAll = None
+order_of token Wish.Watch = None
+order_of token Wish.Help = None
+order_of token Wish.Quit = None

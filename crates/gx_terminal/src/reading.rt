@@ -1,12 +1,8 @@
 //! A line of a terminal, read.
 
 ghost use Rattle.std.specs.Prelude.{◌≡◌, ◌+◌, [], bytes_eq, MatchResult};
-ghost use Rattle.gx_script.specs.ScriptLines.{without_cr};
-ghost use Rattle.gx_script.specs.Words.{name_of, number_of, itself};
-ghost use Rattle.gx_terminal.specs.Cursor.{Reads, next, next_or, ended, wrong_at, standing};
-ghost use Rattle.gx_terminal.specs.Prices.{price_of};
-ghost use Rattle.gx_terminal.specs.Wishes.{killed_of, kill_form, lift_form, limit_form, stock_form, reader_form, close_of, close_form, command_form, lifetime_of, enter_form, replace_form, cancel_form, order_form, wish_form, is_comment, wish_of};
-ghost use Rattle.gx_terminal.specs.declared.wish.Lifetime.TheVariants.{Day};
+ghost use Rattle.gx_script.specs.{ScriptLines.without_cr, Words.{name_of, number_of, itself}};
+ghost use Rattle.gx_terminal.specs.{Cursor.{Reads, next, next_or, ended, wrong_at, standing}, Prices.price_of, Wishes.{killed_of, kill_form, lift_form, limit_form, stock_form, reader_form, close_of, close_form, command_form, lifetime_of, enter_form, replace_form, cancel_form, order_form, wish_form, is_comment, wish_of}, declared.wish.Lifetime.TheVariants.Day};
 ghost use Rattle.gx_terminal.specs.declared.wrong.Wanted.TheVariants as places;
 
 use crate::price::price;

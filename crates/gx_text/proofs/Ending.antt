@@ -1,9 +1,7 @@
 -- A JSON string ends at its own last quote.
-use Rattle.std.proofs.Common.{◌≡◌, ℕ, ◌/◌, ◌%◌, Bool, true, false, cond, List, [], ◌∷◌, ◌++◌, codes, refl, ◌∙◌, ap, arith, append_assoc}
+use Rattle.std.proofs.{Common.{◌≡◌, ℕ, ◌/◌, ◌%◌, Bool, true, false, cond, List, [], ◌∷◌, ◌++◌, codes, refl, ◌∙◌, ap, arith, append_assoc}, lemmas.Bool.Decides.nat_tests}
 use Rattle.std.specs.Prelude.{◌==◌, ◌||◌, Some, flat_map}
-use Rattle.std.proofs.lemmas.Bool.Decides.{nat_tests}
-use Rattle.gx_text.specs.Laws.{StringsEnd, behind_string}
-use Rattle.gx_text.specs.Shown.{hex_digit, hex_pair, is_printed, json_byte}
+use Rattle.gx_text.specs.{Laws.{StringsEnd, behind_string}, Shown.{hex_digit, hex_pair, is_printed, json_byte}}
 
 -- a byte that is neither a quote nor a `\` is passed
 plain : (byte : ℕ) (rest : List ℕ) → (byte == 34) ≡ false → (byte == 92) ≡ false → behind_string false (byte ∷ rest) ≡ behind_string false rest

@@ -1,6 +1,5 @@
 -- What the definitions say of all bytes that a peer may choose.
-use Rattle.std.specs.Prelude.{ℕ, ◌≡◌, ◌==◌, nat_lt, Bool, true, false, IsTrue, List, [], ◌∷◌, ◌++◌, drop, Option, Some, None, if◌then◌else◌}
-use Rattle.std.specs.List.{list_all}
+use Rattle.std.specs.{Prelude.{ℕ, ◌≡◌, ◌==◌, nat_lt, Bool, true, false, IsTrue, List, [], ◌∷◌, ◌++◌, drop, Option, Some, None, if◌then◌else◌}, List.list_all}
 use Rattle.gx_text.specs.Shown.{is_printed, is_visible, json_string, shown}
 
 abbrev pub are_bytes : List ℕ → Bool

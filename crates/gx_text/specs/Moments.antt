@@ -1,7 +1,6 @@
 -- Minutes and moments as a clock shows them.
 use Rattle.std.specs.Prelude.{ℕ, ◌-◌, ◌/◌, ◌%◌, List, ◌++◌, length, replicate, codes, decimal}
-use Rattle.gx_text.specs.declared.moments.Decimals.{Decimals}
-use Rattle.gx_text.specs.declared.moments.Decimals.TheVariants.{Six, Nine}
+use Rattle.gx_text.specs.declared.moments.Decimals.{Decimals, TheVariants.{Six, Nine}}
 
 -- the number in decimal digits, with zeros in front up to so many digits
 abbrev pub with_zeros : ℕ → ℕ → List ℕ

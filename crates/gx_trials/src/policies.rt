@@ -1,26 +1,17 @@
 //! What a case begins with: its title and its policy.
 
 use crate::texts::{Told, halves, text_of};
-use gx_policy::{Count, FileRule, Policy, RuleKind, Scope};
+use gx_policy::{Count, FileRule, KIND_WORDS, Policy, RuleKind, Scope};
 use gx_policyfile::SAMPLE;
 use gx_units::{AccountName, OutOfMemory, Symbol};
 use std::alloc::Global;
 
+/// The word of the key `kind`.
 fn kind_text(kind: &RuleKind) -> &'static str {
-    match kind {
-        RuleKind::Halt(_) => "halt",
-        RuleKind::Restricted(_) => "restricted",
-        RuleKind::NoShort => "no_short",
-        RuleKind::NoIso => "no_iso",
-        RuleKind::OddLot => "odd_lot",
-        RuleKind::OrderShares(_) => "order_shares",
-        RuleKind::OrderValue(_) => "order_value",
-        RuleKind::Collar(_) => "collar",
-        RuleKind::GrossShares(_, _) => "gross_shares",
-        RuleKind::GrossValue(_, _) => "gross_value",
-        RuleKind::NetShares(_, _) => "net_shares",
-        RuleKind::Rate(_, _) => "rate",
-        RuleKind::Repeat(_, _) => "repeat",
+    let name = kind.name();
+    match KIND_WORDS.iter().find(|word| word.1 == name) {
+        Some(word) => word.0,
+        None => "",
     }
 }
 
@@ -64,16 +55,12 @@ fn put_counted(out: &mut Told, limit: u64, over: u64, count: Count) {
 /// Puts what a rule of this kind says beside its kind.
 fn put_settings(out: &mut Told, kind: &RuleKind) {
     match kind {
-        RuleKind::Halt(stocks) | RuleKind::Restricted(stocks) => put_stocks(out, stocks.as_slice()),
-        RuleKind::OrderShares(limit) | RuleKind::OrderValue(limit) | RuleKind::Collar(limit) => {
-            put_limit(out, *limit)
-        }
-        RuleKind::GrossShares(limit, count)
-        | RuleKind::GrossValue(limit, count)
-        | RuleKind::NetShares(limit, count) => put_figure(out, *limit, *count),
+        RuleKind::Listed(_, stocks) => put_stocks(out, stocks.as_slice()),
+        RuleKind::Plain(_) => {}
+        RuleKind::Order(_, limit) => put_limit(out, *limit),
+        RuleKind::Exposure(_, limit, count) => put_figure(out, *limit, *count),
         RuleKind::Rate(rate, count) => put_counted(out, rate.limit, rate.window, *count),
         RuleKind::Repeat(repeat, count) => put_counted(out, repeat.limit, repeat.span, *count),
-        RuleKind::NoShort | RuleKind::NoIso | RuleKind::OddLot => {}
     }
 }
 

@@ -1,8 +1,6 @@
 -- A folded text has no letter in lower case.
-use Rattle.std.proofs.Common.{◌≡◌, ℕ, ◌-◌, Bool, true, false, ◌&&◌, cond, not, nat_lt, List, [], ◌∷◌, refl, ap, ◌∙◌, arith}
-use Rattle.std.specs.Char.{to_ascii_uppercase}
-use Rattle.std.specs.Str.{str_to_ascii_uppercase}
-use Rattle.std.proofs.lemmas.Bool.Decides.{nat_tests}
+use Rattle.std.proofs.{Common.{◌≡◌, ℕ, ◌-◌, Bool, true, false, ◌&&◌, cond, not, nat_lt, List, [], ◌∷◌, refl, ap, ◌∙◌, arith}, lemmas.Bool.Decides.nat_tests}
+use Rattle.std.specs.{Char.to_ascii_uppercase, Str.str_to_ascii_uppercase}
 use Rattle.gx_units.specs.Names.{is_lower_case, has_no_lower_case}
 
 raised_by : (low high : Bool) (c : ℕ) → nat_lt c 97 ≡ low → nat_lt c 123 ≡ high → not (is_lower_case (cond low c (cond high (c - 32) c))) ≡ true

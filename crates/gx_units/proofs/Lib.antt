@@ -1,2 +1,3 @@
 pub mod Trimming
 pub mod Folding
+mod Words

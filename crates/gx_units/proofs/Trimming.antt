@@ -1,7 +1,5 @@
 -- What a last byte changes of a text without the spaces on its right.
-use Rattle.std.proofs.Common.{◌≡◌, ℕ, ◌+◌, ◌<◌, Bool, true, false, ◌&&◌, cond, List, [], ◌∷◌, ◌++◌, length, take, get_or, refl, sym, ap, ◌∙◌}
-use Rattle.std.proofs.lemmas.List.{take_more}
-use Rattle.std.proofs.lemmas.List.Folds.{list_all-append}
+use Rattle.std.proofs.{Common.{◌≡◌, ℕ, ◌+◌, ◌<◌, Bool, true, false, ◌&&◌, cond, List, [], ◌∷◌, ◌++◌, length, take, get_or, refl, sym, ap, ◌∙◌}, lemmas.List.{take_more, Folds.list_all-append}}
 use Rattle.gx_units.specs.Spelling.{is_space, is_blank, without_right_spaces}
 
 and_true : (b : Bool) → (b && true) ≡ b

@@ -1,12 +1,6 @@
 -- Names as bytes.
-use Rattle.std.specs.Prelude.{ℕ, List, Bool, not, ◌&&◌, nat_le, bytes_eq}
-use Rattle.std.specs.List.{list_all}
-use Rattle.gx_units.specs.declared.names.Token.{Token}
-use Rattle.gx_units.specs.declared.names.Symbol.{Symbol}
-use Rattle.gx_units.specs.declared.names.AccountName.{AccountName}
-use Rattle.gx_units.specs.declared.names.RuleId.{RuleId}
-use Rattle.gx_units.specs.declared.names.Firm.{Firm}
-use Rattle.gx_units.specs.declared.names.UserName.{UserName}
+use Rattle.std.specs.{Prelude.{ℕ, List, Bool, not, ◌&&◌, nat_le, bytes_eq}, List.list_all}
+use Rattle.gx_units.specs.declared.names.{Token.Token, Symbol.Symbol, AccountName.AccountName, RuleId.RuleId, Firm.Firm, UserName.UserName}
 
 -- Two names are the same where their bytes are.
 abbrev pub same_token : Token → Token → Bool

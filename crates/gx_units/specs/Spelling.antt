@@ -1,10 +1,6 @@
 -- How fixed fields spell names: spaces fill them up, and some are compared in one case of letters.
-use Rattle.std.specs.Prelude.{ℕ, Bool, ◌==◌, ◌-◌, List, [], ◌∷◌, ◌++◌, length, replicate, if◌then◌else◌}
-use Rattle.std.specs.List.{list_all}
-use Rattle.std.specs.Str.{str_to_ascii_uppercase}
-use Rattle.gx_units.specs.declared.names.UserName.{UserName}
-use Rattle.gx_units.specs.declared.names.Password.{Password}
-use Rattle.gx_units.specs.declared.names.SessionName.{SessionName}
+use Rattle.std.specs.{Prelude.{ℕ, Bool, ◌==◌, ◌-◌, List, [], ◌∷◌, ◌++◌, length, replicate, if◌then◌else◌}, List.list_all, Str.str_to_ascii_uppercase}
+use Rattle.gx_units.specs.declared.names.{UserName.UserName, Password.Password, SessionName.SessionName}
 
 abbrev pub is_space : ℕ → Bool
 is_space byte = byte == 32

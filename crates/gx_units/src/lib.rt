@@ -1,6 +1,7 @@
 //! Numbers and names that every layer speaks of.
 #![tactic(auto)]
 
+mod comparing;
 mod money;
 mod names;
 mod spelling;

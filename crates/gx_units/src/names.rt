@@ -1,11 +1,10 @@
 //! Names, each in a fixed field of bytes, and two small answers that every layer gives.
 
 ghost use Rattle.std.proofs.Common.{rules};
-ghost use Rattle.std.specs.Cmp.Rules.{hashing};
-ghost use Rattle.std.specs.Prelude.{◌≡◌, ◌∷◌, [], IsTrue};
-ghost use Rattle.gx_units.specs.Names.{has_no_lower_case};
-ghost use Rattle.gx_units.specs.Spelling.{folded_user, folded_password, folded_session};
+ghost use Rattle.std.specs.{Cmp.Rules.{hashing, comparing}, Prelude.{◌≡◌, ◌∷◌, [], IsTrue, bytes_eq}};
+ghost use Rattle.gx_units.specs.{Names.has_no_lower_case, Spelling.{folded_user, folded_password, folded_session}};
 
+use crate::comparing::{are_same, first_eight, last_eight, widened};
 use crate::spelling::rejustified;
 use std::alloc::{AllocError, AllocFailed};
 use std::error::Error;
@@ -37,9 +36,26 @@ impl<T: Drop> From<AllocFailed<T>> for OutOfMemory {
 }
 
 /// An order token: 14 bytes that a trader chooses, compared as bytes.
-#[derive(Clone, Copy, PartialEq, Eq)]
+#[derive(Clone, Copy)]
 pub struct Token {
     pub bytes: [u8; 14],
+}
+
+impl PartialEq for Token {
+    ghost eq = { λ one other. bytes_eq one.bytes other.bytes };
+
+    ghost laws = { Prim.search (comparing, rules) };
+
+    #[tactic(auto, using(crate::proofs::Words::as_overlapping))]
+    fn eq(&self, other: &Self) -> bool {
+        let (one, other) = (self.bytes, other.bytes);
+        are_same(first_eight(one), first_eight(other))
+            & are_same(last_eight(one), last_eight(other))
+    }
+}
+
+impl Eq for Token {
+    ghost laws = { Prim.search (comparing, rules) };
 }
 
 impl Hash for Token {
@@ -53,9 +69,23 @@ impl Hash for Token {
 }
 
 /// The name of a stock, padded with spaces.
-#[derive(Clone, Copy, PartialEq, Eq)]
+#[derive(Clone, Copy)]
 pub struct Symbol {
     pub bytes: [u8; 8],
+}
+
+impl PartialEq for Symbol {
+    ghost eq = { λ one other. bytes_eq one.bytes other.bytes };
+
+    ghost laws = { Prim.search (comparing, rules) };
+
+    fn eq(&self, other: &Self) -> bool {
+        are_same(self.bytes, other.bytes)
+    }
+}
+
+impl Eq for Symbol {
+    ghost laws = { Prim.search (comparing, rules) };
 }
 
 impl Hash for Symbol {
@@ -69,9 +99,23 @@ impl Hash for Symbol {
 }
 
 /// The name of an account, padded with spaces.
-#[derive(Clone, Copy, PartialEq, Eq)]
+#[derive(Clone, Copy)]
 pub struct AccountName {
     pub bytes: [u8; 8],
+}
+
+impl PartialEq for AccountName {
+    ghost eq = { λ one other. bytes_eq one.bytes other.bytes };
+
+    ghost laws = { Prim.search (comparing, rules) };
+
+    fn eq(&self, other: &Self) -> bool {
+        are_same(self.bytes, other.bytes)
+    }
+}
+
+impl Eq for AccountName {
+    ghost laws = { Prim.search (comparing, rules) };
 }
 
 impl Hash for AccountName {
@@ -85,9 +129,23 @@ impl Hash for AccountName {
 }
 
 /// The name of a rule, padded with spaces.
-#[derive(Clone, Copy, PartialEq, Eq)]
+#[derive(Clone, Copy)]
 pub struct RuleId {
     pub bytes: [u8; 8],
+}
+
+impl PartialEq for RuleId {
+    ghost eq = { λ one other. bytes_eq one.bytes other.bytes };
+
+    ghost laws = { Prim.search (comparing, rules) };
+
+    fn eq(&self, other: &Self) -> bool {
+        are_same(self.bytes, other.bytes)
+    }
+}
+
+impl Eq for RuleId {
+    ghost laws = { Prim.search (comparing, rules) };
 }
 
 impl Hash for RuleId {
@@ -108,9 +166,24 @@ pub struct Firm {
 
 /// The name of a user, padded with spaces. It is compared in upper case: `folded` gives the form in which the gate
 /// keeps it.
-#[derive(Clone, Copy, PartialEq, Eq)]
+#[derive(Clone, Copy)]
 pub struct UserName {
     pub bytes: [u8; 6],
+}
+
+impl PartialEq for UserName {
+    ghost eq = { λ one other. bytes_eq one.bytes other.bytes };
+
+    ghost laws = { Prim.search (comparing, rules) };
+
+    #[tactic(auto, using(crate::proofs::Words::as_widened))]
+    fn eq(&self, other: &Self) -> bool {
+        are_same(widened(self.bytes), widened(other.bytes))
+    }
+}
+
+impl Eq for UserName {
+    ghost laws = { Prim.search (comparing, rules) };
 }
 
 impl Hash for UserName {

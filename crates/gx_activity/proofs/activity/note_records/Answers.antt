@@ -1,9 +1,7 @@
-use Rattle.std.proofs.Common.{List, ap, ◌∙◌}
-use Rattle.std.proofs.lemmas.List.{take_all}
+use Rattle.std.proofs.{Common.{List, ap, ◌∙◌}, lemmas.List.take_all}
 use Rattle.gx_units.specs.declared.names.AccountName.{AccountName}
 use Rattle.gx_history.specs.declared.record.RecordData.{RecordData}
-use Rattle.gx_activity.specs.declared.activity.ActivityRow.{ActivityRow}
-use Rattle.gx_activity.specs.Noting.{row_in, so_far}
+use Rattle.gx_activity.specs.{declared.activity.ActivityRow.ActivityRow, Noting.{row_in, so_far}}
 use Rattle.gx_activity.proofs.Knowing.{known_further, noted_further, nothing_known, nothing_noted}
 use Rattle.gx_activity.proofs.activity.note_records.Goals as goal
 

@@ -1,6 +1,5 @@
 use Rattle.std.proofs.Common.{◌∙◌}
-use Rattle.gx_activity.proofs.Knowing.{nothing_known}
-use Rattle.gx_activity.proofs.Trading.{positions_further, positions_known, positions_none}
+use Rattle.gx_activity.proofs.{Knowing.nothing_known, Trading.{positions_further, positions_known, positions_none}}
 use Rattle.gx_activity.proofs.positions.note_records.Goals as goal
 
 pub loop-record-init : goal.loop-record-init

@@ -1,9 +1,7 @@
-use Rattle.std.proofs.Common.{◌∙◌, List, ap, arith}
+use Rattle.std.proofs.{Common.{◌∙◌, List, ap, arith}, lemmas.List.take_all}
 use Rattle.std.specs.Prelude.{Some}
-use Rattle.std.proofs.lemmas.List.{take_all}
 use Rattle.gx_history.specs.declared.record.RecordData.{RecordData}
-use Rattle.gx_activity.specs.declared.spans.SpanRow.{SpanRow}
-use Rattle.gx_activity.specs.Spanning.{span_so_far}
+use Rattle.gx_activity.specs.{declared.spans.SpanRow.SpanRow, Spanning.span_so_far}
 use Rattle.gx_activity.proofs.Timing.{span_fits, span_further}
 use Rattle.gx_activity.proofs.spans.note_all.Goals as goal
 

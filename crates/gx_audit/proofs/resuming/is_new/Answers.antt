@@ -1,6 +1,5 @@
 use Rattle.std.proofs.Common.{◌∙◌, ap}
-use Rattle.gx_audit_bytes.specs.declared.version.AuditVersion.{AuditVersion}
-use Rattle.gx_audit_bytes.specs.Headers.{header_in}
+use Rattle.gx_audit_bytes.specs.{declared.version.AuditVersion.AuditVersion, Headers.header_in}
 use Rattle.gx_audit.proofs.Days.{begins_header}
 use Rattle.gx_audit.proofs.resuming.is_new.Goals as goal
 

@@ -1,8 +1,7 @@
 use Rattle.std.proofs.Common.{subst}
 use Rattle.gx_ouch.specs.Layout.{LiesIn}
 use Rattle.gx_history.specs.declared.record.RecordData.{RecordData}
-use Rattle.gx_audit_bytes.specs.Records.{audit_record, record_contents}
-use Rattle.gx_audit_bytes.specs.Reading.{IsShown}
+use Rattle.gx_audit_bytes.specs.{Records.{audit_record, record_contents}, Reading.IsShown}
 use Rattle.gx_audit_bytes.proofs.writing.write_record_in.Goals as goal
 
 pub returns-clause-fields : goal.returns-clause-fields

@@ -1,5 +1,4 @@
-use Rattle.std.proofs.Common.{arith, ap, length}
-use Rattle.std.proofs.Math.Path.{subst}
+use Rattle.std.proofs.{Common.{arith, ap, length}, Math.Path.subst}
 use Rattle.std.specs.Prelude.{ℕ, ◌<◌, ◌^◌}
 use Rattle.gx_streams.specs.Streams.{reports_in}
 use Rattle.gx_core.proofs.Judged.{numbers_fit}

@@ -1,11 +1,8 @@
-use Rattle.std.proofs.Common.{◌≡◌, ◌∙◌, ap, map, refl, take, true}
+use Rattle.std.proofs.{Common.{◌≡◌, ◌∙◌, ap, map, refl, take, true}, lemmas.List.take_all}
 use Rattle.std.specs.Prelude.{None}
-use Rattle.std.proofs.lemmas.List.{take_all}
 use Rattle.gx_units.specs.Names.{same_account}
-use Rattle.gx_policy.specs.Lists.{are_distinct}
-use Rattle.gx_policy.specs.declared.policy.Account.{Account}
-use Rattle.gx_day.specs.InForce.{unkilled}
-use Rattle.gx_day.specs.View.{kills_of}
+use Rattle.gx_policy.specs.{Lists.are_distinct, declared.policy.Account.Account}
+use Rattle.gx_day.specs.{InForce.unkilled, View.kills_of}
 use Rattle.gx_history_laws.proofs.Names.{accounts_differ, same_account_flip}
 use Rattle.gx_day.proofs.Table.{added_next, kills_begin}
 use Rattle.gx_day.proofs.day.no_kills.Goals as goal

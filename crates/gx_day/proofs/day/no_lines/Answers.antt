@@ -1,11 +1,8 @@
-use Rattle.std.proofs.Common.{◌≡◌, ◌∙◌, ap, map, take, true}
-use Rattle.std.proofs.lemmas.List.{take_all}
+use Rattle.std.proofs.{Common.{◌≡◌, ◌∙◌, ap, map, take, true}, lemmas.List.take_all}
 use Rattle.std.specs.Prelude.{None}
 use Rattle.gx_units.specs.Names.{same_user}
-use Rattle.gx_policy.specs.Lists.{are_distinct}
-use Rattle.gx_policy.specs.declared.policy.User.{User}
-use Rattle.gx_day.specs.InForce.{off_line}
-use Rattle.gx_day.specs.View.{lines_of}
+use Rattle.gx_policy.specs.{Lists.are_distinct, declared.policy.User.User}
+use Rattle.gx_day.specs.{InForce.off_line, View.lines_of}
 use Rattle.gx_history_laws.proofs.Names.{same_user_flip, users_differ}
 use Rattle.gx_day.proofs.Table.{added_next, lines_begin}
 use Rattle.gx_day.proofs.day.no_lines.Goals as goal

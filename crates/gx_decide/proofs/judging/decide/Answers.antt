@@ -1,5 +1,4 @@
-use Rattle.std.proofs.Common.{◌≡◌, Bool, true, false, refl, ◌∙◌, ap, sym, subst}
-use Rattle.std.proofs.Math.Bool.{beq}
+use Rattle.std.proofs.{Common.{◌≡◌, Bool, true, false, refl, ◌∙◌, ap, sym, subst}, Math.Bool.beq}
 use Rattle.gx_history.specs.declared.facts.Facts.{Facts}
 use Rattle.gx_decide.specs.Deciding.{Judges}
 use Rattle.gx_decide.proofs.judging.decide.Goals as goal

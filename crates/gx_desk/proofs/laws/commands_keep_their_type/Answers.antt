@@ -1,11 +1,7 @@
-use Rattle.std.proofs.Common.{◌≡◌, ℕ, Bool, true, false, List, refl, ◌∙◌, sym, ap}
+use Rattle.std.proofs.{Common.{◌≡◌, ℕ, Bool, true, false, List, refl, ◌∙◌, sym, ap}, lemmas.Bool.eqb-true}
 use Rattle.std.specs.Prelude.{◌&&◌, ◌==◌, Option, Some, None, length, slice_index, if◌then◌else◌}
-use Rattle.std.proofs.lemmas.Bool.{eqb-true}
 use Rattle.gx_ouch.specs.Layout.{Layout, is_of}
-use Rattle.gx_desk.specs.declared.Command.{Command}
-use Rattle.gx_desk.specs.Messages.{kill, lift, set_limit, restrict, unrestrict, grant, revoke, close_day}
-use Rattle.gx_desk.specs.Names.{command_type}
-use Rattle.gx_desk.specs.Reading.{KeepTheirType, command_of}
+use Rattle.gx_desk.specs.{declared.Command.Command, Messages.{kill, lift, set_limit, restrict, unrestrict, grant, revoke, close_day}, Names.command_type, Reading.{KeepTheirType, command_of}}
 use Rattle.gx_desk.proofs.laws.commands_keep_their_type.Goals as goal
 
 -- a command, if there is one, has the type that these bytes begin with

@@ -1,12 +1,7 @@
 use Rattle.std.proofs.Common.{List, codes, subst}
-use Rattle.gx_policy.specs.declared.policy.Account.{Account}
-use Rattle.gx_policy.specs.declared.policy.Stock.{Stock}
-use Rattle.gx_policy.specs.declared.policy.User.{User}
-use Rattle.gx_policy.specs.declared.policy.FileRule.{FileRule}
-use Rattle.gx_policy.specs.declared.policy.Lifters.{Lifters}
+use Rattle.gx_policy.specs.declared.policy.{Account.Account, Stock.Stock, User.User, FileRule.FileRule, Lifters.Lifters}
 use Rattle.gx_units.specs.declared.names.SessionName.{SessionName}
-use Rattle.gx_digest.specs.Hashing.{TakesIn}
-use Rattle.gx_digest.specs.PolicyText.{policy_text, lifters_text, list_text, account_text, stock_text, user_text, rule_text}
+use Rattle.gx_digest.specs.{Hashing.TakesIn, PolicyText.{policy_text, lifters_text, list_text, account_text, stock_text, user_text, rule_text}}
 use Rattle.gx_digest.proofs.Taking.{seven}
 use Rattle.gx_digest.proofs.digest.put_policy.Goals as goal
 

@@ -1,6 +1,5 @@
 use Rattle.std.proofs.Common.{take}
-use Rattle.gx_digest.specs.Hashing.{TakesIn}
-use Rattle.gx_digest.specs.PolicyText.{items_text}
+use Rattle.gx_digest.specs.{Hashing.TakesIn, PolicyText.items_text}
 use Rattle.gx_digest.proofs.writing.write_items.Given as goal
 
 abbrev pub invariant-loop-item : goal.invariant-loop-item

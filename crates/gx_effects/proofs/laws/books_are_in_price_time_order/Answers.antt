@@ -1,6 +1,4 @@
-use Rattle.gx_effects.proofs.BookSides.{all_of_these, none_but_these}
-use Rattle.gx_effects.proofs.Ordered.{resting_ordered}
-use Rattle.gx_effects.proofs.PriceTime.{rests_by_time}
+use Rattle.gx_effects.proofs.{BookSides.{all_of_these, none_but_these}, Ordered.resting_ordered, PriceTime.rests_by_time}
 use Rattle.gx_effects.proofs.laws.books_are_in_price_time_order.Goals as goal
 
 pub returns : goal.returns

@@ -1,6 +1,4 @@
-use Rattle.gx_effects.proofs.Killed.{granted_is_not_killed}
-use Rattle.gx_effects.proofs.KilledAccounts.{killed_are_not_live, killed_have_no_orders}
-use Rattle.gx_effects.proofs.Lifting.{kill_ends_by_lift}
+use Rattle.gx_effects.proofs.{Killed.granted_is_not_killed, KilledAccounts.{killed_are_not_live, killed_have_no_orders}, Lifting.kill_ends_by_lift}
 use Rattle.gx_effects.proofs.laws.killed_accounts_do_not_trade.Goals as goal
 
 pub returns : goal.returns

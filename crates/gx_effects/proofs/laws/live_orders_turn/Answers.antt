@@ -1,5 +1,4 @@
-use Rattle.gx_effects.proofs.Live.{live_next}
-use Rattle.gx_effects.proofs.Sides.{side_next, waiting_next}
+use Rattle.gx_effects.proofs.{Live.live_next, Sides.{side_next, waiting_next}}
 use Rattle.gx_effects.proofs.laws.live_orders_turn.Goals as goal
 
 pub returns : goal.returns

@@ -1,5 +1,4 @@
-use Rattle.gx_effects.proofs.Orderly.{legal_is_orderly}
-use Rattle.gx_effects.proofs.Settling.{settled_idle, settled_step, settled_adds, settled_ends}
+use Rattle.gx_effects.proofs.{Orderly.legal_is_orderly, Settling.{settled_idle, settled_step, settled_adds, settled_ends}}
 use Rattle.gx_effects.proofs.laws.matching_settles.Goals as goal
 
 pub returns : goal.returns

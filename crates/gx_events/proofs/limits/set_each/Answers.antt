@@ -1,6 +1,4 @@
-use Rattle.std.proofs.Common.{◌∙◌, ◌<◌, ap, arith, length, set}
-use Rattle.std.proofs.lemmas.List.{get_or_default}
-use Rattle.std.proofs.lemmas.List.Edits.{map_over_more}
+use Rattle.std.proofs.{Common.{◌∙◌, ◌<◌, ap, arith, length, set}, lemmas.List.{get_or_default, Edits.map_over_more}}
 use Rattle.gx_events.specs.Known.{limit_set}
 use Rattle.gx_events.proofs.limits.set_each.Goals as goal
 

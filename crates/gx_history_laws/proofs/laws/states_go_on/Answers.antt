@@ -1,6 +1,4 @@
-use Rattle.gx_history_laws.proofs.NextInForce.{is_closed_next, last_moment_next, line_of_next}
-use Rattle.gx_history_laws.proofs.KillsNext.{kill_in_force_next}
-use Rattle.gx_history_laws.proofs.NextOrders.{is_token_used_next}
+use Rattle.gx_history_laws.proofs.{NextInForce.{is_closed_next, last_moment_next, line_of_next}, KillsNext.kill_in_force_next, NextOrders.is_token_used_next}
 use Rattle.gx_history_laws.proofs.laws.states_go_on.Goals as goal
 
 pub returns : goal.returns

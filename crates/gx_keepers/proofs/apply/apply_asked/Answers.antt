@@ -1,5 +1,5 @@
 use Rattle.std.proofs.Common.{refl}
-use Rattle.gx_history.specs.declared.moves.Move.TheVariants as moves
+use Rattle.gx_history.specs.declared.moves.Move.{Move}
 use Rattle.gx_keepers.proofs.Carrying.{day_so, line_goes_on, no_other_move, takes_so}
 use Rattle.gx_keepers.proofs.apply.apply_asked.Goals as goal
 
@@ -11,5 +11,5 @@ unreachable-requires c =
 pub returns-in-PutsOn-clause-ok : goal.returns-in-PutsOn-clause-ok
 returns-in-PutsOn-clause-ok c =
     line_goes_on c.args.next.policy.now c.args.next.history.now.records c.in-PutsOn.field-0 c.in-PutsOn.field-1 c.args.next.left.now c.args.keepers.now _
-    (takes_so c.args.next.policy.now c.args.next.history.now.records c.args.next.moves.now (moves.PutsOn c.in-PutsOn.field-0 c.in-PutsOn.field-1) c.args.next.left.now c.args.keepers.now c.in-PutsOn.is c.requires.takes)
-    refl refl (day_so c.args.next.left.now c.args.next.moves.now (moves.PutsOn c.in-PutsOn.field-0 c.in-PutsOn.field-1) c.args.keepers.now.day _ c.in-PutsOn.is c.apply.ensures) refl refl refl refl
+    (takes_so c.args.next.policy.now c.args.next.history.now.records c.args.next.moves.now (Move.PutsOn c.in-PutsOn.field-0 c.in-PutsOn.field-1) c.args.next.left.now c.args.keepers.now c.in-PutsOn.is c.requires.takes)
+    refl refl (day_so c.args.next.left.now c.args.next.moves.now (Move.PutsOn c.in-PutsOn.field-0 c.in-PutsOn.field-1) c.args.keepers.now.day _ c.in-PutsOn.is c.apply.ensures) refl refl refl refl

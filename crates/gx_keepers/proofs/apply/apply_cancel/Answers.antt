@@ -1,28 +1,24 @@
-use Rattle.std.proofs.Common.{ℕ, refl, sym, ap, ◌∙◌, ◌∷◌, [], ◌++◌}
-use Rattle.std.proofs.Math.Path.{subst}
+use Rattle.std.proofs.{Common.{ℕ, refl, sym, ap, ◌∙◌, ◌∷◌, [], ◌++◌}, Math.Path.subst}
 use Rattle.std.specs.Prelude.{Some}
-use Rattle.gx_ouch.specs.declared.letters.CancelReason.TheVariants as cancels
-use Rattle.gx_history.specs.declared.moves.Move.TheVariants as moves
-use Rattle.gx_history.specs.Streams.{canceled_of}
+use Rattle.gx_ouch.specs.declared.letters.CancelReason.{CancelReason}
+use Rattle.gx_history.specs.{declared.moves.Move.Move, Streams.canceled_of}
 use Rattle.gx_market.specs.Changes.{left_with}
 use Rattle.gx_streams.specs.Laws.{TellsOne}
-use Rattle.gx_keepers.proofs.Carrying.{cancel_tells, day_so, has_place, one_goes_on, takes_so}
-use Rattle.gx_keepers.proofs.Figuring.{cancel_figured}
-use Rattle.gx_keepers.proofs.Rooms.{telling_keeps_room}
+use Rattle.gx_keepers.proofs.{Carrying.{cancel_tells, day_so, has_place, one_goes_on, takes_so}, Figuring.cancel_figured, Rooms.telling_keeps_room}
 use Rattle.gx_keepers.proofs.apply.apply_cancel.Goals as goal
 
 pub tell-requires : goal.tell-requires
 tell-requires c =
-    has_place c.args.next.policy.now c.args.next.history.now.records c.args.next.left.now c.args.keepers.now.streams c.args.cut.now.user _ c.requires.places (cancel_tells c.args.next.policy.now c.args.next.history.now.records c.args.next.left.now c.args.cut.now c.args.size (takes_so c.args.next.policy.now c.args.next.history.now.records c.args.next.moves.now (moves.Sizes c.args.cut.now c.args.size) c.args.next.left.now c.args.keepers.now c.requires.sizes c.requires.takes).does)
+    has_place c.args.next.policy.now c.args.next.history.now.records c.args.next.left.now c.args.keepers.now.streams c.args.cut.now.user _ c.requires.places (cancel_tells c.args.next.policy.now c.args.next.history.now.records c.args.next.left.now c.args.cut.now c.args.size (takes_so c.args.next.policy.now c.args.next.history.now.records c.args.next.moves.now (Move.Sizes c.args.cut.now c.args.size) c.args.next.left.now c.args.keepers.now c.requires.sizes c.requires.takes).does)
 
 pub returns-clause-after : goal.returns-clause-after
 returns-clause-after c =
-    let t = takes_so c.args.next.policy.now c.args.next.history.now.records c.args.next.moves.now (moves.Sizes c.args.cut.now c.args.size) c.args.next.left.now c.args.keepers.now c.requires.sizes c.requires.takes in
-    one_goes_on c.args.next.policy.now c.args.next.history.now.records (moves.Sizes c.args.cut.now c.args.size) c.args.next.left.now c.args.keepers.now _ c.args.cut.now.user (Some c.canceled-message.result) t
+    let t = takes_so c.args.next.policy.now c.args.next.history.now.records c.args.next.moves.now (Move.Sizes c.args.cut.now c.args.size) c.args.next.left.now c.args.keepers.now c.requires.sizes c.requires.takes in
+    one_goes_on c.args.next.policy.now c.args.next.history.now.records (Move.Sizes c.args.cut.now c.args.size) c.args.next.left.now c.args.keepers.now _ c.args.cut.now.user (Some c.canceled-message.result) t
     (subst (TellsOne c.args.next.policy.now c.args.next.history.now.records (c.args.next.history.now.records ++ c.args.next.left.now ∷ []) c.args.next.left.now c.args.cut.now.user)
-    (sym (c.canceled-message.ensures ∙ ap (λ (n : ℕ). canceled_of cancels.UserRequested n c.args.cut.now) c.cut_from-fewer.ensures))
+    (sym (c.canceled-message.ensures ∙ ap (λ (n : ℕ). canceled_of CancelReason.UserRequested n c.args.cut.now) c.cut_from-fewer.ensures))
     (cancel_tells c.args.next.policy.now c.args.next.history.now.records c.args.next.left.now c.args.cut.now c.args.size t.does))
-    refl refl refl (day_so c.args.next.left.now c.args.next.moves.now (moves.Sizes c.args.cut.now c.args.size) c.args.keepers.now.day _ c.requires.sizes c.apply.ensures) (λ i. record { live = c.cut.ensures.live i; used = c.cut.ensures.used i })
+    refl refl refl (day_so c.args.next.left.now c.args.next.moves.now (Move.Sizes c.args.cut.now c.args.size) c.args.keepers.now.day _ c.requires.sizes c.apply.ensures) (λ i. record { live = c.cut.ensures.live i; used = c.cut.ensures.used i })
     (c.leave.ensures ∙ ap (λ (n : ℕ). left_with c.args.cut.now n c.args.keepers.now.book) c.saturating_sub.ensures)
     (cancel_figured c.args.next.policy.now c.args.next.history.now.records c.args.next.left.now c.args.cut.now c.args.size c.args.keepers.now c.cut_from-fewer.result _ t c.cut_from-fewer.ensures c.cut-2.ensures.cut) c.tell.ensures
 

@@ -1,9 +1,6 @@
-use Rattle.std.proofs.Common.{[], ◌∷◌, ◌++◌}
-use Rattle.std.proofs.lemmas.Result.{on_err_weaker, on_ok_weaker}
-use Rattle.gx_keepers.proofs.Figuring.{legal_after}
+use Rattle.std.proofs.{Common.{[], ◌∷◌, ◌++◌}, lemmas.Result.{on_err_weaker, on_ok_weaker}}
+use Rattle.gx_keepers.proofs.{Figuring.legal_after, Keepings.known_told, Rooms.{places_behind, places_still}}
 use Rattle.gx_keepers.specs.Keepers.{AreInForce}
-use Rattle.gx_keepers.proofs.Keepings.{known_told}
-use Rattle.gx_keepers.proofs.Rooms.{places_behind, places_still}
 use Rattle.gx_keepers.proofs.apply.carry_on.Goals as goal
 
 pub returns-clause-kept_after : goal.returns-clause-kept_after

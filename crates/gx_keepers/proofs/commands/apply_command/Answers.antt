@@ -1,21 +1,18 @@
-use Rattle.gx_keepers.proofs.Commanded.{command_goes_on, command_places, has_room_for, has_setting}
+use Rattle.gx_keepers.proofs.{Commanded.{command_goes_on, command_places, has_room_for, has_setting}, Ending.book_is_live, Rooms.{both_keep_room, sent_keeps_room, telling_all_keeps_room}, Carrying.{day_so, takes_so}}
 use Rattle.gx_keepers.specs.Ends.{owed_by_next}
-use Rattle.gx_keepers.proofs.Ending.{book_is_live}
-use Rattle.gx_keepers.proofs.Rooms.{both_keep_room, sent_keeps_room, telling_all_keeps_room}
 use Rattle.gx_keepers.proofs.commands.apply_command.Goals as goal
-use Rattle.gx_history.specs.declared.moves.Move.TheVariants as moves
-use Rattle.gx_keepers.proofs.Carrying.{day_so, takes_so}
+use Rattle.gx_history.specs.declared.moves.Move.{Move}
 
 pub set-requires : goal.set-requires
 set-requires c = record {
-  room = has_room_for c.args.next.policy.now c.args.next.history.now.records c.args.next.left.now c.args.officer c.args.c.now c.args.keepers.now (takes_so c.args.next.policy.now c.args.next.history.now.records c.args.next.moves.now (moves.Commands c.args.officer c.args.c.now) c.args.next.left.now c.args.keepers.now c.requires.commands c.requires.takes) c.rules.ensures.sound;
-  known = has_setting c.args.next.policy.now c.args.next.history.now.records c.args.next.left.now c.args.officer c.args.c.now c.args.keepers.now (takes_so c.args.next.policy.now c.args.next.history.now.records c.args.next.moves.now (moves.Commands c.args.officer c.args.c.now) c.args.next.left.now c.args.keepers.now c.requires.commands c.requires.takes);
+  room = has_room_for c.args.next.policy.now c.args.next.history.now.records c.args.next.left.now c.args.officer c.args.c.now c.args.keepers.now (takes_so c.args.next.policy.now c.args.next.history.now.records c.args.next.moves.now (Move.Commands c.args.officer c.args.c.now) c.args.next.left.now c.args.keepers.now c.requires.commands c.requires.takes) c.rules.ensures.sound;
+  known = has_setting c.args.next.policy.now c.args.next.history.now.records c.args.next.left.now c.args.officer c.args.c.now c.args.keepers.now (takes_so c.args.next.policy.now c.args.next.history.now.records c.args.next.moves.now (Move.Commands c.args.officer c.args.c.now) c.args.next.left.now c.args.keepers.now c.requires.commands c.requires.takes);
 }
 
 pub tell_of_command-requires : goal.tell_of_command-requires
 tell_of_command-requires c =
-    command_places c.args.next.policy.now c.args.next.history.now.records c.args.next.left.now c.args.officer c.args.c.now c.args.keepers.now _ _ _ _ (day_so c.args.next.left.now c.args.next.moves.now (moves.Commands c.args.officer c.args.c.now) c.args.keepers.now.day _ c.requires.commands c.apply.ensures) c.granted_code-code.ensures c.in_ok-set.ensures.streams
-    (takes_so c.args.next.policy.now c.args.next.history.now.records c.args.next.moves.now (moves.Commands c.args.officer c.args.c.now) c.args.next.left.now c.args.keepers.now c.requires.commands c.requires.takes) c.requires.places c.rules.ensures.sound
+    command_places c.args.next.policy.now c.args.next.history.now.records c.args.next.left.now c.args.officer c.args.c.now c.args.keepers.now _ _ _ _ (day_so c.args.next.left.now c.args.next.moves.now (Move.Commands c.args.officer c.args.c.now) c.args.keepers.now.day _ c.requires.commands c.apply.ensures) c.granted_code-code.ensures c.in_ok-set.ensures.streams
+    (takes_so c.args.next.policy.now c.args.next.history.now.records c.args.next.moves.now (Move.Commands c.args.officer c.args.c.now) c.args.next.left.now c.args.keepers.now c.requires.commands c.requires.takes) c.requires.places c.rules.ensures.sound
 
 pub end_orders-requires : goal.end_orders-requires
 end_orders-requires c = book_is_live c.args.next.policy.now c.args.next.history.now.records c.args.next.moves.now c.args.next.left.now c.args.keepers.now c.requires.takes
@@ -23,8 +20,8 @@ end_orders-requires c = book_is_live c.args.next.policy.now c.args.next.history.
 pub returns-clause-ok : goal.returns-clause-ok
 returns-clause-ok c =
     command_goes_on c.args.next.policy.now c.args.next.history.now.records c.args.next.left.now c.args.officer c.args.c.now c.granted_code-code.result c.args.keepers.now _ _
-    (takes_so c.args.next.policy.now c.args.next.history.now.records c.args.next.moves.now (moves.Commands c.args.officer c.args.c.now) c.args.next.left.now c.args.keepers.now c.requires.commands c.requires.takes) c.rules.ensures.sound
-    c.in_ok-set.ensures.people c.in_ok-set.ensures.streams c.in_ok-set.ensures.rules (day_so c.args.next.left.now c.args.next.moves.now (moves.Commands c.args.officer c.args.c.now) c.args.keepers.now.day _ c.requires.commands c.apply.ensures) c.end_orders.ensures.left c.end_orders.ensures.taken c.end_orders.ensures.closed c.granted_code-code.ensures c.tell_of_command.ensures
+    (takes_so c.args.next.policy.now c.args.next.history.now.records c.args.next.moves.now (Move.Commands c.args.officer c.args.c.now) c.args.next.left.now c.args.keepers.now c.requires.commands c.requires.takes) c.rules.ensures.sound
+    c.in_ok-set.ensures.people c.in_ok-set.ensures.streams c.in_ok-set.ensures.rules (day_so c.args.next.left.now c.args.next.moves.now (Move.Commands c.args.officer c.args.c.now) c.args.keepers.now.day _ c.requires.commands c.apply.ensures) c.end_orders.ensures.left c.end_orders.ensures.taken c.end_orders.ensures.closed c.granted_code-code.ensures c.tell_of_command.ensures
 
 pub returns-clause-room : goal.returns-clause-room
 returns-clause-room c =

@@ -1,5 +1,4 @@
-use Rattle.std.proofs.Common.{[], ◌∷◌, ◌++◌, List, sym, ◌∙◌, ap}
-use Rattle.std.proofs.Math.Path.{subst}
+use Rattle.std.proofs.{Common.{[], ◌∷◌, ◌++◌, List, sym, ◌∙◌, ap}, Math.Path.subst}
 use Rattle.gx_units.specs.declared.names.UserName.{UserName}
 use Rattle.gx_history.specs.declared.report.Report.{Report}
 use Rattle.gx_streams.specs.Telling.{with_all_owed}

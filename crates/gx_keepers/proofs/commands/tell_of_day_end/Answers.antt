@@ -1,13 +1,10 @@
-use Rattle.std.proofs.Common.{◌≡◌, ◌+◌, List, ◌∷◌, ◌∙◌, ap, drop, sym}
-use Rattle.std.proofs.lemmas.List.{drop_more}
+use Rattle.std.proofs.{Common.{◌≡◌, ◌+◌, List, ◌∷◌, ◌∙◌, ap, drop, sym}, lemmas.List.drop_more}
 use Rattle.gx_policy.specs.declared.policy.User.{User}
 use Rattle.gx_history.specs.declared.report.Message.{Message}
-use Rattle.gx_streams.specs.Kept.{with_kept_last}
-use Rattle.gx_streams.specs.Streams.{on_told}
+use Rattle.gx_streams.specs.{Kept.with_kept_last, Streams.on_told}
 use Rattle.gx_keepers.specs.Ends.{owed_by_day_end, trades}
-use Rattle.gx_keepers.proofs.Commanded.{first_has_place, first_passed, first_told}
+use Rattle.gx_keepers.proofs.{Commanded.{first_has_place, first_passed, first_told}, commands.tell_of_day_end.Goals.{then-trades, else-trades}}
 use Rattle.gx_keepers.proofs.commands.tell_of_day_end.Goals as goal
-use Rattle.gx_keepers.proofs.commands.tell_of_day_end.Goals.{then-trades, else-trades}
 
 pub append_reserved-requires : goal.append_reserved-requires
 append_reserved-requires c =

@@ -1,9 +1,7 @@
 use Rattle.std.proofs.Common.{List, subst}
 use Rattle.gx_history.specs.declared.live_order.LiveOrder.{LiveOrder}
 use Rattle.gx_ledger.specs.Following.{ClosesAll}
-use Rattle.gx_keepers.proofs.Commanded.{none_ends_by_default}
-use Rattle.gx_keepers.proofs.Ending.{close_day_closes, kill_closes, kill_takes_out}
-use Rattle.gx_keepers.proofs.Figuring.{none_to_close}
+use Rattle.gx_keepers.proofs.{Commanded.none_ends_by_default, Ending.{close_day_closes, kill_closes, kill_takes_out}, Figuring.none_to_close}
 use Rattle.gx_keepers.proofs.ends.end_orders.Goals as goal
 
 pub returns-in-Kill-clause-closed : goal.returns-in-Kill-clause-closed

@@ -1,7 +1,6 @@
 use Rattle.std.proofs.Common.{◌∙◌, ap}
 use Rattle.gx_history.specs.declared.report.Message.{Message}
-use Rattle.gx_streams.specs.Kept.{with_kept_last}
-use Rattle.gx_streams.specs.Streams.{on_told}
+use Rattle.gx_streams.specs.{Kept.with_kept_last, Streams.on_told}
 use Rattle.gx_keepers.specs.Ends.{owed_by_end}
 use Rattle.gx_keepers.proofs.Ending.{next_told}
 use Rattle.gx_keepers.proofs.ends.tell_each.Goals as goal

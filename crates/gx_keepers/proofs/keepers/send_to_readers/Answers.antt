@@ -1,5 +1,4 @@
-use Rattle.std.proofs.Common.{◌∙◌, List, ap}
-use Rattle.std.proofs.lemmas.List.{take_all}
+use Rattle.std.proofs.{Common.{◌∙◌, List, ap}, lemmas.List.take_all}
 use Rattle.gx_policy.specs.declared.policy.User.{User}
 use Rattle.gx_keepers.proofs.Sending.{all_sent, sent_next, sent_users}
 use Rattle.gx_keepers.proofs.keepers.send_to_readers.Goals as goal

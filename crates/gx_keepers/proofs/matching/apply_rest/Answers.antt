@@ -1,33 +1,31 @@
 use Rattle.std.proofs.Common.{refl, ap, ◌∙◌, arith}
 use Rattle.std.specs.Prelude.{is_some}
-use Rattle.gx_history.specs.declared.moves.Move.TheVariants as moves
+use Rattle.gx_history.specs.declared.moves.Move.{Move}
 use Rattle.gx_orders.specs.LiveOrders.{OrdersData, live_numbered}
 use Rattle.gx_orders.proofs.Finding.{finds_orders}
 use Rattle.gx_effects.proofs.Doing.{may_do}
-use Rattle.gx_keepers.proofs.Carrying.{day_so, takes_so}
-use Rattle.gx_keepers.proofs.Keepings.{known_told, match_keeps}
-use Rattle.gx_keepers.proofs.Matches.{IsMatched, comes_last, is_matched, rest_goes_on}
+use Rattle.gx_keepers.proofs.{Carrying.{day_so, takes_so}, Keepings.{known_told, match_keeps}, Matches.{IsMatched, comes_last, is_matched, rest_goes_on}}
 use Rattle.gx_keepers.proofs.matching.apply_rest.Goals as goal
 
 pub order_numbered-order-requires : goal.order_numbered-order-requires
 order_numbered-order-requires c = record {
-  lives = let t = takes_so c.args.next.policy.now c.args.next.history.now.records c.args.next.moves.now (moves.Rests c.args.number) c.args.next.left.now c.args.keepers.now c.requires.rests c.requires.takes in
-      ap (λ (d : OrdersData). is_some (live_numbered d.live c.args.number)) t.in_force.orders ∙ ap is_some (finds_orders c.args.next.policy.now c.args.next.history.now.records c.args.next.left.now (moves.Rests c.args.number) t.does).is_found;
+  lives = let t = takes_so c.args.next.policy.now c.args.next.history.now.records c.args.next.moves.now (Move.Rests c.args.number) c.args.next.left.now c.args.keepers.now c.requires.rests c.requires.takes in
+      ap (λ (d : OrdersData). is_some (live_numbered d.live c.args.number)) t.in_force.orders ∙ ap is_some (finds_orders c.args.next.policy.now c.args.next.history.now.records c.args.next.left.now (Move.Rests c.args.number) t.does).is_found;
 }
 
 pub put_to_rest-requires : goal.put_to_rest-requires
-put_to_rest-requires c = record { latest = comes_last c.args.next.policy.now c.args.next.history.now.records c.args.next.left.now c.args.keepers.now c.args.number c.order_numbered-order.result (takes_so c.args.next.policy.now c.args.next.history.now.records c.args.next.moves.now (moves.Rests c.args.number) c.args.next.left.now c.args.keepers.now c.requires.rests c.requires.takes) c.order_numbered-order.ensures.found }
+put_to_rest-requires c = record { latest = comes_last c.args.next.policy.now c.args.next.history.now.records c.args.next.left.now c.args.keepers.now c.args.number c.order_numbered-order.result (takes_so c.args.next.policy.now c.args.next.history.now.records c.args.next.moves.now (Move.Rests c.args.number) c.args.next.left.now c.args.keepers.now c.requires.rests c.requires.takes) c.order_numbered-order.ensures.found }
 
 pub returns-clause-ok : goal.returns-clause-ok
 returns-clause-ok c =
-    rest_goes_on c.args.next.policy.now c.args.next.history.now.records c.args.next.left.now c.args.keepers.now _ c.args.number c.order_numbered-order.result (takes_so c.args.next.policy.now c.args.next.history.now.records c.args.next.moves.now (moves.Rests c.args.number) c.args.next.left.now c.args.keepers.now c.requires.rests c.requires.takes) c.order_numbered-order.ensures.found
-    refl refl (day_so c.args.next.left.now c.args.next.moves.now (moves.Rests c.args.number) c.args.keepers.now.day _ c.requires.rests c.apply.ensures)
+    rest_goes_on c.args.next.policy.now c.args.next.history.now.records c.args.next.left.now c.args.keepers.now _ c.args.number c.order_numbered-order.result (takes_so c.args.next.policy.now c.args.next.history.now.records c.args.next.moves.now (Move.Rests c.args.number) c.args.next.left.now c.args.keepers.now c.requires.rests c.requires.takes) c.order_numbered-order.ensures.found
+    refl refl (day_so c.args.next.left.now c.args.next.moves.now (Move.Rests c.args.number) c.args.keepers.now.day _ c.requires.rests c.apply.ensures)
     (λ i. record { live = c.rest.ensures.live i; used = c.rest.ensures.used i }) c.in_ok-put_to_rest.ensures.ok refl refl
 
 pub returns-clause-kept_after : goal.returns-clause-kept_after
 returns-clause-kept_after c =
-    let t = takes_so c.args.next.policy.now c.args.next.history.now.records c.args.next.moves.now (moves.Rests c.args.number) c.args.next.left.now c.args.keepers.now c.requires.rests c.requires.takes in
-    let matches : IsMatched c.args.next.policy.now c.args.next.history.now.records c.args.next.left.now = is_matched c.args.next.policy.now c.args.next.history.now.records c.args.next.left.now (moves.Rests c.args.number) t.does (may_do c.args.next.policy.now c.args.next.history.now.records c.args.next.left.now (moves.Rests c.args.number) t.does).is_match in
+    let t = takes_so c.args.next.policy.now c.args.next.history.now.records c.args.next.moves.now (Move.Rests c.args.number) c.args.next.left.now c.args.keepers.now c.requires.rests c.requires.takes in
+    let matches : IsMatched c.args.next.policy.now c.args.next.history.now.records c.args.next.left.now = is_matched c.args.next.policy.now c.args.next.history.now.records c.args.next.left.now (Move.Rests c.args.number) t.does (may_do c.args.next.policy.now c.args.next.history.now.records c.args.next.left.now (Move.Rests c.args.number) t.does).is_match in
     match_keeps c.args.next.policy.now c.args.next.history.now.records matches.handed c.args.next.left.now c.args.keepers.now.streams _ t.does.legal matches.left
     (known_told c.args.next.policy.now c.args.next.history.now.records c.args.keepers.now t.in_force)
     (known_told c.args.next.policy.now _ _ (returns-clause-ok c))

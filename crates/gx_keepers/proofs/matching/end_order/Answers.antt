@@ -1,28 +1,22 @@
-use Rattle.std.proofs.Common.{ℕ, refl, ap, sym, ◌∙◌, ◌∷◌, [], ◌++◌}
-use Rattle.std.proofs.Math.Path.{subst}
+use Rattle.std.proofs.{Common.{ℕ, refl, ap, sym, ◌∙◌, ◌∷◌, [], ◌++◌}, Math.Path.subst}
 use Rattle.std.specs.Prelude.{Some}
-use Rattle.gx_ouch.specs.declared.letters.CancelReason.TheVariants as cancels
-use Rattle.gx_history.specs.declared.moves.Move.TheVariants as moves
-use Rattle.gx_history.specs.Streams.{canceled_of}
+use Rattle.gx_ouch.specs.declared.letters.CancelReason.{CancelReason}
+use Rattle.gx_history.specs.{declared.moves.Move.Move, Streams.canceled_of}
 use Rattle.gx_streams.specs.Laws.{TellsOne}
-use Rattle.gx_keepers.proofs.Carrying.{day_so, one_goes_on, takes_so}
-use Rattle.gx_keepers.proofs.Figuring.{end_figured, legal_after}
-use Rattle.gx_keepers.proofs.Keepings.{known_told}
-use Rattle.gx_keepers.proofs.Matches.{end_has_place, end_tells}
-use Rattle.gx_keepers.proofs.Rooms.{places_behind, telling_keeps_room}
+use Rattle.gx_keepers.proofs.{Carrying.{day_so, one_goes_on, takes_so}, Figuring.{end_figured, legal_after}, Keepings.known_told, Matches.{end_has_place, end_tells}, Rooms.{places_behind, telling_keeps_room}}
 use Rattle.gx_keepers.proofs.matching.end_order.Goals as goal
 
 pub tell-requires : goal.tell-requires
-tell-requires c = end_has_place c.args.next.policy.now c.args.next.history.now.records c.args.next.left.now c.args.keepers.now c.args.order.now (takes_so c.args.next.policy.now c.args.next.history.now.records c.args.next.moves.now (moves.Expires c.args.order.now.number) c.args.next.left.now c.args.keepers.now c.requires.expires c.requires.takes) c.requires.lives c.requires.places
+tell-requires c = end_has_place c.args.next.policy.now c.args.next.history.now.records c.args.next.left.now c.args.keepers.now c.args.order.now (takes_so c.args.next.policy.now c.args.next.history.now.records c.args.next.moves.now (Move.Expires c.args.order.now.number) c.args.next.left.now c.args.keepers.now c.requires.expires c.requires.takes) c.requires.lives c.requires.places
 
 pub returns-clause-after : goal.returns-clause-after
 returns-clause-after c =
-    let t = takes_so c.args.next.policy.now c.args.next.history.now.records c.args.next.moves.now (moves.Expires c.args.order.now.number) c.args.next.left.now c.args.keepers.now c.requires.expires c.requires.takes in
-    one_goes_on c.args.next.policy.now c.args.next.history.now.records (moves.Expires c.args.order.now.number) c.args.next.left.now c.args.keepers.now _ c.args.order.now.user (Some c.canceled-message.result) t
+    let t = takes_so c.args.next.policy.now c.args.next.history.now.records c.args.next.moves.now (Move.Expires c.args.order.now.number) c.args.next.left.now c.args.keepers.now c.requires.expires c.requires.takes in
+    one_goes_on c.args.next.policy.now c.args.next.history.now.records (Move.Expires c.args.order.now.number) c.args.next.left.now c.args.keepers.now _ c.args.order.now.user (Some c.canceled-message.result) t
     (subst (TellsOne c.args.next.policy.now c.args.next.history.now.records (c.args.next.history.now.records ++ c.args.next.left.now ∷ []) c.args.next.left.now c.args.order.now.user)
-    (sym (c.canceled-message.ensures ∙ ap (λ (n : ℕ). canceled_of cancels.ImmediateOrCancel n c.args.order.now) c.open.ensures))
+    (sym (c.canceled-message.ensures ∙ ap (λ (n : ℕ). canceled_of CancelReason.ImmediateOrCancel n c.args.order.now) c.open.ensures))
     (end_tells c.args.next.policy.now c.args.next.history.now.records c.args.next.left.now c.args.keepers.now c.args.order.now t c.requires.lives))
-    refl refl refl (day_so c.args.next.left.now c.args.next.moves.now (moves.Expires c.args.order.now.number) c.args.keepers.now.day _ c.requires.expires c.apply.ensures) (λ i. record { live = c.end.ensures.live i; used = c.end.ensures.used i }) refl
+    refl refl refl (day_so c.args.next.left.now c.args.next.moves.now (Move.Expires c.args.order.now.number) c.args.keepers.now.day _ c.requires.expires c.apply.ensures) (λ i. record { live = c.end.ensures.live i; used = c.end.ensures.used i }) refl
     (end_figured c.args.next.policy.now c.args.next.history.now.records c.args.next.left.now c.args.order.now c.args.keepers.now _ t c.requires.lives c.close.ensures.closed) c.tell.ensures
 
 pub returns-clause-kept_after : goal.returns-clause-kept_after

@@ -1,11 +1,7 @@
-use Rattle.std.proofs.Common.{◌≤◌, ◌∙◌, ap, sym}
-use Rattle.std.proofs.Math.Path.{subst}
+use Rattle.std.proofs.{Common.{◌≤◌, ◌∙◌, ap, sym}, Math.Path.subst}
 use Rattle.gx_units.specs.declared.names.UserName.{UserName}
-use Rattle.gx_streams.specs.Kept.{places_in, with_places}
-use Rattle.gx_streams.specs.Streams.{AllStreams, is_told}
-use Rattle.gx_streams.specs.Telling.{shown}
-use Rattle.gx_streams.proofs.Places.{users_stay}
-use Rattle.gx_streams.proofs.Telling.{places_not_shown}
+use Rattle.gx_streams.specs.{Kept.{places_in, with_places}, Streams.{AllStreams, is_told}, Telling.shown}
+use Rattle.gx_streams.proofs.{Places.users_stay, Telling.places_not_shown}
 use Rattle.gx_keepers.proofs.Keepings.{as_many_places, more_places}
 use Rattle.gx_keepers.proofs.places.keep.Goals as goal
 

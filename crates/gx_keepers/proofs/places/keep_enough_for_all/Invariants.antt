@@ -1,8 +1,6 @@
 use Rattle.std.proofs.Common.{◌≡◌, ◌≤◌, take}
 use Rattle.gx_units.specs.declared.names.UserName.{UserName}
-use Rattle.gx_streams.specs.Kept.{places_in}
-use Rattle.gx_streams.specs.Streams.{is_told}
-use Rattle.gx_streams.specs.Telling.{shown}
+use Rattle.gx_streams.specs.{Kept.places_in, Streams.is_told, Telling.shown}
 use Rattle.gx_keepers.specs.Keepers.{HaveEnough}
 use Rattle.gx_keepers.proofs.places.keep_enough_for_all.Given as goal
 

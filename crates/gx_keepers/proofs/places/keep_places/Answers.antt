@@ -1,7 +1,5 @@
-use Rattle.std.proofs.Common.{◌≡◌, true, false, refl, ◌∙◌, sym}
-use Rattle.std.proofs.lemmas.Result.{on_ok_weaker}
-use Rattle.gx_keepers.proofs.Keepings.{asked_are_placed, asker_fits, few_live, keep_still, kept_fit, many_fit}
-use Rattle.gx_keepers.proofs.Carrying.{asked_takes}
+use Rattle.std.proofs.{Common.{◌≡◌, true, false, refl, ◌∙◌, sym}, lemmas.Result.on_ok_weaker}
+use Rattle.gx_keepers.proofs.{Trading.trader_has_enough, Keepings.{asked_are_placed, asker_fits, few_live, keep_still, kept_fit, many_fit}, Carrying.asked_takes}
 use Rattle.gx_keepers.proofs.places.keep_places.Goals as goal
 
 pub keep_enough_for_all-requires : goal.keep_enough_for_all-requires
@@ -40,6 +38,33 @@ returns-then-concerns_many-clause-places c =
 
 pub returns-then-concerns_many-clause-sure : goal.returns-then-concerns_many-clause-sure
 returns-then-concerns_many-clause-sure c = λ sure. let clash : false ≡ true = sym c.if-has_kept_places.false ∙ c.has_kept_places.ensures ∙ sure in cc
+
+-- an Enter
+pub keep_enough_for_trader-requires : goal.keep_enough_for_trader-requires
+keep_enough_for_trader-requires c = record { few = few_live c.args.next.policy.now c.args.next.history.now.records c.args.keepers.now c.requires.takes.does.legal c.requires.takes.in_force }
+
+pub returns-in-Adds-clause-kept : goal.returns-in-Adds-clause-kept
+returns-in-Adds-clause-kept c =
+    keep_still c.args.next.policy.now c.args.next.history.now.records c.args.keepers.now c.keep_enough_for_trader.new.streams
+    (record { in_force = c.requires.takes.in_force; kept = c.requires.kept; known = c.keep_enough_for_trader.ensures.known; more = c.keep_enough_for_trader.ensures.more })
+
+pub returns-in-Adds-clause-whole : goal.returns-in-Adds-clause-whole
+returns-in-Adds-clause-whole c =
+    on_ok_weaker c.keep_enough_for_trader.result
+    (λ has. asker_fits c.args.next.policy.now c.args.next.history.now.records c.args.a.now c.args.next.left.now c.args.keepers.now c.keep_enough_for_trader.new.streams (asked_takes c.args.next.policy.now c.args.next.history.now.records c.args.a.now c.args.next.moves.now c.args.next.left.now c.args.keepers.now c.requires.asks c.requires.takes)
+    (record { in_force = c.requires.takes.in_force; kept = c.requires.kept; known = c.keep_enough_for_trader.ensures.known; more = c.keep_enough_for_trader.ensures.more })
+    (sym c.concerns_many.ensures ∙ c.if-concerns_many.false)
+    (trader_has_enough c.args.next.policy.now c.args.next.history.now.records c.args.a.now c.args.next.left.now c.args.next.moves.now c.in-Adds.field-0 c.args.keepers.now c.requires.asks c.requires.takes c.in-Adds.is c.keep_enough_for_trader.new.streams has))
+    c.keep_enough_for_trader.ensures.places
+
+pub returns-in-Adds-clause-places : goal.returns-in-Adds-clause-places
+returns-in-Adds-clause-places c =
+    on_ok_weaker c.keep_enough_for_trader.result
+    (asked_are_placed c.args.next.policy.now c.args.next.history.now.records c.args.a.now c.args.next.left.now c.args.keepers.now c.keep_enough_for_trader.new.streams (asked_takes c.args.next.policy.now c.args.next.history.now.records c.args.a.now c.args.next.moves.now c.args.next.left.now c.args.keepers.now c.requires.asks c.requires.takes) c.keep_enough_for_trader.ensures.known)
+    (returns-in-Adds-clause-whole c)
+
+pub returns-in-Adds-clause-sure : goal.returns-in-Adds-clause-sure
+returns-in-Adds-clause-sure c = λ sure. let clash : false ≡ true = sym c.if-has_kept_places.false ∙ c.has_kept_places.ensures ∙ sure in cc
 
 -- any other request
 pub returns-clause-kept : goal.returns-clause-kept

@@ -1,7 +1,6 @@
 use Rattle.std.proofs.Common.{arith, sym, ap, ◌∙◌, ◌-◌}
-use Rattle.gx_ledger.proofs.Latest.{one_more_recent, recent_from}
+use Rattle.gx_ledger.proofs.{Latest.{one_more_recent, recent_from}, moments.recent_in_turn.Goals.{then-loop-left-test+else-is_recent, else-loop-left-test}}
 use Rattle.gx_ledger.proofs.moments.recent_in_turn.Goals as goal
-use Rattle.gx_ledger.proofs.moments.recent_in_turn.Goals.{then-loop-left-test+else-is_recent, else-loop-left-test}
 
 pub loop-left-init : goal.loop-left-init
 loop-left-init c = record { len = c.len-len.ensures.len; within = omega arith; passed = λ k from to. absurd (omega (arith, from, to, c.len-len.ensures.len)) }

@@ -1,5 +1,4 @@
-use Rattle.std.proofs.Common.{◌∙◌, ◌<◌, None, ap, sym, arith, length, set}
-use Rattle.std.proofs.lemmas.List.Edits.{map_over_more}
+use Rattle.std.proofs.{Common.{◌∙◌, ◌<◌, None, ap, sym, arith, length, set}, lemmas.List.Edits.map_over_more}
 use Rattle.gx_ledger.specs.Tallies.{tally_after}
 use Rattle.gx_ledger.proofs.tables.note_in_all.Goals as goal
 

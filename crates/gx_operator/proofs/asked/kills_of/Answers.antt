@@ -1,6 +1,4 @@
-use Rattle.std.proofs.Common.{[], ◌∷◌, ◌++◌, ap, ◌∙◌}
-use Rattle.std.proofs.lemmas.List.{drop_more}
-use Rattle.std.proofs.Math.ListN.{drop_of_length-le}
+use Rattle.std.proofs.{Common.{[], ◌∷◌, ◌++◌, ap, ◌∙◌}, lemmas.List.drop_more, Math.ListN.drop_of_length-le}
 use Rattle.gx_operator.specs.declared.asked.Asked.{Asked}
 use Rattle.gx_operator.proofs.Kills.{none_left, one_more}
 use Rattle.gx_operator.proofs.asked.kills_of.Goals as goal

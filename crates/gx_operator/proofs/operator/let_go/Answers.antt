@@ -1,5 +1,4 @@
-use Rattle.std.proofs.Common.{rules, not}
-use Rattle.std.proofs.lemmas.Fn.{filter_same}
+use Rattle.std.proofs.{Common.{rules, not}, lemmas.Fn.filter_same}
 use Rattle.gx_operator.specs.Hearing.{answers}
 use Rattle.gx_operator.proofs.operator.let_go.Goals as goal
 

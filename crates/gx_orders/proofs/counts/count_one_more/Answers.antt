@@ -1,6 +1,5 @@
 use Rattle.std.proofs.Common.{◌+◌, ◌∙◌, ap, cond, sym, ℕ}
-use Rattle.std.specs.Prelude.{Option, Some, is_some, unwrap_or}
-use Rattle.std.specs.Map.{lookup}
+use Rattle.std.specs.{Prelude.{Option, Some, is_some, unwrap_or}, Map.lookup}
 use Rattle.gx_units.specs.Names.{same_user}
 use Rattle.gx_orders.proofs.Counted.{one_more}
 use Rattle.gx_orders.proofs.counts.count_one_more.Goals as goal

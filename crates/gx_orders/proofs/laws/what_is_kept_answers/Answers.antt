@@ -1,5 +1,4 @@
-use Rattle.gx_orders.proofs.Keeping.{used_is}
-use Rattle.gx_orders.proofs.Staying.{accounts_are_theirs, none_at_first}
+use Rattle.gx_orders.proofs.{Keeping.used_is, Staying.{accounts_are_theirs, none_at_first}}
 use Rattle.gx_orders.proofs.laws.what_is_kept_answers.Goals as goal
 
 pub returns : goal.returns

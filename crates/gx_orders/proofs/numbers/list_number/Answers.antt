@@ -1,6 +1,5 @@
 use Rattle.std.proofs.Common.{◌∙◌, ap, cond, sym, [], List, ℕ}
-use Rattle.std.specs.Prelude.{Option, Some, is_some, unwrap_or}
-use Rattle.std.specs.Map.{lookup}
+use Rattle.std.specs.{Prelude.{Option, Some, is_some, unwrap_or}, Map.lookup}
 use Rattle.gx_units.specs.Names.{same_account}
 use Rattle.gx_orders.proofs.Listing.{lists_more, lists_same, on_ok}
 use Rattle.gx_orders.proofs.numbers.list_number.Goals as goal

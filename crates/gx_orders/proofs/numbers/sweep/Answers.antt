@@ -1,5 +1,4 @@
-use Rattle.std.proofs.Common.{rules}
-use Rattle.std.proofs.lemmas.Fn.{filter_same}
+use Rattle.std.proofs.{Common.rules, lemmas.Fn.filter_same}
 use Rattle.gx_orders.specs.Tables.{is_live_of}
 use Rattle.gx_orders.proofs.numbers.sweep.Goals as goal
 

@@ -1,7 +1,6 @@
 use Rattle.std.proofs.Common.{◌≡◌, take}
 use Rattle.std.specs.Prelude.{fold}
-use Rattle.gx_history.specs.Executions.{executions}
-use Rattle.gx_history.specs.Orders.{orders}
+use Rattle.gx_history.specs.{Executions.executions, Orders.orders}
 use Rattle.gx_overview.specs.Executed.{KnowOrders, rows_after}
 use Rattle.gx_overview.proofs.executed.note_records.Given as goal
 

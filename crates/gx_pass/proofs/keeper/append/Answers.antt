@@ -1,9 +1,7 @@
 use Rattle.std.proofs.Common.{refl, subst}
 use Rattle.gx_history.specs.declared.record.RecordData.{RecordData}
-use Rattle.gx_pass.specs.Views.{kept_of, line_in}
-use Rattle.gx_pass.specs.Rules.{MayNote}
-use Rattle.gx_pass.proofs.Moves.{notes}
-use Rattle.gx_pass.proofs.Tables.{one_word}
+use Rattle.gx_pass.specs.{Views.{kept_of, line_in}, Rules.MayNote}
+use Rattle.gx_pass.proofs.{Moves.notes, Tables.one_word}
 use Rattle.gx_pass.proofs.keeper.append.Goals as goal
 
 pub fetch_add-requires : goal.fetch_add-requires

@@ -1,8 +1,6 @@
 use Rattle.std.proofs.Common.{refl, subst}
-use Rattle.gx_pass.specs.Views.{kept_of}
-use Rattle.gx_pass.specs.Rules.{Has}
-use Rattle.gx_pass.proofs.Moves.{leaves}
-use Rattle.gx_pass.proofs.Tables.{one_word}
+use Rattle.gx_pass.specs.{Views.kept_of, Rules.Has}
+use Rattle.gx_pass.proofs.{Moves.leaves, Tables.one_word}
 use Rattle.gx_pass.proofs.keeper.part.Goals as goal
 
 pub split_seat-requires : goal.split_seat-requires

@@ -1,5 +1,4 @@
-use Rattle.gx_people.proofs.Entitling.{granted_pair, revoked_pair}
-use Rattle.gx_people.proofs.Keeping.{grants_go, revocations_go}
+use Rattle.gx_people.proofs.{Entitling.{granted_pair, revoked_pair}, Keeping.{grants_go, revocations_go}}
 use Rattle.gx_people.proofs.laws.commands_change_one_pair.Goals as goal
 
 pub returns : goal.returns

@@ -1,5 +1,4 @@
-use Rattle.gx_pipe.proofs.OnLine.{run_keeps}
-use Rattle.gx_pipe.proofs.Leaving.{run_may_leave}
+use Rattle.gx_pipe.proofs.{OnLine.run_keeps, Leaving.run_may_leave}
 use Rattle.gx_pipe.proofs.laws.whoever_is_on_may_leave.Goals as goal
 
 pub returns-clause-line : goal.returns-clause-line

@@ -1,11 +1,8 @@
-use Rattle.std.proofs.Common.{◌≡◌, Bool, true, false, ◌||◌, is_some, ◌∙◌}
+use Rattle.std.proofs.{Common.{◌≡◌, Bool, true, false, ◌||◌, is_some, ◌∙◌}, lemmas.Result.err_from_is_err_and}
 use Rattle.gx_session.specs.Events.{is_over}
-use Rattle.std.proofs.lemmas.Result.{err_from_is_err_and}
-use Rattle.gx_pipe.proofs.Runs.{exchanged_by}
+use Rattle.gx_pipe.proofs.{Runs.exchanged_by, Faults.{broken_by, feed_cut}, pipe.exchange.Goals.{then-is_some, else-is_some}}
 use Rattle.gx_devices.proofs.Known.{on_fault}
-use Rattle.gx_pipe.proofs.Faults.{broken_by, feed_cut}
 use Rattle.gx_pipe.proofs.pipe.exchange.Goals as goal
-use Rattle.gx_pipe.proofs.pipe.exchange.Goals.{then-is_some, else-is_some}
 
 or_then : (a b r : Bool) → a ≡ true → r ≡ true → r ≡ (a || b)
 or_then true b r h e = e

@@ -1,13 +1,8 @@
-use Rattle.std.proofs.Common.{None, inl, inr, sym, ◌∙◌, refl, arith}
+use Rattle.std.proofs.{Common.{None, inl, inr, sym, ◌∙◌, refl, arith}, KnownBytes.Keeps-refl, lemmas.Result.err_from_is_err_and}
 use Rattle.gx_soup.specs.Packets.{packets_of}
-use Rattle.gx_pipe.proofs.Runs.{stands_first, stands_next, stands_still, ended, all_of_transcript}
-use Rattle.gx_pipe.proofs.Faults.{fault_stands, fault_broken, stands_on_line}
-use Rattle.gx_pipe.proofs.Leaving.{never_cut}
+use Rattle.gx_pipe.proofs.{Runs.{stands_first, stands_next, stands_still, ended, all_of_transcript}, Faults.{fault_stands, fault_broken, stands_on_line}, Leaving.never_cut, Endings.not_endless}
 use Rattle.gx_pipe.specs.declared.fault.PipeFault.TheVariants.{ReadFailed, Endless}
-use Rattle.std.proofs.KnownBytes.{Keeps-refl}
 use Rattle.gx_devices.proofs.Known.{on_fault, on_any, counted_next}
-use Rattle.gx_pipe.proofs.Endings.{not_endless}
-use Rattle.std.proofs.lemmas.Result.{err_from_is_err_and}
 use Rattle.gx_pipe.proofs.pipe.serve.Goals as goal
 
 pub loop-init : goal.loop-init

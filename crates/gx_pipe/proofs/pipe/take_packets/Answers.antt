@@ -1,5 +1,4 @@
-use Rattle.std.proofs.Common.{arith}
-use Rattle.std.proofs.lemmas.Result.{err_from_is_err_and}
+use Rattle.std.proofs.{Common.arith, lemmas.Result.err_from_is_err_and}
 use Rattle.gx_devices.proofs.Known.{on_fault}
 use Rattle.gx_pipe.proofs.Faults.{item_cut}
 use Rattle.gx_pipe.proofs.pipe.take_packets.Goals as goal

@@ -1,7 +1,6 @@
 use Rattle.std.proofs.Common.{◌≡◌, take}
 use Rattle.std.specs.Prelude.{fold}
-use Rattle.gx_pipe.specs.Transcript.{silent, on_packet}
-use Rattle.gx_pipe.specs.Piping.{IsTaken}
+use Rattle.gx_pipe.specs.{Transcript.{silent, on_packet}, Piping.IsTaken}
 use Rattle.gx_pipe.proofs.pipe.take_packets.Given as goal
 
 abbrev pub invariant-loop-packet : goal.invariant-loop-packet

@@ -1,5 +1,4 @@
-use Rattle.gx_policyfile.proofs.Giving.{never_refused}
-use Rattle.gx_policyfile.proofs.WasRead.{numbered}
+use Rattle.gx_policyfile.proofs.{Giving.never_refused, WasRead.numbered}
 use Rattle.gx_policyfile.proofs.reading.read_version.Goals as goal
 
 pub returns-clause-fault : goal.returns-clause-fault

@@ -1,5 +1,4 @@
-use Rattle.std.proofs.Common.{Err, ap, sym, ◌∙◌}
-use Rattle.std.proofs.lemmas.Bool.{false≢true}
+use Rattle.std.proofs.{Common.{Err, ap, sym, ◌∙◌}, lemmas.Bool.false≢true}
 use Rattle.gx_policyfile.proofs.Trees.{tree_some, tree_none}
 use Rattle.gx_policyfile.proofs.reading.tree.Goals as goal
 

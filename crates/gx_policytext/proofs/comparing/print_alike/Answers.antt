@@ -1,5 +1,4 @@
-use Rattle.std.proofs.Common.{codes, sym, ◌∙◌}
-use Rattle.std.proofs.lemmas.Slice.Eq.{bytes_eq-Decides}
+use Rattle.std.proofs.{Common.{codes, sym, ◌∙◌}, lemmas.Slice.Eq.bytes_eq-Decides}
 use Rattle.gx_policytext.proofs.Depths.{prints_alike}
 use Rattle.gx_policytext.proofs.comparing.print_alike.Goals as goal
 

@@ -1,6 +1,5 @@
 use Rattle.std.proofs.Common.{ap, ◌∙◌}
-use Rattle.std.specs.List.{list_all}
-use Rattle.std.specs.Option.{option_map_or}
+use Rattle.std.specs.{List.list_all, Option.option_map_or}
 use Rattle.toml.specs.View.{view}
 use Rattle.gx_policytext.specs.Shallow.{all_items, is_plain}
 use Rattle.gx_policytext.proofs.Depths.{all_items_view}

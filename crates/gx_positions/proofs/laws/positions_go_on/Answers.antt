@@ -1,5 +1,4 @@
-use Rattle.gx_positions.proofs.Coming.{records_may_come}
-use Rattle.gx_positions.proofs.GoingOn.{positions_go_on}
+use Rattle.gx_positions.proofs.{Coming.records_may_come, GoingOn.positions_go_on}
 use Rattle.gx_positions.proofs.laws.positions_go_on.Goals as goal
 
 pub returns : goal.returns

@@ -1,6 +1,4 @@
-use Rattle.std.proofs.Common.{◌≡◌, List, [], ◌∷◌, drop, length, ◌+◌, refl, sym, ap, ◌∙◌, arith}
-use Rattle.std.proofs.lemmas.List.{drop_more}
-use Rattle.std.proofs.Math.Seq.{drop-length}
+use Rattle.std.proofs.{Common.{◌≡◌, List, [], ◌∷◌, drop, length, ◌+◌, refl, sym, ap, ◌∙◌, arith}, lemmas.List.drop_more, Math.Seq.drop-length}
 use Rattle.gx_soup.specs.declared.packet.ClientPacket.{ClientPacket}
 use Rattle.gx_reception.specs.Openings.{from_first}
 use Rattle.gx_reception.proofs.Idling.{first_here, first_later}

@@ -1,5 +1,4 @@
-use Rattle.std.proofs.Common.{◌<◌, ◌^◌, arith}
-use Rattle.std.proofs.lemmas.List.{length-take}
+use Rattle.std.proofs.{Common.{◌<◌, ◌^◌, arith}, lemmas.List.length-take}
 use Rattle.gx_script.proofs.Reading.{few_digits}
 use Rattle.gx_script.proofs.words.first_digits.Goals as goal
 

@@ -1,6 +1,5 @@
 use Rattle.std.proofs.Common.{◌≡◌, ◌<◌, ◌^◌, IsTrue, take}
-use Rattle.std.specs.List.{list_all}
-use Rattle.std.specs.Char.{is_ascii_digit}
+use Rattle.std.specs.{List.list_all, Char.is_ascii_digit}
 use Rattle.gx_soup.specs.Login.{spelled}
 use Rattle.gx_script.proofs.words.first_digits.Given as goal
 

@@ -1,8 +1,6 @@
-use Rattle.std.proofs.Common.{subst}
-use Rattle.std.proofs.lemmas.Result.{err_from_is_err_and}
+use Rattle.std.proofs.{Common.subst, lemmas.Result.err_from_is_err_and}
 use Rattle.gx_devices.proofs.Known.{on_fault}
-use Rattle.gx_scripting.specs.Leaving.{Leaves}
-use Rattle.gx_scripting.specs.Scripting.{line_effect}
+use Rattle.gx_scripting.specs.{Leaving.Leaves, Scripting.line_effect}
 use Rattle.gx_scripting.proofs.ScriptRuns.{half_done, half_written}
 use Rattle.gx_scripting.proofs.script.do_line.Goals as goal
 

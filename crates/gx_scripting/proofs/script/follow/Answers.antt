@@ -1,10 +1,7 @@
-use Rattle.std.proofs.Common.{refl, arith, ◌∙◌}
-use Rattle.std.proofs.KnownBytes.{Keeps-refl}
-use Rattle.std.proofs.lemmas.Result.{err_from_is_err_and}
+use Rattle.std.proofs.{Common.{refl, arith, ◌∙◌}, KnownBytes.Keeps-refl, lemmas.Result.err_from_is_err_and}
 use Rattle.gx_devices.proofs.Known.{counted_next, on_fault}
-use Rattle.gx_scripting.proofs.ScriptRuns.{if_err, on_ok}
-use Rattle.gx_scripting.proofs.ScriptEnds.{stands_first, stands_next, ends, ends_with_bad, ends_halfway, stops_reading, stops_with_bad, stops_halfway}
-use Rattle.gx_scripting.specs.declared.script_fault.ScriptFault.TheVariants as faults
+use Rattle.gx_scripting.proofs.{ScriptRuns.{if_err, on_ok}, ScriptEnds.{stands_first, stands_next, ends, ends_with_bad, ends_halfway, stops_reading, stops_with_bad, stops_halfway}}
+use Rattle.gx_scripting.specs.declared.script_fault.ScriptFault.{ScriptFault}
 use Rattle.gx_scripting.proofs.script.follow.Goals as goal
 
 pub loop-init : goal.loop-init
@@ -29,7 +26,7 @@ loop-preserved g c =
 
 pub returns-in-Err-clause-fault : goal.returns-in-Err-clause-fault
 returns-in-Err-clause-fault g c =
-    stops_reading _ _ _ _ _ _ _ _ c.loop.invariant.stands faults.ReadFailed tt _ c.in-Err.ensures.bytes
+    stops_reading _ _ _ _ _ _ _ _ c.loop.invariant.stands ScriptFault.ReadFailed tt _ c.in-Err.ensures.bytes
 
 pub returns-then-n-eq0-clause-script : goal.returns-then-n-eq0-clause-script
 returns-then-n-eq0-clause-script g c =
@@ -63,4 +60,4 @@ returns-in_err-take_piece-clause-fault g c =
 
 pub returns-clause-fault : goal.returns-clause-fault
 returns-clause-fault g c =
-    stops_reading _ _ _ _ _ _ _ _ c.loop.invariant.stands faults.Endless tt _ (Keeps-refl _)
+    stops_reading _ _ _ _ _ _ _ _ c.loop.invariant.stands ScriptFault.Endless tt _ (Keeps-refl _)

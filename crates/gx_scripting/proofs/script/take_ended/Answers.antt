@@ -1,6 +1,4 @@
-use Rattle.std.proofs.Common.{◌≡◌, ◌∙◌, ℕ, true, eqb, List, [], ◌∷◌, ◌++◌, length, refl, ap, sym, arith, append_assoc}
-use Rattle.std.proofs.lemmas.Bool.{eqb-true}
-use Rattle.std.proofs.lemmas.Result.{err_from_is_err_and}
+use Rattle.std.proofs.{Common.{◌≡◌, ◌∙◌, ℕ, true, eqb, List, [], ◌∷◌, ◌++◌, length, refl, ap, sym, arith, append_assoc}, lemmas.{Bool.eqb-true, Result.err_from_is_err_and}}
 use Rattle.gx_devices.proofs.Known.{on_fault}
 use Rattle.gx_scripting.specs.ScriptTexts.{ended}
 use Rattle.gx_scripting.proofs.ScriptRuns.{if_err, on_ok2, on_ok3, takes_end, takes_more, takes_on, stops_end, stops_ended, stops_more}

@@ -1,8 +1,6 @@
-use Rattle.std.proofs.Common.{◌++◌, refl, arith, length-append}
-use Rattle.std.proofs.lemmas.Result.{err_from_is_err_and}
+use Rattle.std.proofs.{Common.{◌++◌, refl, arith, length-append}, lemmas.Result.err_from_is_err_and}
 use Rattle.gx_devices.proofs.Known.{on_fault}
-use Rattle.gx_scripting.proofs.ScriptCuts.{long_is_too_long}
-use Rattle.gx_scripting.proofs.ScriptRuns.{takes_on, too_long_on, breaks_on}
+use Rattle.gx_scripting.proofs.{ScriptCuts.long_is_too_long, ScriptRuns.{takes_on, too_long_on, breaks_on}}
 use Rattle.gx_scripting.proofs.script.take_front.Goals as goal
 
 pub returns-then-len-front-gt-LONGEST-clause-err : goal.returns-then-len-front-gt-LONGEST-clause-err

@@ -1,5 +1,4 @@
-use Rattle.std.proofs.Common.{◌≡◌, ◌∷◌, [], ◌++◌, length, length-append, append_assoc, append-nil, refl, sym, ap, ◌∙◌, arith}
-use Rattle.std.proofs.lemmas.Result.{err_from_is_err_and}
+use Rattle.std.proofs.{Common.{◌≡◌, ◌∷◌, [], ◌++◌, length, length-append, append_assoc, append-nil, refl, sym, ap, ◌∙◌, arith}, lemmas.Result.err_from_is_err_and}
 use Rattle.gx_devices.proofs.Known.{on_fault}
 use Rattle.gx_scripting.specs.ScriptTexts.{ended}
 use Rattle.gx_scripting.proofs.ScriptRuns.{if_err, on_ok, takes_none, takes_more, stops_more}

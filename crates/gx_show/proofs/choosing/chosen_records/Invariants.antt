@@ -1,6 +1,5 @@
 use Rattle.std.proofs.Common.{◌≡◌, take}
-use Rattle.gx_show.specs.Choosing.{chosen}
-use Rattle.gx_show.specs.Known.{known_orders}
+use Rattle.gx_show.specs.{Choosing.chosen, Known.known_orders}
 use Rattle.gx_show.proofs.choosing.chosen_records.Given as goal
 
 abbrev pub invariant-loop-record : goal.invariant-loop-record

@@ -1,8 +1,7 @@
 use Rattle.std.proofs.Common.{◌≡◌, map, subst, List}
 use Rattle.std.specs.Prelude.{IfOk}
 use Rattle.csv.specs.Writing.{default_writer, row_text}
-use Rattle.gx_fields.specs.Cells.{cell_text}
-use Rattle.gx_fields.specs.declared.cell.Cell.{Cell}
+use Rattle.gx_fields.specs.{Cells.cell_text, declared.cell.Cell.Cell}
 use Rattle.gx_show.proofs.table.record_csv.Goals as goal
 
 pub returns : goal.returns

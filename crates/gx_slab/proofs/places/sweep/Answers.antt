@@ -1,5 +1,4 @@
-use Rattle.std.proofs.Common.{rules, ◌∙◌, subst, sym}
-use Rattle.std.proofs.lemmas.Fn.{filter_same}
+use Rattle.std.proofs.{Common.{rules, ◌∙◌, subst, sym}, lemmas.Fn.filter_same}
 use Rattle.gx_slab.specs.Slabs.{CanBePlaced, is_open}
 use Rattle.gx_slab.proofs.Sweeping.{can_be_placed}
 use Rattle.gx_slab.proofs.places.sweep.Goals as goal

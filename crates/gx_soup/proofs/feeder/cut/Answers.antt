@@ -1,6 +1,5 @@
 use Rattle.std.proofs.Common.{sym, ◌∙◌, arith}
-use Rattle.gx_soup.proofs.Steps.{cut_short, cut_faulty, cut_end, cut_whole, cut_takes}
-use Rattle.gx_soup.proofs.Bounds.{rest_bounded}
+use Rattle.gx_soup.proofs.{Steps.{cut_short, cut_faulty, cut_end, cut_whole, cut_takes}, Bounds.rest_bounded}
 use Rattle.gx_soup.proofs.feeder.cut.Goals as goal
 
 pub returns-in-Short-clause-packets : goal.returns-in-Short-clause-packets

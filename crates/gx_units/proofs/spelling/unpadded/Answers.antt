@@ -1,5 +1,4 @@
-use Rattle.std.proofs.Common.{◌≡◌, ◌+◌, ◌-◌, ◌∙◌, sym, get_or, arith, false}
-use Rattle.std.proofs.lemmas.Bool.Decides.{nat_tests}
+use Rattle.std.proofs.{Common.{◌≡◌, ◌+◌, ◌-◌, ◌∙◌, sym, get_or, arith, false}, lemmas.Bool.Decides.nat_tests}
 use Rattle.gx_units.specs.Spelling.{is_space}
 use Rattle.gx_units.proofs.Trimming.{space_taken, other_taken}
 use Rattle.gx_units.proofs.spelling.unpadded.Goals as goal

@@ -1,10 +1,7 @@
 use Rattle.std.proofs.Common.{◌∙◌, sym, ap, not}
 use Rattle.gx_history.specs.Book.{is_buy}
-use Rattle.gx_book.specs.Books.{is_sound_book, on_side}
-use Rattle.gx_book.specs.Queue.{is_same, without_order}
-use Rattle.gx_book.specs.Table.{book_of}
-use Rattle.gx_book.proofs.Order.{in_order_filter}
-use Rattle.gx_book.proofs.Stocks.{sound_on_side, unlisted_stays, written_back}
+use Rattle.gx_book.specs.{Books.{is_sound_book, on_side}, Queue.{is_same, without_order}, Table.book_of}
+use Rattle.gx_book.proofs.{Order.in_order_filter, Stocks.{sound_on_side, unlisted_stays, written_back}}
 use Rattle.gx_book.proofs.book.Book.remove.Goals as goal
 
 pub returns-in_default-clause-removed : goal.returns-in_default-clause-removed

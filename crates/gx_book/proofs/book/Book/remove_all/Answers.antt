@@ -1,8 +1,5 @@
-use Rattle.std.proofs.Common.{◌∙◌, ap, refl, rules}
-use Rattle.std.proofs.lemmas.Map.Made.{map_same_pairs}
-use Rattle.gx_book.specs.Books.{is_sound_book, on_each_side}
-use Rattle.gx_book.specs.Queue.{no_orders}
-use Rattle.gx_book.specs.Table.{book_of, both_changed}
+use Rattle.std.proofs.{Common.{◌∙◌, ap, refl, rules}, lemmas.Map.Made.map_same_pairs}
+use Rattle.gx_book.specs.{Books.{is_sound_book, on_each_side}, Queue.no_orders, Table.{book_of, both_changed}}
 use Rattle.gx_book.proofs.Stocks.{each_changed, sound_on_each}
 use Rattle.gx_book.proofs.book.Book.remove_all.Goals as goal
 

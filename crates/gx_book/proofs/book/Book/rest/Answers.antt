@@ -1,10 +1,7 @@
 use Rattle.std.proofs.Common.{◌∙◌, sym, ap}
 use Rattle.gx_history.specs.Book.{is_buy}
-use Rattle.gx_book.specs.Books.{is_sound_book, on_side}
-use Rattle.gx_book.specs.Queue.{with_order}
-use Rattle.gx_book.specs.Table.{book_of}
-use Rattle.gx_book.proofs.Order.{in_order_placed}
-use Rattle.gx_book.proofs.Stocks.{on_err, sound_on_side, unlisted_stays, written_back, written_same}
+use Rattle.gx_book.specs.{Books.{is_sound_book, on_side}, Queue.with_order, Table.book_of}
+use Rattle.gx_book.proofs.{Order.in_order_placed, Stocks.{on_err, sound_on_side, unlisted_stays, written_back, written_same}}
 use Rattle.gx_book.proofs.book.Book.rest.Goals as goal
 
 pub returns-in_default-clause-ok : goal.returns-in_default-clause-ok

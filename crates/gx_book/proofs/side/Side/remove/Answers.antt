@@ -1,9 +1,7 @@
 use Rattle.std.proofs.Common.{◌∙◌, ap}
-use Rattle.std.specs.Option.{is_some}
-use Rattle.std.specs.Map.{values_of}
+use Rattle.std.specs.{Option.is_some, Map.values_of}
 use Rattle.gx_history.specs.Book.{is_buy}
-use Rattle.gx_book.specs.Keys.{are_keyed, orders_at}
-use Rattle.gx_book.specs.Queue.{is_among, without_order}
+use Rattle.gx_book.specs.{Keys.{are_keyed, orders_at}, Queue.{is_among, without_order}}
 use Rattle.gx_book.proofs.Keyed.{found_at, taken_at}
 use Rattle.gx_book.proofs.side.Side.remove.Goals as goal
 

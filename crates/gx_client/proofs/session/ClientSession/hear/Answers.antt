@@ -1,6 +1,5 @@
 use Rattle.std.proofs.Common.{ap, ◌∙◌}
-use Rattle.gx_client.specs.declared.heard.Heard.{Heard}
-use Rattle.gx_client.specs.Session.{noted}
+use Rattle.gx_client.specs.{declared.heard.Heard.Heard, Session.noted}
 use Rattle.gx_client.proofs.Hearing.{has_heard, is_heard_as}
 use Rattle.gx_client.proofs.session.ClientSession.hear.Goals as goal
 

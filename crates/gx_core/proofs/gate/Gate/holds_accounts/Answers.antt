@@ -2,8 +2,7 @@ use Rattle.std.proofs.Common.{◌≡◌, Bool, true, false, ◌&&◌, ◌∙◌,
 use Rattle.gx_policy.specs.People.{is_officer, role_in}
 use Rattle.gx_answers.specs.Gates.{GateData}
 use Rattle.gx_core.specs.Known.{has_concerned}
-use Rattle.gx_core.proofs.Commanding.{concerned_are_his}
-use Rattle.gx_core.proofs.Judged.{officers_are_known}
+use Rattle.gx_core.proofs.{Commanding.concerned_are_his, Judged.officers_are_known}
 use Rattle.gx_core.proofs.gate.Gate.holds_accounts.Goals as goal
 
 pub returns-then-is_officer : goal.returns-then-is_officer

@@ -2,8 +2,7 @@ use Rattle.std.proofs.Common.{ℕ, ◌+◌, ◌∙◌, ap, length, sym}
 use Rattle.std.specs.Prelude.{Some, max}
 use Rattle.gx_history.specs.Verdicts.{last_moment}
 use Rattle.gx_market.specs.Meeting.{met}
-use Rattle.gx_answers.specs.Gates.{GateData}
-use Rattle.gx_answers.specs.Matches.{matching_of, next_match}
+use Rattle.gx_answers.specs.{Gates.GateData, Matches.{matching_of, next_match}}
 use Rattle.gx_core.specs.Known.{first_of}
 use Rattle.gx_core.proofs.Matched.{first_is_known, first_is_met, match_in_parts}
 use Rattle.gx_core.proofs.gate.Gate.match_outcome.Goals as goal

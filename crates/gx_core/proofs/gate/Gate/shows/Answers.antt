@@ -1,6 +1,5 @@
 use Rattle.std.proofs.Common.{◌∙◌, ap, sym, false}
-use Rattle.std.specs.Option.{option_map_or}
-use Rattle.std.specs.Prelude.{Option}
+use Rattle.std.specs.{Option.option_map_or, Prelude.Option}
 use Rattle.gx_units.specs.declared.names.UserName.{UserName}
 use Rattle.gx_history.specs.Asking.{sees_now}
 use Rattle.gx_people.specs.Entitled.{sees}

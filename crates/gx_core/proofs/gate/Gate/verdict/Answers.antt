@@ -1,6 +1,5 @@
 use Rattle.std.proofs.Common.{◌≡◌, ◌∙◌, ap, sym}
-use Rattle.gx_history.specs.Showing.{answers}
-use Rattle.gx_history.specs.Verdicts.{facts_now, verdict}
+use Rattle.gx_history.specs.{Showing.answers, Verdicts.{facts_now, verdict}}
 use Rattle.gx_history_laws.proofs.Showable.{verdict_is_shown}
 use Rattle.gx_decide.proofs.Agreeing.{decided_is_the_verdict}
 use Rattle.gx_answers.specs.Gates.{GateData}

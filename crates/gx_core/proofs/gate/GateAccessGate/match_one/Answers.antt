@@ -1,24 +1,10 @@
-use Rattle.std.proofs.Common.{arith, length, ◌≡◌, ◌<◌, ◌∙◌, ◌++◌, ◌∷◌, [], List, ap, sym, true, false}
-use Rattle.std.proofs.Math.Path.{subst}
+use Rattle.std.proofs.{Common.{arith, length, ◌≡◌, ◌<◌, ◌∙◌, ◌++◌, ◌∷◌, [], List, ap, sym, true, false}, Math.Path.subst}
 use Rattle.std.specs.Prelude.{is_some}
-use Rattle.gx_history.specs.declared.record.RecordData.{RecordData}
-use Rattle.gx_history.specs.declared.record.Step.TheVariants as steps
-use Rattle.gx_history.specs.Matched.{AreUncrossed}
-use Rattle.gx_history.specs.Settling.{most_matches}
-use Rattle.gx_effects.proofs.NeverCrossed.{never_crossed}
-use Rattle.gx_effects.proofs.Orderly.{legal_is_orderly}
-use Rattle.gx_effects.proofs.Settling.{match_leaves_fewer}
-use Rattle.gx_answers.specs.Gates.{GateData, matched_by}
-use Rattle.gx_core.specs.Kept.{IsWhole}
-use Rattle.gx_answers.specs.Effects.{MayMoveBy, moved_by}
-use Rattle.gx_history.specs.World.{world}
-use Rattle.gx_effects.proofs.Moving.{may_move}
-use Rattle.gx_effects.proofs.World.{world_next}
-use Rattle.gx_answers.specs.Matches.{matches_left, matching_of, next_match, settled_gate}
-use Rattle.gx_core.specs.Known.{first_of}
-use Rattle.gx_core.proofs.Keeping.{AreCarried, as_before, keep_still, keep_within, match_fits, takes, told_then}
-use Rattle.gx_core.proofs.Matched.{first_is_known, nothing_is_met, nothing_is_next, settles_on}
-use Rattle.gx_history.specs.Requests.{asked}
+use Rattle.gx_history.specs.{declared.record.{RecordData.RecordData, Step.Step}, Matched.AreUncrossed, Settling.most_matches, World.world, Requests.asked}
+use Rattle.gx_effects.proofs.{NeverCrossed.never_crossed, Orderly.legal_is_orderly, Settling.match_leaves_fewer, Moving.may_move, World.world_next}
+use Rattle.gx_answers.specs.{Gates.{GateData, matched_by}, Effects.{MayMoveBy, moved_by}, Matches.{matches_left, matching_of, next_match, settled_gate}}
+use Rattle.gx_core.specs.{Kept.IsWhole, Known.first_of}
+use Rattle.gx_core.proofs.{Keeping.{AreCarried, as_before, keep_still, keep_within, match_fits, takes, told_then}, Matched.{first_is_known, nothing_is_met, nothing_is_next, settles_on}}
 use Rattle.gx_core.proofs.gate.GateAccessGate.match_one.Goals as goal
 
 pub returns-in_default-clause-next : goal.returns-in_default-clause-next
@@ -47,14 +33,14 @@ returns-clause-effect c =
     (c.push_reserved.ensures.records
     ∙ ap (λ (records : List RecordData). records ++ c.new-record.result ∷ []) c.keep_one.ensures.records
     ∙ ap (λ (r : RecordData). c.self.inside.history.records ++ r ∷ []) (c.new-record.ensures ∙ c.record_of_match-entry.ensures))
-    ∙ world_next c.self.inside.policy c.self.inside.history.records (steps.Matching c.args.handed) (matched_by c.args.handed c.match_outcome-outcome.result) c.self.invariant.kept.legal
+    ∙ world_next c.self.inside.policy c.self.inside.history.records (Step.Matching c.args.handed) (matched_by c.args.handed c.match_outcome-outcome.result) c.self.invariant.kept.legal
     (ap (λ (g : GateData). next_match g c.args.handed) c.self.view_is ∙ c.match_outcome-outcome.ensures.next)
     ∙ ap (λ (g : GateData). moved_by g (matched_by c.args.handed c.match_outcome-outcome.result)) c.self.view_is
 
 pub returns-clause-may_move : goal.returns-clause-may_move
 returns-clause-may_move c =
     subst (λ (g : GateData). MayMoveBy g (matched_by c.args.handed c.match_outcome-outcome.result)) c.self.view_is
-    (may_move c.self.inside.policy c.self.inside.history.records (steps.Matching c.args.handed) (matched_by c.args.handed c.match_outcome-outcome.result) c.self.invariant.kept.legal
+    (may_move c.self.inside.policy c.self.inside.history.records (Step.Matching c.args.handed) (matched_by c.args.handed c.match_outcome-outcome.result) c.self.invariant.kept.legal
     (ap (λ (g : GateData). next_match g c.args.handed) c.self.view_is ∙ c.match_outcome-outcome.ensures.next))
 
 pub returns-clause-settles : goal.returns-clause-settles
@@ -81,7 +67,7 @@ returns-clause-fewer c =
 
 pub carry_match-requires : goal.carry_match-requires
 carry_match-requires c = record {
-  takes = takes c.self.inside.policy c.self.inside.history.records c.keep_one.new.history.records (steps.Matching c.args.handed) c.matched_move-moves.result (matched_by c.args.handed c.match_outcome-outcome.result) c.record_of_match-entry.result c.self.inside.history.spare c.self.inside.keepers c.self.invariant c.keep_one.ensures.records c.record_of_match-entry.ensures
+  takes = takes c.self.inside.policy c.self.inside.history.records c.keep_one.new.history.records (Step.Matching c.args.handed) c.matched_move-moves.result (matched_by c.args.handed c.match_outcome-outcome.result) c.record_of_match-entry.result c.self.inside.history.spare c.self.inside.keepers c.self.invariant c.keep_one.ensures.records c.record_of_match-entry.ensures
       (ap (λ (g : GateData). next_match g c.args.handed) c.self.view_is ∙ c.match_outcome-outcome.ensures.next)
       (c.matched_move-moves.ensures c.self.inside.policy (world c.self.inside.policy c.self.inside.history.records) (matched_by c.args.handed c.match_outcome-outcome.result) c.args.handed)
       (match_fits c.self.inside.policy c.self.inside.history.records c.args.handed (matched_by c.args.handed c.match_outcome-outcome.result) (ap (λ (g : GateData). next_match g c.args.handed) c.self.view_is ∙ c.match_outcome-outcome.ensures.next) c.in_ok-keep_one.ensures.room);
@@ -99,7 +85,7 @@ invariant_of-self-2 c =
     (c.push_reserved.ensures.records
     ∙ ap (λ (records : List RecordData). records ++ c.new-record.result ∷ []) c.keep_one.ensures.records
     ∙ ap (λ (r : RecordData). c.self.inside.history.records ++ r ∷ []) (c.new-record.ensures ∙ c.record_of_match-entry.ensures)))
-    (keep_within c.self.inside.policy c.self.inside.history.records (steps.Matching c.args.handed) (matched_by c.args.handed c.match_outcome-outcome.result) c.self.inside.history.spare c.keep_one.new.history.spare c.push_reserved.new.self.spare c.self.inside.keepers c.carry_match.new.keepers c.self.invariant (ap (λ (g : GateData). next_match g c.args.handed) c.self.view_is ∙ c.match_outcome-outcome.ensures.next)
+    (keep_within c.self.inside.policy c.self.inside.history.records (Step.Matching c.args.handed) (matched_by c.args.handed c.match_outcome-outcome.result) c.self.inside.history.spare c.keep_one.new.history.spare c.push_reserved.new.self.spare c.self.inside.keepers c.carry_match.new.keepers c.self.invariant (ap (λ (g : GateData). next_match g c.args.handed) c.self.view_is ∙ c.match_outcome-outcome.ensures.next)
     c.in_ok-keep_one.ensures.room c.in_ok-keep_one.ensures.own c.push_reserved.ensures.spare
     (subst (λ (records : List RecordData). AreCarried c.self.inside.policy records c.carry_match.new.keepers)
     (ap (λ (records : List RecordData). records ++ c.record_of_match-entry.result ∷ []) c.keep_one.ensures.records

@@ -1,23 +1,14 @@
-use Rattle.std.proofs.Common.{◌≡◌, arith, true, false, length, ◌∙◌, ◌++◌, ◌∷◌, [], List, ap, sym}
-use Rattle.std.proofs.Math.Path.{subst}
+use Rattle.std.proofs.{Common.{◌≡◌, arith, true, false, length, ◌∙◌, ◌++◌, ◌∷◌, [], List, ap, sym}, Math.Path.subst}
 use Rattle.gx_units.specs.declared.names.AccountName.{AccountName}
-use Rattle.gx_history.specs.declared.record.RecordData.{RecordData}
+use Rattle.gx_history.specs.{declared.record.{RecordData.RecordData, Step.Step}, InForce.is_killed, World.world}
 use Rattle.gx_policy.specs.declared.rule_name.RuleName.{RuleName}
-use Rattle.gx_history.specs.InForce.{is_killed}
 use Rattle.gx_history_laws.proofs.Granting.{denied_names_first, granted_exactly}
-use Rattle.gx_effects.proofs.Lifting.{kill_ends_by_lift}
+use Rattle.gx_effects.proofs.{Lifting.kill_ends_by_lift, Moving.may_move, World.world_next}
 use Rattle.std.specs.Prelude.{is_ok}
 use Rattle.gx_places.specs.Places.{has_kept_places}
-use Rattle.gx_answers.specs.Gates.{GateData, left_by}
-use Rattle.gx_core.specs.Kept.{IsWhole}
-use Rattle.gx_answers.specs.Steps.{IsJudged, next_of}
-use Rattle.gx_answers.specs.Effects.{MayMoveBy, moved_by}
-use Rattle.gx_history.specs.World.{world}
-use Rattle.gx_effects.proofs.Moving.{may_move}
-use Rattle.gx_effects.proofs.World.{world_next}
-use Rattle.gx_history.specs.declared.record.Step.TheVariants as steps
+use Rattle.gx_answers.specs.{Gates.{GateData, left_by}, Steps.{IsJudged, next_of}, Effects.{MayMoveBy, moved_by}}
+use Rattle.gx_core.specs.{Kept.IsWhole, Moves.done_by}
 use Rattle.gx_core.proofs.Keeping.{AreCarried, as_before, asked_fits, asked_has_place, keep_asked, keep_still, takes, told_then}
-use Rattle.gx_core.specs.Moves.{done_by}
 use Rattle.gx_core.proofs.gate.GateAccessGate.step.Goals as goal
 
 pub returns-clause-judged : goal.returns-clause-judged
@@ -35,14 +26,14 @@ returns-clause-effect c =
     (c.push_reserved.ensures.records
     ∙ ap (λ (records : List RecordData). records ++ c.new-record.result ∷ []) c.keep_for.ensures.records
     ∙ ap (λ (r : RecordData). c.self.inside.history.records ++ r ∷ []) (c.new-record.ensures ∙ c.record_of-entry.ensures))
-    ∙ world_next c.self.inside.policy c.self.inside.history.records (steps.Asked c.args.a) (left_by c.args.a c.judge-outcome.result) c.self.invariant.kept.legal
+    ∙ world_next c.self.inside.policy c.self.inside.history.records (Step.Asked c.args.a) (left_by c.args.a c.judge-outcome.result) c.self.invariant.kept.legal
     (ap (λ (g : GateData). next_of g c.args.a) c.self.view_is ∙ c.judge-outcome.ensures.next)
     ∙ ap (λ (g : GateData). moved_by g (left_by c.args.a c.judge-outcome.result)) c.self.view_is
 
 pub returns-clause-may_move : goal.returns-clause-may_move
 returns-clause-may_move c =
     subst (λ (g : GateData). MayMoveBy g (left_by c.args.a c.judge-outcome.result)) c.self.view_is
-    (may_move c.self.inside.policy c.self.inside.history.records (steps.Asked c.args.a) (left_by c.args.a c.judge-outcome.result) c.self.invariant.kept.legal
+    (may_move c.self.inside.policy c.self.inside.history.records (Step.Asked c.args.a) (left_by c.args.a c.judge-outcome.result) c.self.invariant.kept.legal
     (ap (λ (g : GateData). next_of g c.args.a) c.self.view_is ∙ c.judge-outcome.ensures.next))
 
 pub returns-clause-lifted_by : goal.returns-clause-lifted_by
@@ -59,7 +50,7 @@ returns-clause-lifted_by c =
 
 pub carry_on-requires : goal.carry_on-requires
 carry_on-requires c = record {
-  takes = takes c.self.inside.policy c.self.inside.history.records c.keep_for.new.history.records (steps.Asked c.args.a) c.put_asked_move.new.moves (left_by c.args.a c.judge-outcome.result) c.record_of-entry.result c.self.inside.history.spare c.self.inside.keepers c.self.invariant c.keep_for.ensures.records c.record_of-entry.ensures
+  takes = takes c.self.inside.policy c.self.inside.history.records c.keep_for.new.history.records (Step.Asked c.args.a) c.put_asked_move.new.moves (left_by c.args.a c.judge-outcome.result) c.record_of-entry.result c.self.inside.history.spare c.self.inside.keepers c.self.invariant c.keep_for.ensures.records c.record_of-entry.ensures
       (ap (λ (g : GateData). next_of g c.args.a) c.self.view_is ∙ c.judge-outcome.ensures.next)
       (c.put_asked_move.ensures.does ∙ ap (done_by c.args.self.now) c.record_of-entry.ensures ∙ ap (λ (g : GateData). done_by g (left_by c.args.a c.judge-outcome.result)) (sym c.self.view_is))
       (asked_fits c.self.inside.policy c.self.inside.history.records c.args.a (left_by c.args.a c.judge-outcome.result) c.self.inside.history.spare c.keep_for.new.history.spare (ap (λ (g : GateData). next_of g c.args.a) c.self.view_is ∙ c.judge-outcome.ensures.next) (record { more = c.keep_for.ensures.more; own = c.in_ok-keep_for.ensures.own; room = c.in_ok-keep_for.ensures.room }));

@@ -1,8 +1,6 @@
 use Rattle.std.proofs.Common.{◌∙◌, ap, sym}
 use Rattle.std.specs.Prelude.{Option, option_and_then, option_map}
-use Rattle.gx_day.specs.DayData.{kill_in}
-use Rattle.gx_day.specs.View.{lifted_by}
-use Rattle.gx_day.specs.declared.day.Kill.{Kill}
+use Rattle.gx_day.specs.{DayData.kill_in, View.lifted_by, declared.day.Kill.Kill}
 use Rattle.gx_day.proofs.Table.{kill_found}
 use Rattle.gx_day.proofs.day.Day.kill_of.Goals as goal
 

@@ -1,6 +1,5 @@
 use Rattle.std.proofs.Common.{List, ◌∙◌, ap}
-use Rattle.gx_day.specs.DayData.{AccountKill, DayData, with_mark}
-use Rattle.gx_day.specs.View.{kills_of, lines_of}
+use Rattle.gx_day.specs.{DayData.{AccountKill, DayData, with_mark}, View.{kills_of, lines_of}}
 use Rattle.gx_day.proofs.Table.{kill_unknown, kill_written}
 use Rattle.gx_day.proofs.day.Day.mark.Goals as goal
 

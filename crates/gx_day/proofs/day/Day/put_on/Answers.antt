@@ -1,6 +1,5 @@
 use Rattle.std.proofs.Common.{List, ◌∙◌, ap}
-use Rattle.gx_day.specs.DayData.{DayData, UserLine, with_line}
-use Rattle.gx_day.specs.View.{kills_of, lines_of}
+use Rattle.gx_day.specs.{DayData.{DayData, UserLine, with_line}, View.{kills_of, lines_of}}
 use Rattle.gx_day.proofs.Table.{line_unknown, line_written}
 use Rattle.gx_day.proofs.day.Day.put_on.Goals as goal
 

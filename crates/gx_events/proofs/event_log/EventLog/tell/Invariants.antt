@@ -1,8 +1,7 @@
 use Rattle.std.proofs.Common.{◌≡◌, ◌++◌, List, take}
 use Rattle.gx_policy.specs.declared.policy.PolicyData.{PolicyData}
 use Rattle.gx_history.specs.declared.record.RecordData.{RecordData}
-use Rattle.gx_events.specs.Known.{known_of}
-use Rattle.gx_events.specs.Lines.{lines_behind}
+use Rattle.gx_events.specs.{Known.known_of, Lines.lines_behind}
 use Rattle.gx_events.proofs.event_log.EventLog.tell.Given as goal
 
 abbrev pub invariant-loop-record : goal.invariant-loop-record

@@ -1,9 +1,7 @@
-use Rattle.std.proofs.Common.{refl, List, sym}
-use Rattle.std.proofs.Math.Path.{subst}
+use Rattle.std.proofs.{Common.{refl, List, sym}, Math.Path.subst}
 use Rattle.gx_history.specs.declared.live_order.LiveOrder.{LiveOrder}
 use Rattle.gx_keepers.specs.Keepers.{HaveEnough}
-use Rattle.gx_keepers.proofs.Beginning.{begin}
-use Rattle.gx_keepers.proofs.Keepings.{kept_at_first}
+use Rattle.gx_keepers.proofs.{Beginning.begin, Keepings.kept_at_first}
 use Rattle.gx_keepers.proofs.keepers.Keepers.new.Goals as goal
 
 pub returns-clause-in_force : goal.returns-clause-in_force

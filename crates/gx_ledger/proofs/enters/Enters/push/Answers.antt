@@ -1,7 +1,6 @@
 use Rattle.std.proofs.Common.{◌≡◌, ◌∷◌, ◌++◌, ◌*◌, [], sym, subst, ◌∙◌, arith, List, length}
 use Rattle.circular_buffer.specs.Buffer.{Buffer, keep_last}
-use Rattle.gx_ledger.specs.declared.group.Entered.{Entered}
-use Rattle.gx_ledger.specs.Cells.{AreCounted}
+use Rattle.gx_ledger.specs.{declared.group.Entered.Entered, Cells.AreCounted}
 use Rattle.gx_ledger.proofs.CountedCells.{first_goes}
 use Rattle.gx_ledger.proofs.enters.Enters.push.Goals as goal
 

@@ -1,8 +1,6 @@
 use Rattle.std.proofs.Common.{ℕ, Option, ap, sym, ◌∙◌}
-use Rattle.std.specs.Option.{option_map_or}
-use Rattle.std.specs.Prelude.{count_by}
-use Rattle.gx_ledger.specs.declared.group.Entered.{Entered}
-use Rattle.gx_ledger.specs.Running.{are_alike}
+use Rattle.std.specs.{Option.option_map_or, Prelude.count_by}
+use Rattle.gx_ledger.specs.{declared.group.Entered.Entered, Running.are_alike}
 use Rattle.gx_ledger.proofs.Likeness.{asked_alike}
 use Rattle.gx_ledger.proofs.group.Group.alike.Goals as goal
 

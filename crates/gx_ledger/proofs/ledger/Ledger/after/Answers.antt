@@ -1,6 +1,5 @@
 use Rattle.std.proofs.Common.{◌∙◌, ap, sym, subst}
-use Rattle.gx_ledger.specs.Keeping.{Kept}
-use Rattle.gx_ledger.specs.StandsFor.{GivesFigures}
+use Rattle.gx_ledger.specs.{Keeping.Kept, StandsFor.GivesFigures}
 use Rattle.gx_ledger.proofs.Answering.{figures_answer}
 use Rattle.gx_ledger.proofs.ledger.Ledger.after.Goals as goal
 

@@ -1,6 +1,5 @@
 use Rattle.std.proofs.Common.{◌∙◌, ap, sym, subst}
-use Rattle.gx_ledger.specs.Keeping.{kept_noted, leaves}
-use Rattle.gx_ledger.specs.StandsFor.{Closes}
+use Rattle.gx_ledger.specs.{Keeping.{kept_noted, leaves}, StandsFor.Closes}
 use Rattle.gx_ledger.proofs.Carrying.{close_carries}
 use Rattle.gx_ledger.proofs.ledger.Ledger.close.Goals as goal
 

@@ -1,6 +1,5 @@
 use Rattle.std.proofs.Common.{◌∙◌, ap, sym, subst}
-use Rattle.gx_ledger.specs.Keeping.{kept_executed, with_price}
-use Rattle.gx_ledger.specs.StandsFor.{Fills}
+use Rattle.gx_ledger.specs.{Keeping.{kept_executed, with_price}, StandsFor.Fills}
 use Rattle.gx_ledger.proofs.Filled.{fill_carries}
 use Rattle.gx_ledger.proofs.ledger.Ledger.fill.Goals as goal
 

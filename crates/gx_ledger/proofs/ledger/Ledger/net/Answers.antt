@@ -1,8 +1,6 @@
 use Rattle.std.proofs.Common.{◌∙◌, ap, sym, subst}
 use Rattle.std.specs.Prelude.{option_and_then, slice_get}
-use Rattle.gx_ledger.specs.declared.tally.Tally.{Tally}
-use Rattle.gx_ledger.specs.Keeping.{Kept}
-use Rattle.gx_ledger.specs.Standing.{GivesNet, tally_net}
+use Rattle.gx_ledger.specs.{declared.tally.Tally.Tally, Keeping.Kept, Standing.{GivesNet, tally_net}}
 use Rattle.gx_ledger.proofs.StandingSums.{net_answer}
 use Rattle.gx_ledger.proofs.ledger.Ledger.net.Goals as goal
 

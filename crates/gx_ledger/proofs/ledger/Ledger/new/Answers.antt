@@ -2,12 +2,7 @@ use Rattle.std.proofs.Common.{◌≡◌, ◌∙◌, ap, sym, subst, map}
 use Rattle.gx_policy.specs.declared.policy.PolicyData.{PolicyData}
 use Rattle.gx_history_laws.proofs.Names.{accounts_differ as accounts_apart}
 use Rattle.gx_positions.specs.Changing.{nothing}
-use Rattle.gx_ledger.specs.Counts.{counting}
-use Rattle.gx_ledger.specs.Keeping.{Kept, account_names, reference_prices}
-use Rattle.gx_ledger.specs.StandsFor.{StandsFor}
-use Rattle.gx_ledger.specs.Tables.{accounts_differ, names_differ}
-use Rattle.gx_ledger.specs.Tallies.{new_tally}
-use Rattle.gx_ledger.specs.contracts.ledger.Ledger.{the_view}
+use Rattle.gx_ledger.specs.{Counts.counting, Keeping.{Kept, account_names, reference_prices}, StandsFor.StandsFor, Tables.{accounts_differ, names_differ}, Tallies.new_tally, contracts.ledger.Ledger.the_view}
 use Rattle.gx_ledger.proofs.Opening.{opened_stands, sound_stocks}
 use Rattle.gx_ledger.proofs.ledger.Ledger.new.Goals as goal
 

@@ -1,6 +1,5 @@
 use Rattle.std.proofs.Common.{◌∙◌, ap, sym, arith}
-use Rattle.gx_ledger.specs.Running.{changed_group}
-use Rattle.gx_ledger.specs.Tallies.{changed_at}
+use Rattle.gx_ledger.specs.{Running.changed_group, Tallies.changed_at}
 use Rattle.gx_ledger.proofs.Places.{past_is_unchanged, set_is_changed}
 use Rattle.gx_ledger.proofs.tally.Groups.note.Goals as goal
 

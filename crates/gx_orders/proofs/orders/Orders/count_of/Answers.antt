@@ -1,6 +1,5 @@
 use Rattle.std.proofs.Common.{◌∙◌, ap}
-use Rattle.gx_orders.specs.LiveOrders.{OrdersData}
-use Rattle.gx_orders.specs.Tables.{orders_of}
+use Rattle.gx_orders.specs.{LiveOrders.OrdersData, Tables.orders_of}
 use Rattle.gx_orders.proofs.orders.Orders.count_of.Goals as goal
 
 pub returns : goal.returns

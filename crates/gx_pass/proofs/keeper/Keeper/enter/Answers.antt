@@ -1,7 +1,6 @@
 use Rattle.std.proofs.Common.{◌∷◌, sym, ◌∙◌}
 use Rattle.gx_pass.specs.Views.{kept_of, held_of, keeps, taken_in}
-use Rattle.gx_pass.proofs.Moves.{enters, meets}
-use Rattle.gx_pass.proofs.Tables.{one_word}
+use Rattle.gx_pass.proofs.{Moves.{enters, meets}, Tables.one_word}
 use Rattle.gx_pass.proofs.keeper.Keeper.enter.Goals as goal
 
 pub join_seat-requires : goal.join_seat-requires

@@ -1,11 +1,6 @@
 use Rattle.std.proofs.Common.{◌≡◌, ◌+◌, [], length, sym, ◌∙◌, subst, arith}
-use Rattle.gx_pass.specs.declared.view.Keeps.{Keeps}
-use Rattle.gx_pass.specs.declared.view.Holds.{Holds}
-use Rattle.gx_pass.specs.Rules.{IsNumbered}
-use Rattle.gx_pass.specs.Views.{kept_of, held_of, holds, mine, newcomer}
-use Rattle.gx_pass.proofs.Lines.{of_line_new}
-use Rattle.gx_pass.proofs.Moves.{looks, issues}
-use Rattle.gx_pass.proofs.Tables.{one_word}
+use Rattle.gx_pass.specs.{declared.view.{Keeps.Keeps, Holds.Holds}, Rules.IsNumbered, Views.{kept_of, held_of, holds, mine, newcomer}}
+use Rattle.gx_pass.proofs.{Lines.of_line_new, Moves.{looks, issues}, Tables.one_word}
 use Rattle.gx_pass.proofs.keeper.Keeper.issue.Goals as goal
 
 pub load-requires : goal.load-requires

@@ -1,7 +1,6 @@
 use Rattle.std.proofs.Common.{sym, ◌∙◌}
 use Rattle.gx_pass.specs.Views.{held_of}
-use Rattle.gx_pass.proofs.Moves.{tells}
-use Rattle.gx_pass.proofs.Tables.{one_word}
+use Rattle.gx_pass.proofs.{Moves.tells, Tables.one_word}
 use Rattle.gx_pass.proofs.pass.Pass.length.Goals as goal
 
 pub load-requires : goal.load-requires

@@ -1,8 +1,6 @@
-use Rattle.std.proofs.Common.{◌≡◌, ◌≤◌, ◌<◌, ◌∙◌, refl, length, arith, List}
+use Rattle.std.proofs.{Common.{◌≡◌, ◌≤◌, ◌<◌, ◌∙◌, refl, length, arith, List}, lemmas.List.length-map}
 use Rattle.std.specs.Map.{keys_of}
-use Rattle.std.proofs.lemmas.List.{length-map}
-use Rattle.gx_peaks.specs.declared.key.PeakKey.{PeakKey}
-use Rattle.gx_peaks.specs.declared.table.HeldPeak.{HeldPeak}
+use Rattle.gx_peaks.specs.declared.{key.PeakKey.PeakKey, table.HeldPeak.HeldPeak}
 use Rattle.gx_peaks.proofs.Looping.{all_places, no_place_yet, one_more_place}
 use Rattle.gx_peaks.proofs.table.PeakTable.note_rule.Goals as goal
 

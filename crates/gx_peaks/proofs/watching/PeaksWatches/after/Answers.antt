@@ -4,8 +4,7 @@ use Rattle.gx_units.specs.declared.names.RuleId.{RuleId}
 use Rattle.gx_policy.specs.Soundness.{is_sound}
 use Rattle.gx_records.specs.Watching.{earlier_of}
 use Rattle.gx_peaks.specs.Noting.{AdvancesTo, IsOfSetting}
-use Rattle.gx_peaks.proofs.Holding.{all_held}
-use Rattle.gx_peaks.proofs.Looping.{ok_then}
+use Rattle.gx_peaks.proofs.{Holding.all_held, Looping.ok_then}
 use Rattle.gx_peaks.proofs.watching.PeaksWatches.after.Goals as goal
 
 pub returns : goal.returns

@@ -1,5 +1,4 @@
-use Rattle.std.proofs.Common.{◌∙◌, ap, not, filter, rules}
-use Rattle.std.proofs.lemmas.Fn.{filter_same}
+use Rattle.std.proofs.{Common.{◌∙◌, ap, not, filter, rules}, lemmas.Fn.filter_same}
 use Rattle.gx_units.specs.Names.{same_account}
 use Rattle.gx_people.proofs.accounts.ReaderAccounts.remove.Goals as goal
 

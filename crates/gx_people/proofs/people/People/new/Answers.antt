@@ -1,8 +1,6 @@
 use Rattle.std.proofs.Common.{◌≡◌, List, ◌∙◌, ap, true}
 use Rattle.gx_units.specs.Names.{same_user}
-use Rattle.gx_policy.specs.Lists.{are_distinct}
-use Rattle.gx_policy.specs.declared.policy.Role.{Role}
-use Rattle.gx_policy.specs.declared.policy.User.{User}
+use Rattle.gx_policy.specs.{Lists.are_distinct, declared.policy.{Role.Role, User.User}}
 use Rattle.gx_people.specs.View.{users_of}
 use Rattle.gx_history_laws.proofs.Names.{users_differ}
 use Rattle.gx_people.proofs.Table.{added_next}

@@ -1,5 +1,4 @@
-use Rattle.std.proofs.Common.{sym, ◌∙◌}
-use Rattle.std.proofs.lemmas.Result.{err_from_is_err_and}
+use Rattle.std.proofs.{Common.{sym, ◌∙◌}, lemmas.Result.err_from_is_err_and}
 use Rattle.gx_devices.proofs.Known.{on_fault, if_err}
 use Rattle.gx_pipe.proofs.Turning.{packet_cut, login_is_waiting, login_cut}
 use Rattle.gx_pipe.proofs.connection.Connection.answer.Goals as goal

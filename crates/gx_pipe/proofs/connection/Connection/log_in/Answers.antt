@@ -1,7 +1,6 @@
 use Rattle.std.proofs.lemmas.Result.{err_from_is_err_and}
 use Rattle.gx_devices.proofs.Known.{on_fault}
-use Rattle.gx_pipe.proofs.Stepping.{of_step}
-use Rattle.gx_pipe.proofs.Turning.{log_in_cut, login_undone}
+use Rattle.gx_pipe.proofs.{Stepping.of_step, Turning.{log_in_cut, login_undone}}
 use Rattle.gx_pipe.proofs.connection.Connection.log_in.Goals as goal
 
 pub returns-in_err-turn-clause-err : goal.returns-in_err-turn-clause-err

@@ -1,5 +1,4 @@
-use Rattle.std.proofs.Common.{◌∙◌, sym, ap, length}
-use Rattle.std.proofs.lemmas.Result.{err_from_is_err_and}
+use Rattle.std.proofs.{Common.{◌∙◌, sym, ap, length}, lemmas.Result.err_from_is_err_and}
 use Rattle.gx_devices.proofs.Known.{on_fault}
 use Rattle.gx_pipe.proofs.Turning.{pull_done, pull_pauses, pull_unsent, pull_unturned}
 use Rattle.gx_pipe.proofs.connection.Connection.pull.Goals as goal

@@ -1,5 +1,4 @@
-use Rattle.std.proofs.Common.{◌∙◌, sym}
-use Rattle.std.proofs.lemmas.Result.{err_from_is_err_and}
+use Rattle.std.proofs.{Common.{◌∙◌, sym}, lemmas.Result.err_from_is_err_and}
 use Rattle.gx_devices.proofs.Known.{on_fault, on_ok, if_err}
 use Rattle.gx_pipe.proofs.Faults.{answer_cut, match_cut, take_done, pull_cut}
 use Rattle.gx_pipe.proofs.connection.Connection.take.Goals as goal

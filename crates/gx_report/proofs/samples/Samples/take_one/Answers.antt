@@ -1,7 +1,5 @@
-use Rattle.std.proofs.Common.{arith, List, ◌++◌, map, ◌∙◌, ap, refl}
-use Rattle.gx_report.specs.declared.samples.Seat.{Seat}
-use Rattle.gx_report.specs.Samples.{sample_of}
-use Rattle.std.proofs.lemmas.Option.{slice_get_within}
+use Rattle.std.proofs.{Common.{arith, List, ◌++◌, map, ◌∙◌, ap, refl}, lemmas.Option.slice_get_within}
+use Rattle.gx_report.specs.{declared.samples.Seat.Seat, Samples.sample_of}
 use Rattle.gx_report.proofs.Taking.{one_more}
 use Rattle.gx_report.proofs.samples.Samples.take_one.Goals as goal
 

@@ -1,9 +1,9 @@
+use Rattle.gx_policy.specs.Kinds.{with_stocks}
 use Rattle.std.proofs.Common.{◌∙◌, ap, sym}
 use Rattle.std.specs.List.{list_any}
 use Rattle.gx_units.specs.Names.{same_stock}
-use Rattle.gx_history.specs.InForce.{removing, with_stocks}
-use Rattle.gx_rules.proofs.Keeping.{remove_is_removing}
-use Rattle.gx_rules.proofs.Apart.{changed_stocks}
+use Rattle.gx_history.specs.InForce.{removing}
+use Rattle.gx_rules.proofs.{Keeping.remove_is_removing, Apart.changed_stocks}
 use Rattle.gx_rules.proofs.book_rule.BookRule.unrestrict.Goals as goal
 
 pub returns-clause-kind : goal.returns-clause-kind

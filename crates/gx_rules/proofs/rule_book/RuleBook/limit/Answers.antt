@@ -1,7 +1,6 @@
+use Rattle.gx_policy.specs.{Kinds.limit_of, declared.policy.FileRule.FileRule}
 use Rattle.std.proofs.Common.{◌∙◌, ap, sym, Some, None, option_copied}
 use Rattle.std.specs.Option.{option_and_then}
-use Rattle.gx_policy.specs.declared.policy.FileRule.{FileRule}
-use Rattle.gx_history.specs.InForce.{limit_of}
 use Rattle.gx_rules.specs.Settings.{limit_in}
 use Rattle.gx_rules.proofs.Places.{rule_found}
 use Rattle.gx_rules.proofs.rule_book.RuleBook.limit.Goals as goal

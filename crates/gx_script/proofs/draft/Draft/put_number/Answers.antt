@@ -1,5 +1,4 @@
-use Rattle.std.proofs.Common.{◌≡◌, ℕ, ◌-◌, ◌<◌, ◌≤◌, ◌^◌, ◌++◌, List, length, drop, decimal, sym, ap, ◌∙◌, arith, length-append, length-drop}
-use Rattle.std.proofs.lemmas.Fmt.{length-decimal-le}
+use Rattle.std.proofs.{Common.{◌≡◌, ℕ, ◌-◌, ◌<◌, ◌≤◌, ◌^◌, ◌++◌, List, length, drop, decimal, sym, ap, ◌∙◌, arith, length-append, length-drop}, lemmas.Fmt.length-decimal-le}
 use Rattle.gx_script.proofs.draft.Draft.put_number.Goals as goal
 
 -- 64 bits have 20 digits at most

@@ -1,6 +1,4 @@
-use Rattle.std.proofs.Common.{◌+◌, ◌∙◌, ap, sym}
-use Rattle.std.proofs.lemmas.Bool.{ltb-false}
-use Rattle.std.proofs.lemmas.List.{take_rest}
+use Rattle.std.proofs.{Common.{◌+◌, ◌∙◌, ap, sym}, lemmas.{Bool.ltb-false, List.take_rest}}
 use Rattle.gx_units.specs.Spelling.{is_space}
 use Rattle.gx_script.proofs.Cutting.{ends_at, ends_with}
 use Rattle.gx_script.proofs.words.Words.end_word.Goals as goal

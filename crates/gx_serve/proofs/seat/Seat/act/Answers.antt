@@ -1,9 +1,6 @@
 use Rattle.std.proofs.Common.{Result, IfOk, sym, ◌∙◌, subst}
-use Rattle.gx_answers.specs.declared.outcome.StepFault.{StepFault}
-use Rattle.gx_answers.specs.Gates.{left_by}
-use Rattle.gx_door.specs.declared.matched.Turned.{Turned}
-use Rattle.gx_door.specs.Acts.{asked_on, met}
-use Rattle.gx_door.specs.Matching.{Turns}
+use Rattle.gx_answers.specs.{declared.outcome.StepFault.StepFault, Gates.left_by}
+use Rattle.gx_door.specs.{declared.matched.Turned.Turned, Acts.{asked_on, met}, Matching.Turns}
 use Rattle.gx_serve.specs.Announcements.{WasAnnounced}
 use Rattle.gx_serve.proofs.Sitting.{was_announced}
 use Rattle.gx_serve.proofs.seat.Seat.act.Goals as goal

@@ -1,13 +1,9 @@
 use Rattle.std.proofs.Common.{ℕ, List, length, ◌∙◌, ap, subst}
 use Rattle.gx_policy.specs.declared.policy.PolicyData.{PolicyData}
-use Rattle.gx_history.specs.declared.record.RecordData.{RecordData}
-use Rattle.gx_history.specs.Verdicts.{IsLegal}
-use Rattle.gx_pass.specs.Rules.{IsMet}
-use Rattle.gx_pass.specs.Views.{holds}
+use Rattle.gx_history.specs.{declared.record.RecordData.RecordData, Verdicts.IsLegal}
+use Rattle.gx_pass.specs.{Rules.IsMet, Views.holds}
 use Rattle.gx_pass.proofs.Fronts.{prefix_self}
-use Rattle.gx_shared.proofs.Matchings.{still_met}
-use Rattle.gx_shared.proofs.Meetings.{goes_later, holds_own}
-use Rattle.gx_shared.proofs.Turning.{matches}
+use Rattle.gx_shared.proofs.{Matchings.still_met, Meetings.{goes_later, holds_own}, Turning.matches}
 use Rattle.gx_shared.proofs.desk.Desk.match_some.Goals as goal
 
 pub returns-clause-later : goal.returns-clause-later

@@ -1,17 +1,10 @@
 use Rattle.std.proofs.Common.{◌≡◌, ℕ, List, ◌∷◌, ◌++◌, [], length, IfOk, refl, ◌∙◌, ap, subst}
 use Rattle.gx_policy.specs.declared.policy.PolicyData.{PolicyData}
-use Rattle.gx_history.specs.declared.record.Asked.{Asked}
-use Rattle.gx_history.specs.declared.record.RecordData.{RecordData}
-use Rattle.gx_history.specs.Verdicts.{IsLegal}
+use Rattle.gx_history.specs.{declared.record.{Asked.Asked, RecordData.RecordData}, Verdicts.IsLegal}
 use Rattle.gx_answers.specs.Gates.{left_by}
-use Rattle.gx_pass.specs.Rules.{IsMet}
-use Rattle.gx_pass.specs.Views.{holds}
-use Rattle.gx_door.specs.Acts.{asked_on}
-use Rattle.gx_door.specs.Endings.{ended_by, sums_of}
-use Rattle.gx_door.specs.Matching.{AddsMatches}
-use Rattle.gx_shared.proofs.Meetings.{goes_later}
-use Rattle.gx_shared.proofs.Refusals.{stays_refused}
-use Rattle.gx_shared.proofs.Turning.{turn_begins, turns}
+use Rattle.gx_pass.specs.{Rules.IsMet, Views.holds}
+use Rattle.gx_door.specs.{Acts.asked_on, Endings.{ended_by, sums_of}, Matching.AddsMatches}
+use Rattle.gx_shared.proofs.{Meetings.goes_later, Refusals.stays_refused, Turning.{turn_begins, turns}}
 use Rattle.gx_shared.proofs.desk.Desk.turn.Goals as goal
 
 pub returns-clause-later : goal.returns-clause-later

@@ -1,5 +1,4 @@
-use Rattle.std.proofs.Common.{arith}
-use Rattle.std.proofs.lemmas.List.Sums.{count_by-le-length, length-filter}
+use Rattle.std.proofs.{Common.arith, lemmas.List.Sums.{count_by-le-length, length-filter}}
 use Rattle.gx_slab.specs.Slabs.{is_open}
 use Rattle.gx_slab.proofs.table.Table.count.Goals as goal
 

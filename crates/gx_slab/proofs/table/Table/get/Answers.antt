@@ -1,7 +1,5 @@
 use Rattle.std.proofs.Common.{◌≡◌, ◌∙◌, ap, sym, List}
-use Rattle.std.specs.Option.{option_copied}
-use Rattle.std.specs.Prelude.{Some, None, slice_get}
-use Rattle.std.specs.List.{position}
+use Rattle.std.specs.{Option.option_copied, Prelude.{Some, None, slice_get}, List.position}
 use Rattle.gx_history.specs.declared.live_order.LiveOrder.{LiveOrder}
 use Rattle.gx_slab.specs.Slabs.{live_numbered, stands_for}
 use Rattle.gx_slab.proofs.Finding.{found_at, found_nowhere}

@@ -1,5 +1,4 @@
-use Rattle.std.proofs.Common.{◌++◌, ◌∷◌, [], ◌∙◌, ap, List, arith, rules}
-use Rattle.std.proofs.lemmas.List.Sums.{count_by-le-length, length-filter}
+use Rattle.std.proofs.{Common.{◌++◌, ◌∷◌, [], ◌∙◌, ap, List, arith, rules}, lemmas.List.Sums.{count_by-le-length, length-filter}}
 use Rattle.gx_history.specs.declared.live_order.LiveOrder.{LiveOrder}
 use Rattle.gx_slab.specs.Slabs.{first_place, is_open, live_numbered}
 use Rattle.gx_slab.proofs.Putting.{pushed}

@@ -1,9 +1,7 @@
 use Rattle.std.proofs.Common.{◌≡◌, ◌≤◌, ◌∙◌, ap, sym, subst, ℕ, if◌then◌else◌, set, length, ◌-◌}
-use Rattle.std.specs.Prelude.{None, min}
-use Rattle.std.specs.List.{position}
+use Rattle.std.specs.{Prelude.{None, min}, List.position}
 use Rattle.gx_slab.specs.Slabs.{first_place, is_open, stands_for, written}
-use Rattle.gx_slab.proofs.Waiting.{first_written}
-use Rattle.gx_slab.proofs.Writing.{is_written, nothing_written}
+use Rattle.gx_slab.proofs.{Waiting.first_written, Writing.{is_written, nothing_written}}
 use Rattle.gx_slab.proofs.table.Table.write.Goals as goal
 
 pub returns-in_default : goal.returns-in_default

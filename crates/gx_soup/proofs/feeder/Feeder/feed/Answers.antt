@@ -1,5 +1,4 @@
-use Rattle.std.proofs.Common.{sym, ◌∙◌, arith}
-use Rattle.std.proofs.lemmas.Grind.{common_steps}
+use Rattle.std.proofs.{Common.{sym, ◌∙◌, arith}, lemmas.Grind.common_steps}
 use Rattle.gx_soup.proofs.Steps.{fed_stuck, fed_on}
 use Rattle.gx_soup.proofs.feeder.Feeder.feed.Goals as goal
 

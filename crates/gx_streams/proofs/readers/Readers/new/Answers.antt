@@ -1,8 +1,7 @@
 use Rattle.std.proofs.Common.{◌≡◌, true, List, ◌∙◌, ap, sym, subst}
 use Rattle.std.specs.Map.{values_of}
 use Rattle.gx_units.specs.Names.{same_user}
-use Rattle.gx_policy.specs.Lists.{are_distinct}
-use Rattle.gx_policy.specs.declared.policy.User.{User}
+use Rattle.gx_policy.specs.{Lists.are_distinct, declared.policy.User.User}
 use Rattle.gx_history_laws.proofs.Names.{users_differ}
 use Rattle.gx_streams.specs.Spans.{AreNamed}
 use Rattle.gx_streams.proofs.Named.{reader_next}

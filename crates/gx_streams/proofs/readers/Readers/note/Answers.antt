@@ -1,8 +1,7 @@
 use Rattle.std.proofs.Common.{◌<◌, ◌+◌, ◌^◌, List, length, sym, ap, subst}
 use Rattle.std.specs.Map.{values_of}
 use Rattle.gx_streams.specs.Spans.{ReaderSpans, counted}
-use Rattle.gx_streams.proofs.Named.{next_is, one_more, stays_named_at}
-use Rattle.gx_streams.proofs.Spanning.{few_at}
+use Rattle.gx_streams.proofs.{Named.{next_is, one_more, stays_named_at}, Spanning.few_at}
 use Rattle.gx_streams.proofs.readers.Readers.note.Goals as goal
 
 pub note-requires : goal.note-requires

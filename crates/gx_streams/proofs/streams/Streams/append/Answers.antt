@@ -1,9 +1,6 @@
-use Rattle.std.proofs.Common.{length}
-use Rattle.std.proofs.lemmas.Result.{on_ok_weaker}
-use Rattle.gx_streams.specs.declared.entry.Entry.TheVariants as entries
-use Rattle.gx_streams.specs.Kept.{on_user, with_last}
-use Rattle.gx_streams.proofs.Shown.{known_changed, last_shown, there_with_last}
-use Rattle.gx_streams.proofs.Whole.{sound_told, told_changed, told_here}
+use Rattle.std.proofs.{Common.length, lemmas.Result.on_ok_weaker}
+use Rattle.gx_streams.specs.{declared.entry.Entry.Entry, Kept.{on_user, with_last}}
+use Rattle.gx_streams.proofs.{Shown.{known_changed, last_shown, there_with_last}, Whole.{sound_told, told_changed, told_here}}
 use Rattle.gx_streams.proofs.streams.Streams.append.Goals as goal
 
 pub append-requires : goal.append-requires
@@ -11,7 +8,7 @@ append-requires c = record { known = (told_here c.self.inside.fills.items c.self
 
 pub invariant_of-self : goal.invariant_of-self
 invariant_of-self c =
-    let entry = entries.Typed c.args.report in
+    let entry = Entry.Typed c.args.report in
     let was = c.self.invariant in
     sound_told c.append.result c.self.inside.fills.items c.self.inside.told (on_user c.args.user (with_last entry) c.self.inside.told) c.append.new.self c.self.inside.readers c.append.ensures.ok c.append.ensures.err
     (record {
@@ -22,7 +19,7 @@ invariant_of-self c =
 
 pub returns-clause-ok : goal.returns-clause-ok
 returns-clause-ok c =
-    let entry = entries.Typed c.args.report in
+    let entry = Entry.Typed c.args.report in
     let his = told_here c.self.inside.fills.items c.self.inside.told c.self.inside.readers c.args.self.now c.args.user c.self.view_is c.requires.told in
     on_ok_weaker c.append.result
     (λ done. told_changed c.self.inside.fills.items c.self.inside.told c.append.new.self c.self.inside.readers c.args.self.now c.args.user (with_last entry) (with_last c.args.report) done

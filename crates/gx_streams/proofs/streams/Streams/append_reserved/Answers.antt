@@ -1,9 +1,6 @@
 use Rattle.std.proofs.Common.{length, subst, sym}
-use Rattle.gx_streams.specs.declared.entry.Entry.TheVariants as entries
-use Rattle.gx_streams.specs.Kept.{with_kept_last}
-use Rattle.gx_streams.specs.Table.{IsSoundTable}
-use Rattle.gx_streams.proofs.Shown.{kept_last_shown, known_changed, there_with_kept_last}
-use Rattle.gx_streams.proofs.Whole.{placed_here, told_changed}
+use Rattle.gx_streams.specs.{declared.entry.Entry.Entry, Kept.with_kept_last, Table.IsSoundTable}
+use Rattle.gx_streams.proofs.{Shown.{kept_last_shown, known_changed, there_with_kept_last}, Whole.{placed_here, told_changed}}
 use Rattle.gx_streams.proofs.streams.Streams.append_reserved.Goals as goal
 
 pub append_reserved-requires : goal.append_reserved-requires
@@ -11,7 +8,7 @@ append_reserved-requires c = (placed_here c.self.inside.fills.items c.self.insid
 
 pub invariant_of-self : goal.invariant_of-self
 invariant_of-self c =
-    let entry = entries.Typed c.args.report in
+    let entry = Entry.Typed c.args.report in
     let was = c.self.invariant in
     subst (λ t. IsSoundTable c.self.inside.fills.items t c.self.inside.readers) (sym c.append_reserved.ensures)
     (record {
@@ -23,5 +20,5 @@ invariant_of-self c =
 pub returns : goal.returns
 returns c =
     let reads_not = (placed_here c.self.inside.fills.items c.self.inside.told c.self.inside.readers c.args.self.now c.args.user c.self.view_is c.requires).0 in
-    told_changed c.self.inside.fills.items c.self.inside.told c.append_reserved.new.self c.self.inside.readers c.args.self.now c.args.user (with_kept_last (entries.Typed c.args.report)) (with_kept_last c.args.report)
-    c.append_reserved.ensures (kept_last_shown c.self.inside.fills.items c.self.inside.readers (entries.Typed c.args.report) c.args.user c.self.inside.told reads_not) c.self.view_is
+    told_changed c.self.inside.fills.items c.self.inside.told c.append_reserved.new.self c.self.inside.readers c.args.self.now c.args.user (with_kept_last (Entry.Typed c.args.report)) (with_kept_last c.args.report)
+    c.append_reserved.ensures (kept_last_shown c.self.inside.fills.items c.self.inside.readers (Entry.Typed c.args.report) c.args.user c.self.inside.told reads_not) c.self.view_is

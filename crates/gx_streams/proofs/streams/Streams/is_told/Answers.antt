@@ -1,6 +1,5 @@
 use Rattle.std.proofs.Common.{◌≡◌, Bool, true, false, not, ◌&&◌, refl, ◌∙◌, ap, sym}
-use Rattle.std.specs.Prelude.{Option, Some, None, is_some, option_map}
-use Rattle.std.specs.List.{find}
+use Rattle.std.specs.{Prelude.{Option, Some, None, is_some, option_map}, List.find}
 use Rattle.gx_streams.specs.Spans.{is_named}
 use Rattle.gx_streams.proofs.Whole.{told_is}
 use Rattle.gx_streams.proofs.streams.Streams.is_told.Goals as goal

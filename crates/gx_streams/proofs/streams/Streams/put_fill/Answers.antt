@@ -1,6 +1,5 @@
 use Rattle.std.proofs.Common.{◌≡◌, ◌^◌, [], ◌∷◌, ◌++◌, length, ap, ◌∙◌, arith}
-use Rattle.gx_streams.proofs.Spanning.{few_enough}
-use Rattle.gx_streams.proofs.Whole.{filled, filled_sound, told_here}
+use Rattle.gx_streams.proofs.{Spanning.few_enough, Whole.{filled, filled_sound, told_here}}
 use Rattle.gx_streams.proofs.streams.Streams.put_fill.Goals as goal
 
 pub append_both-requires-clause-first : goal.append_both-requires-clause-first

@@ -1,12 +1,7 @@
-use Rattle.std.proofs.Common.{ℕ, ◌≤◌, ◌∙◌, ap, length, subst, sym}
-use Rattle.std.specs.Prelude.{Option}
-use Rattle.std.specs.Option.{option_map_or}
-use Rattle.std.proofs.lemmas.Result.{on_ok_weaker}
-use Rattle.gx_streams.specs.Kept.{on_user, places_in, with_places}
-use Rattle.gx_streams.specs.Spans.{ReaderSpans}
-use Rattle.gx_streams.proofs.Reading.{read_spare}
-use Rattle.gx_streams.proofs.Shown.{known_changed, places_made_shown, there_with_places}
-use Rattle.gx_streams.proofs.Whole.{sound_told, told_changed, told_here}
+use Rattle.std.proofs.{Common.{ℕ, ◌≤◌, ◌∙◌, ap, length, subst, sym}, lemmas.Result.on_ok_weaker}
+use Rattle.std.specs.{Prelude.Option, Option.option_map_or}
+use Rattle.gx_streams.specs.{Kept.{on_user, places_in, with_places}, Spans.ReaderSpans}
+use Rattle.gx_streams.proofs.{Reading.read_spare, Shown.{known_changed, places_made_shown, there_with_places}, Whole.{sound_told, told_changed, told_here}}
 use Rattle.gx_streams.proofs.streams.Streams.reserve.Goals as goal
 
 pub reserve-requires : goal.reserve-requires

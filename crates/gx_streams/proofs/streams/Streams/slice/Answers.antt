@@ -1,11 +1,7 @@
 use Rattle.std.proofs.Common.{List, ◌∙◌, ap, map, subst, sym}
 use Rattle.gx_policy.specs.Lists.{slice}
 use Rattle.gx_history.specs.declared.report.Report.{Report}
-use Rattle.gx_streams.specs.declared.entry.Entry.{Entry}
-use Rattle.gx_streams.specs.declared.fill.ToldFill.{ToldFill}
-use Rattle.gx_streams.specs.Spans.{AreNumbered, copies_in}
-use Rattle.gx_streams.specs.Streams.{reports_in}
-use Rattle.gx_streams.specs.Table.{report_of}
+use Rattle.gx_streams.specs.{declared.{entry.Entry.Entry, fill.ToldFill.ToldFill}, Spans.{AreNumbered, copies_in}, Streams.reports_in, Table.report_of}
 use Rattle.gx_streams.proofs.Reading.{read_as, read_copies, sound_reader, told_slice}
 use Rattle.gx_streams.proofs.streams.Streams.slice.Goals as goal
 

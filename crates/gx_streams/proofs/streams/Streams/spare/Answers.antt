@@ -1,8 +1,6 @@
 use Rattle.std.proofs.Common.{◌∙◌, ap}
-use Rattle.std.specs.Prelude.{Option}
-use Rattle.std.specs.Option.{option_map_or}
-use Rattle.gx_streams.specs.Kept.{places_in}
-use Rattle.gx_streams.specs.Spans.{ReaderSpans}
+use Rattle.std.specs.{Prelude.Option, Option.option_map_or}
+use Rattle.gx_streams.specs.{Kept.places_in, Spans.ReaderSpans}
 use Rattle.gx_streams.proofs.Reading.{read_spare}
 use Rattle.gx_streams.proofs.streams.Streams.spare.Goals as goal
 

@@ -1,9 +1,6 @@
 use Rattle.std.proofs.Common.{ℕ, ◌≡◌, ◌<◌, ◌∙◌, ap, sym, subst, arith}
-use Rattle.std.specs.Prelude.{Option}
-use Rattle.std.specs.Option.{option_map_or}
-use Rattle.gx_streams.specs.declared.entry.Entry.{Entry}
-use Rattle.gx_streams.specs.Kept.{Kept, with_kept_last}
-use Rattle.gx_streams.specs.Kept.{places_in}
+use Rattle.std.specs.{Prelude.Option, Option.option_map_or}
+use Rattle.gx_streams.specs.{declared.entry.Entry.Entry, Kept.{Kept, with_kept_last, places_in}}
 use Rattle.gx_streams.proofs.Users.{spare_found, written_back}
 use Rattle.gx_streams.proofs.told.Told.append_reserved.Goals as goal
 

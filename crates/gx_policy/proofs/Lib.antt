@@ -1,0 +1,2 @@
+pub mod Letters
+mod Names
