@@ -83,9 +83,17 @@ def read_record(content: bytes, number: int, mark: bytes) -> Record:
     is_match = request is None
     is_step = is_match == isinstance(verdict, Filled | Rested | Expired) and is_match == (line == 0)
     is_user = user == user.upper() and not (is_match and record.user)
-    if not is_step or not is_user or write_record(record, mark) != content:
+    if not is_step or not is_user or not may_be(request, verdict) or write_record(record, mark) != content:
         raise NoRecord
     return record
+
+
+def may_be(request: Request | None, verdict: Verdict) -> bool:
+    """Whether a record can show the request with this verdict: an unreadable payload is never granted, and has a first
+    byte only where it has one."""
+    if not isinstance(request, Unreadable):
+        return True
+    return not isinstance(verdict, Granted) and (request.length > 0 or request.first == b"\0")
 
 
 def read_request(kind: bytes, body: bytes) -> Request | None:

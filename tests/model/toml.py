@@ -7,6 +7,7 @@ are no values of a policy, so `Other` stands for each of them.
 import re
 from calendar import monthrange
 from dataclasses import dataclass, field
+from math import isinf
 from typing import Any
 
 INTEGERS = range(-(2**63), 2**63)
@@ -189,7 +190,12 @@ class Reader:
 
     def number_or_moment(self) -> int | Other:
         """An integer of 64 bits, a float, a date or a time."""
-        if any(self.take_moment(pattern) for pattern in MOMENTS) or self.take(FLOAT) is not None:
+        if any(self.take_moment(pattern) for pattern in MOMENTS):
+            return Other()
+        number = self.take(FLOAT)
+        if number is not None:
+            if isinf(float(number.replace("_", ""))) and "inf" not in number:
+                raise NotToml
             return Other()
         prefixed = self.take(PREFIXED)
         value = int(prefixed, 0) if prefixed is not None else int(self.want(rf"[+-]?{DECIMAL}"))
