@@ -17,14 +17,18 @@ use std::alloc::Global;
 /// How many requests of each kind there were.
 #[derive(Clone, Copy, PartialEq, Eq)]
 pub struct OrderRequests {
+    /// How many asked for an Enter Order.
     pub enters: u64,
+    /// How many asked for a Replace Order.
     pub replaces: u64,
+    /// How many asked for a Cancel Order.
     pub cancels: u64,
 }
 
 /// What an account did.
 #[derive(Clone, Copy, PartialEq, Eq)]
 pub struct ActivityRow {
+    /// The name of the account.
     pub account: AccountName,
     /// Those of its users that were granted.
     pub granted: OrderRequests,

@@ -24,7 +24,9 @@ pub struct Denial {
 /// How often the rule denied requests of the account's users.
 #[derive(Clone, Copy, PartialEq, Eq)]
 pub struct DenialRow {
+    /// The rule, and the account of the users who asked.
     pub denial: Denial,
+    /// How many of their requests it denied.
     pub count: u64,
 }
 

@@ -18,14 +18,18 @@ use std::alloc::Global;
 /// An account, and a stock that it traded.
 #[derive(Clone, Copy, PartialEq, Eq, Hash)]
 pub struct Position {
+    /// The name of the account.
     pub account: AccountName,
+    /// The stock that it traded.
     pub stock: Symbol,
 }
 
 /// What an account executed in a stock.
 #[derive(Clone, Copy, PartialEq, Eq)]
 pub struct PositionRow {
+    /// The account and the stock.
     pub position: Position,
+    /// By buys.
     pub bought: Executed,
     /// By all that is no buy.
     pub sold: Executed,

@@ -13,6 +13,7 @@ use std::alloc::Global;
 pub struct SpanRow {
     /// How many Enters and Replaces were granted.
     pub orders: u64,
+    /// How many matching steps filled.
     pub fills: u64,
     /// How many requests of any kind were denied.
     pub denials: u64,

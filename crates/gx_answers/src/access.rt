@@ -1,6 +1,6 @@
 //! What is asked of a gate that one has alone.
 
-ghost use Rattle.std.specs.Prelude.{◌≡◌, ◌+◌, ◌<◌, ◌^◌, max, [], length, IsFalse, IsOk, IsTrue, IfOk, IfErr, IfSome, OnErr, None, Some, is_some, option_map};
+ghost use Rattle.std.specs.Prelude.{◌≡◌, ◌+◌, ◌<◌, ◌^◌, max, [], length, IsFalse, IsOk, IsTrue, IfOk, IfErr, IfSome, OnOk, OnErr, None, Some, is_some, option_map};
 ghost use Rattle.gx_exposure.specs.Exposure.{NetStaysWithin, SharesStayWithin, ValuesStayWithin};
 ghost use Rattle.gx_history.specs.{InForce.{is_killed, line_of}, Matched.{AreUncrossed, HasNoOrders}, Showing.is_askable, Verdicts.IsLegal};
 ghost use Rattle.gx_policy.specs.{Lists.slice, People.user_in};
@@ -8,8 +8,9 @@ ghost use Rattle.gx_answers.specs.declared.outcome.StepFault.TheVariants as faul
 ghost use Rattle.gx_answers.specs.{Effects.{moved_by, world_of, EndsKills, MayMoveBy, NoneHeldWhereNoneAsked, NoneOnSideWhereNoneAsked}, Gates.{left_by, matched_by}, Logins.login_answered, Matches.{matches_left, matching_of, next_match, settled_gate, with_match}, Steps.{has_its_places, next_of, verdict_of, with_record, IsFull, IsJudged}, Told.{copies_of, ends_before, login_of, reads, stream_of}};
 
 use crate::outcome::{LoginAnswer, Outcome, StepFault};
-use crate::pulled::Pulled;
+use crate::pulled::{Pulled, Reached};
 use gx_history::record::{Asked, Record, Request, Verdict};
+use gx_history::report::Report;
 use gx_policy::Policy;
 use gx_units::{AccountName, Moment, OutOfMemory, Password, SessionName, UserName};
 use std::alloc::Global;
@@ -141,6 +142,22 @@ pub trait AccessGate {
             → p.reports ≡ slice (copies_of (seen self.now) user) from most) }
         ensures next { IfOk result (λ p. p.next ≡ max 1 from + length p.reports) }
         ensures ended { IfOk result (λ p. p.ended ≡ ends_before (seen self.now) user p.next) };
+
+    /// Puts what `reports` gives into this list, in place of what stands there, and answers how far that is. The list's
+    /// room is kept from pull to pull.
+    fn put_reports(
+        &self,
+        user: UserName,
+        from: u64,
+        most: u64,
+        list: &mut Vec<Report>,
+    ) -> Result<Reached, OutOfMemory>
+        ensures reports { OnOk result
+            (list.new.items ≡ slice (stream_of (seen self.now) user) from most) }
+        ensures copies { OnOk result (IsTrue (reads (seen self.now) user)
+            → list.new.items ≡ slice (copies_of (seen self.now) user) from most) }
+        ensures next { IfOk result (λ r. r.next ≡ max 1 from + length list.new.items) }
+        ensures ended { IfOk result (λ r. r.ended ≡ ends_before (seen self.now) user r.next) };
 
     /// The request of a login: whether the password is the user's and the session is the gate's, and the number of
     /// the first report that is wanted, 0 for the last.

@@ -11,4 +11,4 @@ mod pulled;
 pub use access::AccessGate;
 pub use asking::asked;
 pub use outcome::{LoginAnswer, Outcome, StepFault, record_of, record_of_match};
-pub use pulled::{Pulled, Reports, count_of};
+pub use pulled::{Pulled, Reached, Reports, count_of};

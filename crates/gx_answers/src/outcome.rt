@@ -14,6 +14,7 @@ pub struct Outcome {
     pub number: u64,
     /// The moment handed in, or that of the record before where it is later.
     pub moment: Moment,
+    /// What became of the step.
     pub verdict: Verdict,
 }
 
@@ -44,12 +45,14 @@ pub fn record_of_match(handed: Moment, outcome: Outcome) -> RecordData
 /// What a login is told: SoupBinTCP's Login Accepted or Login Rejected.
 #[derive(Clone, Copy, PartialEq, Eq)]
 pub enum LoginAnswer {
+    /// Login Accepted.
     Accepted {
         /// The session that the user is logged in to.
         session: SessionName,
         /// The number of the next report that is sent.
         next: u64,
     },
+    /// Login Rejected, with its reason.
     Rejected(LoginRejection),
 }
 

@@ -21,12 +21,14 @@ impl Model for Reports {
 }
 
 impl Reports {
+    /// The list of these reports.
     pub fn new(items: Vec<Report>) -> Reports
         ensures { result ≡ items.items }
     {
         Reports { items }
     }
 
+    /// The reports, in their order.
     pub fn as_slice(&self) -> &[Report]
         ensures { result.now ≡ self.now }
     {
@@ -37,7 +39,17 @@ impl Reports {
 /// A part of a user's stream.
 #[derive(Drop)]
 pub struct Pulled {
+    /// The reports of the part, in their order.
     pub reports: Reports,
+    /// The number after the last report given; where there is none, the number asked for, 0 counting as 1.
+    pub next: u64,
+    /// The day is closed, and no report is past these.
+    pub ended: bool,
+}
+
+/// How far a pull came.
+#[derive(Clone, Copy)]
+pub struct Reached {
     /// The number after the last report given; where there is none, the number asked for, 0 counting as 1.
     pub next: u64,
     /// The day is closed, and no report is past these.

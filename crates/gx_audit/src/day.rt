@@ -36,6 +36,7 @@ fn front<G: AccessGate>(
 }
 
 /// The audit of the gate's records in this version: that of a legal day under its policy.
+/// For the cases: they put the whole audit of a day into memory.
 #[tactic(auto, using(crate::proofs::Whole::whole_is, crate::proofs::Whole::is_audit))]
 pub fn audit_of<G: AccessGate>(
     alloc: Global,

@@ -13,6 +13,10 @@ use std::alloc::Global;
 
 /// What more there is to tell of an answer: the wrong field of a bad record, or what an illegal one says and what the
 /// rules say, as a `G` judges by them; nothing of others.
+///
+/// # Errors
+///
+/// `OutOfMemory` where memory was refused.
 pub fn more_of_audit<G: AccessGate>(
     alloc: Global,
     policy: &Policy,

@@ -16,7 +16,9 @@ use std::alloc::Global;
 /// What is told of an audit: the answer, and its line.
 #[derive(Drop)]
 pub struct AuditAnswer {
+    /// How many records a legal audit has, or its fault.
     pub answer: Result<u64, AuditFault>,
+    /// The text of the answer: one line, with its line end.
     pub line: Vec<u8>,
 }
 
@@ -33,6 +35,10 @@ impl AuditAnswer {
 }
 
 /// Checks that the bytes are the audit of a legal day under the policy, as [`check_audit`] does.
+///
+/// # Errors
+///
+/// `OutOfMemory` where that is the fault, or where memory was refused.
 pub fn told_of_audit<G: AccessGate>(
     alloc: Global,
     policy: &Policy,

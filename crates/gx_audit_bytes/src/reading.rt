@@ -20,6 +20,7 @@ use gx_policy::{BUILT_IN, RuleName, is_built_in};
 use gx_units::{AccountName, RuleId, Symbol, UserName};
 
 /// The record whose bytes these are in version 1; None where they are no record's. Takes no memory.
+/// Part of the interface: `read_record_in`, which the program calls, for version 1 alone.
 pub fn read_record(bytes: &[u8; RECORD_SIZE]) -> Option<Record>
     ensures shown { result ≡ record_of versions.One bytes.now }
     ensures bytes { IfSome result (λ r. record_bytes versions.One r ≡ bytes.now) }
@@ -28,6 +29,7 @@ pub fn read_record(bytes: &[u8; RECORD_SIZE]) -> Option<Record>
 }
 
 /// The record whose bytes these are in version 2; None where they are no record's. Takes no memory.
+/// Part of the interface: `read_record_in`, which the program calls, for version 2 alone.
 pub fn read_record_2(bytes: &[u8; RECORD_SIZE]) -> Option<Record>
     ensures shown { result ≡ record_of versions.Two bytes.now }
     ensures bytes { IfSome result (λ r. record_bytes versions.Two r ≡ bytes.now) }

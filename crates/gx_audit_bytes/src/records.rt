@@ -20,6 +20,10 @@ fn put(version: AuditVersion, bytes: &mut Vec<u8>, given: &Record) -> Result<(),
 }
 
 /// The bytes of the records in this version, one behind the other.
+///
+/// # Errors
+///
+/// `OutOfMemory` where memory was refused.
 #[tactic(auto, using(crate::proofs::Joined::no_bytes))]
 pub fn audit_bytes(
     alloc: Global,

@@ -29,6 +29,7 @@ pub fn write_record(given: &Record) -> [u8; RECORD_SIZE]
 }
 
 /// The record as an audit of version 2 shows it: each part at its place. Takes no memory.
+/// Part of the interface: `write_record_in`, which the program calls, for version 2 alone.
 pub fn write_record_2(given: &Record) -> [u8; RECORD_SIZE]
     ensures bytes { result ≡ record_bytes versions.Two given.now }
     ensures fields { LiesIn audit_record (record_contents versions.Two given.now) result }

@@ -6,6 +6,7 @@ ghost use Rattle.gx_book.specs.{Books.{IsSound, best_in, empty_book, on_each_sid
 
 use crate::resting::{Resting, is_buy};
 use crate::sides::Sides;
+use gx_index::{get_mut_near, get_near, index_near};
 use gx_policy::Policy;
 use gx_units::{OutOfMemory, Symbol};
 use indexmap::IndexMap;
@@ -49,23 +50,30 @@ impl Book {
         Ok(Book { by_stock })
     }
 
-    /// Whether the stock is listed.
-    #[tactic(auto, using(crate::proofs::Stocks::listed_found))]
-    pub fn lists(&self, stock: Symbol) -> bool
-        ensures { result ≡ is_some (stock_in self.now stock) }
-    {
-        self.by_stock.contains_key(&stock)
+    /// Where the stock stands in the policy: tables in its order look there first. Nothing but time rests on it; it is 0
+    /// for a stock that is not listed.
+    pub fn near(&self, stock: Symbol) -> usize {
+        self.by_stock.get_index_of(&stock).unwrap_or(0)
     }
 
-    /// The best order on a side of the stock: of those with the best price the first to rest.
+    /// Whether the stock, which is looked for at this place of the policy's stocks first, is listed.
+    #[tactic(auto, using(crate::proofs::Stocks::listed_found))]
+    pub fn lists(&self, stock: Symbol, near: usize) -> bool
+        ensures { result ≡ is_some (stock_in self.now stock) }
+    {
+        index_near(&self.by_stock, near, stock).is_some()
+    }
+
+    /// The best order on a side of the stock: of those with the best price the first to rest. Here and below, the stock is
+    /// looked for at this place of the policy's stocks first.
     #[tactic(auto, using(crate::proofs::Stocks::stock_found, crate::proofs::Stocks::always_sound))]
-    pub fn best(&self, stock: Symbol, side: u8) -> Option<Resting>
+    pub fn best(&self, stock: Symbol, near: usize, side: u8) -> Option<Resting>
         ensures best { result ≡ best_in self.now stock (is_buy side) }
         ensures sound { IsSound self.now }
     {
         // What this ensures: no two stocks have one name.
         let _ = self.by_stock.len();
-        let sides = self.by_stock.get(&stock)?;
+        let sides = get_near(&self.by_stock, near, stock)?;
         sides.first(is_buy(side))
     }
 
@@ -76,12 +84,18 @@ impl Book {
     ///
     /// `OutOfMemory` where there is no memory for one more; then nothing has changed.
     #[tactic(auto, using(crate::proofs::Stocks::side_found))]
-    pub fn rest(&mut self, stock: Symbol, side: u8, added: Resting) -> Result<(), OutOfMemory>
+    pub fn rest(
+        &mut self,
+        stock: Symbol,
+        near: usize,
+        side: u8,
+        added: Resting,
+    ) -> Result<(), OutOfMemory>
         requires latest { IsLatest added (resting_in self.old stock (is_buy side)) }
         ensures ok { OnOk result (self.new ≡ with_rested stock (is_buy side) added self.old) }
         ensures err { OnErr result (self.new ≡ self.old) }
     {
-        let Some(sides) = self.by_stock.get_mut(&stock) else {
+        let Some(sides) = get_mut_near(&mut self.by_stock, near, stock) else {
             return Ok(());
         };
         sides.put(is_buy(side), added)?;
@@ -90,12 +104,12 @@ impl Book {
 
     /// Takes the order out of a side of the stock; whether it was there.
     #[tactic(auto, using(crate::proofs::Stocks::side_found, crate::proofs::Stocks::none_found))]
-    pub fn remove(&mut self, stock: Symbol, side: u8, gone: &Resting) -> bool
+    pub fn remove(&mut self, stock: Symbol, near: usize, side: u8, gone: &Resting) -> bool
         ensures found { result ≡ is_among gone.now (resting_in self.old stock (is_buy side)) }
         ensures removed { self.new
             ≡ on_side stock (is_buy side) (without_order gone.now) self.old }
     {
-        let Some(sides) = self.by_stock.get_mut(&stock) else {
+        let Some(sides) = get_mut_near(&mut self.by_stock, near, stock) else {
             return false;
         };
         sides.remove(is_buy(side), gone)

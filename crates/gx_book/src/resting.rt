@@ -10,6 +10,7 @@ use gx_units::AccountName;
 pub struct Resting {
     /// The number of the record that granted it.
     pub number: u64,
+    /// The account that it trades for.
     pub account: AccountName,
     /// In ten-thousandths of a dollar.
     pub price: u32,

@@ -16,7 +16,9 @@ use gx_units::{AccountName, Firm, Symbol, Token};
 /// A message, with its moment in nanoseconds past midnight.
 #[derive(Clone, Copy)]
 pub struct Stamped<M> {
+    /// Timestamp, in nanoseconds past midnight.
     pub timestamp: u64,
+    /// All else of the message.
     pub message: M,
 }
 

@@ -15,6 +15,10 @@ use std::alloc::Global;
 
 impl ClientSession {
     /// The Login Request that begins the session, or takes it up again: it asks for the next report and all behind it.
+    ///
+    /// # Errors
+    ///
+    /// `OutOfMemory` where memory was refused.
     pub fn login_packet(&self, alloc: Global) -> Result<Vec<u8>, OutOfMemory>
         ensures { IfOk result (λ bytes. bytes.items
             ≡ client_bytes (packets.Login (record self.now.login { wanted = self.now.next }))) }
@@ -24,6 +28,10 @@ impl ClientSession {
 }
 
 /// The packet that carries a command of an officer.
+///
+/// # Errors
+///
+/// `OutOfMemory` where memory was refused.
 pub fn command_packet(alloc: Global, command: &Command) -> Result<Vec<u8>, OutOfMemory>
     ensures { IfOk result (λ bytes. CarriesCommand bytes.items command.now) }
 {
@@ -32,6 +40,10 @@ pub fn command_packet(alloc: Global, command: &Command) -> Result<Vec<u8>, OutOf
 }
 
 /// The packet that carries a message of a trader.
+///
+/// # Errors
+///
+/// `OutOfMemory` where memory was refused.
 pub fn inbound_packet(alloc: Global, message: &Inbound) -> Result<Vec<u8>, OutOfMemory>
     ensures { IfOk result (λ bytes. CarriesInbound bytes.items message.now) }
 {
@@ -48,6 +60,10 @@ fn data_packet(alloc: Global, message: &[u8]) -> Result<Vec<u8>, OutOfMemory>
 }
 
 /// The Client Heartbeat, which says that the client is there.
+///
+/// # Errors
+///
+/// `OutOfMemory` where memory was refused.
 pub fn heartbeat_packet(alloc: Global) -> Result<Vec<u8>, OutOfMemory>
     ensures { IfOk result (λ bytes. bytes.items ≡ client_bytes packets.Heartbeat) }
 {
@@ -55,6 +71,10 @@ pub fn heartbeat_packet(alloc: Global) -> Result<Vec<u8>, OutOfMemory>
 }
 
 /// The Logout Request, which ends the session.
+///
+/// # Errors
+///
+/// `OutOfMemory` where memory was refused.
 pub fn logout_packet(alloc: Global) -> Result<Vec<u8>, OutOfMemory>
     ensures { IfOk result (λ bytes. bytes.items ≡ client_bytes packets.Logout) }
 {

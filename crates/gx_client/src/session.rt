@@ -53,6 +53,7 @@ impl ClientSession {
     }
 
     /// Where the session stands.
+    /// Part of the interface: what its contracts say of the stage can be looked up.
     pub fn stage(&self) -> Stage
         ensures { result ≡ self.now.stage }
     {
@@ -60,6 +61,7 @@ impl ClientSession {
     }
 
     /// The number of the next report: the one to ask for when the client connects again.
+    /// Part of the interface: the program has the number in `login_request`.
     pub fn next(&self) -> u64
         ensures { result ≡ self.now.next }
     {

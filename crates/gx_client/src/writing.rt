@@ -12,6 +12,10 @@ use gx_units::OutOfMemory;
 use std::alloc::Global;
 
 /// The bytes in which the gate reads this message of a trader.
+///
+/// # Errors
+///
+/// `OutOfMemory` where memory was refused.
 pub fn write_inbound(alloc: Global, message: &Inbound) -> Result<Vec<u8>, OutOfMemory>
     ensures read { IfOk result (λ bytes. inbound_of bytes.items ≡ Some message.now) }
     ensures within { IfOk result (λ bytes. length bytes.items ≤ MESSAGE_ROOM) }
@@ -20,6 +24,10 @@ pub fn write_inbound(alloc: Global, message: &Inbound) -> Result<Vec<u8>, OutOfM
 }
 
 /// The bytes in which the gate reads this command of an officer.
+///
+/// # Errors
+///
+/// `OutOfMemory` where memory was refused.
 pub fn write_command(alloc: Global, command: &Command) -> Result<Vec<u8>, OutOfMemory>
     ensures read { IfOk result (λ bytes. command_of bytes.items ≡ Some command.now) }
     ensures within { IfOk result (λ bytes. length bytes.items ≤ MESSAGE_ROOM) }

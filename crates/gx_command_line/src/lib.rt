@@ -141,6 +141,7 @@ pub enum PageForm {
 /// How records of an audit are shown.
 #[derive(Clone, Copy, Debug)]
 pub struct Shape {
+    /// As text, as CSV or as JSON.
     pub form: TableForm,
     /// Whether moments stand in front as a clock shows them.
     pub has_clock: bool,
@@ -406,6 +407,10 @@ fn matches_of<'a>(alloc: Global, words: &'a [String]) -> Result<ArgMatches<'a>, 
 }
 
 /// What the words of a call ask for, the program's name being the first.
+///
+/// # Errors
+///
+/// What is wrong with the call.
 pub fn read<'a>(alloc: Global, words: &'a [String]) -> Result<Option<Asked<'a>>, BadCall<'a>> {
     let given = matches_of(alloc, words)?;
     match bad_midnight(&given)

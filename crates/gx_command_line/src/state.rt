@@ -30,6 +30,7 @@ impl Behind {
 /// Which state is wanted, and how it is told.
 #[derive(Clone, Copy, Debug)]
 pub struct StateAsked {
+    /// Behind which record, or at which time of day.
     pub behind: Behind,
     /// Whether each live order is told.
     pub with_orders: bool,

@@ -15,6 +15,7 @@ const SHOWN: usize = 64;
 pub struct BadWord<'a> {
     /// Which word, the one behind the program's name being the first.
     pub number: usize,
+    /// The word itself.
     pub bytes: &'a [u8],
 }
 

@@ -10,6 +10,7 @@ use std::fmt;
 /// Why a run ends early.
 #[derive(Clone, Copy, PartialEq, Eq)]
 pub enum Fault {
+    /// Memory was refused.
     OutOfMemory,
     /// The peer has closed the line, is silent, or can't be reached any more.
     LineBroke,

@@ -54,6 +54,7 @@ pub(crate) enum Phase {
 /// What a run begins with.
 #[derive(Drop)]
 pub struct Setup {
+    /// The Login Request that it sends first.
     pub login: LoginRequest,
     /// How lines are written.
     pub form: Form,
@@ -98,6 +99,7 @@ pub struct Run<S: Drop, O: Drop, E: Drop> {
 }
 
 impl<S: Read + Write + Drop, O: Write + Drop, E: Write + Drop> Run<S, O, E> {
+    /// A run over this stream, which has sent nothing yet.
     pub fn new<R: Clock>(
         rt: &R,
         alloc: Global,
@@ -131,6 +133,10 @@ impl<S: Read + Write + Drop, O: Write + Drop, E: Write + Drop> Run<S, O, E> {
     }
 
     /// Logs in, and waits until that is answered.
+    ///
+    /// # Errors
+    ///
+    /// The fault that ends the run.
     pub fn log_in<R: Wait + Clock>(&mut self, rt: &R) -> Result<(), Fault> {
         let packet = self.session.login_packet(self.alloc)?;
         self.send(rt, packet.as_slice())?;
@@ -151,6 +157,10 @@ impl<S: Read + Write + Drop, O: Write + Drop, E: Write + Drop> Run<S, O, E> {
 
     /// Goes on over another stream, from the report behind the last one that it heard: logs in, and waits until that is
     /// answered. What waits for an answer is not asked again: its answer may come among these reports.
+    ///
+    /// # Errors
+    ///
+    /// The fault that ends the run.
     pub fn take_up<R: Wait + Clock>(&mut self, rt: &R, stream: S) -> Result<(), Fault> {
         self.stream = stream;
         self.feeder = ServerFeeder::new(self.alloc);
@@ -164,6 +174,10 @@ impl<S: Read + Write + Drop, O: Write + Drop, E: Write + Drop> Run<S, O, E> {
 
     /// Obeys the one command, or the lines that come, each once the one before is answered, until a None comes or nobody
     /// sends any more; then it logs out.
+    ///
+    /// # Errors
+    ///
+    /// The fault that ends the run.
     pub fn follow<R: Wait + Clock>(
         &mut self,
         rt: &R,

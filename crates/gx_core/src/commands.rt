@@ -114,7 +114,7 @@ impl Gate {
         ensures { result ≡ are_his self.now.policy self.now.records
             (role_in self.now.policy.users officer) action.now }
     {
-        self.keepers.people.is_officer(officer) && self.has_concerned(officer, action)
+        self.keepers.people.is_officer(officer, 0) && self.has_concerned(officer, action)
     }
 
     /// Whether the reader whom an officer names sees the account's fills from now on.

@@ -7,10 +7,14 @@ use crate::login::{login_answered, login_asked};
 use crate::moves::matched_move;
 use crate::places::{first_history, keep_for, keep_one};
 use crate::pulling::pull;
-use gx_answers::{AccessGate, LoginAnswer, Outcome, Pulled, StepFault, record_of, record_of_match};
+use crate::putting::put_pull;
+use gx_answers::{
+    AccessGate, LoginAnswer, Outcome, Pulled, Reached, StepFault, record_of, record_of_match,
+};
 use gx_history::history::History;
 use gx_history::moves::Move;
 use gx_history::record::{Asked, Record, Request, Verdict};
+use gx_history::report::Report;
 use gx_history::slices::slice;
 use gx_keepers::apply::carry_on;
 use gx_keepers::keepers::Keepers;
@@ -78,11 +82,13 @@ impl AccessGate for Gate {
     }
 
     fn step(&mut self, a: Asked) -> Result<Outcome, StepFault> {
-        let known = self.facts_of(&a);
-        let outcome = self.judge(&a, &known);
+        let asker = self.near_asker(&a);
+        let known = self.facts_of(&a, asker);
+        let near = self.near_named(asker, &known);
+        let outcome = self.judge(&a, near, &known);
         let entry = record_of(&a, outcome);
         let mut moves = Move::Nothing;
-        self.put_asked_move(&mut moves, &a, &entry, &known);
+        self.put_asked_move(&mut moves, &a, near, &entry, &known);
         keep_for(&mut self.history, &self.policy, &a, outcome.verdict)?;
         carry_on(
             &mut self.keepers,
@@ -91,6 +97,7 @@ impl AccessGate for Gate {
                 history: &self.history,
                 moves: &moves,
                 left: &entry,
+                near,
             },
             &a,
         )?;
@@ -103,7 +110,8 @@ impl AccessGate for Gate {
         let Some(first) = self.first_waiting() else {
             return Ok(None);
         };
-        let outcome = self.match_outcome(&first, handed);
+        let near = self.near_waiting(&first);
+        let outcome = self.match_outcome(&first, near.stock, handed);
         let entry = record_of_match(handed, outcome);
         let moves = matched_move(outcome.verdict);
         keep_one(&mut self.history, &self.policy)?;
@@ -114,6 +122,7 @@ impl AccessGate for Gate {
                 history: &self.history,
                 moves: &moves,
                 left: &entry,
+                near,
             },
         )?;
         let record = Record::new(entry);
@@ -136,12 +145,12 @@ impl AccessGate for Gate {
 
     #[tactic(auto, using(crate::proofs::Judged::kill_is_known))]
     fn is_killed(&self, account: AccountName) -> bool {
-        self.keepers.day.is_killed(account)
+        self.keepers.day.is_killed(account, 0)
     }
 
     #[tactic(auto, using(crate::proofs::Judged::line_is_known))]
     fn on(&self, user: UserName) -> Option<u16> {
-        self.keepers.day.line_of(user)
+        self.keepers.day.line_of(user, 0)
     }
 
     #[tactic(auto, using(crate::proofs::Judged::users_are_known))]
@@ -156,6 +165,17 @@ impl AccessGate for Gate {
     #[tactic(auto, using(crate::proofs::Judged::reports_are_known, crate::proofs::Judged::end_is_known))]
     fn reports(&self, user: UserName, from: u64, most: u64) -> Result<Pulled, OutOfMemory> {
         pull(&self.keepers, user, from, most)
+    }
+
+    #[tactic(auto, using(crate::proofs::Judged::reports_are_known, crate::proofs::Judged::end_is_known))]
+    fn put_reports(
+        &self,
+        user: UserName,
+        from: u64,
+        most: u64,
+        list: &mut Vec<Report>,
+    ) -> Result<Reached, OutOfMemory> {
+        put_pull(&self.keepers, user, from, most, list)
     }
 
     #[tactic(auto, using(crate::proofs::Judged::passwords_are_known))]

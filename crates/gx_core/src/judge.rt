@@ -2,7 +2,7 @@
 
 ghost use Rattle.std.specs.Prelude.{◌≡◌, ◌≤◌, ◌<◌, is_some, length, IsTrue, Some};
 ghost use Rattle.gx_history.specs.declared.record.Step.TheVariants as steps;
-ghost use Rattle.gx_history.specs.{Asking.{changes, facts, fits_role, has_power, is_on_line, knows_user, lists_its_stock}, Showing.{answers, is_askable, is_showable}, Verdicts.{facts_now, moment_of, next, verdict}};
+ghost use Rattle.gx_history.specs.{Asking.{changes, facts, fits_role, has_power, is_on_line, knows_user, lists_its_stock}, InForce.{is_killed, line_of}, Showing.{answers, is_askable, is_showable}, Verdicts.{facts_now, moment_of, next, verdict}};
 ghost use Rattle.gx_policy.specs.People.{account_named, account_of, role_in};
 ghost use Rattle.gx_people.specs.Entitled.{holds_in_role};
 ghost use Rattle.gx_answers.specs.{Gates.left_by, Steps.{next_of, verdict_of}, Told.stream_of};
@@ -15,6 +15,7 @@ use gx_desk::Action;
 use gx_history::facts::Facts;
 use gx_history::live_order::LiveOrder;
 use gx_history::record::{Asked, Request, Verdict};
+use gx_index::Near;
 use gx_keepers::listed::{account_named, fits_firm};
 use gx_orders::request_tokens::{named_token, new_token};
 use gx_people::power::Power;
@@ -61,28 +62,44 @@ impl Gate {
     {
         match &a.request {
             Request::Enter(_) | Request::Replace(_) | Request::Cancel(_) => account.is_some(),
-            Request::Command(_) => self.keepers.people.is_officer(a.user),
+            Request::Command(_) => self.keepers.people.is_officer(a.user, 0),
             _ => true,
         }
     }
 
     /// Whether an Enter's stock is listed; true for any other request.
     #[tactic(auto, using(crate::proofs::Judged::stocks_are_known))]
-    fn lists_its_stock(&self, request: &Request) -> bool
+    fn lists_its_stock(&self, request: &Request, near: usize) -> bool
         ensures { result ≡ lists_its_stock self.now.policy request.now }
     {
         match request {
-            Request::Enter(m) => self.keepers.book.lists(m.stock),
+            Request::Enter(m) => self.keepers.book.lists(m.stock, near),
             _ => true,
         }
     }
 
     /// The account that the user trades for, if he trades.
     #[tactic(auto, using(crate::proofs::Judged::accounts_are_known))]
-    fn account_of(&self, user: UserName) -> Option<AccountName>
+    fn account_of(&self, user: UserName, near: usize) -> Option<AccountName>
         ensures { result ≡ account_of self.now.policy user }
     {
-        self.keepers.people.account_of(user)
+        self.keepers.people.account_near(user, near)
+    }
+
+    /// The line that the user is logged in on.
+    #[tactic(auto, using(crate::proofs::Judged::line_is_known))]
+    fn line_near(&self, user: UserName, near: usize) -> Option<u16>
+        ensures { result ≡ line_of self.now.records user }
+    {
+        self.keepers.day.line_of(user, near)
+    }
+
+    /// Whether the account is killed.
+    #[tactic(auto, using(crate::proofs::Judged::kill_is_known))]
+    fn is_killed_near(&self, account: AccountName, near: usize) -> bool
+        ensures { result ≡ is_killed self.now.policy self.now.records account }
+    {
+        self.keepers.day.is_killed(account, near)
     }
 
     /// Whether the request's new token was used before by its user.
@@ -108,16 +125,17 @@ impl Gate {
         a.handed.max(self.last_moment())
     }
 
-    /// What the rules ask of the records, for a request at the moment of its record.
+    /// What the rules ask of the records, for a request at the moment of its record. Its names are looked for at these
+    /// places first.
     #[tactic(auto, unfolding(gx_history::specs::Asking::facts))]
-    pub(crate) fn facts_of(&self, a: &Asked) -> Facts
+    pub(crate) fn facts_of(&self, a: &Asked, near: Near) -> Facts
         ensures told { result ≡ facts_now self.now.policy self.now.records a.now }
         ensures account { result.account ≡ account_of self.now.policy a.now.user }
         ensures named { result.named ≡ order_asked self.now a.now }
         ensures moment { result.moment ≡ moment_of self.now.records (steps.Asked a.now) }
     {
-        let account = self.account_of(a.user);
-        let on = self.on(a.user);
+        let account = self.account_of(a.user, near.user);
+        let on = self.line_near(a.user, near.user);
         let command = self.command_facts(a);
         Facts {
             may_log_in: self.knows_who_asks(a),
@@ -128,9 +146,9 @@ impl Gate {
             token_is_used: self.token_is_used(a),
             named: self.order_named(a),
             day_is_closed: self.is_closed(),
-            account_is_killed: account.is_some_and(|name| self.is_killed(name)),
-            firm_fits: fits_firm(&self.policy, account, &a.request),
-            stock_is_listed: self.lists_its_stock(&a.request),
+            account_is_killed: account.is_some_and(|name| self.is_killed_near(name, near.account)),
+            firm_fits: fits_firm(&self.policy, account, near.account, &a.request),
+            stock_is_listed: self.lists_its_stock(&a.request, near.stock),
             names_are_known: command.names_are_known,
             has_power: command.has_power,
             accounts_are_his: command.accounts_are_his,
@@ -142,7 +160,7 @@ impl Gate {
 
     /// The verdict on a request, by what the rules ask: denied by the first rule of the written order that forbids it, and
     /// else granted.
-    fn verdict(&self, a: &Asked, known: &Facts) -> Verdict
+    fn verdict(&self, a: &Asked, near: Near, known: &Facts) -> Verdict
         requires known { known.now ≡ facts_now self.now.policy self.now.records a.now }
         ensures verdict { result ≡ verdict_of self.now a.now }
         ensures shown { IsTrue (answers a.now.request result) }
@@ -150,12 +168,19 @@ impl Gate {
         // that the policy is sound, which `shown` rests on
         let _ = self.policy.rules();
         let keepers = &self.keepers;
-        decide(&keepers.people, &keepers.rules, &keepers.ledger, known, a)
+        decide(
+            &keepers.people,
+            &keepers.rules,
+            &keepers.ledger,
+            known,
+            near,
+            a,
+        )
     }
 
     /// The number, the moment and the verdict of the record that the request leaves, by what the rules ask.
     #[tactic(auto, using(gx_history_laws::proofs::Granting::next_in_parts))]
-    pub(crate) fn judge(&self, a: &Asked, known: &Facts) -> Outcome
+    pub(crate) fn judge(&self, a: &Asked, near: Near, known: &Facts) -> Outcome
         requires askable { IsTrue (is_askable a.now) }
         requires known { known.now ≡ facts_now self.now.policy self.now.records a.now }
         requires moment { known.now.moment ≡ moment_of self.now.records (steps.Asked a.now) }
@@ -166,7 +191,7 @@ impl Gate {
         Outcome {
             number: self.length() + 1,
             moment: known.moment,
-            verdict: self.verdict(a, known),
+            verdict: self.verdict(a, near, known),
         }
     }
 }

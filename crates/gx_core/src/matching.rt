@@ -21,8 +21,9 @@ impl Gate {
     }
 
     /// The number, the moment and the verdict of the record of a matching step, where this order is the first that waits.
+    /// Its stock is looked for at this place of the policy's stocks first.
     #[tactic(auto, using(crate::proofs::Matched::match_in_parts))]
-    pub(crate) fn match_outcome(&self, first: &LiveOrder, handed: Moment) -> Outcome
+    pub(crate) fn match_outcome(&self, first: &LiveOrder, near: usize, handed: Moment) -> Outcome
         requires waits { first_of self.now ≡ Some first.now }
         ensures next { next_match self.now handed ≡ Some (matched_by handed result) }
         ensures verdict { matching_of self.now ≡ Some result.verdict }
@@ -33,7 +34,7 @@ impl Gate {
             moment: handed.max(self.last_moment()),
             verdict: met(
                 first,
-                best_against(&self.keepers.book, &self.keepers.orders, first),
+                best_against(&self.keepers.book, &self.keepers.orders, first, near),
             ),
         }
     }

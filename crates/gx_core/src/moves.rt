@@ -11,17 +11,19 @@ use gx_history::facts::Facts;
 use gx_history::live_order::LiveOrder;
 use gx_history::moves::Move;
 use gx_history::record::{Asked, RecordData, Request, Verdict};
+use gx_index::Near;
 use gx_keepers::listed::firm_of;
 use gx_ouch::{EnterOrder, OrderTerms, ReplaceOrder};
 use gx_policy::Policy;
 use gx_units::{AccountName, UserName};
 
-/// The order of an Enter that the record grants, for this account.
+/// The order of an Enter that the record grants, for this account, which is looked for at this place first.
 fn order_of(
     policy: &Policy,
     left: &RecordData,
     user: UserName,
     account: AccountName,
+    near: usize,
     m: &EnterOrder,
 ) -> LiveOrder
     ensures { result ≡ new_order policy.now left.now user account m.now }
@@ -37,7 +39,7 @@ fn order_of(
             stock: m.stock,
             price: m.price,
             time_in_force: m.time_in_force,
-            firm: firm_of(policy, account, m.firm),
+            firm: firm_of(policy, account, near, m.firm),
             display: m.display,
             capacity: m.capacity,
             intermarket_sweep: m.intermarket_sweep,
@@ -56,13 +58,14 @@ fn put_enter(
     left: &RecordData,
     user: UserName,
     account: Option<AccountName>,
+    near: usize,
     m: &EnterOrder,
 )
     ensures { moves.new
         ≡ option_map_or (λ x. Adds (new_order policy.now left.now user x m.now)) account Nothing }
 {
     match account {
-        Some(account) => *moves = Move::Adds(order_of(policy, left, user, account, m)),
+        Some(account) => *moves = Move::Adds(order_of(policy, left, user, account, near, m)),
         None => *moves = Move::Nothing,
     }
 }
@@ -87,7 +90,14 @@ fn put_cancel(moves: &mut Move, named: &Option<LiveOrder>, size: u32)
 }
 
 /// Puts there what a granted request does, by the account that its user trades for and the live order that it names.
-fn put_granted(moves: &mut Move, policy: &Policy, left: &RecordData, a: &Asked, known: &Facts)
+fn put_granted(
+    moves: &mut Move,
+    policy: &Policy,
+    left: &RecordData,
+    a: &Asked,
+    near: usize,
+    known: &Facts,
+)
     ensures { moves.new ≡ granted_move
         policy.now left.now a.now known.now.account known.now.named a.now.request }
 {
@@ -95,7 +105,7 @@ fn put_granted(moves: &mut Move, policy: &Policy, left: &RecordData, a: &Asked, 
         Request::Login(_) => *moves = Move::PutsOn(a.user, Some(a.line)),
         Request::Logout => *moves = Move::PutsOn(a.user, None),
         Request::Unreadable(_) => *moves = Move::Nothing,
-        Request::Enter(m) => put_enter(moves, policy, left, a.user, known.account, m),
+        Request::Enter(m) => put_enter(moves, policy, left, a.user, known.account, near, m),
         Request::Replace(m) => put_replace(moves, left, &known.named, m),
         Request::Cancel(m) => put_cancel(moves, &known.named, m.shares),
         Request::Command(c) => *moves = Move::Commands(a.user, *c),
@@ -123,6 +133,7 @@ impl Gate {
         &self,
         moves: &mut Move,
         a: &Asked,
+        near: Near,
         left: &RecordData,
         known: &Facts,
     )
@@ -132,7 +143,7 @@ impl Gate {
         ensures does { moves.new ≡ done_by self.now left.now }
     {
         match left.verdict {
-            Verdict::Granted => put_granted(moves, &self.policy, left, a, known),
+            Verdict::Granted => put_granted(moves, &self.policy, left, a, near.account, known),
             Verdict::Denied(rule) => *moves = Move::Denies(*a, rule),
             Verdict::Filled(f) => *moves = Move::Fills(f),
             Verdict::Rested(number) => *moves = Move::Rests(number),

@@ -9,6 +9,10 @@ use gx_keepers::keepers::Keepers;
 use gx_units::{OutOfMemory, UserName};
 
 /// The user's reports from this number on, 0 counting as 1, and at most so many.
+///
+/// # Errors
+///
+/// `OutOfMemory` where memory was refused.
 pub fn pull(keepers: &Keepers, user: UserName, from: u64, most: u64) -> Result<Pulled, OutOfMemory>
     ensures reports { IfOk result (λ p.
         p.reports ≡ slice (told_kept keepers.now user) from most) }

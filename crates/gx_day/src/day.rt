@@ -7,6 +7,7 @@ ghost use Rattle.gx_day.specs.{DayData.{at_moment, kill_in, killed_in, line_in, 
 
 use gx_desk::Action;
 use gx_history::moves::Move;
+use gx_index::get_near;
 use gx_policy::{Lifters, Policy};
 use gx_units::{AccountName, Moment, OutOfMemory, UserName};
 use indexmap::IndexMap;
@@ -121,24 +122,26 @@ impl Day {
         })
     }
 
-    /// The line that the user is logged in on. None where he is on none, or is not known. Takes no memory.
-    pub fn line_of(&self, user: UserName) -> Option<u16>
+    /// The line that the user is logged in on, who is looked for at this place of the policy's users first. None where
+    /// he is on none, or is not known. Takes no memory.
+    pub fn line_of(&self, user: UserName, near: usize) -> Option<u16>
         ensures { result ≡ line_in self.now user }
     {
-        *self.lines.get(&user)?
+        *get_near(&self.lines, near, user)?
     }
 
-    fn kill_of(&self, account: AccountName) -> Option<Kill>
+    fn kill_of(&self, account: AccountName, near: usize) -> Option<Kill>
         ensures { option_map lifted_by result ≡ kill_in self.now account }
     {
-        *self.kills.get(&account)?
+        *get_near(&self.kills, near, account)?
     }
 
-    /// Whether the account is killed; false where it is not known. Takes no memory.
-    pub fn is_killed(&self, account: AccountName) -> bool
+    /// Whether the account is killed, which is looked for at this place of the policy's accounts first; false where it
+    /// is not known. Takes no memory.
+    pub fn is_killed(&self, account: AccountName, near: usize) -> bool
         ensures { result ≡ killed_in self.now account }
     {
-        self.kill_of(account).is_some()
+        self.kill_of(account, near).is_some()
     }
 
     /// Whether a Kill of the account would change anything: it is not killed, or somebody has lifted it since. Takes
@@ -146,7 +149,7 @@ impl Day {
     pub fn kill_changes(&self, account: AccountName) -> bool
         ensures { result ≡ not (is_untouched (kill_in self.now account)) }
     {
-        match self.kill_of(account) {
+        match self.kill_of(account, 0) {
             Some(Kill::Whole) => false,
             Some(Kill::LiftedBy(_)) => true,
             None => true,
@@ -159,7 +162,7 @@ impl Day {
         ensures { result ≡ option_map_or (λ officers. not (has_lifted officer officers))
             (kill_in self.now account) false }
     {
-        match self.kill_of(account) {
+        match self.kill_of(account, 0) {
             Some(Kill::Whole) => true,
             Some(Kill::LiftedBy(other)) => other != officer,
             None => false,

@@ -12,12 +12,14 @@ pub use laws::{commands_have_no_gaps, commands_keep_their_type};
 /// Tag: any 14 bytes that an officer gives a command, echoed in its answer.
 #[derive(Clone, Copy, PartialEq, Eq)]
 pub struct Tag {
+    /// As the officer sent them.
     pub bytes: [u8; 14],
 }
 
 /// The name of a user as an officer writes it, in either case of letters.
 #[derive(Clone, Copy, PartialEq, Eq)]
 pub struct WrittenName {
+    /// The bytes, with spaces behind a shorter name.
     pub bytes: [u8; 6],
 }
 
@@ -45,7 +47,9 @@ pub enum Action {
 /// A command of an officer.
 #[derive(Clone, Copy, PartialEq, Eq)]
 pub struct Command {
+    /// What the answer has to echo.
     pub tag: Tag,
+    /// What is to be done.
     pub action: Action,
 }
 
@@ -73,6 +77,7 @@ pub struct Answer {
     pub tag: Tag,
     /// The type byte of the command.
     pub command_type: u8,
+    /// What became of it.
     pub code: AnswerCode,
     /// The number of the record that the command made.
     pub record_number: u64,

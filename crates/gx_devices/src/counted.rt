@@ -68,14 +68,8 @@ impl<D> Counted<D> {
         }
     }
 
-    /// How many reads with room, or writes of bytes, there were.
-    pub fn calls(&self) -> u64
-        ensures { result ≡ self.now.calls }
-    {
-        self.calls
-    }
-
     /// How many calls failed.
+    /// For the cases: they tell how many reads and writes failed.
     pub fn failed(&self) -> u64
         ensures { result ≡ self.now.failed }
     {

@@ -32,15 +32,19 @@ impl MatchEnd {
 /// How many matching steps were made, and why no more.
 #[derive(Clone, Copy)]
 pub struct Matched {
+    /// How many steps were made.
     pub made: u64,
+    /// Why no more were made.
     pub end: MatchEnd,
 }
 
 /// What becomes of a request, and of matching steps behind it.
 #[derive(Clone, Copy)]
 pub struct Turned {
+    /// What the request's record says.
     pub outcome: Outcome,
     /// What the request's own record ended.
     pub ended: Ended,
+    /// The matching steps behind it.
     pub matched: Matched,
 }

@@ -8,7 +8,9 @@ use gx_units::OutOfMemory;
 /// Two that look on together: what each keeps is kept.
 #[derive(Drop)]
 pub struct Both<A, B> {
+    /// The one, which is told of each record first.
     pub first: A,
+    /// The other, which is told behind it.
     pub second: B,
 }
 

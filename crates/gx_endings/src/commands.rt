@@ -20,6 +20,7 @@ pub struct CommandRow {
     pub moment: Moment,
     /// Who asked for it: an officer, unless it was denied since he is none.
     pub officer: UserName,
+    /// What was to be done.
     pub action: Action,
     /// The rule that denied it; None where it was granted.
     pub denied_by: Option<RuleName>,
@@ -34,6 +35,7 @@ pub struct CommandRow {
 /// here.
 #[derive(Drop)]
 pub struct Commands {
+    /// A row for each command.
     pub list: Vec<CommandRow>,
 }
 

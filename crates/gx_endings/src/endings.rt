@@ -27,6 +27,7 @@ pub struct Ending {
 /// of them here.
 #[derive(Drop)]
 pub struct Endings {
+    /// One for each granted Kill and Close Day.
     pub list: Vec<Ending>,
 }
 

@@ -24,6 +24,7 @@ pub struct OrderEnd {
 /// each record has all of them here.
 #[derive(Drop)]
 pub struct OrderEnds {
+    /// One for each order that was ended.
     pub list: Vec<OrderEnd>,
 }
 

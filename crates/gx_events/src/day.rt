@@ -11,6 +11,8 @@ use gx_units::OutOfMemory;
 use std::alloc::Global;
 
 /// The log of these records, from the first of their day on.
+/// Part of the interface: it is a whole day in one call, and the program tells its records as they
+/// come.
 ///
 /// # Errors
 ///

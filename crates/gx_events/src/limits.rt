@@ -16,7 +16,9 @@ use std::marker::Model;
 /// A rule of the file, and its limit, if it has one that Set Limit may change.
 #[derive(Clone, Copy, PartialEq, Eq)]
 pub struct RuleLimit {
+    /// The name of the rule.
     pub rule: RuleId,
+    /// The limit in force; None where the rule has none that Set Limit may change.
     pub limit: Option<u64>,
 }
 

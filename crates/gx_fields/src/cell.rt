@@ -63,6 +63,7 @@ pub const NAMES: [&str; CELLS] = [
 /// Live orders that a Kill or a Close Day ended.
 #[derive(Clone, Copy, PartialEq, Eq)]
 pub struct EndedOrders {
+    /// How many orders ended.
     pub orders: u64,
     /// The shares that they had open.
     pub shares: u64,
@@ -84,28 +85,45 @@ pub struct Beside {
 /// A cell: nothing stands in it where its value is None.
 #[derive(Clone, Copy)]
 pub enum Cell {
+    /// A number of at most 64 bits.
     Number(Option<u64>),
+    /// A number of at most 32 bits.
     Number32(Option<u32>),
+    /// A number of at most 16 bits.
     Number16(Option<u16>),
+    /// A number of at most 8 bits.
     Number8(Option<u8>),
     /// A moment as a clock shows it.
     Clock(Moment),
     /// A field of one byte.
     Letter(Option<u8>),
+    /// The name of a user.
     User(Option<UserName>),
+    /// The name of an account.
     Account(Option<AccountName>),
+    /// The name of a stock.
     Stock(Option<Symbol>),
+    /// The name of a rule of the policy file.
     RuleId(Option<RuleId>),
+    /// The token of an order.
     Token(Option<Token>),
+    /// The firm that an order is entered for.
     Firm(Option<Firm>),
+    /// The tag of a command.
     Tag(Option<Tag>),
+    /// The name of a user as an officer wrote it.
     Reader(Option<WrittenName>),
+    /// What the record is of.
     Kind(RowKind),
+    /// What became of it.
     Verdict(RowVerdict),
     /// The answer on a password or a session name.
     Right(Option<bool>),
+    /// The rule that denied a request.
     Rule(Option<RuleName>),
+    /// Why a request was denied, in words.
     Reason(Option<Reason>),
+    /// The reason in the Rejected that answers a denial.
     Reject(Option<RejectReason>),
 }
 

@@ -37,6 +37,10 @@ fn line_of(alloc: Global, row: &ByteRecord) -> Result<Vec<u8>, OutOfMemory>
 }
 
 /// The cells as a line of CSV, with the end of the line.
+///
+/// # Errors
+///
+/// `OutOfMemory` where memory was refused.
 pub fn csv_line(alloc: Global, cells: &[Cell]) -> Result<Vec<u8>, OutOfMemory>
     ensures { IfOk result (λ line.
         line.items ≡ row_text default_writer (map cell_text cells.now)) }
@@ -46,6 +50,10 @@ pub fn csv_line(alloc: Global, cells: &[Cell]) -> Result<Vec<u8>, OutOfMemory>
 }
 
 /// The names of the cells as a line of CSV.
+///
+/// # Errors
+///
+/// `OutOfMemory` where memory was refused.
 pub fn csv_names(alloc: Global) -> Result<Vec<u8>, OutOfMemory> {
     let mut row = ByteRecord::new(alloc);
     for name in &NAMES {

@@ -63,6 +63,10 @@ fn put_cells(
 
 /// The cells as a line of JSON, with the end of the line: an object with a member for each cell that has a value, under its
 /// name.
+///
+/// # Errors
+///
+/// `OutOfMemory` where memory was refused.
 pub fn json_line(alloc: Global, cells: &[Cell]) -> Result<Vec<u8>, OutOfMemory> {
     let mut members = Map::new(alloc);
     put_cells(alloc, &mut members, cells)?;

@@ -7,42 +7,65 @@ use gx_units::{AccountName, Firm, RuleId, Symbol, Token, UserName};
 /// What a record is of.
 #[derive(Clone, Copy, PartialEq, Eq)]
 pub enum RowKind {
+    /// A Login Request.
     Login,
+    /// A Logout Request, or the end of a connection.
     Logout,
+    /// A payload that is no message.
     Unreadable,
+    /// An Enter Order.
     Enter,
+    /// A Replace Order.
     Replace,
+    /// A Cancel Order.
     Cancel,
+    /// An officer's Kill.
     Kill,
+    /// An officer's Lift.
     Lift,
+    /// An officer's Set Limit.
     SetLimit,
+    /// An officer's Restrict.
     Restrict,
+    /// An officer's Unrestrict.
     Unrestrict,
+    /// An officer's Grant.
     Grant,
+    /// An officer's Revoke.
     Revoke,
+    /// An officer's Close Day.
     CloseDay,
+    /// A matching step.
     Match,
 }
 
 /// What became of it.
 #[derive(Clone, Copy, PartialEq, Eq)]
 pub enum RowVerdict {
+    /// The request was granted.
     Granted,
+    /// The request was denied.
     Denied,
+    /// Two orders met, and both were executed.
     Filled,
+    /// The order met nothing, and rests in the book.
     Rested,
+    /// The immediate-or-cancel order met nothing, and has ended.
     Expired,
 }
 
 /// The fields of a record, one beside the other: None where a field is not one of such a record.
 #[derive(Clone, Copy)]
 pub struct Row {
+    /// The number of the record; the first of the day is 1.
     pub number: u64,
     /// In nanoseconds past midnight.
     pub moment: u64,
+    /// What the record is of.
     pub kind: RowKind,
     /// The moment that was handed in, in nanoseconds past midnight.
     pub handed: u64,
+    /// What became of it.
     pub verdict: RowVerdict,
     /// The number of the connection, of a request.
     pub line: Option<u16>,

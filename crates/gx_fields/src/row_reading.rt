@@ -170,6 +170,7 @@ fn verdict_in(row: &Row) -> Option<Verdict>
 }
 
 /// The record of a row; `None` where a field is missing that such a record has.
+/// Part of the interface: it shows that a row holds all that its record does.
 #[tactic(auto, unfolding(crate::specs::Rows::record_of))]
 pub fn record_of(row: &Row) -> Option<RecordData>
     ensures { result ≡ record_of row.now }

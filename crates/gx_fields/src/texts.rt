@@ -87,6 +87,10 @@ fn append_some_number_8(text: &mut Vec<u8>, number: Option<u8>) -> Result<(), Ou
 }
 
 /// Puts the text of a cell at the end of the text: nothing where the cell has no value.
+///
+/// # Errors
+///
+/// `OutOfMemory` where memory was refused; then a part of it may stand at the end of the text.
 pub fn append_cell(text: &mut Vec<u8>, cell: &Cell) -> Result<(), OutOfMemory>
     ensures { OnOk result (text.new.items ≡ text.old.items ++ cell_text cell.now) }
 {
@@ -117,6 +121,10 @@ pub fn append_cell(text: &mut Vec<u8>, cell: &Cell) -> Result<(), OutOfMemory>
 }
 
 /// The text of a cell.
+///
+/// # Errors
+///
+/// `OutOfMemory` where memory was refused.
 pub fn cell_text(alloc: Global, cell: &Cell) -> Result<Vec<u8>, OutOfMemory>
     ensures { IfOk result (λ text. text.items ≡ cell_text cell.now) }
 {

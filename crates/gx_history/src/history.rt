@@ -80,13 +80,6 @@ impl History {
         }
     }
 
-    /// How many records can be put last without memory.
-    pub fn spare(&self) -> usize
-        ensures { result ≡ self.now.spare }
-    {
-        self.spare
-    }
-
     /// How many records there are.
     pub fn len(&self) -> usize
         ensures { result ≡ length self.now.records }

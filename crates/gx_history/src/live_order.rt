@@ -11,7 +11,9 @@ use gx_units::{AccountName, Token, UserName};
 /// A user, and one of his tokens.
 #[derive(Clone, Copy, PartialEq, Eq, Hash)]
 pub struct UserToken {
+    /// The name in upper case.
     pub user: UserName,
+    /// The token, compared as bytes.
     pub token: Token,
 }
 
@@ -20,8 +22,11 @@ pub struct UserToken {
 pub struct LiveOrder {
     /// The number of the record that granted it.
     pub number: u64,
+    /// Who entered it, in upper case.
     pub user: UserName,
+    /// The account that he trades for.
     pub account: AccountName,
+    /// The token that it was asked for under.
     pub token: Token,
     /// As asked for; side, stock, capacity and cross type are those of its chain.
     pub terms: OrderTerms,

@@ -9,3 +9,4 @@ pub mod Sending
 pub mod Rooms
 pub mod Sure
 mod Trading
+pub mod Named

@@ -27,7 +27,7 @@ his_role account (Role.Officer powers scope) e = cc
 his_role account (Role.Reader names) e = cc
 
 -- a trader is told report by report
-trader_told : (account : AccountName) (found : Option User) → option_and_then account_of_role (option_map (λ (u : User). u.role) found) ≡ Some account
+pub trader_told : (account : AccountName) (found : Option User) → option_and_then account_of_role (option_map (λ (u : User). u.role) found) ≡ Some account
     → (is_some found && not (is_reader (option_map (λ (u : User). u.role) found))) ≡ true
 trader_told account None e = let none : false ≡ true = ap is_some e in none
 trader_told account (Some u) e = ap (λ (role : Role). not (is_reader (Some role))) (his_role account u.role e)

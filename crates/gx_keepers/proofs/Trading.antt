@@ -2,12 +2,13 @@
 use Rattle.std.proofs.{Common.{◌≡◌, ℕ, ◌+◌, ◌≤◌, arith, true, false, Bool, List, length, refl, ◌∙◌, ap, sym, cond, if◌then◌else◌}, Math.Path.subst}
 use Rattle.std.specs.{Prelude.{Option, Some, None, option_and_then}, Option.option_map_or}
 use Rattle.gx_units.specs.declared.names.{AccountName.AccountName, UserName.UserName}
-use Rattle.gx_policy.specs.{declared.policy.{PolicyData.PolicyData, Role.Role, User.User}, People.{account_of, account_of_role, is_officer, role_in}}
+use Rattle.gx_policy.specs.{declared.policy.{PolicyData.PolicyData, Role.Role, User.User}, People.{account_of, account_of_role, is_officer, role_in, user_in}}
 use Rattle.gx_history.specs.{declared.{live_order.LiveOrder.LiveOrder, moves.Move.Move, «record».{Asked.Asked, RecordData.RecordData, Request.Request, Step.Step, Verdict.Verdict}}, Live.live_under, Turns.new_order, World.{Does, World, move_asked, move_by, world}}
 use Rattle.gx_effects.proofs.Doing.{may_do}
 use Rattle.gx_people.proofs.Keeping.{officers_stay}
-use Rattle.gx_streams.specs.Streams.{AllStreams}
+use Rattle.gx_streams.specs.Streams.{AllStreams, is_told}
 use Rattle.gx_keepers.specs.{declared.keepers.Keepers.Keepers, Keepers.{AreInForce, HasEnough, HasPlaces, Takes, count_of, kills_of}}
+use Rattle.gx_keepers.proofs.{Keepings.known_told, Matches.trader_told}
 
 no_officer : (role : Option Role) (account : AccountName) → option_and_then account_of_role role ≡ Some account → is_officer role ≡ false
 no_officer None account h = refl
@@ -49,10 +50,17 @@ module _ (policy : PolicyData) (history : List RecordData) (a : Asked) (r : Reco
   his_order : a.user ≡ new.user
   his_order = by_verdict policy (world policy history) r a new r.verdict (ap (λ (s : Step). move_by policy (world policy history) r r.verdict s) (sym asks) ∙ t.does.moves ∙ adds)
 
-  trades : is_officer (role_in policy.users a.user) ≡ false
-  trades =
+  his_account : account_of policy a.user ≡ Some new.account
+  his_account =
       let does = subst (Does policy history r) adds t.does in
-      no_officer (role_in policy.users a.user) new.account (ap (account_of policy) his_order ∙ (may_do policy history r (Move.Adds new) does).is_his)
+      ap (account_of policy) his_order ∙ (may_do policy history r (Move.Adds new) does).is_his
+
+  trades : is_officer (role_in policy.users a.user) ≡ false
+  trades = no_officer (role_in policy.users a.user) new.account his_account
+
+  -- he is told report by report
+  pub trader_is_told : is_told k.streams a.user ≡ true
+  trader_is_told = known_told policy history k t.in_force a.user ∙ trader_told new.account (user_in policy.users a.user) his_account
 
   kills_none : kills_of k.people policy a.user ≡ 0
   kills_none = ap (λ (b : Bool). if b then length policy.accounts else 0)

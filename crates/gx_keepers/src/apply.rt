@@ -38,7 +38,13 @@ fn apply_denial(
 {
     keepers.orders.deny(a, rule)?;
     let message = reports_of_denial(next.policy, next.left, rule, &a.request);
-    tell(&mut keepers.streams, a.user, next.left.moment, message);
+    tell(
+        &mut keepers.streams,
+        a.user,
+        next.near.user,
+        next.left.moment,
+        message,
+    );
     keepers.day.apply(next.moves, next.left.moment);
     Ok(())
 }
@@ -56,12 +62,15 @@ fn apply_enter(
     ensures err { OnErr result (AreBefore next.entry keepers.new) }
     ensures room { KeepRoom keepers.old.streams keepers.new.streams }
 {
-    keepers.orders.enter(*new)?;
-    keepers.ledger.accept(new, next.left.moment, false);
+    keepers.orders.enter(*new, next.near)?;
+    keepers
+        .ledger
+        .accept(new, next.near, next.left.moment, false);
     let message = accepted(new);
     tell(
         &mut keepers.streams,
         new.user,
+        next.near.user,
         next.left.moment,
         Some(message),
     );
@@ -89,12 +98,18 @@ fn apply_cancel(keepers: &mut Keepers, next: NextRecord<'_>, cut: &LiveOrder, si
 {
     let fewer = cut_from(cut, size);
     keepers.orders.cut(cut.number, size);
-    leave(&mut keepers.book, cut, size.saturating_sub(cut.done));
-    keepers.ledger.cut(cut, fewer);
+    leave(
+        &mut keepers.book,
+        cut,
+        next.near.stock,
+        size.saturating_sub(cut.done),
+    );
+    keepers.ledger.cut(cut, next.near, fewer);
     let message = canceled(cut, fewer, CancelReason::UserRequested);
     tell(
         &mut keepers.streams,
         cut.user,
+        next.near.user,
         next.left.moment,
         Some(message),
     );
@@ -116,15 +131,18 @@ fn apply_replace(
     ensures err { OnErr result (AreBefore next.entry keepers.new) }
     ensures room { KeepRoom keepers.old.streams keepers.new.streams }
 {
-    keepers.orders.enter(*new)?;
+    keepers.orders.enter(*new, next.near)?;
     keepers.orders.end(old.number);
-    take_out(&mut keepers.book, old);
-    keepers.ledger.close(old);
-    keepers.ledger.accept(new, next.left.moment, true);
+    take_out(&mut keepers.book, old, next.near.stock);
+    keepers.ledger.close(old, next.near);
+    keepers
+        .ledger
+        .accept(new, next.near, next.left.moment, true);
     let message = replaced(old, new);
     tell(
         &mut keepers.streams,
         old.user,
+        next.near.user,
         next.left.moment,
         Some(message),
     );

@@ -37,6 +37,7 @@ fn tell_of_day_end(streams: &mut Streams, policy: &Policy, moment: Moment)
         if trades(user) {
             streams.append_reserved(
                 user.name,
+                0,
                 Report {
                     timestamp: moment,
                     message: day_end(),
@@ -76,7 +77,7 @@ fn tell_of_command(
     tell_of_ends(streams, orders, &c.action, moment);
     tell_of_close(streams, next.policy, &c.action, moment);
     let answered = answer(next.left, c, code);
-    tell(streams, officer, moment, Some(answered));
+    tell(streams, officer, next.near.user, moment, Some(answered));
 }
 
 /// The code of the answer to a granted action, by the day that it leaves.
@@ -84,7 +85,7 @@ fn granted_code(day: &Day, action: &Action) -> AnswerCode
     ensures { result ≡ code_by day.now action.now }
 {
     match *action {
-        Action::Lift(account) => lift_code(day.is_killed(account)),
+        Action::Lift(account) => lift_code(day.is_killed(account, 0)),
         _ => AnswerCode::Done,
     }
 }

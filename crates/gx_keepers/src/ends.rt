@@ -11,6 +11,7 @@ use crate::reports::ended;
 use gx_book::book::Book;
 use gx_desk::Action;
 use gx_history::report::Report;
+use gx_index::Near;
 use gx_ledger::ledger::Ledger;
 use gx_market::standing::take_out;
 use gx_orders::orders::Orders;
@@ -39,6 +40,7 @@ fn tell_each(streams: &mut Streams, ending: LiveOrders<'_>, moment: Moment)
     for order in ending {
         streams.append_reserved(
             order.user,
+            0,
             Report {
                 timestamp: moment,
                 message: ended(order),
@@ -62,7 +64,7 @@ fn close_each(ledger: &mut Ledger, ending: LiveOrders<'_>)
     ensures { ClosesAll ending.entry ledger.old ledger.new }
 {
     for order in ending {
-        ledger.close(order);
+        ledger.close(order, Near::FIRST);
     }
 }
 
@@ -71,7 +73,7 @@ fn take_each_out(book: &mut Book, ending: LiveOrders<'_>)
     ensures { book.new ≡ each_taken_out ending.entry book.old }
 {
     for order in ending {
-        take_out(book, order);
+        take_out(book, order, 0);
     }
 }
 

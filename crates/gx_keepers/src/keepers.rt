@@ -13,7 +13,6 @@ use gx_book::book::Book;
 use gx_day::day::Day;
 use gx_ledger::ledger::Ledger;
 use gx_orders::orders::Orders;
-use gx_orders::seed::Seed;
 use gx_people::people::People;
 use gx_policy::Policy;
 use gx_rules::RuleBook;
@@ -25,12 +24,19 @@ use std::alloc::Global;
 /// ask for and what each user was told, as they are after the gate's records: so that no step walks
 /// these. They end by [`Keepers::let_go`], and are never dropped.
 pub struct Keepers {
+    /// The users, and what each may do and see.
     pub people: People,
+    /// The rules of the policy file, with the limits and the lists in force.
     pub rules: RuleBook,
+    /// The lines that users are on, the kills, and whether the day is closed.
     pub day: Day,
+    /// The live orders, by number and by token.
     pub orders: Orders,
+    /// The orders that rest.
     pub book: Book,
+    /// The figures that rules of the file ask for.
     pub ledger: Ledger,
+    /// What each user was told.
     pub streams: Streams,
 }
 
@@ -68,34 +74,32 @@ struct Settings {
 
 /// What the day begins with that orders change.
 struct Trading {
+    orders: Orders,
     book: Book,
     ledger: Ledger,
 }
 
 /// Each reader gets the fills of his accounts, and the places are kept that a day begins with.
 fn make_ready(
-    alloc: Global,
     streams: &mut Streams,
+    orders: &Orders,
     policy: &Policy,
     people: &People,
 ) -> Result<(), OutOfMemory>
     requires of_people { people.now ≡ policy.now.users }
     requires of_streams { streams.old ≡ empty_streams policy.now }
+    requires of_orders { orders.now.live ≡ [] }
     ensures shown { shown streams.new ≡ shown streams.old }
     ensures sent { OnOk result (AreSentTo policy.now people.now streams.new.readers) }
     ensures enough { OnOk result
         (HaveEnough [] people.now policy.now streams.new policy.now.users) }
 {
     send_to_readers(streams, policy, people)?;
-    keep_enough_for_all(
-        streams,
-        &Orders::new(alloc, Seed::of(policy)),
-        people,
-        policy,
-    )
+    keep_enough_for_all(streams, orders, people, policy)
 }
 
-fn first_telling(alloc: Global, policy: &Policy) -> Result<Telling, OutOfMemory>
+fn first_telling(alloc: Global, orders: &Orders, policy: &Policy) -> Result<Telling, OutOfMemory>
+    requires of_orders { orders.now.live ≡ [] }
     ensures people { IfOk result (λ t. t.people ≡ policy.now.users) }
     ensures shown { IfOk result (λ t. shown t.streams ≡ shown (empty_streams policy.now)) }
     ensures sent { IfOk result (λ t. AreSentTo policy.now t.people t.streams.readers) }
@@ -107,7 +111,7 @@ fn first_telling(alloc: Global, policy: &Policy) -> Result<Telling, OutOfMemory>
         people.let_go();
         return Err(OutOfMemory);
     };
-    match make_ready(alloc, &mut streams, policy, &people) {
+    match make_ready(&mut streams, orders, policy, &people) {
         Ok(()) => Ok(Telling { people, streams }),
         Err(refused) => {
             people.let_go();
@@ -132,13 +136,24 @@ fn first_settings(alloc: Global, policy: &Policy) -> Result<Settings, OutOfMemor
 }
 
 fn first_trading(alloc: Global, policy: &Policy) -> Result<Trading, OutOfMemory>
+    ensures live { IfOk result (λ t. t.orders.live ≡ []) }
+    ensures used { IfOk result (λ t. t.orders.used ≡ []) }
     ensures book { IfOk result (λ t. t.book ≡ empty_book policy.now) }
     ensures ledger { IfOk result (λ t. StandsFor policy.now t.ledger nothing) }
 {
-    let book = Book::new(alloc, policy)?;
+    let orders = Orders::new(alloc, policy)?;
+    let Ok(book) = Book::new(alloc, policy) else {
+        orders.let_go();
+        return Err(OutOfMemory);
+    };
     match Ledger::new(alloc, policy) {
-        Ok(ledger) => Ok(Trading { book, ledger }),
+        Ok(ledger) => Ok(Trading {
+            orders,
+            book,
+            ledger,
+        }),
         Err(refused) => {
+            orders.let_go();
             book.let_go();
             Err(refused)
         }
@@ -147,28 +162,36 @@ fn first_trading(alloc: Global, policy: &Policy) -> Result<Trading, OutOfMemory>
 
 impl Keepers {
     /// As they are at the beginning of a day under the policy, with the places that are kept then.
+    ///
+    /// # Errors
+    ///
+    /// `OutOfMemory` where memory was refused.
     pub fn new(alloc: Global, policy: &Policy) -> Result<Keepers, OutOfMemory>
         ensures in_force { IfOk result (λ keepers. AreInForce policy.now [] keepers) }
         ensures kept { IfOk result (λ keepers. KeepPlaces policy.now [] keepers.streams) }
     {
-        let telling = first_telling(alloc, policy)?;
+        let trading = first_trading(alloc, policy)?;
+        let Ok(telling) = first_telling(alloc, &trading.orders, policy) else {
+            trading.let_go();
+            return Err(OutOfMemory);
+        };
         let Ok(settings) = first_settings(alloc, policy) else {
+            trading.let_go();
             telling.let_go();
             return Err(OutOfMemory);
         };
-        let Ok(trading) = first_trading(alloc, policy) else {
-            telling.let_go();
-            settings.let_go();
-            return Err(OutOfMemory);
-        };
+        let Trading {
+            orders,
+            book,
+            ledger,
+        } = trading;
         let Telling { people, streams } = telling;
         let Settings { rules, day } = settings;
-        let Trading { book, ledger } = trading;
         Ok(Keepers {
             people,
             rules,
             day,
-            orders: Orders::new(alloc, Seed::of(policy)),
+            orders,
             book,
             ledger,
             streams,
@@ -201,6 +224,19 @@ impl Telling {
         let Telling { people, streams } = self;
         people.let_go();
         streams.let_go();
+    }
+}
+
+impl Trading {
+    fn let_go(self) {
+        let Trading {
+            orders,
+            book,
+            ledger,
+        } = self;
+        orders.let_go();
+        book.let_go();
+        ledger.let_go();
     }
 }
 

@@ -16,6 +16,7 @@ use crate::reports::{canceled, tell};
 use gx_history::live_order::LiveOrder;
 use gx_history::moves::Move;
 use gx_history::record::Fill;
+use gx_index::Near;
 use gx_market::standing::{leave, put_to_rest};
 use gx_orders::orders::Orders;
 use gx_ouch::CancelReason;
@@ -23,15 +24,16 @@ use gx_policy::Policy;
 use gx_streams::fill::{FillSide, ToldFill};
 use gx_units::OutOfMemory;
 
-/// One side of a fill, as its user and the readers of its account are told of it.
-fn side_of(policy: &Policy, order: &LiveOrder) -> FillSide
+/// One side of a fill, as its user and the readers of its account are told of it. The account is looked for at this place
+/// first.
+fn side_of(policy: &Policy, order: &LiveOrder, near: usize) -> FillSide
     ensures { result ≡ told_side policy.now order.now }
 {
     FillSide {
         user: order.user,
         token: order.token,
         account: order.account,
-        account_place: place_of(policy.accounts(), order.account),
+        account_place: place_of(policy, order.account, near),
         side: order.terms.side,
     }
 }
@@ -62,19 +64,33 @@ fn apply_fill(keepers: &mut Keepers, next: NextRecord<'_>, f: Fill) -> Result<()
     let _ = next.policy.rules();
     let taker = order_numbered(&keepers.orders, f.taker);
     let maker = order_numbered(&keepers.orders, f.maker);
-    keepers.streams.append_fill(ToldFill {
-        match_number: next.left.number,
-        moment: next.left.moment,
-        shares: f.shares,
-        price: f.price,
-        taker: side_of(next.policy, &taker),
-        maker: side_of(next.policy, &maker),
-    })?;
+    let near_taker = Near {
+        stock: next.near.stock,
+        ..keepers.people.near(taker.user)
+    };
+    let near_maker = Near {
+        stock: next.near.stock,
+        ..keepers.people.near(maker.user)
+    };
+    keepers.streams.append_fill(
+        ToldFill {
+            match_number: next.left.number,
+            moment: next.left.moment,
+            shares: f.shares,
+            price: f.price,
+            taker: side_of(next.policy, &taker, near_taker.account),
+            maker: side_of(next.policy, &maker, near_maker.account),
+        },
+        near_taker.user,
+        near_maker.user,
+    )?;
     keepers.orders.fill(f.taker, f.shares);
     keepers.orders.fill(f.maker, f.shares);
     let left = maker.open().saturating_sub(f.shares);
-    leave(&mut keepers.book, &maker, left);
-    keepers.ledger.fill(&taker, &maker, f.shares, f.price);
+    leave(&mut keepers.book, &maker, near_maker.stock, left);
+    keepers
+        .ledger
+        .fill(&taker, near_taker, &maker, near_maker, f.shares, f.price);
     keepers.day.apply(next.moves, next.left.moment);
     Ok(())
 }
@@ -90,7 +106,7 @@ fn apply_rest(keepers: &mut Keepers, next: NextRecord<'_>, number: u64) -> Resul
     ensures kept_before { OnErr result (KeepPlacesBefore next.entry keepers.new) }
 {
     let order = order_numbered(&keepers.orders, number);
-    put_to_rest(&mut keepers.book, &order)?;
+    put_to_rest(&mut keepers.book, &order, next.near.stock)?;
     keepers.orders.rest(number);
     keepers.day.apply(next.moves, next.left.moment);
     Ok(())
@@ -108,11 +124,12 @@ fn end_order(keepers: &mut Keepers, next: NextRecord<'_>, order: &LiveOrder)
     ensures kept_after { KeepPlacesAfter next.entry keepers.new }
 {
     keepers.orders.end(order.number);
-    keepers.ledger.close(order);
+    keepers.ledger.close(order, next.near);
     let message = canceled(order, order.open(), CancelReason::ImmediateOrCancel);
     tell(
         &mut keepers.streams,
         order.user,
+        next.near.user,
         next.left.moment,
         Some(message),
     );

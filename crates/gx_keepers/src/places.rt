@@ -3,11 +3,11 @@
 //! For each user places are kept beforehand: one for the end of each of his live orders, and one for
 //! the answer to each Kill that he may ask for. So a granted Kill, and a granted Logout, make none.
 
-ghost use Rattle.std.specs.Prelude.{◌≡◌, ◌+◌, ◌<◌, ◌≤◌, ◌^◌, length, IsOk, OnOk, Some};
+ghost use Rattle.std.specs.Prelude.{◌≡◌, ◌+◌, ◌<◌, ◌≤◌, ◌^◌, length, IsOk, IsTrue, OnOk, Some};
 ghost use Rattle.gx_history.specs.declared.moves.Move.TheVariants as moves;
 ghost use Rattle.gx_history.specs.Verdicts.{day_limit};
 ghost use Rattle.gx_orders.specs.LiveOrders.{live_numbered};
-ghost use Rattle.gx_streams.specs.Telling.{shown};
+ghost use Rattle.gx_streams.specs.{Streams.is_told, Telling.shown};
 ghost use Rattle.gx_keepers.specs.Keepers.{count_of, enough_of, kills_of, AreBefore, HasEnough, HasPlaces, HaveEnough, HaveNoFewer, IsNext, IsOf, IsPlaced, IsPlacedWhole, IsSure, KeepPlacesBefore, KnowTheSame};
 
 use crate::keepers::Keepers;
@@ -22,8 +22,14 @@ use gx_policy::Policy;
 use gx_streams::streams::Streams;
 use gx_units::{OutOfMemory, UserName};
 
-/// Keeps at least so many places for the user, if he is known and no reader.
-fn keep(streams: &mut Streams, user: UserName, places: usize) -> Result<(), OutOfMemory>
+/// Keeps at least so many places for the user, if he is known and no reader. Here and below, he is
+/// looked for at this place of the policy's users first.
+fn keep(
+    streams: &mut Streams,
+    user: UserName,
+    near: usize,
+    places: usize,
+) -> Result<(), OutOfMemory>
     ensures shown { shown streams.new ≡ shown streams.old }
     ensures known { KnowTheSame streams.old streams.new }
     ensures readers { streams.new.readers ≡ streams.old.readers }
@@ -33,16 +39,16 @@ fn keep(streams: &mut Streams, user: UserName, places: usize) -> Result<(), OutO
     if !streams.is_told(user) {
         return Ok(());
     }
-    streams.reserve(user, places)?;
+    streams.reserve(user, near, places)?;
     Ok(())
 }
 
 /// The most accounts that there can be for the user to kill: none, unless he is an officer.
-fn most_kills(people: &People, policy: &Policy, user: UserName) -> usize
+fn most_kills(people: &People, policy: &Policy, user: UserName, near: usize) -> usize
     ensures most { result ≡ kills_of people.now policy.now user }
     ensures few { result < 2 ^ 63 }
 {
-    if people.is_officer(user) {
+    if people.is_officer(user, near) {
         policy.accounts().len()
     } else {
         0
@@ -51,11 +57,17 @@ fn most_kills(people: &People, policy: &Policy, user: UserName) -> usize
 
 /// How many places are enough for the user, whatever one record tells him and leaves to be kept for
 /// him: two more than one for each of his live orders and, if he is an officer, for each account.
-fn enough_places(orders: &Orders, people: &People, policy: &Policy, user: UserName) -> usize
+fn enough_places(
+    orders: &Orders,
+    people: &People,
+    policy: &Policy,
+    user: UserName,
+    near: usize,
+) -> usize
     requires few { length orders.now.live ≤ day_limit }
     ensures { result ≡ enough_of orders.now.live people.now policy.now user }
 {
-    orders.count_of(user) + most_kills(people, policy, user) + 2
+    orders.count_of(user, near) + most_kills(people, policy, user, near) + 2
 }
 
 /// Keeps as many places for the user, if he is known and no reader.
@@ -65,6 +77,7 @@ fn keep_enough(
     people: &People,
     policy: &Policy,
     user: UserName,
+    near: usize,
 ) -> Result<(), OutOfMemory>
     requires few { length orders.now.live ≤ day_limit }
     ensures shown { shown streams.new ≡ shown streams.old }
@@ -74,7 +87,12 @@ fn keep_enough(
     ensures places { OnOk result
         (HasEnough orders.now.live people.now policy.now streams.new user) }
 {
-    keep(streams, user, enough_places(orders, people, policy, user))
+    keep(
+        streams,
+        user,
+        near,
+        enough_places(orders, people, policy, user, near),
+    )
 }
 
 /// Keeps as many places for a user who trades: there is no account for him to kill.
@@ -82,18 +100,25 @@ fn keep_enough_for_trader(
     streams: &mut Streams,
     orders: &Orders,
     user: UserName,
+    near: usize,
 ) -> Result<(), OutOfMemory>
     requires few { length orders.now.live ≤ day_limit }
+    requires told { IsTrue (is_told streams.old user) }
     ensures shown { shown streams.new ≡ shown streams.old }
     ensures readers { streams.new.readers ≡ streams.old.readers }
     ensures known { KnowTheSame streams.old streams.new }
     ensures more { HaveNoFewer streams.old streams.new }
     ensures places { OnOk result (HasPlaces user (count_of orders.now.live user + 2) streams.new) }
 {
-    keep(streams, user, orders.count_of(user) + 2)
+    streams.reserve(user, near, orders.count_of(user, near) + 2)?;
+    Ok(())
 }
 
 /// Keeps as many places for each user of the policy.
+///
+/// # Errors
+///
+/// `OutOfMemory` where memory was refused; then some users may have theirs.
 pub fn keep_enough_for_all(
     streams: &mut Streams,
     orders: &Orders,
@@ -109,7 +134,7 @@ pub fn keep_enough_for_all(
         (HaveEnough orders.now.live people.now policy.now streams.new policy.now.users) }
 {
     for user in policy.users() {
-        keep_enough(streams, orders, people, policy, user.name)?;
+        keep_enough(streams, orders, people, policy, user.name, 0)?;
     }
     Ok(())
 }
@@ -148,7 +173,12 @@ pub fn keep_places(
         );
     }
     if let Move::Adds(_) = next.moves {
-        return keep_enough_for_trader(&mut keepers.streams, &keepers.orders, a.user);
+        return keep_enough_for_trader(
+            &mut keepers.streams,
+            &keepers.orders,
+            a.user,
+            next.near.user,
+        );
     }
     keep_enough(
         &mut keepers.streams,
@@ -156,6 +186,7 @@ pub fn keep_places(
         &keepers.people,
         policy,
         a.user,
+        next.near.user,
     )
 }
 
@@ -185,5 +216,6 @@ pub fn keep_for_expiry(
         &keepers.people,
         next.policy,
         order.user,
+        next.near.user,
     )
 }

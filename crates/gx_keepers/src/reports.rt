@@ -165,14 +165,21 @@ pub fn ended(order: &LiveOrder) -> Message
     canceled(order, order.open(), CancelReason::Supervisory)
 }
 
-/// Tells the user, if there is something to tell.
-pub fn tell(streams: &mut Streams, user: UserName, moment: Moment, found: Option<Message>)
+/// Tells the user, who is looked for at this place of the policy's users first, if there is something to tell.
+pub fn tell(
+    streams: &mut Streams,
+    user: UserName,
+    near: usize,
+    moment: Moment,
+    found: Option<Message>,
+)
     requires { IfSome found (λ message. 0 < places_in streams.old.told user) }
     ensures { streams.new ≡ with_told user moment found streams.old }
 {
     if let Some(message) = found {
         streams.append_reserved(
             user,
+            near,
             Report {
                 timestamp: moment,
                 message,

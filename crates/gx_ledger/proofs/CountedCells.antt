@@ -92,13 +92,13 @@ alike_is asked e like =
       price = eqb-true e.price asked.price price i;
     }
 
--- where no Enter falls into its cell, none is like it
-pub none_alike : (cells : List ℕ) (asked : Entered) (at : ℕ) (enters : List Entered) → at ≡ cell_of (length cells) asked → at < length cells → get_or cells at 0 ≡ 0
-    → AreCounted cells enters → count_by (are_alike asked) enters ≡ 0
-none_alike cells asked at enters is within none counted =
+-- no more are like an Enter than fall into its cell
+pub few_alike : (cells : List ℕ) (asked : Entered) (at : ℕ) (enters : List Entered) → at ≡ cell_of (length cells) asked → at < length cells → get_or cells at 0 < 255
+    → AreCounted cells enters → count_by (are_alike asked) enters ≤ get_or cells at 0
+few_alike cells asked at enters is within few counted =
     let fewer = sum_by-le-sum_by (λ (e : Entered). one_of (are_alike asked e)) (one_in (length cells) at) enters (λ e. by e (are_alike asked e) refl) in
-    let there = counted at within (omega (arith, none)) in
-    omega (arith, fewer, there, none)
+    let there = counted at within few in
+    omega (arith, fewer, there)
   where
     by : (e : Entered) (b : Bool) → are_alike asked e ≡ b → one_of b ≤ one_in (length cells) at e
     by e true like =

@@ -1,5 +1,5 @@
 -- What a ledger tells of what stands: the sums of the accounts that a rule counts together with one of them.
-use Rattle.std.specs.Prelude.{ℕ, ◌≡◌, ◌&&◌, Bool, List, Option, Some, None, is_some, option_map, option_and_then, slice_get, if◌then◌else◌}
+use Rattle.std.specs.Prelude.{ℕ, ◌≡◌, ◌&&◌, Bool, Option, None, is_some, option_map, option_and_then, slice_get, if◌then◌else◌}
 use Rattle.gx_units.specs.declared.names.AccountName.{AccountName}
 use Rattle.gx_policy.specs.{declared.policy.{FileRule.FileRule, PolicyData.PolicyData}, People.{account_named, covers}}
 use Rattle.gx_history.specs.{declared.facts.StockSide.StockSide, Figures.{Positions, counts_account, net_done, side_live}}

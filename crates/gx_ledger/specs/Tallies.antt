@@ -89,6 +89,10 @@ tally_after change place t = record {
 abbrev pub group_in : Tally → Option ℕ → Option Group
 group_in t place = option_and_then (slice_get t.groups) (place_in t.count place)
 
+-- the group that counts the account which asks
+abbrev pub group_asked : Wanted → Tally → Option Group
+group_asked w t = if covers t.scope w.account then group_in t w.place else None
+
 -- what was executed on the side of the stock, less what was on the other
 abbrev pub net_in : List (Symbol × StockSums) → StockSide → ℤ
 net_in sides side = net_of (on_its_side side.buys (sides_at sides side.stock)).done (on_its_side (not side.buys) (sides_at sides side.stock)).done

@@ -6,7 +6,9 @@ use gx_units::Moment;
 /// What becomes of one order.
 #[derive(Clone, Copy)]
 pub struct Change {
+    /// Which order it is.
     pub order: LiveOrder,
+    /// What becomes of it.
     pub kind: ChangeKind,
 }
 

@@ -1,6 +1,6 @@
 //! The last granted Enters, and how many of them are alike.
 
-ghost use Rattle.std.specs.Prelude.{◌≡◌, ◌∷◌, ◌++◌, ◌<◌, List, [], IfOk, IsTrue, count_by, length};
+ghost use Rattle.std.specs.Prelude.{◌≡◌, ◌∷◌, ◌++◌, ◌<◌, List, [], IfOk, IsTrue, count_by, length, nat_le};
 ghost use Rattle.circular_buffer.specs.Buffer.{buffer};
 ghost use Rattle.gx_ledger.specs.{Cells.{AreCounted, cell_of, one_less, spread}, Running.{are_alike, pushed}, declared.group.Entered.Entered};
 
@@ -91,13 +91,16 @@ fn count_down(cells: &mut Vec<u8>, gone: &Entered)
     }
 }
 
-/// Whether none of the Enters that are counted falls into the cell of this one.
-fn is_alone(cells: &[u8], asked: &Entered) -> bool
+/// Whether fewer than so many of the Enters that are counted fall into the cell of this one, as far as the cells tell.
+fn are_fewer(cells: &[u8], asked: &Entered, limit: u64) -> bool
     ensures { IsTrue result → (enters : List Entered) → AreCounted cells.now enters
-        → count_by (are_alike asked.now) enters ≡ 0 }
+        → count_by (are_alike asked.now) enters < limit }
 {
     let cell = cell_of(cells.len(), asked);
-    cell < cells.len() && cells[cell] == 0
+    if cell >= cells.len() || cells[cell] == u8::MAX {
+        return false;
+    }
+    u64::from(cells[cell]) < limit
 }
 
 /// How many of the Enters are such as this one.
@@ -110,6 +113,7 @@ fn alike_in_ring(enters: &HeapCircularBuffer<Entered>, asked: &Entered) -> u64
 }
 
 impl Enters {
+    /// No Enter yet, and room for this many. `OutOfMemory` where memory was refused.
     pub fn with_room(alloc: Global, room: usize) -> Result<Enters, OutOfMemory>
         ensures { IfOk result (λ enters. enters ≡ buffer [] room) }
     {
@@ -134,13 +138,14 @@ impl Enters {
         }
     }
 
-    /// How many of the Enters are such as this one.
-    pub fn alike(&self, asked: &Entered) -> u64
-        ensures { result ≡ count_by (are_alike asked.now) self.now.items }
+    /// Whether the Enters that are such as this one come to the limit. The ring is looked at only where so many are in one
+    /// cell.
+    pub fn are_alike(&self, asked: &Entered, limit: u64) -> bool
+        ensures { result ≡ nat_le limit (count_by (are_alike asked.now) self.now.items) }
     {
-        if is_alone(&self.cells, asked) {
-            return 0;
+        if are_fewer(&self.cells, asked, limit) {
+            return false;
         }
-        alike_in_ring(&self.ring, asked)
+        limit <= alike_in_ring(&self.ring, asked)
     }
 }

@@ -1,6 +1,6 @@
 //! The running figures of a group of accounts.
 
-ghost use Rattle.std.specs.Prelude.{◌≡◌, IfOk, IsTrue};
+ghost use Rattle.std.specs.Prelude.{◌≡◌, nat_le, IfOk, IsTrue};
 ghost use Rattle.gx_ledger.specs.{Running.{alike_in, asked_as, changed_group, entered_as, new_group, with_accepted}, Tables.names_differ};
 
 use crate::change::{Change, ChangeKind};
@@ -19,7 +19,9 @@ use std::alloc::Global;
 pub struct Entered {
     /// Buy/Sell Indicator.
     pub side: u8,
+    /// How many shares it asked for.
     pub shares: u32,
+    /// The name of the stock.
     pub stock: Symbol,
     /// In ten-thousandths of a dollar.
     pub price: u32,
@@ -28,6 +30,7 @@ pub struct Entered {
 /// The figures of accounts that count together for a rule.
 #[derive(Drop)]
 pub struct Group {
+    /// Open and executed shares, and their values.
     pub sums: Sums,
     /// The moments of the last granted Enters and Replaces, as many as the rule's limit.
     pub moments: Moments,
@@ -66,6 +69,10 @@ fn asked_as(request: &Request) -> Option<Entered>
 impl Group {
     /// A group with room for so many moments and Enters and with sums for these stocks, and nothing
     /// in it.
+    ///
+    /// # Errors
+    ///
+    /// `OutOfMemory` where memory was refused.
     pub fn new(
         alloc: Global,
         moments: usize,
@@ -116,13 +123,13 @@ impl Group {
         }
     }
 
-    /// How many of the Enters are such as the request is.
-    pub fn alike(&self, request: &Request) -> u64
-        ensures { result ≡ alike_in self.now.enters.items request.now }
+    /// Whether the Enters that are such as the request is come to the limit.
+    pub fn are_alike(&self, request: &Request, limit: u64) -> bool
+        ensures { result ≡ nat_le limit (alike_in self.now.enters.items request.now) }
     {
         match asked_as(request) {
-            Some(asked) => self.enters.alike(&asked),
-            None => 0,
+            Some(asked) => self.enters.are_alike(&asked, limit),
+            None => limit == 0,
         }
     }
 }

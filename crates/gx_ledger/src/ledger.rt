@@ -10,9 +10,10 @@ use crate::sums::{NetSums, Sums};
 use crate::tables::{first_prices, first_tallies, names_of, note_in, note_in_all, set_price};
 use crate::tally::{Tally, Wanted};
 use crate::tally_places::{TallyPlaces, counting_by_account};
-use gx_history::facts::{NO_FIGURES, RuleFigures, StockSide, TellsFigures};
+use gx_history::facts::{GrossFigures, NetFigures, StockSide, TellsFigures};
 use gx_history::live_order::LiveOrder;
 use gx_history::record::Request;
+use gx_index::{Near, get_near, place_near};
 use gx_policy::Policy;
 use gx_units::{AccountName, Moment, OutOfMemory, Symbol};
 use indexmap::{IndexMap, IndexSet};
@@ -65,10 +66,50 @@ impl TellsFigures for AskedFigures<'_> {
     ghost told = { figures_at };
 
     #[inline(always)]
-    fn of(&self, place: usize) -> RuleFigures {
+    fn gross_shares(&self, place: usize) -> GrossFigures {
         match self.tallies.get(place) {
-            Some(tally) => tally.figures(&self.wanted),
-            None => NO_FIGURES,
+            Some(tally) => tally.gross_shares(&self.wanted),
+            None => GrossFigures::NONE,
+        }
+    }
+
+    #[inline(always)]
+    fn gross_value(&self, place: usize) -> GrossFigures {
+        match self.tallies.get(place) {
+            Some(tally) => tally.gross_value(&self.wanted),
+            None => GrossFigures::NONE,
+        }
+    }
+
+    #[inline(always)]
+    fn net_shares(&self, place: usize) -> NetFigures {
+        match self.tallies.get(place) {
+            Some(tally) => tally.net_shares(&self.wanted),
+            None => NetFigures::NONE,
+        }
+    }
+
+    #[inline(always)]
+    fn has_recent(&self, place: usize, limit: u64) -> bool {
+        match self.tallies.get(place) {
+            Some(tally) => tally.has_recent(&self.wanted, limit),
+            None => limit == 0,
+        }
+    }
+
+    #[inline(always)]
+    fn has_equal_recent(&self, place: usize, limit: u64) -> bool {
+        match self.tallies.get(place) {
+            Some(tally) => tally.has_equal_recent(&self.wanted, limit),
+            None => limit == 0,
+        }
+    }
+
+    #[inline(always)]
+    fn reference(&self, place: usize) -> u32 {
+        match self.tallies.get(place) {
+            Some(tally) => tally.reference(&self.wanted),
+            None => 0,
         }
     }
 }
@@ -94,12 +135,14 @@ impl Ledger {
         })
     }
 
-    /// Takes note of an order that was granted at the moment, to a Replace or to an Enter.
-    pub fn accept(&mut self, order: &LiveOrder, moment: Moment, replacement: bool)
+    /// Takes note of an order that was granted at the moment, to a Replace or to an Enter. Its names are looked for at
+    /// these places first, as by each of the calls below.
+    pub fn accept(&mut self, order: &LiveOrder, near: Near, moment: Moment, replacement: bool)
         ensures accepted { Accepts order.now moment replacement self.old self.new }
     {
         self.note(
             order,
+            near,
             ChangeKind::Accepted {
                 moment,
                 replacement,
@@ -108,26 +151,34 @@ impl Ledger {
     }
 
     /// Takes note of a fill between two live orders, at this price.
-    pub fn fill(&mut self, taker: &LiveOrder, maker: &LiveOrder, shares: u32, price: u32)
+    pub fn fill(
+        &mut self,
+        taker: &LiveOrder,
+        near_taker: Near,
+        maker: &LiveOrder,
+        near_maker: Near,
+        shares: u32,
+        price: u32,
+    )
         ensures filled { Fills taker.now maker.now shares price self.old self.new }
     {
-        self.execute(taker, shares, price);
-        self.execute(maker, shares, price);
-        self.set_price(maker.terms.stock, price);
+        self.execute(taker, near_taker, shares, price);
+        self.execute(maker, near_maker, shares, price);
+        self.set_price(maker.terms.stock, near_maker.stock, price);
     }
 
     /// Takes note that so many of a live order's open shares are open no more.
-    pub fn cut(&mut self, order: &LiveOrder, shares: u32)
+    pub fn cut(&mut self, order: &LiveOrder, near: Near, shares: u32)
         ensures cut { Cuts order.now shares self.old self.new }
     {
-        self.note(order, ChangeKind::Left(shares));
+        self.note(order, near, ChangeKind::Left(shares));
     }
 
     /// Takes note that a live order ended: none of its shares is open.
-    pub fn close(&mut self, order: &LiveOrder)
+    pub fn close(&mut self, order: &LiveOrder, near: Near)
         ensures closed { Closes order.now self.old self.new }
     {
-        self.note(order, ChangeKind::Left(order.open()));
+        self.note(order, near, ChangeKind::Left(order.open()));
     }
 
     /// The figures for a request of the account at the moment, which may replace a live order.
@@ -135,6 +186,7 @@ impl Ledger {
         &self,
         account: AccountName,
         request: &Request,
+        near: Near,
         replaced: Option<LiveOrder>,
         moment: u64,
     ) -> AskedFigures<'_>
@@ -142,11 +194,11 @@ impl Ledger {
     {
         let wanted = Wanted {
             account,
-            place: self.place(account),
+            place: self.place(account, near.account),
             request: *request,
             replaced,
             side: side_of(request, replaced),
-            reference: self.reference(request, replaced),
+            reference: self.reference(request, near, replaced),
             moment,
         };
         AskedFigures {
@@ -161,7 +213,7 @@ impl Ledger {
     pub fn sums(&self, rule: usize, account: AccountName) -> Option<Sums>
         ensures sums { GivesSums self.now rule account result }
     {
-        sums_at(&self.tallies, rule, account, self.place(account))
+        sums_at(&self.tallies, rule, account, self.place(account, 0))
     }
 
     /// What these accounts have on the side of the stock, where the rule limits net positions. None
@@ -169,20 +221,20 @@ impl Ledger {
     pub fn net(&self, rule: usize, account: AccountName, side: StockSide) -> Option<NetSums>
         ensures net { GivesNet self.now rule account side result }
     {
-        net_at(&self.tallies, rule, account, self.place(account), side)
+        net_at(&self.tallies, rule, account, self.place(account, 0), side)
     }
 
-    /// The place of the account in the policy.
-    fn place(&self, account: AccountName) -> Option<usize>
+    /// The place of the account in the policy, which is looked for at this one first.
+    fn place(&self, account: AccountName, near: usize) -> Option<usize>
         ensures { result ≡ account_place self.now.accounts account }
     {
-        self.accounts.get_index_of(&account)
+        place_near(&self.accounts, near, account)
     }
 
-    fn note(&mut self, order: &LiveOrder, kind: ChangeKind)
+    fn note(&mut self, order: &LiveOrder, near: Near, kind: ChangeKind)
         ensures { self.new ≡ kept_noted (record { order = order.now; kind = kind }) self.old }
     {
-        let place = self.place(order.account);
+        let place = self.place(order.account, near.account);
         self.note_at(
             place,
             &Change {
@@ -204,10 +256,10 @@ impl Ledger {
         note_in(&mut self.tallies, counting, change, place);
     }
 
-    fn execute(&mut self, order: &LiveOrder, shares: u32, price: u32)
+    fn execute(&mut self, order: &LiveOrder, near: Near, shares: u32, price: u32)
         ensures { self.new ≡ kept_executed order.now shares price self.old }
     {
-        let place = self.place(order.account);
+        let place = self.place(order.account, near.account);
         let left = Change {
             order: *order,
             kind: ChangeKind::Left(shares),
@@ -220,20 +272,20 @@ impl Ledger {
         self.note_at(place, &executed);
     }
 
-    fn set_price(&mut self, stock: Symbol, price: u32)
+    fn set_price(&mut self, stock: Symbol, near: usize, price: u32)
         ensures { self.new ≡ with_price stock price self.old }
     {
-        set_price(&mut self.prices, stock, price);
+        set_price(&mut self.prices, near, stock, price);
     }
 
-    fn price(&self, stock: Symbol) -> u32
+    fn price(&self, stock: Symbol, near: usize) -> u32
         ensures { result ≡ price_of self.now.prices stock }
     {
-        self.prices.get(&stock).copied().unwrap_or(0)
+        get_near(&self.prices, near, stock).copied().unwrap_or(0)
     }
 
     /// The last price of the stock of the order that is asked for.
-    fn reference(&self, request: &Request, replaced: Option<LiveOrder>) -> u32
+    fn reference(&self, request: &Request, near: Near, replaced: Option<LiveOrder>) -> u32
         ensures { result ≡ reference_for self.now.prices request.now replaced }
     {
         let stock = match request {
@@ -241,7 +293,7 @@ impl Ledger {
             _ => replaced.map(|order| order.terms.stock),
         };
         match stock {
-            Some(stock) => self.price(stock),
+            Some(stock) => self.price(stock, near.stock),
             None => 0,
         }
     }

@@ -1,6 +1,6 @@
 //! The moments of the last orders.
 
-ghost use Rattle.std.specs.{Prelude.{◌≡◌, [], IfOk}, List.Sorted.IsNonDecreasing};
+ghost use Rattle.std.specs.{Prelude.{◌≡◌, [], nat_le, IfOk}, List.Sorted.IsNonDecreasing};
 ghost use Rattle.circular_buffer.specs.Buffer.{buffer};
 ghost use Rattle.gx_ledger.specs.Running.{comes_last, is_recent_at, pushed, recent_in};
 
@@ -61,27 +61,21 @@ fn recent_in_turn(ring: &HeapCircularBuffer<u64>, window: u64, moment: u64) -> u
     (len - left) as u64
 }
 
-/// How many of the moments, of which none is earlier than the one before it, are recent: those from
-/// the first recent one on, which is looked for by halves.
-fn recent_by_halves(ring: &HeapCircularBuffer<u64>, window: u64, moment: u64) -> u64
+/// Whether so many of the last moments, of which none is earlier than the one before it, are recent.
+#[tactic(auto, using(crate::proofs::Halves::enough_recent, crate::proofs::Halves::never_more))]
+fn are_enough_recent(ring: &HeapCircularBuffer<u64>, window: u64, moment: u64, limit: u64) -> bool
     requires { IsNonDecreasing ring.now.items }
-    ensures { result ≡ recent_in ring.now.items window moment }
+    ensures { result ≡ nat_le limit (recent_in ring.now.items window moment) }
 {
     let len = ring.len();
-    let mut first = 0;
-    let mut left = len;
-    while first < left {
-        let middle = first + (left - first) / 2;
-        if is_recent(ring, middle, window, moment) {
-            left = middle;
-        } else {
-            first = middle + 1;
-        }
+    if limit == 0 {
+        return true;
     }
-    (len - left) as u64
+    limit <= len as u64 && is_recent(ring, len - limit as usize, window, moment)
 }
 
 impl Moments {
+    /// No moment yet, and room for this many. `OutOfMemory` where memory was refused.
     pub fn with_room(alloc: Global, room: usize) -> Result<Moments, OutOfMemory>
         ensures { IfOk result (λ moments. moments ≡ buffer [] room) }
     {
@@ -93,20 +87,22 @@ impl Moments {
     pub fn push(&mut self, moment: u64)
         ensures { self.new ≡ pushed moment self.old }
     {
+        if self.ring.capacity() == 0 {
+            return;
+        }
         let rises = self.rises && comes_last(&self.ring, moment);
         self.rises = rises;
         self.ring.push_back(moment);
     }
 
-    /// How many of the last moments lie less than the window back: from the newest on, up to the
-    /// first that does not.
-    pub fn recent(&self, window: u64, moment: u64) -> u64
-        ensures { result ≡ recent_in self.now.items window moment }
+    /// Whether so many of the last moments lie less than the window back.
+    pub fn are_recent(&self, window: u64, moment: u64, limit: u64) -> bool
+        ensures { result ≡ nat_le limit (recent_in self.now.items window moment) }
     {
         if self.rises {
-            recent_by_halves(&self.ring, window, moment)
+            are_enough_recent(&self.ring, window, moment, limit)
         } else {
-            recent_in_turn(&self.ring, window, moment)
+            limit <= recent_in_turn(&self.ring, window, moment)
         }
     }
 }

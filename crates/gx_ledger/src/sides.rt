@@ -15,13 +15,16 @@ use std::marker::Model;
 /// A sum that would pass 128 bits stops there: a day's orders and fills stay far below.
 #[derive(Clone, Copy)]
 pub struct SideSums {
+    /// The open shares.
     pub live: u128,
+    /// The executed shares.
     pub done: u128,
 }
 
 /// The same of both sides.
 #[derive(Clone, Copy)]
 pub struct StockSums {
+    /// Of the buys.
     pub buys: SideSums,
     /// Of all that is no buy.
     pub sells: SideSums,
@@ -124,6 +127,10 @@ fn note_change(sums: &mut IndexMap<Symbol, StockSums>, change: &Change)
 
 impl Sides {
     /// Of no order and no fill, for each of the stocks.
+    ///
+    /// # Errors
+    ///
+    /// `OutOfMemory` where memory was refused.
     pub fn of(alloc: Global, stocks: &[Stock]) -> Result<Sides, OutOfMemory>
         requires { IsTrue (names_differ stocks.now) }
         ensures { IfOk result (λ sides. sides ≡ first_sides stocks.now) }

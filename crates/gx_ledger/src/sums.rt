@@ -11,9 +11,11 @@ use gx_units::value_of;
 /// A sum that would pass 128 bits stops there: a day's orders and fills stay far below.
 #[derive(Clone, Copy)]
 pub struct Sums {
+    /// Open shares of the live orders.
     pub live_shares: u128,
     /// At the prices of the orders.
     pub live_value: u128,
+    /// Executed shares.
     pub done_shares: u128,
     /// At the prices of the fills.
     pub done_value: u128,

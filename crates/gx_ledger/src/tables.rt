@@ -5,16 +5,17 @@ ghost use Rattle.gx_ledger.specs.{Counts.{noted_in, tally_inside}, Keeping.{acco
 
 use crate::change::Change;
 use crate::tally::Tally;
+use gx_index::get_mut_near;
 use gx_policy::{Account, FileRule, Stock};
 use gx_units::{AccountName, OutOfMemory, Symbol};
 use indexmap::{IndexMap, IndexSet};
 use std::alloc::Global;
 
-/// Sets the last price of the stock, if it is listed.
-pub fn set_price(prices: &mut IndexMap<Symbol, u32>, stock: Symbol, price: u32)
+/// Sets the last price of the stock, which is looked for at this place first, if it is listed.
+pub fn set_price(prices: &mut IndexMap<Symbol, u32>, near: usize, stock: Symbol, price: u32)
     ensures { prices.new.entries ≡ priced stock price prices.old.entries }
 {
-    if let Some(last) = prices.get_mut(&stock) {
+    if let Some(last) = get_mut_near(prices, near, stock) {
         *last = price;
     }
 }
@@ -30,6 +31,7 @@ pub fn note_in_all(tallies: &mut [Tally], change: &Change)
 
 /// Tells the tally at this place, if there is one, of a change of an order of an account in its
 /// scope that has this place in the policy.
+#[inline(always)]
 fn note_one(tallies: &mut [Tally], index: usize, change: &Change, place: usize)
     ensures { tallies.new ≡ changed_at index (tally_inside change.now (Some place)) tallies.old }
 {
@@ -40,6 +42,7 @@ fn note_one(tallies: &mut [Tally], index: usize, change: &Change, place: usize)
 
 /// Tells the tallies at these places of a change of an order of an account in their scopes that
 /// has this place in the policy.
+#[inline(always)]
 pub fn note_in(tallies: &mut [Tally], indexes: &[usize], change: &Change, place: usize)
     ensures { tallies.new ≡ noted_in change.now (Some place) tallies.old indexes.now }
 {
@@ -49,6 +52,10 @@ pub fn note_in(tallies: &mut [Tally], indexes: &[usize], change: &Change, place:
 }
 
 /// The names of the accounts, in the policy's order.
+///
+/// # Errors
+///
+/// `OutOfMemory` where memory was refused.
 pub fn names_of(alloc: Global, accounts: &[Account]) -> Result<IndexSet<AccountName>, OutOfMemory>
     requires { IsTrue (accounts_differ accounts.now) }
     ensures { IfOk result (λ names. names.keys ≡ account_names accounts.now) }
@@ -61,6 +68,10 @@ pub fn names_of(alloc: Global, accounts: &[Account]) -> Result<IndexSet<AccountN
 }
 
 /// The stocks at their reference prices.
+///
+/// # Errors
+///
+/// `OutOfMemory` where memory was refused.
 pub fn first_prices(alloc: Global, stocks: &[Stock]) -> Result<IndexMap<Symbol, u32>, OutOfMemory>
     requires { IsTrue (names_differ stocks.now) }
     ensures { IfOk result (λ prices. prices.entries ≡ reference_prices stocks.now) }
@@ -73,6 +84,10 @@ pub fn first_prices(alloc: Global, stocks: &[Stock]) -> Result<IndexMap<Symbol, 
 }
 
 /// What each rule counts, before any order.
+///
+/// # Errors
+///
+/// `OutOfMemory` where memory was refused.
 pub fn first_tallies(
     alloc: Global,
     rules: &[FileRule],

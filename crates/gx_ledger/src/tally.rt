@@ -1,14 +1,14 @@
 //! What one rule of the file counts.
 
-ghost use Rattle.std.specs.{Prelude.{◌≡◌, [], ◌∷◌, map, option_copied, pos, slice_get, IfOk, IsTrue}, Option.option_map_or};
-ghost use Rattle.gx_history.specs.{LiveOrders.shares_open, Figures.open_value};
-ghost use Rattle.gx_ledger.specs.{Counts.{counts, tally_inside}, Running.changed_group, Tables.names_differ, Tallies.{asked_group, asks_of, changed_at, count_of, figures_of_group, group_in, live_in, net_in, new_groups, new_tally, place_in, stocks_for, room_for_enters, room_for_moments, tally_after, tally_figures}, Standing.{group_net, group_with, tally_net, tally_sums}};
+ghost use Rattle.std.specs.{Prelude.{◌≡◌, [], ◌∷◌, map, nat_le, option_copied, pos, slice_get, IfOk, IsTrue}, Option.option_map_or};
+ghost use Rattle.gx_history.specs.{LiveOrders.shares_open, Figures.{gross_shares_in, gross_value_in, net_shares_in, open_value}};
+ghost use Rattle.gx_ledger.specs.{Counts.{counts, tally_inside}, Running.changed_group, Tables.names_differ, Tallies.{asked_group, asks_of, changed_at, count_of, group_asked, group_in, live_in, net_in, new_groups, new_tally, place_in, stocks_for, room_for_enters, room_for_moments, tally_after, tally_figures}, Standing.{group_net, group_with, tally_net, tally_sums}};
 
 use crate::change::Change;
 use crate::group::Group;
 use crate::sides::{Sides, net_of};
 use crate::sums::{NetSums, Sums};
-use gx_history::facts::{NO_FIGURES, RuleFigures, StockSide};
+use gx_history::facts::{GrossFigures, NetFigures, StockSide};
 use gx_history::live_order::LiveOrder;
 use gx_history::record::Request;
 use gx_policy::{Account, Count, ExposureLimit, FileRule, Rate, Repeat, RuleKind, Scope, Stock};
@@ -19,6 +19,7 @@ use std::marker::Model;
 /// What a rule asks for.
 #[derive(Clone, Copy)]
 pub enum Asks {
+    /// No figure of accounts or stocks.
     Nothing,
     /// The last price of the stock, which is all that a limit of one order can ask for.
     Reference,
@@ -189,18 +190,24 @@ impl Groups {
 /// What a rule asks for, for which accounts, and the running figures of their groups.
 #[derive(Drop)]
 pub struct Tally {
+    /// The accounts that the rule is for.
     pub scope: Scope,
+    /// Which figures it asks for.
     pub asks: Asks,
+    /// Whether its limit is for each account or for all together; None where it counts no accounts.
     pub count: Option<Count>,
+    /// The running figures: of each account, or of all together.
     pub groups: Groups,
 }
 
 /// What a request asks the figures for.
 #[derive(Clone, Copy)]
 pub struct Wanted {
+    /// The account that the user trades for.
     pub account: AccountName,
     /// The account's place in the policy.
     pub place: Option<usize>,
+    /// The request itself.
     pub request: Request,
     /// The order that would be replaced.
     pub replaced: Option<LiveOrder>,
@@ -208,6 +215,7 @@ pub struct Wanted {
     pub side: Option<StockSide>,
     /// The price of the last fill in the order's stock, or the policy's.
     pub reference: u32,
+    /// When it is asked for, in nanoseconds past midnight.
     pub moment: u64,
 }
 
@@ -262,46 +270,6 @@ fn net_of_group(group: &Group, side: StockSide) -> NetSums
     }
 }
 
-/// The figures of a group that the rule asks for.
-#[inline(always)]
-fn figures_of_group(asks: Asks, group: &Group, wanted: &Wanted) -> RuleFigures
-    ensures { result ≡ figures_of_group asks wanted.now group.now }
-{
-    match asks {
-        Asks::Shares => RuleFigures {
-            live_shares: group.sums.live_shares,
-            done_shares: group.sums.done_shares,
-            replaced_shares: open_of(wanted.replaced),
-            ..NO_FIGURES
-        },
-        Asks::Values => RuleFigures {
-            live_value: group.sums.live_value,
-            done_value: group.sums.done_value,
-            replaced_value: open_value_of(wanted.replaced),
-            ..NO_FIGURES
-        },
-        Asks::Sides => RuleFigures {
-            net_done: net_in(&group.sides, wanted.side),
-            side_live: live_in(&group.sides, wanted.side),
-            replaced_shares: open_of(wanted.replaced),
-            ..NO_FIGURES
-        },
-        Asks::Recent(rate) => RuleFigures {
-            recent: group.moments.recent(rate.window, wanted.moment),
-            ..NO_FIGURES
-        },
-        Asks::Alike(_) => RuleFigures {
-            equal_recent: group.alike(&wanted.request),
-            ..NO_FIGURES
-        },
-        Asks::Reference => RuleFigures {
-            reference: wanted.reference,
-            ..NO_FIGURES
-        },
-        Asks::Nothing => NO_FIGURES,
-    }
-}
-
 /// The place of the group of an account in scope, which has this place in the policy.
 fn place_in(count: Option<Count>, place: Option<usize>) -> Option<usize>
     ensures { result ≡ place_in count place }
@@ -315,6 +283,10 @@ fn place_in(count: Option<Count>, place: Option<usize>) -> Option<usize>
 
 impl Tally {
     /// The tally of a rule before any order, for these accounts and stocks of the policy.
+    ///
+    /// # Errors
+    ///
+    /// `OutOfMemory` where memory was refused.
     pub fn new(
         alloc: Global,
         rule: &FileRule,
@@ -347,6 +319,7 @@ impl Tally {
 
     /// Takes note of a change of an order of an account in scope, which has this place in the
     /// policy.
+    #[inline(always)]
     pub fn note_inside(&mut self, change: &Change, place: Option<usize>)
         ensures { self.new ≡ tally_inside change.now place self.old }
     {
@@ -409,24 +382,102 @@ impl Tally {
         }
     }
 
-    /// The figures that the rule asks for.
+    /// The group that counts the account which asks; None where the rule does not count it, or has no such group.
     #[inline(always)]
-    pub fn figures(&self, wanted: &Wanted) -> RuleFigures
-        ensures { result ≡ tally_figures wanted.now self.now }
+    fn group_asked(&self, wanted: &Wanted) -> Option<&Group>
+        ensures { option_copied result ≡ group_asked wanted.now self.now }
     {
-        if !self.scope.covers(wanted.account) {
-            return NO_FIGURES;
+        if self.scope.covers(wanted.account) {
+            self.group(wanted.place)
+        } else {
+            None
         }
+    }
+
+    /// The figures of a gross limit on shares.
+    #[inline(always)]
+    pub fn gross_shares(&self, wanted: &Wanted) -> GrossFigures
+        ensures { result ≡ gross_shares_in (tally_figures wanted.now self.now) }
+    {
+        match (self.asks, self.group_asked(wanted)) {
+            (Asks::Shares, Some(group)) => GrossFigures {
+                live: group.sums.live_shares,
+                done: group.sums.done_shares,
+                replaced: open_of(wanted.replaced),
+            },
+            (Asks::Sides, Some(_)) => GrossFigures {
+                replaced: open_of(wanted.replaced),
+                ..GrossFigures::NONE
+            },
+            _ => GrossFigures::NONE,
+        }
+    }
+
+    /// The figures of a gross limit on value.
+    #[inline(always)]
+    pub fn gross_value(&self, wanted: &Wanted) -> GrossFigures
+        ensures { result ≡ gross_value_in (tally_figures wanted.now self.now) }
+    {
+        match (self.asks, self.group_asked(wanted)) {
+            (Asks::Values, Some(group)) => GrossFigures {
+                live: group.sums.live_value,
+                done: group.sums.done_value,
+                replaced: open_value_of(wanted.replaced),
+            },
+            _ => GrossFigures::NONE,
+        }
+    }
+
+    /// The figures of a net limit.
+    pub fn net_shares(&self, wanted: &Wanted) -> NetFigures
+        ensures { result ≡ net_shares_in (tally_figures wanted.now self.now) }
+    {
+        match (self.asks, self.group_asked(wanted)) {
+            (Asks::Sides, Some(group)) => NetFigures {
+                done: net_in(&group.sides, wanted.side),
+                live: live_in(&group.sides, wanted.side),
+                replaced: open_of(wanted.replaced),
+            },
+            (Asks::Shares, Some(_)) => NetFigures {
+                replaced: open_of(wanted.replaced),
+                ..NetFigures::NONE
+            },
+            _ => NetFigures::NONE,
+        }
+    }
+
+    /// Whether the recent orders that the rule counts come to the limit.
+    #[inline(always)]
+    pub fn has_recent(&self, wanted: &Wanted, limit: u64) -> bool
+        ensures { result ≡ nat_le limit (tally_figures wanted.now self.now).recent }
+    {
+        match (self.asks, self.group_asked(wanted)) {
+            (Asks::Recent(rate), Some(group)) => {
+                group.moments.are_recent(rate.window, wanted.moment, limit)
+            }
+            _ => limit == 0,
+        }
+    }
+
+    /// Whether the last Enters that the rule counts and that are such as the request come to the limit.
+    #[inline(always)]
+    pub fn has_equal_recent(&self, wanted: &Wanted, limit: u64) -> bool
+        ensures { result ≡ nat_le limit (tally_figures wanted.now self.now).equal_recent }
+    {
+        match (self.asks, self.group_asked(wanted)) {
+            (Asks::Alike(_), Some(group)) => group.are_alike(&wanted.request, limit),
+            _ => limit == 0,
+        }
+    }
+
+    /// The price that a collar is around.
+    #[inline(always)]
+    pub fn reference(&self, wanted: &Wanted) -> u32
+        ensures { result ≡ (tally_figures wanted.now self.now).reference }
+    {
         match self.asks {
-            Asks::Nothing => NO_FIGURES,
-            Asks::Reference => RuleFigures {
-                reference: wanted.reference,
-                ..NO_FIGURES
-            },
-            asks => match self.group(wanted.place) {
-                Some(group) => figures_of_group(asks, group, wanted),
-                None => NO_FIGURES,
-            },
+            Asks::Reference if self.scope.covers(wanted.account) => wanted.reference,
+            _ => 0,
         }
     }
 }

@@ -60,6 +60,10 @@ impl TallyPlaces {
 }
 
 /// For each account, in the policy's order, the places of the tallies that count its orders.
+///
+/// # Errors
+///
+/// `OutOfMemory` where memory was refused.
 pub fn counting_by_account(
     alloc: Global,
     tallies: &[Tally],

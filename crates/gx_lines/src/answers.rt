@@ -473,6 +473,10 @@ fn answer_json(
 }
 
 /// The line of an answer of this moment, with the LF at its end. `asked` is what its command asked for.
+///
+/// # Errors
+///
+/// `OutOfMemory` where memory was refused.
 pub fn answer_line(
     alloc: Global,
     form: Form,

@@ -102,6 +102,10 @@ fn earlier_json(alloc: Global, moment: Moment, answer: &Answer) -> Result<Vec<u8
 }
 
 /// The line of an answer of this moment to a command that was sent before this run, with the LF at its end.
+///
+/// # Errors
+///
+/// `OutOfMemory` where memory was refused.
 pub fn earlier_answer_line(
     alloc: Global,
     form: Form,

@@ -345,6 +345,10 @@ fn order_json(alloc: Global, moment: Moment, message: &Outbound) -> Result<Vec<u
 }
 
 /// The line of a message to a trader of this moment, with the LF at its end.
+///
+/// # Errors
+///
+/// `OutOfMemory` where memory was refused.
 pub fn order_line(
     alloc: Global,
     form: Form,
@@ -404,6 +408,10 @@ fn copy_json(alloc: Global, moment: Moment, copy: &DropCopy) -> Result<Vec<u8>, 
 }
 
 /// The line of a drop copy of this moment, with the LF at its end.
+///
+/// # Errors
+///
+/// `OutOfMemory` where memory was refused.
 pub fn copy_line(
     alloc: Global,
     form: Form,

@@ -38,6 +38,10 @@ impl Model for Chime {
 
 impl Chime {
     /// A chime that was not rung. Its writer listens to it at most for so many milliseconds.
+    ///
+    /// # Errors
+    ///
+    /// `OutOfMemory` where memory was refused.
     pub fn new(alloc: Global, patience: u64) -> Result<Chime, OutOfMemory> {
         let clapper = Clapper {
             rung: AtomicBool::new(false),
@@ -52,6 +56,10 @@ impl Chime {
     }
 
     /// The same chime once more.
+    ///
+    /// # Errors
+    ///
+    /// `OutOfMemory` where memory was refused.
     pub fn try_clone(&self) -> Result<Chime, OutOfMemory> {
         Ok(Chime {
             clapper: Arc::try_clone(&self.clapper)?,
@@ -161,6 +169,10 @@ impl Chimes {
     }
 
     /// The connection of this number has this chime from now on.
+    ///
+    /// # Errors
+    ///
+    /// `OutOfMemory` where memory was refused.
     pub fn hang<R: Wait>(&self, rt: &R, number: u64, chime: Chime) -> Result<(), OutOfMemory> {
         self.by_number.lock(rt).add(number, chime)
     }
@@ -194,6 +206,7 @@ impl<'x> Model for Bells<'x> {
 }
 
 impl<'x> Bells<'x> {
+    /// Rings this chime and this bell.
     pub fn new(chime: &'x Chime, bell: &'x Bell) -> Bells<'x> {
         Bells { chime, bell }
     }

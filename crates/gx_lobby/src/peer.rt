@@ -10,7 +10,9 @@ use std::net::{Shutdown, SocketAddr, TcpStream};
 pub struct Peer {
     /// Which one of the run, the first being 1.
     pub number: u64,
+    /// The address that it came from.
     pub address: SocketAddr,
+    /// The socket, to read from and to write to.
     pub stream: TcpStream,
 }
 
@@ -30,6 +32,10 @@ impl Peer {
     }
 
     /// Words on the connection, of this kind: `connection 9 from 127.0.0.1:51514: no line: ..`.
+    ///
+    /// # Errors
+    ///
+    /// `OutOfMemory` where memory was refused.
     pub fn words(&self, alloc: Global, kind: &str, words: &str) -> Result<String, OutOfMemory> {
         let number = self.number;
         let address = self.address;

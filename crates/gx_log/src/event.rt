@@ -55,6 +55,10 @@ fn json_line(alloc: Global, moment: Moment, kind: &str, words: &str) -> Result<V
 }
 
 /// The line of an event of this kind, told in these words, in the form that is asked for, if one is.
+///
+/// # Errors
+///
+/// `OutOfMemory` where memory was refused.
 pub fn event_line(
     alloc: Global,
     form: Option<Form>,

@@ -36,6 +36,10 @@ fn write_left_out<W: Write>(count: u64, writer: &mut Counted<W>) -> Result<(), W
 }
 
 /// Writes lines that were taken, and behind them how many were left out.
+///
+/// # Errors
+///
+/// `WriteFailed` where the writer failed; then a part of it may be written.
 pub fn write_batch<W: Write>(batch: &Batch, writer: &mut Counted<W>) -> Result<(), WriteFailed>
     requires { writer.old.failed < 2 ^ 64 - 1 }
     ensures written { OnOk result (Appends

@@ -13,11 +13,17 @@ use gx_orders::orders::Orders;
 /// The time in force of an order that does not rest.
 const IMMEDIATE_OR_CANCEL: u32 = 0;
 
-/// The best that rests on the other side of the order's stock.
-pub fn best_against(book: &Book, orders: &Orders, order: &LiveOrder) -> Option<LiveOrder>
+/// The best that rests on the other side of the order's stock, which is looked for at this place of the policy's stocks
+/// first.
+pub fn best_against(
+    book: &Book,
+    orders: &Orders,
+    order: &LiveOrder,
+    near: usize,
+) -> Option<LiveOrder>
     ensures { result ≡ best_against book.now orders.now.live order.now }
 {
-    let best = book.best(order.terms.stock, opposite(order.terms.side))?;
+    let best = book.best(order.terms.stock, near, opposite(order.terms.side))?;
     orders.numbered(best.number)
 }
 

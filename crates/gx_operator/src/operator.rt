@@ -74,6 +74,10 @@ impl Operator {
     }
 
     /// What `kill --all` asks for: a Kill of each account, in the order of the list, under the next serials.
+    ///
+    /// # Errors
+    ///
+    /// `OutOfMemory` where memory was refused.
     pub fn kills(&self, accounts: &[AccountName]) -> Result<Vec<Asked>, OutOfMemory>
         ensures { IfOk result (λ kills. kills.items ≡ kills_of self.now.next accounts.now) }
     {
@@ -81,6 +85,10 @@ impl Operator {
     }
 
     /// The packet that asks this. From now on its answer is waited for, and the next serial is the one behind.
+    ///
+    /// # Errors
+    ///
+    /// `OutOfMemory` where memory was refused; then nothing has changed.
     pub fn ask(&mut self, asked: &Asked) -> Result<Vec<u8>, OutOfMemory>
         ensures carries { IfOk result (λ bytes. Carries bytes.items asked.now) }
         ensures waits { OnOk result (self.new ≡ record self.old {
@@ -132,6 +140,10 @@ impl Operator {
 
     /// Hears a message of this moment: the line that is shown of it, if one is. What it answers waits no longer, and counts
     /// for the status.
+    ///
+    /// # Errors
+    ///
+    /// `OutOfMemory` where memory was refused; then nothing has changed.
     pub fn hear(
         &mut self,
         moment: Moment,
@@ -153,6 +165,10 @@ impl Operator {
     }
 
     /// The line that is shown of a message of this moment that was sent before the run, if one is: it answers nothing.
+    ///
+    /// # Errors
+    ///
+    /// `OutOfMemory` where memory was refused.
     pub fn earlier_line(
         &self,
         moment: Moment,

@@ -31,6 +31,10 @@ orders_of user live = length (filter (is_of_user user) live)
 abbrev pub AreCounted : List (UserName × ℕ) → List LiveOrder → Type 0
 AreCounted counts live = (user : UserName) → counted_of counts user ≡ orders_of user live
 
+-- no order is counted of anybody
+abbrev pub CountsNone : List (UserName × ℕ) → Type 0
+CountsNone counts = (user : UserName) → counted_of counts user ≡ 0
+
 -- one order more of the user is counted
 abbrev pub CountsOneMore : UserName → (before after : List (UserName × ℕ)) → Type 0
 CountsOneMore user before after = (other : UserName) → counted_of after other ≡ counted_of before other + (if same_user user other then 1 else 0)
@@ -42,6 +46,10 @@ CountsOneLess user before after = (other : UserName) → counted_of after other 
 -- the numbers that are listed of the account
 abbrev pub listed_of : List (AccountName × List ℕ) → AccountName → List ℕ
 listed_of lists account = unwrap_or (lookup (same_account account) lists) []
+
+-- no number is listed of any account
+abbrev pub ListsNone : List (AccountName × List ℕ) → Type 0
+ListsNone lists = (account : AccountName) → listed_of lists account ≡ []
 
 -- the live orders that have the numbers listed of an account are those of the account, in order
 abbrev pub AreListed : List (AccountName × List ℕ) → List LiveOrder → Type 0

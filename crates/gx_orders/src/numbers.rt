@@ -1,10 +1,12 @@
 //! Which orders each account has.
 
-ghost use Rattle.std.specs.{Prelude.{◌≡◌, ◌<◌, ◌∷◌, ◌++◌, [], OnOk}, List.filter, Vec.{vec_capacity, vec_len}};
+ghost use Rattle.std.specs.{Prelude.{◌≡◌, ◌<◌, ◌∷◌, ◌++◌, [], IfOk, OnOk}, List.filter, Vec.{vec_capacity, vec_len}};
 ghost use Rattle.gx_slab.specs.Slabs.{numbered_of};
-ghost use Rattle.gx_orders.specs.{LiveOrders.AreBelow, Tables.{ListsOneMore, ListsTheSame, NumbersBelow, NumbersUpTo, is_live_of, listed_of}};
+ghost use Rattle.gx_orders.specs.{LiveOrders.AreBelow, Tables.{ListsNone, ListsOneMore, ListsTheSame, NumbersBelow, NumbersUpTo, is_live_of, listed_of}};
 
 use gx_history::live_order::LiveOrder;
+use gx_index::get_mut_near;
+use gx_policy::Account;
 use gx_slab::table::Table;
 use gx_units::{AccountName, OutOfMemory};
 use indexmap::IndexMap;
@@ -96,9 +98,25 @@ impl Numbers {
     }
 }
 
-/// Lists the number of this order, which is not live yet, and will be the last that is.
+/// No order of any of these accounts, in their order, so that each is found in its place.
+pub(crate) fn no_lists(
+    alloc: Global,
+    accounts: &[Account],
+) -> Result<IndexMap<AccountName, Numbers>, OutOfMemory>
+    ensures { IfOk result (λ lists. ListsNone lists.entries) }
+{
+    let mut lists = IndexMap::with_capacity(alloc, accounts.len())?;
+    for account in accounts {
+        lists.insert(account.name, Numbers::new(alloc))?;
+    }
+    Ok(lists)
+}
+
+/// Lists the number of this order, which is not live yet, and will be the last that is. Its account is looked for at this
+/// place first.
 pub(crate) fn list_number(
     lists: &mut IndexMap<AccountName, Numbers>,
+    near: usize,
     order: &LiveOrder,
     table: &Table,
 ) -> Result<(), OutOfMemory>
@@ -107,7 +125,7 @@ pub(crate) fn list_number(
     ensures more { OnOk result
         (ListsOneMore order.now table.now lists.old.entries lists.new.entries) }
 {
-    if let Some(numbers) = lists.get_mut(&order.account) {
+    if let Some(numbers) = get_mut_near(lists, near, order.account) {
         return numbers.push(order, table);
     }
     let mut numbers = Numbers::new(*lists.allocator());

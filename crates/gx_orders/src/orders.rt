@@ -1,17 +1,18 @@
 //! The live orders, and the tokens that are used.
 
-ghost use Rattle.std.specs.{Prelude.{◌≡◌, ◌<◌, length, [], ◌∷◌, ◌++◌, Some, OnOk, OnErr, IfSome, IsTrue, IsFalse}, List.filter};
+ghost use Rattle.std.specs.{Prelude.{◌≡◌, ◌<◌, length, [], ◌∷◌, ◌++◌, Some, OnOk, OnErr, IfOk, IfSome, IsTrue, IsFalse}, List.filter};
 ghost use Rattle.gx_history.specs.{LiveOrders.{key, token_of}, Live.live_under};
 ghost use Rattle.gx_orders.specs.{Changes.{IsUnused, marked_by}, LiveOrders.{AreBelow, AreSound, HasOpen, at_rest, changed, cut_at, filled_at, first_waiting, is_of_user, is_used, of_account, of_others, live_numbered, resized_at, without}};
 
-use crate::counts::{count_in, count_one_less, count_one_more};
+use crate::counts::{count_in, count_one_less, count_one_more, no_counts};
 use crate::ending::end_each;
-use crate::numbers::{Numbers, list_number, numbers_in};
+use crate::numbers::{Numbers, list_number, no_lists, numbers_in};
 use crate::request_tokens::denied_token;
 use crate::seed::Seed;
 use gx_history::live_order::{LiveOrder, UserToken};
 use gx_history::record::Asked;
-use gx_policy::RuleName;
+use gx_index::Near;
+use gx_policy::{Policy, RuleName};
 use gx_slab::live::LiveOrders;
 use gx_slab::table::Table;
 use gx_units::{AccountName, OutOfMemory, Token, UserName};
@@ -44,17 +45,23 @@ impl Model for Orders {
 }
 
 impl Orders {
-    /// No order, and no used token: tokens are hashed by this seed. It takes no memory.
-    pub fn new(alloc: Global, seed: Seed) -> Orders
-        ensures live { result.live ≡ [] }
-        ensures used { result.used ≡ [] }
+    /// No order of the policy's users, and no used token: tokens are hashed by the policy's seed.
+    ///
+    /// # Errors
+    ///
+    /// `OutOfMemory` where there is no memory for the names of the users and the accounts.
+    pub fn new(alloc: Global, policy: &Policy) -> Result<Orders, OutOfMemory>
+        ensures live { IfOk result (λ orders. orders.live ≡ []) }
+        ensures used { IfOk result (λ orders. orders.used ≡ []) }
     {
-        Orders {
+        let counts = no_counts(alloc, policy.users())?;
+        let lists = no_lists(alloc, policy.accounts())?;
+        Ok(Orders {
             table: Table::new(alloc),
-            tokens: IndexMap::with_hasher(alloc, seed),
-            counts: IndexMap::new(alloc),
-            lists: IndexMap::new(alloc),
-        }
+            tokens: IndexMap::with_hasher(alloc, Seed::of(policy)),
+            counts,
+            lists,
+        })
     }
 
     /// The live orders, by number: the lowest, which is the oldest, comes first.
@@ -109,19 +116,20 @@ impl Orders {
         self.table.first_waiting().copied()
     }
 
-    /// How many live orders the user has. It looks at no order.
-    pub fn count_of(&self, user: UserName) -> usize
+    /// How many live orders the user has, who is looked for at this place of the policy's users first. It looks at no order.
+    pub fn count_of(&self, user: UserName, near: usize) -> usize
         ensures { result ≡ length (filter (is_of_user user) self.now.live) }
     {
-        count_in(&self.counts, user)
+        count_in(&self.counts, near, user)
     }
 
-    /// Takes in an order, which waits to be matched behind all others and uses its token. It takes memory for one more.
+    /// Takes in an order, which waits to be matched behind all others and uses its token. Its names are looked for at these
+    /// places first. It takes memory for one more.
     ///
     /// # Errors
     ///
     /// `OutOfMemory` where there is no memory for one more; then nothing has changed.
-    pub fn enter(&mut self, order: LiveOrder) -> Result<(), OutOfMemory>
+    pub fn enter(&mut self, order: LiveOrder, near: Near) -> Result<(), OutOfMemory>
         requires has_shares { order.done < order.total }
         requires waits { IsTrue order.waits }
         requires last { AreBelow order.number self.old.live }
@@ -135,10 +143,10 @@ impl Orders {
         self.tokens.reserve(1)?;
         self.counts.reserve(1)?;
         // A number whose order is not put after all is of none that lives.
-        list_number(&mut self.lists, &order, &self.table)?;
+        list_number(&mut self.lists, near.account, &order, &self.table)?;
         self.table.push(order)?;
         self.tokens.insert(order.user_token(), order.number)?;
-        count_one_more(&mut self.counts, order.user)?;
+        count_one_more(&mut self.counts, near.user, order.user)?;
         Ok(())
     }
 

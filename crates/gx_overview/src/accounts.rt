@@ -17,6 +17,7 @@ use std::alloc::Global;
 /// A count stops at 64 bits and a sum at 128: a day's orders stay far below.
 #[derive(Clone, Copy, PartialEq, Eq)]
 pub struct LiveSums {
+    /// How many they are.
     pub orders: u64,
     /// The open shares of its buys.
     pub buys: u128,
@@ -27,13 +28,16 @@ pub struct LiveSums {
 /// What stands of an account.
 #[derive(Clone, Copy, PartialEq, Eq)]
 pub struct AccountRow {
+    /// The name of the account.
     pub account: AccountName,
+    /// An officer has killed it, and not enough officers have lifted it since.
     pub is_killed: bool,
     /// Where it is killed, the last Kill of it that was granted.
     pub kill: Option<GrantedCommand>,
     /// Where an officer has lifted it since that Kill, the last Lift of it that was granted: another officer's is asked for
     /// too.
     pub lift: Option<GrantedCommand>,
+    /// What it has open.
     pub live: LiveSums,
 }
 

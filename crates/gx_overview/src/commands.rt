@@ -17,6 +17,7 @@ pub struct GrantedCommand {
     pub moment: Moment,
     /// Who gave it.
     pub officer: UserName,
+    /// What was done.
     pub action: Action,
 }
 

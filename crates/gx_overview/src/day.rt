@@ -17,17 +17,20 @@ const MOST_RECORDS: u64 = 16_777_216;
 /// How far a day is.
 #[derive(Clone, Copy, PartialEq, Eq)]
 pub struct DayRow {
+    /// How many records it has.
     pub records: u64,
     /// How many more it may have; a Kill and a Logout may come behind them.
     pub left: u64,
     /// That of the last record, in nanoseconds past midnight; 0 where there is none.
     pub moment: Moment,
+    /// A Close Day was granted.
     pub is_closed: bool,
 }
 
 /// Whether a user is logged in.
 #[derive(Clone, Copy, PartialEq, Eq)]
 pub struct UserRow {
+    /// The name in upper case.
     pub user: UserName,
     /// The line that he is logged in on; None where he is not.
     pub line: Option<u16>,

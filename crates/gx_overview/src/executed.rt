@@ -17,6 +17,7 @@ use std::alloc::Global;
 /// A sum stops at 128 bits: a day's fills stay far below.
 #[derive(Clone, Copy, PartialEq, Eq)]
 pub struct Executed {
+    /// How many shares.
     pub shares: u128,
     /// At the prices of the fills, in ten-thousandths of a dollar.
     pub value: u128,
@@ -25,7 +26,9 @@ pub struct Executed {
 /// What an account has executed.
 #[derive(Clone, Copy, PartialEq, Eq)]
 pub struct ExecutedRow {
+    /// The name of the account.
     pub account: AccountName,
+    /// By its buys.
     pub bought: Executed,
     /// By all that is no buy.
     pub sold: Executed,

@@ -18,7 +18,9 @@ use std::alloc::Global;
 /// Whose order it is, in which stock and on which side.
 #[derive(Clone, Copy, PartialEq, Eq)]
 pub struct Owner {
+    /// The account that the order is for.
     pub account: AccountName,
+    /// The stock of the order.
     pub stock: Symbol,
     /// It is a buy.
     pub buys: bool,
@@ -27,7 +29,9 @@ pub struct Owner {
 /// The owner of each order, by the number of the order and by the token that it was asked for under.
 #[derive(Drop)]
 pub struct Owners {
+    /// By the number of the record that granted the order.
     pub by_number: IndexMap<u64, Owner>,
+    /// By the user who asked for the order, and the token that he gave it.
     pub by_token: IndexMap<UserToken, Owner>,
 }
 

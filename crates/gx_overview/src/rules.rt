@@ -15,6 +15,7 @@ use std::alloc::Global;
 /// reference price.
 #[derive(Clone, Copy, PartialEq, Eq)]
 pub struct LimitRow {
+    /// The name of the rule.
     pub rule: RuleId,
     /// The limit in force; None where the rule has none that Set Limit may change.
     pub limit: Option<u64>,
@@ -28,6 +29,7 @@ pub struct LimitRow {
 /// in shares, or in ten-thousandths of a dollar.
 #[derive(Clone, Copy, PartialEq, Eq)]
 pub struct GrossRow {
+    /// The name of the account.
     pub account: AccountName,
     /// None where the rule is no gross rule, or not for the account.
     pub used: Option<u128>,
@@ -39,18 +41,24 @@ pub struct GrossRow {
 /// side; and what is left of the limit in force there: by how many shares more the figure may rise, 0 where it is past it.
 #[derive(Clone, Copy, PartialEq, Eq)]
 pub struct NetRow {
+    /// The name of the stock.
     pub stock: Symbol,
     /// None where the rule is no net rule, or not for the account.
     pub buys: Option<i128>,
+    /// The same of all that is no buy.
     pub sells: Option<i128>,
+    /// What is left for buys; None where `buys` is.
     pub buys_left: Option<u128>,
+    /// What is left for all that is no buy; None where `sells` is.
     pub sells_left: Option<u128>,
 }
 
 /// Whether a rule lists a stock now.
 #[derive(Clone, Copy, PartialEq, Eq)]
 pub struct ListingRow {
+    /// The name of the stock.
     pub stock: Symbol,
+    /// The rule lists it.
     pub is_listed: bool,
     /// The Restrict that put it there last; None where the file did, or it is not there.
     pub put: Option<GrantedCommand>,

@@ -31,6 +31,7 @@ impl Model for Blank {
 }
 
 impl Blank {
+    /// A table of its own with one seat. `OutOfMemory` where memory was refused.
     pub fn new(alloc: Global) -> Result<Blank, OutOfMemory> {
         let (table, seat) = Table::of_words(alloc, &[0], &())?;
         let table = Arc::new(alloc, table)?;

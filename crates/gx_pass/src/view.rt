@@ -9,26 +9,37 @@ use std::marker::{Brand, PhantomData};
 /// What the keeper knows: the history, the lines of the passes that were entered and not left, the last first, and how
 /// many lines were issued. No value of it is made.
 pub struct Keeps {
+    /// The records of the day, in their order.
     pub list: LinkedList<RecordData>,
+    /// The lines of the passes that are entered, the last first.
     pub hand: LinkedList<u16>,
+    /// How many lines were issued.
     pub issued: u16,
 }
 
 /// What a pass knows: its line, a beginning of the history, and a length that it was told. No value of it is made.
 pub struct Holds {
+    /// The line that it speaks for.
     pub line: u16,
+    /// The records that it knows: the first ones of the day.
     pub front: LinkedList<RecordData>,
+    /// A number of records that it was told, which the day has at least.
     pub told: u64,
 }
 
 /// What a seat knows. The keeper meets a pass between taking it in and comparing it.
 pub enum View {
+    /// That of the keeper.
     Keeping(Keeps),
+    /// That of the keeper while it meets a pass.
     Meeting(Keeps, Holds),
+    /// That of a pass.
     Holding(Holds),
+    /// That of a seat that is of no more use.
     Spent,
 }
 
+/// The rule of the table: what its word and its seats know agree.
 pub struct Law;
 
 impl TableRule<u8, View, ()> for Law {
@@ -40,8 +51,10 @@ impl TableRule<u8, View, ()> for Law {
     ghost first = { λ _. first_view };
 }
 
+/// The table that the keeper and the passes share.
 pub type Board = Table<u8, View, (), Law, Global>;
 
+/// A seat of the table.
 pub type Place = Seat<u8, View>;
 
 /// A load by a pass, which is told the length.

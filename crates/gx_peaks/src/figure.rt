@@ -10,7 +10,9 @@ use gx_units::{AccountName, RuleId};
 /// What one gross or net rule counts of one account, or of all accounts of its scope where it counts them together.
 #[derive(Clone, Copy, PartialEq, Eq)]
 pub struct Figure {
+    /// The name of the rule.
     pub rule: RuleId,
+    /// An account that the rule is for: any of them where all are counted together.
     pub account: AccountName,
     /// The side of a stock that a net rule counts; None for a gross rule.
     pub side: Option<StockSide>,

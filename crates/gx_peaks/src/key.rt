@@ -13,6 +13,7 @@ use std::hash::{Hash, Hasher};
 /// Whose figure it is, and of which rule: figures of one key are one figure.
 #[derive(Clone, Copy, PartialEq, Eq)]
 pub struct PeakKey {
+    /// The name of the rule.
     pub rule: RuleId,
     /// The account; None where the rule counts all accounts of its scope together.
     pub whose: Option<AccountName>,

@@ -23,10 +23,13 @@ pub struct Peak {
 /// What a figure and its limit are behind a record.
 #[derive(Clone, Copy, PartialEq, Eq)]
 pub struct Reading {
+    /// What is used, in shares or in ten-thousandths of a dollar.
     pub used: u128,
+    /// The limit in force, in the same unit.
     pub limit: Option<u64>,
     /// The number and the moment of the record.
     pub number: u64,
+    /// In nanoseconds past midnight.
     pub moment: Moment,
 }
 

@@ -19,6 +19,7 @@ use std::alloc::Global;
 /// The peaks of all figures of a day, which looks on while its records are made again.
 #[derive(Drop)]
 pub struct Peaks {
+    /// The peaks of the figures that have been asked for.
     pub table: PeakTable,
     /// The account whose sell the record that comes next fills as the order that came in.
     pub seller: Option<AccountName>,

@@ -21,13 +21,16 @@ use std::alloc::Global;
 /// A peak, and the account for which its figure was asked last.
 #[derive(Clone, Copy, PartialEq, Eq)]
 pub struct HeldPeak {
+    /// The account for which the figure was asked last.
     pub account: AccountName,
+    /// The peak itself.
     pub peak: Peak,
 }
 
 /// The peaks of the figures that have been asked for.
 #[derive(Drop)]
 pub struct PeakTable {
+    /// The peak of each key, and the account for which it was asked last.
     pub peaks: IndexMap<PeakKey, HeldPeak>,
 }
 
@@ -121,6 +124,10 @@ impl PeakTable {
     }
 
     /// Notes the figures that count the live order of this number, if there is one.
+    ///
+    /// # Errors
+    ///
+    /// `OutOfMemory` where memory was refused; then some of the figures may be noted.
     pub fn note_order<G: ShowsState>(&mut self, gate: &G, number: u64) -> Result<(), OutOfMemory>
         ensures noted { OnOk result (AdvancesTo (G.seen gate.now).policy (G.seen gate.now).records
             (IsOfOrder (G.seen gate.now).policy (live_numbered
@@ -137,6 +144,10 @@ impl PeakTable {
     }
 
     /// Notes the gross figures of the account of a sell that was filled, if there is one.
+    ///
+    /// # Errors
+    ///
+    /// `OutOfMemory` where memory was refused; then some of the figures may be noted.
     pub fn note_gain<G: ShowsState>(
         &mut self,
         gate: &G,
@@ -193,6 +204,10 @@ impl PeakTable {
     }
 
     /// Notes all figures that are kept of the rule whose limit was set, if one was.
+    ///
+    /// # Errors
+    ///
+    /// `OutOfMemory` where memory was refused; then some of the figures may be noted.
     pub fn note_setting<G: ShowsState>(
         &mut self,
         gate: &G,

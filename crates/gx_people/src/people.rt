@@ -9,7 +9,8 @@ ghost use Rattle.gx_people.specs.{Entitled.{granted_to, has, has_room, holds, ma
 use crate::person::{Person, Standing};
 use crate::power::Power;
 use gx_desk::WrittenName;
-use gx_policy::{Account, Policy};
+use gx_index::{Near, get_near};
+use gx_policy::{Account, Policy, Role};
 use gx_units::{AccountName, OutOfMemory, Password, UserName};
 use indexmap::IndexMap;
 use std::alloc::Global;
@@ -42,6 +43,14 @@ impl Model for People {
     ghost view = { λ people. users_of people.by_name.entries };
 }
 
+/// Where the account that a trader trades for stands among these; 0 for any other user.
+fn near_account(accounts: &[Account], role: &Role) -> usize {
+    match role {
+        Role::Trader(name) => accounts.iter().position(|a| a.name == *name).unwrap_or(0),
+        _ => 0,
+    }
+}
+
 impl People {
     /// The people as the policy says, before any command. Takes memory for a copy of what it keeps, and for each reader
     /// for as many accounts as a policy may have.
@@ -56,6 +65,7 @@ impl People {
             let person = Person {
                 password: user.password,
                 standing,
+                near_account: near_account(policy.accounts(), &user.role),
             };
             by_name.insert(user.name, person)?;
         }
@@ -63,11 +73,31 @@ impl People {
     }
 
     #[tactic(auto, using(crate::proofs::Table::role_found))]
+    #[inline(always)]
+    fn standing_near(&self, name: UserName, near: usize) -> Option<&Standing>
+        ensures { option_map (λ s. role_of_standing s.now) result ≡ role_in self.now name }
+    {
+        let person = get_near(&self.by_name, near, name)?;
+        Some(&person.standing)
+    }
+
     fn standing(&self, name: UserName) -> Option<&Standing>
         ensures { option_map (λ s. role_of_standing s.now) result ≡ role_in self.now name }
     {
-        let person = self.by_name.get(&name)?;
-        Some(&person.standing)
+        self.standing_near(name, 0)
+    }
+
+    /// Where the user, and the account that he trades for, stand in the policy: tables in its order
+    /// look there first. Nothing but time rests on it; it is 0 for what is not known.
+    pub fn near(&self, user: UserName) -> Near {
+        match self.by_name.get_full(&user) {
+            Some((place, _, person)) => Near {
+                user: place,
+                account: person.near_account,
+                ..Near::FIRST
+            },
+            None => Near::FIRST,
+        }
     }
 
     /// Whether the policy has this user.
@@ -78,14 +108,18 @@ impl People {
         self.by_name.contains_key(&user)
     }
 
-    /// Whether the user gives commands.
-    pub fn is_officer(&self, user: UserName) -> bool
+    /// Whether the user, who is looked for at this place of the policy's users first, gives commands.
+    pub fn is_officer(&self, user: UserName, near: usize) -> bool
         ensures { result ≡ is_officer (role_in self.now user) }
     {
-        matches!(self.standing(user), Some(Standing::Officer(_, _)))
+        matches!(
+            self.standing_near(user, near),
+            Some(Standing::Officer(_, _))
+        )
     }
 
     /// Whether the user is shown fills of others.
+    /// Part of the interface: it stands beside `is_officer` and `account_of`.
     pub fn is_reader(&self, user: UserName) -> bool
         ensures { result ≡ is_reader (role_in self.now user) }
     {
@@ -99,7 +133,15 @@ impl People {
     pub fn account_of(&self, user: UserName) -> Option<AccountName>
         ensures { result ≡ option_and_then account_of_role (role_in self.now user) }
     {
-        match self.standing(user)? {
+        self.account_near(user, 0)
+    }
+
+    /// The same of a user who is looked for at this place of the policy's users first.
+    #[inline(always)]
+    pub fn account_near(&self, user: UserName, near: usize) -> Option<AccountName>
+        ensures { result ≡ option_and_then account_of_role (role_in self.now user) }
+    {
+        match self.standing_near(user, near)? {
             Standing::Trader(account) => Some(*account),
             _ => None,
         }
@@ -137,6 +179,7 @@ impl People {
     }
 
     /// Whether the user is an officer with the power, and the account is one of his.
+    /// Part of the interface: it is `has` and `holds` in one, and the program asks these.
     pub fn may(&self, officer: UserName, power: Power, account: AccountName) -> bool
         ensures { result ≡ may self.now officer power account }
     {

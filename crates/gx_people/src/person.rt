@@ -15,6 +15,8 @@ use std::alloc::Global;
 pub(crate) struct Person {
     pub(crate) password: Password,
     pub(crate) standing: Standing,
+    /// Where the account that he trades for stands in the policy: it is looked for there first.
+    pub(crate) near_account: usize,
 }
 
 /// What a user is now.

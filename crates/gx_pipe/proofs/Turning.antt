@@ -6,11 +6,11 @@ use Rattle.gx_units.specs.{Spelling.folded_user, declared.names.UserName.UserNam
 use Rattle.gx_soup.specs.declared.packet.{LoginRequest.LoginRequest, ClientPacket.ClientPacket}
 use Rattle.gx_history.specs.{declared.{«record».{Request.Request, RecordData.RecordData}, report.Report.Report}, InForce.is_closed, Streams.stream}
 use Rattle.gx_policy.specs.Lists.{slice}
-use Rattle.gx_answers.specs.{Gates.GateData, Told.ends_before, declared.outcome.LoginAnswer.LoginAnswer, Asking.{asked_by, stepped}}
-use Rattle.gx_pipe.specs.{declared.{connection.Connection.Connection, fault.PipeFault.PipeFault}, Serving.IsOnLine, Faults.fault_of_send, Piping.{Standing, mark, cause_of, Refused, logout_of, IsTaken, IsUnwritten, IsGivenUp, IsTurnGivenUp, GivesAll, reported_of, told_of, pull_marks, StopsIn}, Steps.{login_asked_at, login_told}, Transcript.{Run, run_at, and_then, with_text, silent, acted, on_event, first_told, logged_in, with_login, answered, sent, unsent, pulled}}
+use Rattle.gx_answers.specs.{Gates.GateData, Told.ends_before, declared.outcome.{LoginAnswer.LoginAnswer, StepFault.StepFault}, Asking.{asked_by, stepped}}
+use Rattle.gx_pipe.specs.{declared.{connection.Connection.Connection, fault.PipeFault.PipeFault}, Serving.IsOnLine, Faults.{fault_of_send, fault_of_step, IsToldFull}, Piping.{Standing, mark, cause_of, Refused, logout_of, IsRunOf, IsTaken, IsUnwritten, IsGivenUp, IsTurnGivenUp, GivesAll, reported_of, told_of, pull_marks, StopsIn}, Steps.{login_asked_at, login_told}, Transcript.{Run, run_at, and_then, with_text, silent, acted, on_event, first_told, logged_in, with_login, answered, sent, unsent, pulled}}
 use Rattle.gx_session.specs.{declared.{event.{Control.Control, Next.Next, Reply.Reply}, session.Phase.{Phase, TheVariants.{Fresh, Waiting, On, Abandoned, Done}}}, Events.{asks_step, is_on, login_in}, Happenings.Happening, Table.{SessionData, row_in, turn}, Sending.{control_bytes, control_text, reports_text}}
 use Rattle.gx_devices.proofs.Stopping.{fewer_then, first_behind, first_same, stops_here}
-use Rattle.gx_pipe.proofs.{Growing.{event_adds, answer_on, login_adds}, OnLine.pull_keeps}
+use Rattle.gx_pipe.proofs.{Growing.{event_adds, answer_on, login_adds}, OnLine.pull_keeps, Stepping.of_step}
 use Rattle.gx_session.specs.Happenings as happens
 use Rattle.gx_answers.proofs.Stepped.{all_taken}
 
@@ -145,6 +145,40 @@ packet_cut gate c packet moment fault now state output left (inr h) =
     let sends = h.0 in
     let clash : is_some {T = Control} None ≡ true = ap is_some (sym quiet) ∙ sends in
     cc
+
+-- a message of a user who is on
+pub message_taken : (gate now : GateData) (c state : Connection) (packet : ClientPacket) (payload : List ℕ) (moment : ℕ) (output : Option (List ℕ)) → packet ≡ ClientPacket.Data payload → IsRunOf (on_event gate c (happens.Packet (ClientPacket.Data payload)) moment) now state → IsTaken (answered gate c packet moment) now state output output
+unfolding answered on_event
+message_taken gate now c state packet payload moment output is run =
+    subst (λ (p : ClientPacket). IsTaken (answered gate c p moment) now state output output) (sym is) (record {
+      gate = run.gate;
+      connection = run.connection;
+      text = subst (λ (s : Option Control). Appends output output (control_text s ++ [])) (sym (packet_is_silent c.session (ClientPacket.Data payload) moment)) (Appends-nil output);
+    })
+
+pub message_cut : (gate now : GateData) (c state : Connection) (packet : ClientPacket) (payload : List ℕ) (moment : ℕ) (fault : StepFault) (output : Option (List ℕ)) → packet ≡ ClientPacket.Data payload → asks_step (turn c.session (happens.Packet (ClientPacket.Data payload)) moment).reply.next ≡ true → (now ≡ gate) × (state ≡ c) → IsToldFull now fault → IsGivenUp gate c (answered gate c packet moment) (fault_of_step fault) now state output output
+message_cut gate now c state packet payload moment fault output is asks same full =
+    subst (λ (p : ClientPacket). IsGivenUp gate c (answered gate c p moment) (fault_of_step fault) now state output output) (sym is)
+    (packet_cut gate c (ClientPacket.Data payload) moment (fault_of_step fault) now state output output
+    (inl (asks, record { gate_is = same.0; logout = ap logout_of same.1; cause = of_step gate now fault same.0 full; written = Appends-nil output })))
+
+-- what the session makes of a message, its reply known
+pub message_run : (gate now : GateData) (c : Connection) (payload : List ℕ) (moment : ℕ) (request : Request) (session : SessionData) → (turn c.session (happens.Packet (ClientPacket.Data payload)) moment).reply ≡ record { send = None; next = Next.Act request } → session ≡ (turn c.session (happens.Packet (ClientPacket.Data payload)) moment).session → now ≡ acted gate c.user moment (Next.Act request) → IsRunOf (on_event gate c (happens.Packet (ClientPacket.Data payload)) moment) now (record c { session = session })
+unfolding on_event
+message_run gate now c payload moment request session r s g = record {
+  gate = g ∙ sym (ap (λ (x : Reply). acted gate c.user moment x.next) r);
+  connection = ap (λ (x : SessionData). record c { session = x }) s;
+}
+
+-- reports were pulled, and more may come
+pub pull_goes_on : (gate : GateData) (c : Connection) (count : ℕ) (ended : Bool) (moment : ℕ) (session : SessionData) (output : Option (List ℕ)) → ended ≡ false → (turn c.session (happens.Pulled count false) moment).reply ≡ record { send = None; next = Next.Idle } → session ≡ (turn c.session (happens.Pulled count false) moment).session → IsTaken (on_event gate c (happens.Pulled count ended) moment) gate (record c { session = session }) output output
+unfolding on_event
+pull_goes_on gate c count true moment session output e r s = cc
+pull_goes_on gate c count false moment session output e r s = record {
+  gate = sym (ap (λ (x : Reply). acted gate c.user moment x.next) r);
+  connection = ap (λ (x : SessionData). record c { session = x }) s;
+  text = subst (λ (x : Reply). Appends output output (control_text x.send)) (sym r) (Appends-nil output);
+}
 
 pub login_is_waiting : (gate : GateData) (c : Connection) (packet : ClientPacket) (moment : ℕ) (next : Next) (now : GateData) (state : Connection) (output left : Option (List ℕ)) → next ≡ (turn c.session (happens.Packet packet) moment).reply.next → next ≡ Next.Login → IsTaken (on_event gate c (happens.Packet packet) moment) now state output left → state.session.phase ≡ Waiting
 unfolding on_event

@@ -45,6 +45,11 @@ Refused Full records = day_limit ≤ length records
 Refused Writing records = ⊥
 Refused Reading records = ⊥
 
+-- the gate and the connection stand where the run ends
+pub record IsRunOf (run : Run) (now : GateData) (state : Connection) : Type 0 where
+  pub gate : now ≡ run.gate
+  pub connection : state ≡ run.connection
+
 -- the run was made, and its text written
 pub record IsTaken (run : Run) (now : GateData) (state : Connection) (output left : Option (List ℕ)) : Type 0 where
   pub gate : now ≡ run.gate

@@ -3,17 +3,21 @@
 ghost use Rattle.std.specs.Prelude.{◌≡◌, ℕ, ◌-◌, ◌^◌, ◌<◌, ◌≤◌, List, ◌++◌, length, IfOk, IfErr, OnOk, OnErr, IsFalse, IsTrue};
 ghost use Rattle.gx_history.specs.declared.record.RecordData.{RecordData};
 ghost use Rattle.gx_answers.specs.Matches.{settled_gate, IsSettling};
+ghost use Rattle.gx_soup.specs.declared.packet.ClientPacket.TheVariants.{Data};
 ghost use Rattle.gx_devices.specs.Stopping.{AreFewer, Mark};
 ghost use Rattle.gx_session.specs.{declared.session.Phase.TheVariants.Waiting, Events.{CanAsk, asks_step, is_on}, Happenings.happening, Table.turn};
-ghost use Rattle.gx_pipe.specs.{Faults.{IsToldFull, IsToldRightly, IsFinite, fault_of_step}, Piping.{is_never_refused, logout_of, IsTaken, IsGivenUp, IsTurnGivenUp, Standing, pull_marks, packet_marks, StopsIn, GivesAll, IsLeaving, IsMatchedInPart}, Transcript.{acted, silent, step_of, on_event, logged_in, answered, matched, pulled, handled, opened_at, run_at, finished, first_told}};
+ghost use Rattle.gx_session.specs.Happenings as happens;
+ghost use Rattle.gx_pipe.specs.{Faults.{IsToldFull, IsToldRightly, IsFinite, fault_of_step}, Piping.{is_never_refused, logout_of, IsRunOf, IsTaken, IsGivenUp, IsTurnGivenUp, Standing, pull_marks, packet_marks, StopsIn, GivesAll, IsLeaving, IsMatchedInPart}, Transcript.{acted, silent, step_of, on_event, logged_in, answered, matched, pulled, handled, opened_at, run_at, finished, first_told}};
 
 use crate::asking::login_step;
 use crate::fault::PipeFault;
-use gx_answers::{AccessGate, LoginAnswer, Pulled, StepFault, asked, count_of};
+use crate::room::PullRoom;
+use gx_answers::{AccessGate, LoginAnswer, Reached, StepFault, asked, count_of};
 use gx_devices::Counted;
 use gx_history::record::Request;
-use gx_session::{Event, Next, Session, send_control, send_pulled};
-use gx_soup::{ClientPacket, LoginRequest};
+use gx_history::report::Report;
+use gx_session::{Event, Next, Session, send_control, send_reports};
+use gx_soup::{ClientPacket, LoginRequest, Payload};
 use gx_units::{OutOfMemory, UserName};
 use std::alloc::Global;
 use std::io::Write;
@@ -21,6 +25,7 @@ use std::io::Write;
 /// A connection: its session, who asked to be logged in, and how far it has come.
 #[derive(Clone, Copy)]
 pub struct Connection {
+    /// How far it has come as a session of SoupBinTCP.
     pub session: Session,
     /// Who asked to be logged in, as he wrote his name; blank before.
     pub user: UserName,
@@ -30,7 +35,15 @@ pub struct Connection {
     pub coming: u64,
 }
 
+/// How many reports were pulled and sent, and whether there will be no more.
+#[derive(Clone, Copy)]
+struct Pull {
+    count: u64,
+    ended: bool,
+}
+
 /// Makes the step that a session asks for.
+#[inline(always)]
 #[tactic(auto, using(crate::proofs::Stepping::told_full))]
 fn act<G: AccessGate>(
     gate: &mut G,
@@ -192,6 +205,60 @@ impl Connection {
         }
     }
 
+    /// Makes the step that a message of a user who is logged in asks for.
+    fn ask<G: AccessGate>(
+        &mut self,
+        gate: &mut G,
+        payload: &Payload,
+        moment: u64,
+    ) -> Result<(), StepFault>
+        requires { IsTrue (is_on self.old.session.phase) }
+        ensures ok { OnOk result (IsRunOf
+            (on_event (G.seen gate.old) self.old (happens.Packet (Data payload.now)) moment)
+            (G.seen gate.new) self.new) }
+        ensures err { OnErr result ((G.seen gate.new ≡ G.seen gate.old) × (self.new ≡ self.old)) }
+        ensures asks { IsTrue (asks_step
+            (turn self.old.session (happens.Packet (Data payload.now)) moment).reply.next) }
+        ensures full { IfErr result (IsToldFull (G.seen gate.new)) }
+    {
+        let mut session = self.session;
+        let request = session.take_message(payload, moment);
+        act(gate, self.user, Next::Act(request), moment)?;
+        self.session = session;
+        Ok(())
+    }
+
+    /// Tells the session of a packet, and makes the step that it asks for: `answer`, and a short
+    /// way for messages.
+    fn hear<G: AccessGate, W: Write>(
+        &mut self,
+        alloc: Global,
+        gate: &mut G,
+        packet: &ClientPacket,
+        moment: u64,
+        writer: &mut Counted<W>,
+    ) -> Result<(), PipeFault>
+        requires { writer.old.failed < 2 ^ 64 - 1 }
+        ensures ok { OnOk result (IsTaken (answered (G.seen gate.old) self.old packet.now moment)
+            (G.seen gate.new) self.new
+            (W.contents writer.old.device) (W.contents writer.new.device)) }
+        ensures err { IfErr result (λ fault. IsGivenUp (G.seen gate.old) self.old
+            (answered (G.seen gate.old) self.old packet.now moment) fault
+            (G.seen gate.new) self.new
+            (W.contents writer.old.device) (W.contents writer.new.device)) }
+        ensures kept { OnOk result (writer.new.failed ≡ writer.old.failed) }
+        ensures told { IfErr result (IsToldRightly
+            0 0 writer.old.failed writer.new.failed (G.seen gate.new)) }
+    {
+        match packet {
+            ClientPacket::Data(payload) if self.session.is_on() => {
+                self.ask(gate, payload, moment)?;
+                Ok(())
+            }
+            _ => self.answer(alloc, gate, packet, moment, writer),
+        }
+    }
+
     /// Makes the matching steps that follow a packet; none once the session is over.
     #[tactic(auto, using(crate::proofs::Stepping::of_matching), unfolding(crate::specs::Transcript::matched))]
     fn match_orders<G: AccessGate>(&self, gate: &mut G, moment: u64) -> Result<(), StepFault>
@@ -207,21 +274,57 @@ impl Connection {
         settle(gate, moment)
     }
 
-    /// All reports that are there.
-    fn reports<G: AccessGate>(&self, gate: &G) -> Result<Pulled, OutOfMemory>
-        ensures all { IfOk result
-            (λ p. GivesAll (G.seen gate.now) self.now p.reports p.next p.ended) }
+    /// Puts all reports that are there into this list.
+    fn put_reports<G: AccessGate>(
+        &self,
+        gate: &G,
+        list: &mut Vec<Report>,
+    ) -> Result<Reached, OutOfMemory>
+        ensures all { IfOk result (λ r.
+            GivesAll (G.seen gate.now) self.now list.new.items r.next r.ended) }
     {
-        let pulled = gate.reports(self.user.folded(), self.next, u64::MAX)?;
-        let _few = count_of(pulled.reports.as_slice());
-        Ok(pulled)
+        let reached = gate.put_reports(self.user.folded(), self.next, u64::MAX, list)?;
+        let _few = count_of(list.as_slice());
+        Ok(reached)
+    }
+
+    /// Tells the session that so many reports were pulled and sent: `turn`, and a short way where
+    /// more may come.
+    fn tell_pulled<G: AccessGate, W: Write>(
+        &mut self,
+        alloc: Global,
+        gate: &mut G,
+        pull: Pull,
+        moment: u64,
+        writer: &mut Counted<W>,
+    ) -> Result<(), PipeFault>
+        requires { writer.old.failed < 2 ^ 64 - 1 }
+        ensures ok { OnOk result (IsTaken
+            (on_event (G.seen gate.old) self.old (happens.Pulled pull.count pull.ended) moment)
+            (G.seen gate.new) self.new
+            (W.contents writer.old.device) (W.contents writer.new.device)) }
+        ensures err { IfErr result (λ fault. IsTurnGivenUp (G.seen gate.old) self.old
+            (happens.Pulled pull.count pull.ended) moment fault (G.seen gate.new) self.new
+            (W.contents writer.old.device) (W.contents writer.new.device)) }
+        ensures kept { OnOk result (writer.new.failed ≡ writer.old.failed) }
+        ensures told { IfErr result (IsToldRightly
+            0 0 writer.old.failed writer.new.failed (G.seen gate.new)) }
+    {
+        let Pull { count, ended } = pull;
+        if ended {
+            self.turn(alloc, gate, Event::Pulled { count, ended }, moment, writer)?;
+            return Ok(());
+        }
+        self.session.take_pull(count, moment);
+        Ok(())
     }
 
     /// Sends all reports that are there, where a user is logged in, and tells the session of them.
+    /// They are put together in this room.
     #[tactic(auto, unfolding(crate::specs::Transcript::pulled, crate::specs::Transcript::sent))]
     fn pull<G: AccessGate, W: Write>(
         &mut self,
-        alloc: Global,
+        room: &mut PullRoom,
         gate: &mut G,
         moment: u64,
         writer: &mut Counted<W>,
@@ -244,21 +347,21 @@ impl Connection {
         if !self.session.is_on() {
             return Ok(());
         }
-        let pulled = self.reports(gate)?;
-        let count = count_of(pulled.reports.as_slice());
-        let ended = pulled.ended;
-        send_pulled(alloc, &pulled, writer)?;
-        self.next = pulled.next;
-        self.turn(alloc, gate, Event::Pulled { count, ended }, moment, writer)?;
-        Ok(())
+        let reached = self.put_reports(gate, &mut room.reports)?;
+        let ended = reached.ended;
+        let count = count_of(room.reports.as_slice());
+        send_reports(&mut room.text, room.reports.as_slice(), writer)?;
+        self.next = reached.next;
+        self.tell_pulled(room.alloc, gate, Pull { count, ended }, moment, writer)
     }
 
     /// Takes a packet at its moment: tells the session of it, makes matching steps until no order
-    /// waits, and then sends reports. Nothing once the session is over.
+    /// waits, and then sends reports, which are put together in this room. Nothing once the session
+    /// is over.
     #[tactic(auto, unfolding(crate::specs::Transcript::handled))]
     pub(crate) fn take<G: AccessGate, W: Write>(
         &mut self,
-        alloc: Global,
+        room: &mut PullRoom,
         gate: &mut G,
         packet: &ClientPacket,
         writer: &mut Counted<W>,
@@ -283,9 +386,9 @@ impl Connection {
         }
         let moment = self.coming;
         self.coming = moment.saturating_add(1);
-        self.answer(alloc, gate, packet, moment, writer)?;
+        self.hear(room.alloc, gate, packet, moment, writer)?;
         self.match_orders(gate, moment)?;
-        self.pull(alloc, gate, moment, writer)
+        self.pull(room, gate, moment, writer)
     }
 
     /// Tells the session that its input has a fault or is at its end, and logs out a user who is on.

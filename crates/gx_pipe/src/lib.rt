@@ -6,6 +6,7 @@ mod connection;
 mod fault;
 mod laws;
 mod pipe;
+mod room;
 
 pub use fault::PipeFault;
 pub use laws::{

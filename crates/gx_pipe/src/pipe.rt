@@ -8,6 +8,7 @@ ghost use Rattle.gx_session.specs.Happenings.{happening};
 
 use crate::connection::Connection;
 use crate::fault::PipeFault;
+use crate::room::{PullRoom, Room};
 use gx_answers::{AccessGate, StepFault};
 use gx_devices::Counted;
 use gx_session::Event;
@@ -20,7 +21,7 @@ const READS: u64 = 1_000_000_000;
 
 /// Takes packets in order, each answered before the next.
 fn take_packets<G: AccessGate, W: Write>(
-    alloc: Global,
+    room: &mut PullRoom,
     gate: &mut G,
     connection: &mut Connection,
     writer: &mut Counted<W>,
@@ -42,14 +43,14 @@ fn take_packets<G: AccessGate, W: Write>(
         (IsToldRightly 0 0 writer.old.failed writer.new.failed (G.seen gate.new)) }
 {
     for packet in packets {
-        connection.take(alloc, gate, packet, writer)?;
+        connection.take(room, gate, packet, writer)?;
     }
     Ok(())
 }
 
 /// Reads a piece, and answers its packets. The answer says whether the connection is at its end.
 fn exchange<G: AccessGate, W: Write>(
-    alloc: Global,
+    room: &mut Room,
     gate: &mut G,
     connection: &mut Connection,
     feeder: &mut Feeder,
@@ -70,9 +71,15 @@ fn exchange<G: AccessGate, W: Write>(
     ensures told { IfErr result
         (IsToldRightly 0 0 writer.old.failed writer.new.failed (G.seen gate.new)) }
 {
-    let fed = feeder.feed(piece)?;
-    take_packets(alloc, gate, connection, writer, fed.packets.as_slice())?;
-    Ok(fed.fault.is_some() || connection.session.is_over())
+    let fault = feeder.feed_into(piece, &mut room.packets)?;
+    take_packets(
+        &mut room.pull,
+        gate,
+        connection,
+        writer,
+        room.packets.as_slice(),
+    )?;
+    Ok(fault.is_some() || connection.session.is_over())
 }
 
 /// Runs a connection until its end or a fault, with so many reads at most.
@@ -108,6 +115,7 @@ fn serve<G: AccessGate, R: Read, W: Write>(
         (G.seen gate.new)) }
 {
     let mut feeder = Feeder::new(alloc);
+    let mut room = Room::new(alloc);
     let mut buffer = [0u8; 4096];
     for _ in 0..reads {
         let n = match reader.read(&mut buffer) {
@@ -118,7 +126,14 @@ fn serve<G: AccessGate, R: Read, W: Write>(
             connection.leave(gate, Event::End)?;
             return Ok(());
         }
-        let over = exchange(alloc, gate, connection, &mut feeder, writer, &buffer[..n])?;
+        let over = exchange(
+            &mut room,
+            gate,
+            connection,
+            &mut feeder,
+            writer,
+            &buffer[..n],
+        )?;
         if over {
             connection.leave(gate, Event::Fault)?;
             return Ok(());

@@ -85,6 +85,10 @@ fn copied_rules(alloc: Global, rules: &[FileRule]) -> Result<FileRules, OutOfMem
 
 impl Policy {
     /// A policy of its own that says the same.
+    ///
+    /// # Errors
+    ///
+    /// `OutOfMemory` where memory was refused.
     pub fn copied(&self, alloc: Global) -> Result<Policy, OutOfMemory>
         ensures { IfOk result (λ policy. policy ≡ self.now) }
     {

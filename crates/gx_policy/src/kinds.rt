@@ -52,11 +52,17 @@ pub enum ExposureLimit {
 /// A kind of rule, whatever its stocks and its numbers are.
 #[derive(Clone, Copy, PartialEq, Eq)]
 pub enum KindName {
+    /// Stocks that may not be traded.
     Listed(ListKind),
+    /// What an order may not be.
     Plain(PlainKind),
+    /// A limit of one order.
     Order(OrderLimit),
+    /// A limit of open and executed shares, or of their value.
     Exposure(ExposureLimit),
+    /// A limit of orders in a window of time.
     Rate,
+    /// A limit of like orders among the last.
     Repeat,
 }
 

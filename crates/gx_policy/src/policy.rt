@@ -10,13 +10,16 @@ use std::marker::Model;
 /// A customer's account, and the firm that orders of it are entered for.
 #[derive(Clone, Copy, PartialEq, Eq)]
 pub struct Account {
+    /// The name of the account.
     pub name: AccountName,
+    /// The firm that its orders have to name: OUCH's Firm.
     pub firm: Firm,
 }
 
 /// A listed stock.
 #[derive(Clone, Copy, PartialEq, Eq)]
 pub struct Stock {
+    /// Its name: OUCH's Stock.
     pub name: Symbol,
     /// The price that collars use until the day's first fill, in ten-thousandths of a dollar.
     pub reference: u32,
@@ -45,6 +48,10 @@ impl Scope {
     }
 
     /// A scope of its own of the same accounts.
+    ///
+    /// # Errors
+    ///
+    /// `OutOfMemory` where memory was refused.
     pub fn copied(&self, alloc: Global) -> Result<Scope, OutOfMemory>
         ensures { IfOk result (λ scope. scope ≡ self.now) }
     {
@@ -58,7 +65,9 @@ impl Scope {
 /// What an officer may do: each power is for the commands of its name.
 #[derive(Clone, Copy, PartialEq, Eq)]
 pub struct Powers {
+    /// Kill.
     pub kill: bool,
+    /// Lift.
     pub lift: bool,
     /// Set Limit.
     pub limits: bool,
@@ -88,19 +97,23 @@ pub struct User {
     pub name: UserName,
     /// In upper case.
     pub password: Password,
+    /// What he may do.
     pub role: Role,
 }
 
 /// Whether a limit holds for each account or for all in scope.
 #[derive(Clone, Copy, PartialEq, Eq)]
 pub enum Count {
+    /// For each account by itself.
     Each,
+    /// For all accounts in scope, counted together.
     Together,
 }
 
 /// At most so many orders in a window of time.
 #[derive(Clone, Copy, PartialEq, Eq)]
 pub struct Rate {
+    /// The greatest number of orders in the window.
     pub limit: u64,
     /// In nanoseconds.
     pub window: u64,
@@ -109,6 +122,7 @@ pub struct Rate {
 /// At most so many alike among the last orders.
 #[derive(Clone, Copy, PartialEq, Eq)]
 pub struct Repeat {
+    /// The greatest number of like orders among them.
     pub limit: u64,
     /// How many of the last orders are looked at.
     pub span: u64,
@@ -134,26 +148,37 @@ pub enum RuleKind {
 /// A rule of the policy file. It is for orders of the accounts in its scope.
 #[derive(Drop)]
 pub struct FileRule {
+    /// The name of the rule.
     pub name: RuleId,
+    /// What it forbids.
     pub kind: RuleKind,
+    /// The accounts that it is for.
     pub scope: Scope,
 }
 
 /// How many different officers have to lift an account since its last Kill, before it is killed no longer.
 #[derive(Clone, Copy, PartialEq, Eq)]
 pub enum Lifters {
+    /// One officer.
     One,
+    /// Two different officers.
     Two,
 }
 
 /// What the policy file says, in its order.
 #[derive(Drop)]
 pub struct PolicyData {
+    /// The name of the day's session, which SoupBinTCP calls Session.
     pub session: SessionName,
+    /// How many officers have to lift an account.
     pub lifters: Lifters,
+    /// The accounts of customers.
     pub accounts: Accounts,
+    /// The stocks that are listed.
     pub stocks: Stocks,
+    /// Who may log in.
     pub users: Users,
+    /// The rules of the file; the built-in ones are not among them.
     pub rules: FileRules,
 }
 
@@ -274,18 +299,14 @@ impl AccountNames {
     }
 
     /// A list of its own of the same items.
+    ///
+    /// # Errors
+    ///
+    /// `OutOfMemory` where memory was refused.
     pub fn copied(&self, alloc: Global) -> Result<AccountNames, OutOfMemory>
         ensures { IfOk result (λ names. names ≡ self.now) }
     {
         Ok(AccountNames::new(self.items.as_slice().to_vec(alloc)?))
-    }
-
-    /// Gives the items back.
-    pub fn into_vec(self) -> Vec<AccountName>
-        ensures { result.items ≡ self }
-    {
-        let AccountNames { items } = self;
-        items
     }
 }
 
@@ -318,14 +339,6 @@ impl Symbols {
     {
         self.items.as_slice()
     }
-
-    /// Gives the items back.
-    pub fn into_vec(self) -> Vec<Symbol>
-        ensures { result.items ≡ self }
-    {
-        let Symbols { items } = self;
-        items
-    }
 }
 
 /// The accounts, in the file's order.
@@ -356,14 +369,6 @@ impl Accounts {
         ensures { result.now ≡ self.now }
     {
         self.items.as_slice()
-    }
-
-    /// Gives the items back.
-    pub fn into_vec(self) -> Vec<Account>
-        ensures { result.items ≡ self }
-    {
-        let Accounts { items } = self;
-        items
     }
 }
 
@@ -396,14 +401,6 @@ impl Stocks {
     {
         self.items.as_slice()
     }
-
-    /// Gives the items back.
-    pub fn into_vec(self) -> Vec<Stock>
-        ensures { result.items ≡ self }
-    {
-        let Stocks { items } = self;
-        items
-    }
 }
 
 /// The users, in the file's order.
@@ -435,14 +432,6 @@ impl Users {
     {
         self.items.as_slice()
     }
-
-    /// Gives the items back.
-    pub fn into_vec(self) -> Vec<User>
-        ensures { result.items ≡ self }
-    {
-        let Users { items } = self;
-        items
-    }
 }
 
 /// The rules, in the file's order.
@@ -473,13 +462,5 @@ impl FileRules {
         ensures { result.now ≡ self.now }
     {
         self.items.as_slice()
-    }
-
-    /// Gives the items back.
-    pub fn into_vec(self) -> Vec<FileRule>
-        ensures { result.items ≡ self }
-    {
-        let FileRules { items } = self;
-        items
     }
 }

@@ -48,6 +48,10 @@ impl Entry for Account {
 }
 
 /// The accounts of the file, in its order.
+///
+/// # Errors
+///
+/// The first fault of the entries, or that memory was refused.
 #[tactic(auto, unfolding(crate::specs::Policies::accounts))]
 pub fn accounts(
     alloc: Global,

@@ -154,9 +154,11 @@ impl fmt::Display for EntryPlace {
 /// Why a policy file is refused. `kind` is the first fault; the rest helps who writes the file.
 #[derive(Drop)]
 pub struct PolicyFault {
+    /// Which fault it is.
     pub kind: FaultKind,
     /// The entry that has the fault, or None at the top of the file.
     pub entry: Option<EntryPlace>,
+    /// What the fault is about, where more can be said of it.
     pub cause: Cause,
 }
 

@@ -83,6 +83,10 @@ pub fn find<'a>(entry: &'a Table, key: &str) -> Option<&'a Value>
 }
 
 /// The value of a key that has to be there.
+///
+/// # Errors
+///
+/// `MissingKey` where it is not there.
 pub fn value_at<'a>(
     entry: &'a Table,
     key: &'static str,
@@ -117,6 +121,10 @@ fn number(value: &Value, least: u64, most: u64) -> Option<u64>
 }
 
 /// An integer of this range under a key.
+///
+/// # Errors
+///
+/// `MissingKey` where the key is absent, `BadValue` where its value is no such integer.
 pub fn number_at(
     entry: &Table,
     key: &'static str,
@@ -164,6 +172,10 @@ pub fn field<const N: usize>(value: &Value, letters: Letters) -> Option<[u8; N]>
 }
 
 /// Such a string under a key, with spaces behind it.
+///
+/// # Errors
+///
+/// `MissingKey` where the key is absent, `BadValue` where its value is no such string.
 pub fn field_at<const N: usize>(
     entry: &Table,
     key: &'static str,
@@ -202,6 +214,10 @@ pub fn choice<T: Copy>(value: &Value, words: &[(&str, T)]) -> Option<T>
 }
 
 /// One of these words under a key.
+///
+/// # Errors
+///
+/// `MissingKey` where the key is absent, `BadValue` where its value is none of them.
 pub fn choice_at<T: Copy>(
     entry: &Table,
     key: &'static str,

@@ -43,6 +43,10 @@ fn has_account(names: &[AccountName], name: &AccountName) -> bool
 }
 
 /// An account of the file, under the key `account`.
+///
+/// # Errors
+///
+/// `BadValue` where it is no name, `UnknownName` where the file has no such account.
 #[tactic(auto, unfolding(crate::specs::Known::known_account))]
 pub fn known_account(accounts: &[Account], value: &Value) -> Result<AccountName, PolicyFault>
     ensures { seen (λ n. n) result ≡ known_account accounts.now (view value.now) }
@@ -99,6 +103,10 @@ fn account_list(
 }
 
 /// An array of accounts of the file, each once, under the key `accounts`.
+///
+/// # Errors
+///
+/// The first fault of the value, or that memory was refused.
 #[tactic(auto, unfolding(crate::specs::Known::known_accounts))]
 pub fn known_accounts(
     alloc: Global,
@@ -114,6 +122,10 @@ pub fn known_accounts(
 }
 
 /// The accounts that an entry is for.
+///
+/// # Errors
+///
+/// The first fault of the key `accounts`, or that memory was refused.
 #[tactic(auto, unfolding(crate::specs::Known::scope))]
 pub fn scope(alloc: Global, accounts: &[Account], entry: &Table) -> Result<Scope, PolicyFault>
     ensures { Gives (λ s. s) result (scope accounts.now (table_view entry.now)) }
@@ -184,6 +196,10 @@ fn stock_list(alloc: Global, stocks: &[Stock], values: &[Value]) -> Result<Vec<S
 }
 
 /// An array of stocks of the file, each once, under the key `stocks`.
+///
+/// # Errors
+///
+/// The first fault of the value, or that memory was refused.
 #[tactic(auto, unfolding(crate::specs::Known::known_stocks))]
 pub fn known_stocks(
     alloc: Global,

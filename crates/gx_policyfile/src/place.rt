@@ -32,6 +32,7 @@ pub trait Entry: Drop + Sized {
     /// The two have one name.
     ghost is_same: { Self → Self → Bool };
 
+    /// Reads a table. The fault is the first that the table has, or that memory was refused.
     fn read(
         alloc: Global,
         version: FileVersion,
@@ -42,6 +43,7 @@ pub trait Entry: Drop + Sized {
         ensures { Gives (λ x. x) result
             (meant version accounts.now stocks.now (table_view entry.now)) };
 
+    /// Whether the two have one name.
     fn is_same(&self, other: &Self) -> bool
         ensures { result ≡ is_same self.now other.now };
 }
@@ -170,6 +172,10 @@ fn each<E: Entry>(
 }
 
 /// The entries of a place, in the file's order.
+///
+/// # Errors
+///
+/// The first fault of the entries, or that memory was refused.
 pub fn entries<E: Entry>(
     alloc: Global,
     place: &'static str,

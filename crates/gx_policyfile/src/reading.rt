@@ -100,6 +100,10 @@ fn not_toml(alloc: Global, refused: &toml::de::Error) -> PolicyFault
 }
 
 /// The table at the top of the file.
+///
+/// # Errors
+///
+/// `NotToml` where the bytes are no TOML, or that memory was refused.
 pub fn tree(alloc: Global, bytes: &[u8]) -> Result<Table, PolicyFault>
     ensures { Gives (λ top. table_view top) result (tree bytes.now) }
 {

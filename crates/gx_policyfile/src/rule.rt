@@ -181,6 +181,10 @@ impl Entry for FileRule {
 }
 
 /// The rules of the file, in its order.
+///
+/// # Errors
+///
+/// The first fault of the entries, or that memory was refused.
 #[tactic(auto, unfolding(crate::specs::Policies::rules))]
 pub fn rules(
     alloc: Global,

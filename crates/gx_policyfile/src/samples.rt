@@ -67,6 +67,10 @@ count = \"each\"
 ";
 
 /// The sample policy.
+///
+/// # Errors
+///
+/// `OutOfMemory` where memory was refused.
 pub fn sample(alloc: Global) -> Result<Policy, PolicyFault>
     ensures text { means SAMPLE.now ≡ Ok specs.sample }
     ensures policy { IfOk result (λ p. p ≡ specs.sample) }

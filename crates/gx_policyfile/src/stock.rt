@@ -48,6 +48,10 @@ impl Entry for Stock {
 }
 
 /// The stocks of the file, in its order.
+///
+/// # Errors
+///
+/// The first fault of the entries, or that memory was refused.
 #[tactic(auto, unfolding(crate::specs::Policies::stocks))]
 pub fn stocks(
     alloc: Global,

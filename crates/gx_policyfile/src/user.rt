@@ -18,19 +18,28 @@ use toml::{Table, Value};
 /// What a user is.
 #[derive(Clone, Copy)]
 pub enum RoleWord {
+    /// He enters orders for an account.
     Trader,
+    /// He gives commands.
     Officer,
+    /// He is shown fills of accounts.
     Reader,
 }
 
 /// One power of an officer.
 #[derive(Clone, Copy)]
 pub enum Power {
+    /// Kill.
     Kill,
+    /// Lift.
     Lift,
+    /// Set Limit.
     Limits,
+    /// Restrict and Unrestrict.
     Symbols,
+    /// Grant and Revoke.
     People,
+    /// Close Day.
     Close,
 }
 
@@ -210,6 +219,10 @@ impl Entry for User {
 }
 
 /// The users of the file, in its order.
+///
+/// # Errors
+///
+/// The first fault of the entries, or that memory was refused.
 #[tactic(auto, unfolding(crate::specs::Policies::users))]
 pub fn users(
     alloc: Global,

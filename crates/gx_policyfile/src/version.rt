@@ -12,7 +12,9 @@ use toml::Table;
 /// The version of a policy file.
 #[derive(Clone, Copy)]
 pub enum FileVersion {
+    /// Files that say `version = 1`.
     One,
+    /// Files that say anything else, or nothing.
     Two,
 }
 
@@ -41,6 +43,10 @@ pub fn top_keys(version: FileVersion) -> &'static [&'static str]
 }
 
 /// The number that the file gives itself.
+///
+/// # Errors
+///
+/// `MissingKey` where it gives none, `BadValue` where that is neither 1 nor 2.
 pub fn number(top: &Table) -> Result<u64, PolicyFault>
     ensures { seen (λ n. n) result ≡ number (table_view top.now) }
 {
@@ -58,6 +64,10 @@ fn lifters_of(number: u64) -> Lifters
 }
 
 /// How many officers have to lift a killed account.
+///
+/// # Errors
+///
+/// In version 2, `MissingKey` where that is not said, `BadValue` where it is neither 1 nor 2.
 pub fn lifters(version: FileVersion, top: &Table) -> Result<Lifters, PolicyFault>
     ensures { seen (λ l. l) result ≡ lifters version (table_view top.now) }
 {

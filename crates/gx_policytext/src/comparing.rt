@@ -9,6 +9,10 @@ use std::alloc::Global;
 use toml::{Table, Value};
 
 /// The text of a file that has this value under this key, and nothing else.
+///
+/// # Errors
+///
+/// `OutOfMemory` where memory was refused.
 pub fn text_of(alloc: Global, key: &str, value: &Value) -> Result<String, OutOfMemory>
     ensures { IfOk result (λ text. depth (view value.now) ≤ 80
         → parse_document (string_bytes text)

@@ -134,6 +134,10 @@ fn print_file(
 
 /// The text of a file of version 2 that says what this table says of the session, the accounts, the stocks, the users
 /// and the rules, and that so many officers have to lift.
+///
+/// # Errors
+///
+/// `OutOfMemory` where memory was refused.
 pub fn printed(alloc: Global, lifters: i64, top: &Table) -> Result<String, OutOfMemory> {
     let mut out = String::new(alloc);
     match print_file(alloc, &mut out, lifters, top) {

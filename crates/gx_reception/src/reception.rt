@@ -53,6 +53,10 @@ pub struct Reception<D: Door, I: Issuer<D> + Drop> {
 
 impl<D: Door, I: Issuer<D> + Drop> Reception<D, I> {
     /// Opens it: the next line is that of strangers.
+    ///
+    /// # Errors
+    ///
+    /// Where the issuer gives no pass.
     pub fn open<R: Wait>(rt: &R, door: &D, issuer: I) -> Result<Reception<D, I>, PassFault> {
         let mut issuer = issuer;
         let pass = issuer.issue(rt)?;

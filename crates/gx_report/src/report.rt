@@ -42,7 +42,9 @@ impl Digests {
 /// A day's report.
 #[derive(Drop)]
 pub struct Report {
+    /// The name of the day's session.
     pub session: SessionName,
+    /// The digests of the policy and of the audit.
     pub digests: Digests,
     /// The spans of its charts.
     pub spans: Spans,

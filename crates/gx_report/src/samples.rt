@@ -14,7 +14,9 @@ use std::alloc::Global;
 /// A gross or net rule, and an account that it is for.
 #[derive(Clone, Copy, PartialEq, Eq)]
 pub struct Seat {
+    /// The name of the rule.
     pub rule: RuleId,
+    /// The name of the account.
     pub account: AccountName,
     /// The rule counts on each side of a stock by itself: the side and the stock where most is used are meant.
     pub is_net: bool,
@@ -25,12 +27,14 @@ pub struct Seat {
 pub struct Sample {
     /// None where the rule is none of this sort for the account.
     pub used: Option<u128>,
+    /// The limit in force then, in the same unit; None where the rule has none.
     pub limit: Option<u64>,
 }
 
 /// Samples of each seat, taken after as many records as are asked for, one count after the other.
 #[derive(Drop)]
 pub struct Samples {
+    /// What samples are taken of.
     pub seats: Vec<Seat>,
     /// After how many records, in rising order.
     pub counts: Vec<u64>,

@@ -6,9 +6,7 @@ ghost use Rattle.gx_units.specs.Names.{same_stock};
 ghost use Rattle.gx_history.specs.{Asking.has_stock, InForce.{adding, lists_stock, removing}, Rules.{kind_forbids, rule_forbids}};
 ghost use Rattle.gx_rules.specs.Books.{kind_of, lists_once, rule_named};
 
-use crate::file_rule::{
-    has_net_above, has_shares_above, has_value_above, is_for_scope, is_outside_collar,
-};
+use crate::file_rule::{is_for_scope, is_gross_above, is_net_above, is_outside_collar, new_open};
 use crate::request::proposed;
 use gx_history::facts::{Facts, ProposedOrder, TellsFigures};
 use gx_history::record::Request;
@@ -21,8 +19,11 @@ use std::alloc::Global;
 /// where a stock is found without a walk.
 #[derive(Drop)]
 pub struct BookRule {
+    /// What it forbids, with no stocks in it.
     pub kind: RuleKind,
+    /// The stocks on its list; none where its kind has no list.
     pub stocks: IndexSet<Symbol>,
+    /// The accounts that it is for.
     pub scope: Scope,
 }
 
@@ -52,6 +53,7 @@ fn set_of(alloc: Global, stocks: &[Symbol]) -> Result<IndexSet<Symbol>, OutOfMem
 }
 
 impl BookRule {
+    /// The rule of the policy file. `OutOfMemory` where memory was refused.
     pub fn new(alloc: Global, rule: &FileRule) -> Result<BookRule, OutOfMemory>
         requires { IsTrue (lists_once rule.now) }
         ensures { IfOk result (λ r. rule_named rule.now.name r ≡ rule.now) }
@@ -66,12 +68,14 @@ impl BookRule {
         })
     }
 
+    /// The limit that Set Limit may change; None where the kind has none.
     pub fn limit(&self) -> Option<u64>
         ensures { result ≡ limit_of (kind_of self.now) }
     {
         self.kind.limit()
     }
 
+    /// Puts this limit in force; nothing changes where the kind has none.
     pub fn set_limit(&mut self, value: u64)
         ensures kind { kind_of self.new ≡ with_limit value (kind_of self.old) }
         ensures scope { self.new.scope ≡ self.old.scope }
@@ -103,6 +107,10 @@ impl BookRule {
     }
 
     /// Puts the stock on the rule's list, if it has one.
+    ///
+    /// # Errors
+    ///
+    /// `OutOfMemory` where memory was refused; then nothing has changed.
     pub fn restrict(&mut self, stock: Symbol) -> Result<(), OutOfMemory>
         ensures kind { OnOk result (kind_of self.new
             ≡ with_stocks (adding stock) (kind_of self.old)) }
@@ -123,6 +131,7 @@ impl BookRule {
 
     /// Whether the rule, which stands at this place in the file, forbids the order. Figures are
     /// told where its kind asks for some.
+    #[inline(always)]
     pub fn forbids_order<F: TellsFigures>(
         &self,
         place: usize,
@@ -140,26 +149,26 @@ impl BookRule {
             RuleKind::Order(OrderLimit::Value, limit) => value_of(w.shares, w.price)
                 > u128::from(*limit),
             RuleKind::Order(OrderLimit::Collar, limit) => {
-                is_outside_collar(*limit, figures.of(place).reference, w.price)
+                is_outside_collar(*limit, figures.reference(place), w.price)
             }
-            RuleKind::Exposure(ExposureLimit::GrossShares, limit, _) => has_shares_above(
-                &figures.of(place),
-                w,
+            RuleKind::Exposure(ExposureLimit::GrossShares, limit, _) => is_gross_above(
+                figures.gross_shares(place),
+                u128::from(new_open(w)),
                 *limit,
             ),
-            RuleKind::Exposure(ExposureLimit::GrossValue, limit, _) => has_value_above(
-                &figures.of(place),
-                w,
+            RuleKind::Exposure(ExposureLimit::GrossValue, limit, _) => is_gross_above(
+                figures.gross_value(place),
+                value_of(new_open(w), w.price),
                 *limit,
             ),
-            RuleKind::Exposure(ExposureLimit::NetShares, limit, _) => has_net_above(
-                &figures.of(place),
-                w,
+            RuleKind::Exposure(ExposureLimit::NetShares, limit, _) => is_net_above(
+                figures.net_shares(place),
+                u128::from(new_open(w)),
                 *limit,
             ),
-            RuleKind::Rate(rate, _) => rate.limit <= figures.of(place).recent,
+            RuleKind::Rate(rate, _) => figures.has_recent(place, rate.limit),
             RuleKind::Repeat(repeat, _) => {
-                w.is_new && repeat.limit <= figures.of(place).equal_recent
+                w.is_new && figures.has_equal_recent(place, repeat.limit)
             }
         }
     }

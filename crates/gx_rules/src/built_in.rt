@@ -10,7 +10,7 @@ use gx_policy::RuleName;
 use gx_units::Price;
 
 /// Whether the built-in rule of this name forbids the request. A rule of the file forbids nothing here:
-/// [`is_forbidden_by_rule`](crate::is_forbidden_by_rule) judges those.
+/// [`RuleBook::first_forbidding`](crate::RuleBook::first_forbidding) asks those.
 pub fn is_forbidden(name: RuleName, facts: &Facts, request: &Request) -> bool
     ensures { result ≡ forbids name facts.now request.now }
 {

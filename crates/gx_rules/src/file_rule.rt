@@ -1,13 +1,11 @@
 //! What the limits of the policy file's rules forbid.
 
 ghost use Rattle.std.specs.{Prelude.{◌≡◌, ◌+◌, ◌-◌, ◌+ℤ◌, ◌-ℤ◌, false, int_lt, nat_lt, pos}, Option.option_map_or};
-ghost use Rattle.gx_units.specs.Money.{value};
 ghost use Rattle.gx_policy.specs.People.{covers};
 ghost use Rattle.gx_history.specs.Rules.{is_outside_collar, new_open};
 
-use gx_history::facts::{Facts, ProposedOrder, RuleFigures};
+use gx_history::facts::{Facts, GrossFigures, NetFigures, ProposedOrder};
 use gx_policy::Scope;
-use gx_units::value_of;
 
 /// Whether the price is more than `limit` ten-thousandths of the reference away from it.
 pub fn is_outside_collar(limit: u64, reference: u32, price: u32) -> bool
@@ -19,9 +17,9 @@ pub fn is_outside_collar(limit: u64, reference: u32, price: u32) -> bool
     scaled > reference * (10_000 + limit) || scaled < reference * 10_000u128.saturating_sub(limit)
 }
 
-/// Whether live, done and new together, without what is replaced, pass the limit: right for any figures, as the
-/// replaced part is taken out before anything is added.
-fn is_above(live: u128, done: u128, new: u128, replaced: u128, limit: u64) -> bool
+/// Whether live, done and new together, without what is replaced, pass the limit, where their sum
+/// has more than 128 bits: the replaced part is taken out before anything is added.
+fn is_large_above(live: u128, done: u128, new: u128, replaced: u128, limit: u64) -> bool
     ensures { result ≡ nat_lt limit (live + done + new - replaced) }
 {
     let live_left = live.saturating_sub(replaced);
@@ -38,77 +36,46 @@ fn is_above(live: u128, done: u128, new: u128, replaced: u128, limit: u64) -> bo
     }
 }
 
-/// Whether what was executed on the side, less what was on the other, with live and new and without
-/// what is replaced, passes the limit: right for any figures.
-fn is_net_above(net: i128, live: u128, new: u128, replaced: u128, limit: u64) -> bool
-    ensures { result ≡ int_lt (pos limit) (net +ℤ pos live +ℤ pos new -ℤ pos replaced) }
+/// The same of figures of any size.
+fn is_above(live: u128, done: u128, new: u128, replaced: u128, limit: u64) -> bool
+    ensures { result ≡ nat_lt limit (live + done + new - replaced) }
 {
-    let done = net.unsigned_abs();
-    if net >= 0 {
-        return is_above(live, done, new, replaced, limit);
+    if let Some(both) = live.checked_add(done) {
+        if let Some(sum) = both.checked_add(new) {
+            return sum.saturating_sub(replaced) > u128::from(limit);
+        }
     }
-    let live_left = live.saturating_sub(done);
-    let after_live = done.saturating_sub(live);
-    let new_left = new.saturating_sub(after_live);
-    is_above(live_left, 0, new_left, replaced, limit)
+    is_large_above(live, done, new, replaced, limit)
 }
 
 /// The shares that the order would have open: what it asks for, less what its chain has executed.
-fn new_open(w: &ProposedOrder) -> u32
+pub fn new_open(w: &ProposedOrder) -> u32
     ensures { result ≡ new_open w.now }
 {
     w.shares.saturating_sub(w.done)
 }
 
-/// Whether the account's shares that are live, executed and new, without what is replaced, pass the limit.
-#[inline(always)]
-pub fn has_shares_above(told: &RuleFigures, w: &ProposedOrder, limit: u64) -> bool
-    ensures { result ≡ nat_lt limit
-        (told.now.live_shares + told.now.done_shares + new_open w.now - told.now.replaced_shares) }
+/// Whether what is live, executed and new, without what is replaced, passes the limit.
+pub fn is_gross_above(told: GrossFigures, new: u128, limit: u64) -> bool
+    ensures { result ≡ nat_lt limit (told.live + told.done + new - told.replaced) }
 {
-    let new = u128::from(new_open(w));
-    is_above(
-        told.live_shares,
-        told.done_shares,
-        new,
-        told.replaced_shares,
-        limit,
-    )
+    is_above(told.live, told.done, new, told.replaced, limit)
 }
 
-/// Whether the value of what is live, executed and new, without what is replaced, passes the limit.
-#[inline(always)]
-pub fn has_value_above(told: &RuleFigures, w: &ProposedOrder, limit: u64) -> bool
-    ensures { result ≡ nat_lt limit
-        (told.now.live_value + told.now.done_value + value (new_open w.now) w.now.price
-        - told.now.replaced_value) }
+/// Whether the shares on this side, those that are live, executed and new, without what is replaced and without those
+/// executed on the other side, pass the limit: right for any figures.
+pub fn is_net_above(told: NetFigures, new: u128, limit: u64) -> bool
+    ensures { result
+        ≡ int_lt (pos limit) (told.done +ℤ pos told.live +ℤ pos new -ℤ pos told.replaced) }
 {
-    let new = value_of(new_open(w), w.price);
-    is_above(
-        told.live_value,
-        told.done_value,
-        new,
-        told.replaced_value,
-        limit,
-    )
-}
-
-/// Whether the account's shares on this side, those that are live, executed and new, without what is replaced and without
-/// those executed on the other side, pass the limit.
-#[inline(always)]
-pub fn has_net_above(told: &RuleFigures, w: &ProposedOrder, limit: u64) -> bool
-    ensures { result ≡ int_lt (pos limit)
-        (told.now.net_done +ℤ pos told.now.side_live +ℤ pos (new_open w.now)
-        -ℤ pos told.now.replaced_shares) }
-{
-    let new = u128::from(new_open(w));
-    is_net_above(
-        told.net_done,
-        told.side_live,
-        new,
-        told.replaced_shares,
-        limit,
-    )
+    let done = told.done.unsigned_abs();
+    if told.done >= 0 {
+        return is_above(told.live, done, new, told.replaced, limit);
+    }
+    let live_left = told.live.saturating_sub(done);
+    let after_live = done.saturating_sub(told.live);
+    let new_left = new.saturating_sub(after_live);
+    is_above(live_left, 0, new_left, told.replaced, limit)
 }
 
 /// Whether the request is asked for an account in the scope.

@@ -14,6 +14,5 @@ mod rule_book;
 mod rule_places;
 mod terms;
 
-pub use built_in::is_forbidden;
 pub use laws::{a_setting_changes_no_name, other_rules_stay, rules_after_one_more};
 pub use rule_book::RuleBook;

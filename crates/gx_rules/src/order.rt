@@ -29,6 +29,7 @@ fn first_of(names: &[RuleName], facts: &Facts, request: &Request) -> Option<Rule
 }
 
 #[tactic(auto, unfolding(gx_policy::specs::RuleNames::rules_before))]
+#[inline(always)]
 fn first_of_enter(facts: &Facts, m: &EnterOrder) -> Option<RuleName>
     ensures { result
         ≡ find (λ name. forbids name facts.now (requests.Enter m.now)) rules_before }
@@ -124,6 +125,7 @@ fn first_of_replace(facts: &Facts, m: &ReplaceOrder) -> Option<RuleName>
 
 /// The first of the built-in rules before those of the file that forbids.
 #[tactic(auto, unfolding(gx_policy::specs::RuleNames::rules_before))]
+#[inline(always)]
 pub fn first_before(facts: &Facts, request: &Request) -> Option<RuleName>
     ensures { result ≡ find (λ name. forbids name facts.now request.now) rules_before }
 {

@@ -7,12 +7,14 @@ use gx_history::facts::{Facts, ProposedOrder};
 use gx_history::live_order::LiveOrder;
 use gx_history::record::Request;
 
+/// The request is a Login Request.
 pub fn is_login(request: &Request) -> bool
     ensures { result ≡ is_login request.now }
 {
     matches!(request, Request::Login(_))
 }
 
+/// The request is a command of an officer.
 pub fn is_command(request: &Request) -> bool
     ensures { result ≡ is_command request.now }
 {

@@ -12,6 +12,7 @@ use crate::request::proposed;
 use crate::rule_places::{RulePlaces, places_by_account};
 use gx_history::facts::{Facts, ProposedOrder, TellsFigures};
 use gx_history::record::Request;
+use gx_index::get_near;
 use gx_policy::{FileRule, Policy, RuleName};
 use gx_units::{AccountName, OutOfMemory, RuleId, Symbol};
 use indexmap::IndexMap;
@@ -76,6 +77,7 @@ fn first_from<F: TellsFigures>(
 }
 
 /// Whether the rule at this place in the file forbids the order.
+#[inline(always)]
 fn forbids_at<F: TellsFigures>(
     rules: &IndexMap<RuleId, BookRule>,
     place: usize,
@@ -133,14 +135,16 @@ fn first_at<F: TellsFigures>(
     }
 }
 
-/// The places of the rules that the account is under; None where it is not the policy's.
+/// The places of the rules that the account is under, which is looked for at this place first; None
+/// where it is not the policy's.
 fn places_under(
     by_account: &IndexMap<AccountName, RulePlaces>,
     account: AccountName,
+    near: usize,
 ) -> Option<&RulePlaces>
     ensures { option_copied result ≡ lookup (same_account account) by_account.now.entries }
 {
-    by_account.get(&account)
+    get_near(by_account, near, account)
 }
 
 /// The first rule of the file that forbids. An account of the policy is asked about the rules that
@@ -150,6 +154,7 @@ fn first_of_file<F: TellsFigures>(
     by_account: &IndexMap<AccountName, RulePlaces>,
     figures: &F,
     facts: &Facts,
+    near: usize,
     request: &Request,
 ) -> Option<RuleName>
     requires tied { AreTied rules.now.entries by_account.now.entries }
@@ -162,7 +167,7 @@ fn first_of_file<F: TellsFigures>(
     let Some(w) = proposed(facts, request) else {
         return None;
     };
-    match places_under(by_account, account) {
+    match places_under(by_account, account, near) {
         Some(places) => first_at(rules, places.as_slice(), figures, &w),
         None => first_from(rules.as_slice(), 0, figures, facts, request),
     }
@@ -174,6 +179,7 @@ fn first_in_order<F: TellsFigures>(
     by_account: &IndexMap<AccountName, RulePlaces>,
     figures: &F,
     facts: &Facts,
+    near: usize,
     request: &Request,
 ) -> Option<RuleName>
     requires tied { AreTied rules.now.entries by_account.now.entries }
@@ -181,9 +187,9 @@ fn first_in_order<F: TellsFigures>(
         (figured (F.told figures.now) (rules_of rules.now.entries)) facts.now request.now }
 {
     match first_before(facts, request) {
-        None => first_of_file(rules, by_account, figures, facts, request).or_else(|| first_behind(
-            facts, request,
-        )),
+        None => first_of_file(rules, by_account, figures, facts, near, request).or_else(
+            || first_behind(facts, request),
+        ),
         found => found,
     }
 }
@@ -285,6 +291,7 @@ impl RuleBook {
         &self,
         facts: &Facts,
         figures: &F,
+        near: usize,
         request: &Request,
     ) -> Option<RuleName>
         ensures few { length self.now ≤ 128 }
@@ -295,7 +302,7 @@ impl RuleBook {
         ensures none { IfNone result (IsFalse (list_any (applies facts.now request.now)
             (written_order (figured (F.told figures.now) self.now)))) }
     {
-        first_in_order(&self.rules, &self.by_account, figures, facts, request)
+        first_in_order(&self.rules, &self.by_account, figures, facts, near, request)
     }
 
     /// Lets it go. Its drop is proved here once, and not in each crate that owns one.

@@ -60,6 +60,10 @@ impl RulePlaces {
 }
 
 /// Each account with the places of the rules that it is under.
+///
+/// # Errors
+///
+/// `OutOfMemory` where memory was refused.
 pub fn places_by_account(
     alloc: Global,
     rules: &[FileRule],

@@ -6,12 +6,14 @@ ghost use Rattle.gx_history.specs.{OuchValues.{display_anonymous, display_attrib
 
 use gx_units::Price;
 
+/// Shares are 0, or 1,000,000 or more.
 pub fn are_bad_shares(shares: u32) -> bool
     ensures { result ≡ (shares == 0 || nat_le 1000000 shares) }
 {
     shares == 0 || shares >= 1_000_000
 }
 
+/// No order may have this price, in ten-thousandths of a dollar.
 pub fn is_bad_price(price: u32) -> bool
     ensures { result ≡ is_bad_price price }
 {
@@ -26,6 +28,7 @@ pub fn is_bad_display(display: u8) -> bool
     display != b'A' && display != b'Y'
 }
 
+/// Time in Force is none of 0, 99,998 and 99,999.
 pub fn is_bad_time(time_in_force: u32) -> bool
     ensures { result ≡
         not (is_one_of (immediate_or_cancel ∷ market_hours ∷ system_hours ∷ []) time_in_force) }

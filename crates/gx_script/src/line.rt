@@ -443,6 +443,10 @@ fn is_skipped(line: &[u8]) -> bool
 
 impl ScriptLine {
     /// What a line says: its bytes without the LF.
+    ///
+    /// # Errors
+    ///
+    /// Which word is wrong, and what was wanted there.
     #[tactic(auto, unfolding(crate::specs::ScriptLines::line_of))]
     pub fn read(line: &[u8]) -> Result<ScriptLine, Wrong>
         ensures meaning { result_ok result ≡ line_of line.now }

@@ -48,7 +48,9 @@ impl From<WriteFailed> for ScriptFault {
 /// Why a script ended early, and, where a line was bad, what is wrong with it.
 #[derive(Clone, Copy, PartialEq, Eq)]
 pub struct Explained {
+    /// Why it ended.
     pub fault: ScriptFault,
+    /// What is wrong with the line, where a line was bad.
     pub wrong: Option<Wrong>,
 }
 

@@ -26,6 +26,7 @@ pub enum EndedBy {
 pub struct EndedOrders {
     /// Who gave the command, in upper case.
     pub officer: UserName,
+    /// The command that ended them.
     pub by: EndedBy,
     /// The number of its record.
     pub number: u64,

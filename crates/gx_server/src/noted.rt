@@ -9,7 +9,9 @@ use std::io::{ErrorKind, Read, Write};
 /// bytes is a failure.
 #[derive(Drop)]
 pub struct Noted<D> {
+    /// The reader or the writer.
     pub device: D,
+    /// What the system said of its last call; None where that did not fail.
     pub cause: Option<io::Error>,
 }
 

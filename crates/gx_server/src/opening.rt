@@ -20,6 +20,10 @@ fn policy_of(alloc: Global, file: &[u8]) -> Result<Policy, ProgramFault>
 }
 
 /// The policy to open on: that of the file, or else the sample policy.
+///
+/// # Errors
+///
+/// The fault of the file, or that memory was refused.
 pub fn policy_for(alloc: Global, file: Option<&[u8]>) -> Result<Policy, ProgramFault>
     ensures policy { IfOk result (λ policy. policy_for (option_copied file.entry) ≡ Ok policy) }
     ensures fault { IfErr result (IsFaultOf (policy_for (option_copied file.entry))) }
@@ -32,6 +36,10 @@ pub fn policy_for(alloc: Global, file: Option<&[u8]>) -> Result<Policy, ProgramF
 
 /// A gate at the beginning of a day: under the policy that the bytes of a file mean, or, where no file is given, under
 /// the sample policy.
+///
+/// # Errors
+///
+/// The fault of the file, or that memory was refused.
 pub fn open_gate<G: AccessGate>(alloc: Global, file: Option<&[u8]>) -> Result<G, ProgramFault>
     ensures policy { IfOk result (λ gate.
         policy_for (option_copied file.entry) ≡ Ok (G.seen gate).policy) }
@@ -53,6 +61,10 @@ fn version_of(alloc: Global, file: &[u8]) -> Result<u64, ProgramFault>
 }
 
 /// The line that says which version the file has, and how much the policy holds that its bytes mean.
+///
+/// # Errors
+///
+/// The fault of the file, or that memory was refused.
 pub fn told_of_policy(alloc: Global, file: &[u8]) -> Result<Vec<u8>, ProgramFault>
     ensures line { IfOk result (λ text.
         line_for (version_of file.now) (means file.now) ≡ Ok text.items) }
@@ -64,6 +76,10 @@ pub fn told_of_policy(alloc: Global, file: &[u8]) -> Result<Vec<u8>, ProgramFaul
 }
 
 /// The file in version 2, with the same meaning.
+///
+/// # Errors
+///
+/// The fault of the file, or that memory was refused.
 pub fn migrated_policy(alloc: Global, file: &[u8]) -> Result<Vec<u8>, ProgramFault>
     ensures version { IfOk result (λ text. version_of text.items ≡ Ok 2) }
     ensures same { IfOk result (λ text. means text.items ≡ means file.now) }

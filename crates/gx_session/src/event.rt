@@ -59,6 +59,8 @@ pub enum Next {
 /// What follows an event.
 #[derive(Clone, Copy, PartialEq, Eq)]
 pub struct Reply {
+    /// The packet that the session sends of its own, if there is one.
     pub send: Option<Control>,
+    /// What the caller does behind it.
     pub next: Next,
 }

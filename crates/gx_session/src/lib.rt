@@ -13,5 +13,5 @@ pub use laws::{
     ended_sessions_are_silent, no_logout_without_a_login, one_login, silent_before_an_answer,
 };
 pub use outbox::Outbox;
-pub use sending::{send_control, send_pulled};
+pub use sending::{send_control, send_pulled, send_reports};
 pub use session::{Phase, Session};

@@ -11,6 +11,7 @@ use gx_answers::LoginAnswer;
 pub struct Outbox {
     /// The answer to its login.
     pub answer: Option<LoginAnswer>,
+    /// A Server Heartbeat or an End of Session.
     pub sign: Option<Sign>,
 }
 

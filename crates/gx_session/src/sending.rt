@@ -26,14 +26,16 @@ fn append_report(text: &mut Vec<u8>, report: &Report) -> Result<(), OutOfMemory>
     append_sequenced(text, &room[..length])
 }
 
-fn reports_text(alloc: Global, reports: &[Report]) -> Result<Vec<u8>, OutOfMemory>
-    ensures { IfOk result (λ text. text.items ≡ reports_text reports.now) }
+/// Makes the text one Sequenced Data packet for each of the reports, in their order. Its room is kept.
+fn put_reports(text: &mut Vec<u8>, reports: &[Report]) -> Result<(), OutOfMemory>
+    ensures { OnOk result (text.new.items ≡ reports_text reports.now) }
 {
-    let mut text = Vec::with_capacity(alloc, reports.len().saturating_mul(PACKET_ROOM))?;
+    text.clear();
+    text.reserve(reports.len().saturating_mul(PACKET_ROOM))?;
     for report in reports {
-        append_report(&mut text, report)?;
+        append_report(text, report)?;
     }
-    Ok(text)
+    Ok(())
 }
 
 /// Sends the reports of a pull: one Sequenced Data packet each, in their order, and nothing else.
@@ -55,7 +57,29 @@ pub fn send_pulled<W: Write>(
     ensures kept { OnOk result (writer.new.failed ≡ writer.old.failed) }
     ensures told { IfErr result (IsBlamed writer.old.failed writer.new.failed) }
 {
-    let text = reports_text(alloc, pulled.reports.as_slice())?;
+    let mut text = Vec::new(alloc);
+    send_reports(&mut text, pulled.reports.as_slice(), writer)
+}
+
+/// Sends reports as `send_pulled` does, and puts their packets together in this text, whose room is kept for the next.
+pub fn send_reports<W: Write>(
+    text: &mut Vec<u8>,
+    reports: &[Report],
+    writer: &mut Counted<W>,
+) -> Result<(), WriteFault>
+    requires { writer.old.failed < 2 ^ 64 - 1 }
+    ensures sent { OnOk result (Appends
+        (W.contents writer.old.device) (W.contents writer.new.device)
+        (reports_text reports.now)) }
+    ensures front { OnErr result (IsFront
+        (W.contents writer.old.device) (W.contents writer.new.device)
+        (reports_text reports.now)) }
+    ensures nothing { IfErr result (λ fault. fault ≡ WriteFault.OutOfMemory → Appends
+        (W.contents writer.old.device) (W.contents writer.new.device) []) }
+    ensures kept { OnOk result (writer.new.failed ≡ writer.old.failed) }
+    ensures told { IfErr result (IsBlamed writer.old.failed writer.new.failed) }
+{
+    put_reports(text, reports)?;
     write_whole(writer, text.as_slice())?;
     Ok(())
 }

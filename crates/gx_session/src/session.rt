@@ -1,12 +1,14 @@
 //! The session table.
 
-ghost use Rattle.std.specs.Prelude.{◌≡◌, None};
-ghost use Rattle.gx_session.specs.{declared.event.Next.TheVariants.Idle, Table.{is_silent, fresh_packet, fresh_row, waiting_row, on_packet, on_row, abandoned_row, row, row_at, is_sending, heard_after, sent_after, turn, new_session, rest_of}, Happenings.happening, Events.{is_on, is_over, CanAsk}};
+ghost use Rattle.std.specs.Prelude.{◌≡◌, false, None, IsTrue};
+ghost use Rattle.gx_history.specs.Showing.{has_its_first};
+ghost use Rattle.gx_soup.specs.declared.packet.ClientPacket.TheVariants.{Data};
+ghost use Rattle.gx_session.specs.{Happenings.Happening.{Packet, Pulled}, declared.event.Next.TheVariants.{Idle, Act}, Table.{is_silent, fresh_packet, fresh_row, waiting_row, on_packet, on_row, abandoned_row, row, row_at, is_sending, heard_after, sent_after, turn, new_session, rest_of}, Happenings.happening, Events.{is_on, is_over, CanAsk}};
 
 use crate::event::{Control, Event, Next, Reply, Sign};
 use gx_answers::LoginAnswer;
 use gx_history::record::Request;
-use gx_soup::ClientPacket;
+use gx_soup::{ClientPacket, Payload};
 use std::marker::Model;
 
 /// How far a session has come.
@@ -278,5 +280,30 @@ impl Session {
         self.heard = heard;
         self.sent = sent;
         row.reply
+    }
+
+    /// What `on` does at a message of a user who is logged in: the request that it asks for, and nothing is sent.
+    #[tactic(auto, unfolding(crate::specs::Table::turn))]
+    pub fn take_message(&mut self, payload: &Payload, moment: u64) -> Request
+        requires { IsTrue (is_on self.old.phase) }
+        ensures session { self.new ≡ (turn self.old (Packet (Data payload.now)) moment).session }
+        ensures reply { (turn self.old (Packet (Data payload.now)) moment).reply
+            ≡ record { send = None; next = Act result } }
+        ensures shown { IsTrue (has_its_first result) }
+    {
+        self.heard = self.heard.max(moment);
+        Request::read(payload.as_slice())
+    }
+
+    /// What `on` does once so many reports were pulled and sent and more may come: nothing follows.
+    #[tactic(auto, unfolding(crate::specs::Table::turn))]
+    pub fn take_pull(&mut self, count: u64, moment: u64)
+        ensures session { self.new ≡ (turn self.old (Pulled count false) moment).session }
+        ensures reply { (turn self.old (Pulled count false) moment).reply
+            ≡ record { send = None; next = Idle } }
+    {
+        if count > 0 && self.is_on() {
+            self.sent = self.sent.max(moment);
+        }
     }
 }

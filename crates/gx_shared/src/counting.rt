@@ -71,6 +71,10 @@ impl<N: GateName> CountingKeeper<N> {
     }
 
     /// A pass with the next line, as [`Keeper::issue`] gives it, for one of these permits.
+    ///
+    /// # Errors
+    ///
+    /// Where it gives none, the permits are as they were.
     pub fn issue(&mut self, permits: &mut Permits<N>) -> Result<Ticket<N>, PassFault>
         ensures list { self.new.list ≡ self.old.list }
         ensures pass { IfOk result (λ p.

@@ -49,6 +49,10 @@ impl<G: AccessGate, N: GateName> Model for Desk<G, N> {
 
 impl<G: AccessGate, N: GateName> Desk<G, N> {
     /// A desk at the beginning of a day, and all permits for passes, in which nothing is counted.
+    ///
+    /// # Errors
+    ///
+    /// `OutOfMemory` where memory was refused.
     pub fn new(
         alloc: Global,
         policy: &Policy,
@@ -71,6 +75,10 @@ impl<G: AccessGate, N: GateName> Desk<G, N> {
 
     /// A desk over a gate that has records, and all permits for passes, in which these and their lines are counted: no line
     /// up to the highest of theirs is issued any more.
+    ///
+    /// # Errors
+    ///
+    /// `OutOfMemory` where memory was refused.
     pub fn over(
         gate: G,
         blank: Blank,
@@ -107,6 +115,10 @@ impl<G: AccessGate, N: GateName> Desk<G, N> {
     }
 
     /// A pass of the next line, for one of these permits. It has met all records.
+    ///
+    /// # Errors
+    ///
+    /// Where it gives none, the permits are as they were.
     pub fn issue(&mut self, permits: &mut Permits<N>) -> Result<Ticket<N>, PassFault>
         ensures same { self.new ≡ self.old }
         ensures front { IfOk result (λ p. p.held.front ≡ self.old) }
@@ -325,6 +337,7 @@ impl<G: AccessGate, N: GateName> Desk<G, N> {
     }
 
     /// The gate. Where all permits are left, it has as many records as are counted in them.
+    /// Part of the interface: an end for who holds no pass, as `close` is for who holds one.
     pub fn take_back(self, permits: Permits<N>) -> G
         ensures policy { (G.seen result).policy ≡ N.policy }
         ensures records { (G.seen result).records ≡ self }

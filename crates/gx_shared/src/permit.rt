@@ -38,6 +38,7 @@ impl Model for BlankLedgers {
 }
 
 impl BlankLedgers {
+    /// Ledgers that count nothing yet.
     pub fn new() -> BlankLedgers {
         BlankLedgers {
             records: Blank::new(u64::MAX),

@@ -88,6 +88,10 @@ fn note_all<G: AccessGate, N: GateName>(keeper: &mut Keeper<N>, gate: &G) -> Res
 }
 
 /// The keeper of the gate's records. Their lines stay in the keeper's hand for good.
+///
+/// # Errors
+///
+/// `OutOfMemory` where memory was refused.
 #[tactic(auto, using(crate::proofs::Noted::begins))]
 pub fn resume<G: AccessGate, N: GateName>(gate: &G, blank: Blank) -> Result<Keeper<N>, OutOfMemory>
     requires { blank ≡ N.table }

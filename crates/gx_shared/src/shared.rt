@@ -51,6 +51,10 @@ pub struct SharedGate<G: AccessGate, N: GateName> {
 impl<G: AccessGate, N: GateName> SharedGate<G, N> {
     /// A gate at the beginning of a day with a copy of the policy, which no thread shares yet, and all permits for passes:
     /// nothing is counted in them, so that the gate has no record.
+    ///
+    /// # Errors
+    ///
+    /// `OutOfMemory` where memory was refused.
     pub fn new(
         alloc: Global,
         policy: &Policy,
@@ -166,6 +170,7 @@ impl<G: AccessGate, N: GateName> SharedGate<G, N> {
 
     /// The gate, where no pass is at hand. If all permits are left, so that none was issued, it has as many records as are
     /// counted in them.
+    /// Part of the interface: an end for who holds no pass, as `close` is for who holds one.
     pub fn take_back(self, permits: Permits<N>) -> G
         ensures policy { (G.seen result).policy ≡ N.policy }
         ensures counted { permits.left + 1 ≡ N.parts

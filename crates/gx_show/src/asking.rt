@@ -12,18 +12,26 @@ use gx_units::{AccountName, RuleId, Symbol, UserName, padded, unpadded};
 /// Names that are asked for, as texts. A user's may be in upper case or not, all others are as the policy has them.
 #[derive(Clone, Copy)]
 pub struct AskedNames<'a> {
+    /// The name of an account.
     pub account: Option<&'a str>,
+    /// The name of a user.
     pub user: Option<&'a str>,
+    /// The name of a stock.
     pub stock: Option<&'a str>,
+    /// The name of a rule.
     pub rule: Option<&'a str>,
 }
 
 /// What a name that is asked for is not known as.
 #[derive(Clone, Copy, Debug, PartialEq, Eq)]
 pub enum UnknownName {
+    /// As an account of the policy.
     Account,
+    /// As a user of the policy.
     User,
+    /// As a stock of the policy.
     Stock,
+    /// As a rule, of the policy file or built in.
     Rule,
 }
 

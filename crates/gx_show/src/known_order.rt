@@ -10,9 +10,13 @@ use gx_units::{AccountName, Symbol, Token, UserName};
 pub struct KnownOrder {
     /// The number of the record that granted it.
     pub number: u64,
+    /// Who entered it, in upper case.
     pub user: UserName,
+    /// The account that he trades for.
     pub account: AccountName,
+    /// The token that it was asked for under.
     pub token: Token,
+    /// The stock that it trades.
     pub stock: Symbol,
 }
 

@@ -82,6 +82,10 @@ fn behind_header(version: AuditVersion, audit: &[u8]) -> &[u8]
 }
 
 /// The records that an audit shows, up to the first that is none.
+///
+/// # Errors
+///
+/// `OutOfMemory` where memory was refused.
 pub fn read_records(alloc: Global, audit: &[u8]) -> Result<AuditRecords, OutOfMemory>
     ensures { IfOk result (λ read. IsRead audit.now read.records.items read.bad) }
 {

@@ -330,6 +330,10 @@ fn line_with(
 
 /// Writes the records in this style, a line for each, in their order, with what Kills and Close Days among them ended, where
 /// it stands among the endings, which are by rising number.
+///
+/// # Errors
+///
+/// Where the writer failed or memory was refused; then a part of them may be written.
 pub fn write_records<W: Write>(
     alloc: Global,
     policy: &Policy,

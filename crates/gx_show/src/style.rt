@@ -14,6 +14,7 @@ pub enum ShownForm {
 /// How records are shown.
 #[derive(Clone, Copy)]
 pub struct Style {
+    /// Text, CSV or JSON.
     pub form: ShownForm,
     /// In text, whether the moment stands in front as a clock shows it. CSV and JSON have it anyhow.
     pub has_clock: bool,

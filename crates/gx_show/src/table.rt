@@ -60,6 +60,10 @@ pub fn shown_cells(policy: &Policy, shown: &RecordData, ended: Option<EndedOrder
 }
 
 /// The record as a line of CSV, with the end of the line.
+///
+/// # Errors
+///
+/// `OutOfMemory` where memory was refused.
 pub fn record_csv(
     alloc: Global,
     policy: &Policy,
@@ -73,6 +77,10 @@ pub fn record_csv(
 }
 
 /// The record as a line of JSON, with the end of the line.
+///
+/// # Errors
+///
+/// `OutOfMemory` where memory was refused.
 pub fn record_json(
     alloc: Global,
     policy: &Policy,

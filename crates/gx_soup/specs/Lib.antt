@@ -3,3 +3,4 @@ pub mod Login
 pub mod Packets
 pub mod Feeding
 pub mod Writing
+pub mod Places

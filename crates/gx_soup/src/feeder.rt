@@ -64,24 +64,40 @@ impl Feeder {
         ensures bounded { length self.new.rest < longest_packet }
         ensures err { OnErr result (self.new ≡ self.old) }
     {
+        let mut packets = Vec::new(self.alloc);
+        let fault = self.feed_into(piece, &mut packets)?;
+        Ok(Fed { packets, fault })
+    }
+
+    /// Takes the next piece as `feed` does, and answers the fault. Its packets stand in the list then, whose room is kept,
+    /// in place of those that stood there; none does at an `Err`.
+    pub fn feed_into(
+        &mut self,
+        piece: &[u8],
+        packets: &mut Vec<ClientPacket>,
+    ) -> Result<Option<SoupFault>, OutOfMemory>
+        ensures fed { IfOk result (λ fault. (before : List ℕ) → HasRead self.old before
+            → Gives packets.new.items fault self.new before piece.now) }
+        ensures faulted { IsTrue (is_some self.old.fault)
+            → IfOk result (λ fault. (packets.new.items ≡ []) × (fault ≡ self.old.fault)) }
+        ensures bounded { length self.new.rest < longest_packet }
+        ensures err { OnErr result (self.new ≡ self.old) }
+        ensures none { OnErr result (packets.new.items ≡ []) }
+    {
+        packets.clear();
         if self.fault.is_some() {
-            return Ok(Fed {
-                packets: Vec::new(self.alloc),
-                fault: self.fault,
-            });
+            return Ok(self.fault);
         }
         let held = self.rest.len();
         self.rest.extend_from_slice(piece)?;
-        match cut(self.alloc, self.rest.as_slice()) {
+        match cut(self.alloc, self.rest.as_slice(), packets) {
             Ok(split) => {
                 drop_front(&mut self.rest, split.used);
                 self.fault = split.fault;
-                Ok(Fed {
-                    packets: split.packets,
-                    fault: split.fault,
-                })
+                Ok(split.fault)
             }
             Err(refused) => {
+                packets.clear();
                 self.rest.truncate(held);
                 Err(refused)
             }
@@ -89,39 +105,32 @@ impl Feeder {
     }
 }
 
-/// Packets, the fault after them, and how many bytes they and it take.
-#[derive(Drop)]
+/// Where the packets of some bytes end: the fault after them, and how many bytes they and it take.
+#[derive(Clone, Copy)]
 struct Split {
-    packets: Vec<ClientPacket>,
     fault: Option<SoupFault>,
     used: usize,
 }
 
-/// Cuts off what is told of these bytes. While nothing is told it takes no longer for more bytes.
-fn cut(alloc: Global, bytes: &[u8]) -> Result<Split, OutOfMemory>
+/// Cuts off what is told of these bytes, and puts their packets into the empty list. While nothing is told it takes no
+/// longer for more bytes.
+fn cut(alloc: Global, bytes: &[u8], packets: &mut Vec<ClientPacket>) -> Result<Split, OutOfMemory>
+    requires { packets.old.items ≡ [] }
     ensures within { IfOk result (λ s. s.used ≤ length bytes.now) }
     ensures bounded { IfOk result (λ s. length (drop s.used bytes.now) < longest_packet) }
     ensures packets { IfOk result (λ s.
         packets_of bytes.now ≡ record {
-          packets = s.packets.items;
+          packets = packets.new.items;
           fault = s.fault;
           rest = drop s.used bytes.now;
         }) }
 {
-    let mut packets = Vec::new(alloc);
     let mut used = 0;
     while used < bytes.len() {
         match read_front(alloc, &bytes[used..])? {
-            Front::Short => {
-                return Ok(Split {
-                    packets,
-                    fault: None,
-                    used,
-                });
-            }
+            Front::Short => return Ok(Split { fault: None, used }),
             Front::Faulty(fault) => {
                 return Ok(Split {
-                    packets,
                     fault: Some(fault),
                     used: bytes.len(),
                 });
@@ -132,11 +141,7 @@ fn cut(alloc: Global, bytes: &[u8]) -> Result<Split, OutOfMemory>
             }
         }
     }
-    Ok(Split {
-        packets,
-        fault: None,
-        used,
-    })
+    Ok(Split { fault: None, used })
 }
 
 /// Drops the first bytes, and moves the others to the front where there is room to fill.

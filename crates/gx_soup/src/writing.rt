@@ -11,6 +11,10 @@ use std::alloc::Global;
 /// The bytes of a server's packet: its length, its type, and what it carries. The session of a Login Accepted and
 /// its number stand on the right of their fields. A payload has to be 65,534 bytes at most, which the length can
 /// count.
+///
+/// # Errors
+///
+/// `OutOfMemory` where memory was refused.
 #[tactic(auto, unfolding(crate::specs::Writing::server_bytes))]
 pub fn encode(alloc: Global, packet: &ServerPacket) -> Result<Vec<u8>, OutOfMemory>
     requires { HasRoom packet.now }
@@ -33,6 +37,10 @@ pub fn encode(alloc: Global, packet: &ServerPacket) -> Result<Vec<u8>, OutOfMemo
 /// The bytes of a client's packet: its length, its type, and what it carries. A login's texts are written as they
 /// are, its number on the right of its field; a heartbeat, a logout and a debug packet carry nothing. A payload has
 /// to be 65,534 bytes at most.
+///
+/// # Errors
+///
+/// `OutOfMemory` where memory was refused.
 #[tactic(auto, unfolding(crate::specs::Writing::client_bytes))]
 pub fn encode_client(alloc: Global, packet: &ClientPacket) -> Result<Vec<u8>, OutOfMemory>
     requires { ClientHasRoom packet.now }
@@ -72,6 +80,10 @@ fn append_framed(text: &mut Vec<u8>, kind: u8, payload: &[u8]) -> Result<(), Out
 }
 
 /// Puts a Sequenced Data packet that carries these bytes at the end of the text: 65,534 bytes at most.
+///
+/// # Errors
+///
+/// `OutOfMemory` where memory was refused; then a part of it may stand at the end of the text.
 #[tactic(auto, unfolding(crate::specs::Writing::server_bytes))]
 pub fn append_sequenced(text: &mut Vec<u8>, payload: &[u8]) -> Result<(), OutOfMemory>
     requires { length payload.now ≤ longest_payload }

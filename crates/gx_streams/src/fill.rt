@@ -14,7 +14,9 @@ use gx_units::{AccountName, Moment, Token, UserName};
 pub struct FillSide {
     /// Whose order it is.
     pub user: UserName,
+    /// The token of his order.
     pub token: Token,
+    /// The account that he trades for.
     pub account: AccountName,
     /// The account's place in the policy's file, from 0.
     pub account_place: usize,
@@ -29,6 +31,7 @@ pub struct ToldFill {
     pub match_number: u64,
     /// The moment of its record.
     pub moment: Moment,
+    /// How many shares were executed.
     pub shares: u32,
     /// In ten-thousandths of a dollar.
     pub price: u32,
@@ -41,7 +44,9 @@ pub struct ToldFill {
 /// Whose side of a fill.
 #[derive(Clone, Copy)]
 pub enum Party {
+    /// That of the order that came in.
     Taker,
+    /// That of the order that rested.
     Maker,
 }
 

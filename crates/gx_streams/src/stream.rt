@@ -49,6 +49,7 @@ impl Stream {
     }
 
     /// Keeps at least so many places for `push_reserved`.
+    #[inline(always)]
     pub(crate) fn reserve(&mut self, places: usize) -> Result<(), OutOfMemory>
         ensures ok { OnOk result (self.new ≡ with_places places self.old) }
         ensures enough { places ≤ self.old.spare → IsOk result }
@@ -62,6 +63,7 @@ impl Stream {
     }
 
     /// Puts the entry last, in a place that is kept. Takes no memory.
+    #[inline(always)]
     pub(crate) fn push_reserved(&mut self, entry: Entry)
         requires { 0 < self.old.spare }
         ensures { self.new ≡ with_kept_last entry self.old }
@@ -86,12 +88,5 @@ impl Stream {
         ensures { result.now ≡ self.now.items }
     {
         self.entries.as_slice()
-    }
-
-    /// How many entries can be put last without memory.
-    pub(crate) fn spare(&self) -> usize
-        ensures { result ≡ self.now.spare }
-    {
-        self.spare
     }
 }

@@ -1,6 +1,6 @@
 //! The streams of all users.
 
-ghost use Rattle.std.specs.Prelude.{◌≡◌, ◌<◌, ◌^◌, ◌≤◌, length, map, option_map, IsTrue, IfOk, IsOk, OnOk, OnErr};
+ghost use Rattle.std.specs.Prelude.{◌≡◌, ◌<◌, ◌^◌, ◌≤◌, [], ◌∷◌, ◌++◌, length, map, option_map, IsTrue, IfOk, IsOk, OnOk, OnErr};
 ghost use Rattle.gx_policy.specs.Lists.{slice};
 ghost use Rattle.gx_streams.specs.{Kept.{places_in, with_kept_last, with_last, with_places}, Spans.{copies_in, AreNumbered}, Streams.{empty_streams, entitled, is_told, on_told, reports_in, with_fill}, Table.{no_report, report_of}};
 
@@ -53,16 +53,38 @@ fn no_report() -> Report
     }
 }
 
-fn report_of(fills: &[ToldFill], entry: &Entry) -> Report
-    ensures { result ≡ report_of fills.now entry.now }
+/// Puts the report that the entry stands for last in the list.
+fn put_report_of(
+    fills: &[ToldFill],
+    entry: &Entry,
+    reports: &mut Vec<Report>,
+) -> Result<(), OutOfMemory>
+    ensures { OnOk result
+        (reports.new.items ≡ reports.old.items ++ report_of fills.now entry.now ∷ []) }
 {
     match entry {
-        Entry::Typed(report) => *report,
+        Entry::Typed(report) => Ok(reports.push(*report)?),
         Entry::Filled(place, party) => match fills.get(*place) {
-            Some(fill) => fill.report(*party),
-            None => no_report(),
+            Some(fill) => Ok(reports.push(fill.report(*party))?),
+            None => Ok(reports.push(no_report())?),
         },
     }
+}
+
+/// Puts the reports of these entries into the list, in place of those there. Its room is kept.
+fn put_reports_of(
+    fills: &[ToldFill],
+    entries: &[Entry],
+    reports: &mut Vec<Report>,
+) -> Result<(), OutOfMemory>
+    ensures { OnOk result (reports.new.items ≡ map (report_of fills.now) entries.now) }
+{
+    reports.clear();
+    reports.reserve(entries.len())?;
+    for entry in entries {
+        put_report_of(fills, entry, reports)?;
+    }
+    Ok(())
 }
 
 fn reports_of(
@@ -72,10 +94,8 @@ fn reports_of(
 ) -> Result<Vec<Report>, OutOfMemory>
     ensures { IfOk result (λ reports. reports.items ≡ map (report_of fills.now) entries.now) }
 {
-    let mut reports = Vec::with_capacity(alloc, entries.len())?;
-    for entry in entries {
-        reports.push(report_of(fills, entry))?;
-    }
+    let mut reports = Vec::new(alloc);
+    put_reports_of(fills, entries, &mut reports)?;
     Ok(reports)
 }
 
@@ -98,6 +118,10 @@ fn copies(
 
 impl Streams {
     /// The policy's users, whom nothing was told, no place kept, and no reader with an account.
+    ///
+    /// # Errors
+    ///
+    /// `OutOfMemory` where memory was refused.
     #[tactic(auto, using(crate::proofs::Opened::opened))]
     pub fn new(alloc: Global, policy: &Policy) -> Result<Streams, OutOfMemory>
         ensures { IfOk result (λ streams. streams ≡ empty_streams policy.now) }
@@ -119,6 +143,7 @@ impl Streams {
 
     /// Puts the report last in the user's stream, in a place of its own: those that are kept stay
     /// kept.
+    /// Part of the interface: it is for who has kept no place, and the program always has.
     ///
     /// `OutOfMemory`: the stream could not grow, and nothing has changed.
     pub fn append(&mut self, user: UserName, report: Report) -> Result<(), OutOfMemory>
@@ -126,27 +151,31 @@ impl Streams {
         ensures ok { OnOk result (self.new ≡ on_told user (with_last report) self.old) }
         ensures err { OnErr result (self.new ≡ self.old) }
     {
-        self.told.append(user, Entry::Typed(report))
+        self.told.append(user, 0, Entry::Typed(report))
     }
 
-    /// Keeps at least so many places for the user. Places that are kept already count.
+    /// Keeps at least so many places for the user, who is looked for at this place of the policy's users first. Places
+    /// that are kept already count.
     ///
     /// `OutOfMemory`: the stream could not grow, and nothing has changed.
-    pub fn reserve(&mut self, user: UserName, places: usize) -> Result<(), OutOfMemory>
+    #[inline(always)]
+    pub fn reserve(&mut self, user: UserName, near: usize, places: usize) -> Result<(), OutOfMemory>
         requires told { IsTrue (is_told self.old user) }
         ensures ok { OnOk result (self.new ≡ on_told user (with_places places) self.old) }
         ensures enough { places ≤ places_in self.old.told user → IsOk result }
         ensures err { OnErr result (self.new ≡ self.old) }
     {
-        self.told.reserve(user, places)
+        self.told.reserve(user, near, places)
     }
 
-    /// Puts the report last in the user's stream, in a place that is kept. Takes no memory.
-    pub fn append_reserved(&mut self, user: UserName, report: Report)
+    /// Puts the report last in the user's stream, in a place that is kept. He is looked for at this place of the policy's
+    /// users first. Takes no memory.
+    #[inline(always)]
+    pub fn append_reserved(&mut self, user: UserName, near: usize, report: Report)
         requires { 0 < places_in self.old.told user }
         ensures { self.new ≡ on_told user (with_kept_last report) self.old }
     {
-        self.told.append_reserved(user, Entry::Typed(report));
+        self.told.append_reserved(user, near, Entry::Typed(report));
     }
 
     /// Begins a span for the reader at this place, with the mask that he has.
@@ -173,7 +202,12 @@ impl Streams {
     }
 
     /// Puts the fill last, and counts it for each reader in the span that goes on.
-    fn put_fill(&mut self, fill: ToldFill) -> Result<(), OutOfMemory>
+    fn put_fill(
+        &mut self,
+        fill: ToldFill,
+        near_taker: usize,
+        near_maker: usize,
+    ) -> Result<(), OutOfMemory>
         requires taker { IsTrue (is_told self.old fill.taker.user) }
         requires maker { IsTrue (is_told self.old fill.maker.user) }
         ensures ok { OnOk result (self.new ≡ with_fill fill self.old) }
@@ -183,8 +217,14 @@ impl Streams {
         self.fills.reserve(1)?;
         let taker = Entry::Filled(place, Party::Taker);
         let maker = Entry::Filled(place, Party::Maker);
-        self.told
-            .append_both(fill.taker.user, taker, fill.maker.user, maker)?;
+        self.told.append_both(
+            fill.taker.user,
+            near_taker,
+            taker,
+            fill.maker.user,
+            near_maker,
+            maker,
+        )?;
         self.readers.note(&fill);
         match self.fills.push(fill) {
             Ok(()) => {}
@@ -195,17 +235,23 @@ impl Streams {
 
     /// Puts the report of the fill last in the taker's user's stream, then in the maker's, and in
     /// each reader's a drop copy of the taker's side and then one of the maker's, where the account
-    /// is his. Places that are kept stay kept.
+    /// is his. Places that are kept stay kept. Both users are looked for at these places of the
+    /// policy's users first.
     ///
     /// `OutOfMemory`: something could not grow, and nothing has changed.
-    pub fn append_fill(&mut self, fill: ToldFill) -> Result<(), OutOfMemory>
+    pub fn append_fill(
+        &mut self,
+        fill: ToldFill,
+        near_taker: usize,
+        near_maker: usize,
+    ) -> Result<(), OutOfMemory>
         requires taker { IsTrue (is_told self.old fill.taker.user) }
         requires maker { IsTrue (is_told self.old fill.maker.user) }
         ensures ok { OnOk result (self.new ≡ with_fill fill self.old) }
         ensures err { OnErr result (self.new ≡ self.old) }
     {
         self.begin_spans()?;
-        self.put_fill(fill)
+        self.put_fill(fill, near_taker, near_maker)
     }
 
     /// The reader gets the later fills of the accounts in the mask, which are in the file's order,
@@ -238,6 +284,37 @@ impl Streams {
         }
     }
 
+    /// Puts what `slice` gives into this list, in place of what stands there, and answers how many
+    /// reports the user has. The list's room is kept, so that a user who is no reader is told
+    /// without memory while it is enough.
+    ///
+    /// `OutOfMemory`: there was no memory for the copy, and what the list has is nothing to go by.
+    pub fn put_slice(
+        &self,
+        user: UserName,
+        from: u64,
+        most: u64,
+        reports: &mut Vec<Report>,
+    ) -> Result<usize, OutOfMemory>
+        ensures part { OnOk result
+            (reports.new.items ≡ slice (reports_in self.now user) from most) }
+        ensures count { IfOk result (λ count. count ≡ length (reports_in self.now user)) }
+        ensures few { IfOk result (λ count. count < 2 ^ 63) }
+    {
+        let fills = self.fills.as_slice();
+        match self.readers.find(user) {
+            Some(reader) => {
+                *reports = copies(self.alloc, fills, reader, from, most)?;
+                Ok(reader.count())
+            }
+            None => {
+                let entries = self.told.entries(user);
+                put_reports_of(fills, slice(entries, from, most), reports)?;
+                Ok(entries.len())
+            }
+        }
+    }
+
     /// How many reports the user has. Takes no memory, and walks no fills.
     pub fn len(&self, user: UserName) -> usize
         ensures count { result ≡ length (reports_in self.now user) }
@@ -248,16 +325,6 @@ impl Streams {
         match self.readers.find(user) {
             Some(reader) => reader.count(),
             None => self.told.entries(user).len(),
-        }
-    }
-
-    /// How many places are kept for the user. Takes no memory.
-    pub fn spare(&self, user: UserName) -> usize
-        ensures { result ≡ places_in self.now.told user }
-    {
-        match self.readers.find(user) {
-            Some(_) => 0,
-            None => self.told.spare(user),
         }
     }
 

@@ -5,6 +5,7 @@ ghost use Rattle.gx_streams.specs.Kept.{is_known, items_in, nothing_told, on_use
 
 use crate::entry::Entry;
 use crate::stream::Stream;
+use gx_index::get_mut_near;
 use gx_policy::Policy;
 use gx_units::{OutOfMemory, UserName};
 use indexmap::IndexMap;
@@ -51,25 +52,31 @@ impl Told {
         self.by_user.contains_key(&user)
     }
 
-    /// Puts the entry last in the user's stream, in a place of its own: those that are kept stay kept.
+    /// Puts the entry last in the user's stream, in a place of its own: those that are kept stay kept. Here and below, the
+    /// user is looked for at this place of the policy's users first.
     ///
     /// `OutOfMemory`: the stream could not grow, and nothing has changed.
-    pub(crate) fn append(&mut self, user: UserName, entry: Entry) -> Result<(), OutOfMemory>
+    pub(crate) fn append(
+        &mut self,
+        user: UserName,
+        near: usize,
+        entry: Entry,
+    ) -> Result<(), OutOfMemory>
         requires known { IsTrue (is_known self.old user) }
         ensures ok { OnOk result (self.new ≡ on_user user (with_last entry) self.old) }
         ensures err { OnErr result (self.new ≡ self.old) }
     {
-        let Some(stream) = self.by_user.get_mut(&user) else {
+        let Some(stream) = get_mut_near(&mut self.by_user, near, user) else {
             return Ok(());
         };
         stream.push(entry)
     }
 
-    fn take_back(&mut self, user: UserName)
+    fn take_back(&mut self, user: UserName, near: usize)
         requires known { IsTrue (is_known self.old user) }
         ensures { self.new ≡ on_user user without_last self.old }
     {
-        let Some(stream) = self.by_user.get_mut(&user) else {
+        let Some(stream) = get_mut_near(&mut self.by_user, near, user) else {
             return;
         };
         stream.take_back();
@@ -82,8 +89,10 @@ impl Told {
     pub(crate) fn append_both(
         &mut self,
         first: UserName,
+        near_first: usize,
         one: Entry,
         second: UserName,
+        near_second: usize,
         other: Entry,
     ) -> Result<(), OutOfMemory>
         requires first { IsTrue (is_known self.old first) }
@@ -92,11 +101,11 @@ impl Told {
             ≡ on_user second (with_last other) (on_user first (with_last one) self.old)) }
         ensures err { OnErr result (self.new ≡ self.old) }
     {
-        self.append(first, one)?;
-        match self.append(second, other) {
+        self.append(first, near_first, one)?;
+        match self.append(second, near_second, other) {
             Ok(()) => Ok(()),
             Err(refused) => {
-                self.take_back(first);
+                self.take_back(first, near_first);
                 Err(refused)
             }
         }
@@ -105,24 +114,31 @@ impl Told {
     /// Keeps at least so many places for the user. Places that are kept already count.
     ///
     /// `OutOfMemory`: the stream could not grow, and nothing has changed.
-    pub(crate) fn reserve(&mut self, user: UserName, places: usize) -> Result<(), OutOfMemory>
+    #[inline(always)]
+    pub(crate) fn reserve(
+        &mut self,
+        user: UserName,
+        near: usize,
+        places: usize,
+    ) -> Result<(), OutOfMemory>
         requires known { IsTrue (is_known self.old user) }
         ensures ok { OnOk result (self.new ≡ on_user user (with_places places) self.old) }
         ensures enough { places ≤ places_in self.old user → IsOk result }
         ensures err { OnErr result (self.new ≡ self.old) }
     {
-        let Some(stream) = self.by_user.get_mut(&user) else {
+        let Some(stream) = get_mut_near(&mut self.by_user, near, user) else {
             return Ok(());
         };
         stream.reserve(places)
     }
 
     /// Puts the entry last in the user's stream, in a place that is kept. Takes no memory.
-    pub(crate) fn append_reserved(&mut self, user: UserName, entry: Entry)
+    #[inline(always)]
+    pub(crate) fn append_reserved(&mut self, user: UserName, near: usize, entry: Entry)
         requires { 0 < places_in self.old user }
         ensures { self.new ≡ on_user user (with_kept_last entry) self.old }
     {
-        let Some(stream) = self.by_user.get_mut(&user) else {
+        let Some(stream) = get_mut_near(&mut self.by_user, near, user) else {
             return;
         };
         stream.push_reserved(entry);
@@ -136,17 +152,6 @@ impl Told {
         match self.by_user.get(&user) {
             Some(stream) => stream.as_slice(),
             None => &[],
-        }
-    }
-
-    /// How many places are kept for the user. Takes no memory.
-    #[tactic(auto, using(crate::proofs::Users::spare_found))]
-    pub(crate) fn spare(&self, user: UserName) -> usize
-        ensures { result ≡ places_in self.now user }
-    {
-        match self.by_user.get(&user) {
-            Some(stream) => stream.spare(),
-            None => 0,
         }
     }
 }

@@ -10,6 +10,7 @@ const NAME_SIZE: usize = 16;
 /// A name, or a word of the program's: 16 bytes, filled up with spaces.
 #[derive(Clone, Copy, PartialEq, Eq)]
 pub struct Name {
+    /// The name, with spaces behind a shorter one.
     pub bytes: [u8; NAME_SIZE],
 }
 
@@ -44,12 +45,20 @@ pub enum Cell {
 }
 
 /// Puts a whole number at the end of the text.
+///
+/// # Errors
+///
+/// `OutOfMemory` where memory was refused.
 pub fn append_integer<I: Integer>(text: &mut Vec<u8>, number: I) -> Result<(), OutOfMemory> {
     let mut digits = Buffer::new();
     append(text, digits.format(number).as_bytes())
 }
 
 /// Puts ten-thousandths at the end of the text, as `2500.0000`.
+///
+/// # Errors
+///
+/// `OutOfMemory` where memory was refused; then a part of it may stand at the end of the text.
 pub fn append_dollars(text: &mut Vec<u8>, value: u128) -> Result<(), OutOfMemory> {
     append_integer(text, value / 10_000)?;
     append(text, b".")?;

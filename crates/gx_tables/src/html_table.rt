@@ -19,6 +19,10 @@ fn append_escaped_byte(text: &mut Vec<u8>, byte: u8) -> Result<(), OutOfMemory> 
 }
 
 /// Puts a text at the end of another so that HTML shows it as it is, also within an attribute's quotes.
+///
+/// # Errors
+///
+/// `OutOfMemory` where memory was refused; then a part of it may stand at the end of the text.
 pub fn append_escaped(text: &mut Vec<u8>, shown: &[u8]) -> Result<(), OutOfMemory> {
     for byte in shown {
         append_escaped_byte(text, *byte)?;

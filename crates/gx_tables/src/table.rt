@@ -8,6 +8,7 @@ use std::alloc::Global;
 /// A table: rows of as many cells as it has columns.
 #[derive(Drop)]
 pub struct Table {
+    /// Which columns it has.
     pub kind: TableKind,
     /// Row by row.
     pub cells: Vec<Cell>,

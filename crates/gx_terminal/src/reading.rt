@@ -340,6 +340,10 @@ fn without_cr(line: &[u8]) -> &[u8]
 impl Wish {
     /// What a line asks for: its bytes without the LF, a CR at their end being no part of it. Its words are separated by
     /// spaces, one or more.
+    ///
+    /// # Errors
+    ///
+    /// Which word is wrong, and what was wanted there.
     #[tactic(auto, unfolding(crate::specs::Wishes::wish_of))]
     pub fn read(line: &[u8]) -> Result<Wish, Wrong>
         ensures { result ≡ wish_of line.now }

@@ -10,7 +10,9 @@ use gx_units::{Firm, Symbol, Token};
 /// Which way an order trades.
 #[derive(Clone, Copy, PartialEq, Eq)]
 pub enum Side {
+    /// It buys.
     Buy,
+    /// It sells.
     Sell,
 }
 
@@ -50,11 +52,15 @@ impl Lifetime {
 /// A new order, but for its token.
 #[derive(Clone, Copy, PartialEq, Eq)]
 pub struct NewOrder {
+    /// Which way it trades.
     pub side: Side,
+    /// How many shares it is for.
     pub shares: u32,
+    /// The name of the stock.
     pub stock: Symbol,
     /// In ten-thousandths of a dollar.
     pub price: u32,
+    /// How long it stands.
     pub lifetime: Lifetime,
 }
 
@@ -67,6 +73,7 @@ pub struct NewTerms {
     pub shares: u32,
     /// In ten-thousandths of a dollar.
     pub price: u32,
+    /// How long the new order stands.
     pub lifetime: Lifetime,
 }
 

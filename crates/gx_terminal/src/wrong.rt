@@ -7,16 +7,21 @@ use std::fmt;
 pub enum Wanted {
     /// The word that names the form of a line.
     Form,
+    /// The name of an account.
     Account,
     /// An account, or `--all`.
     AccountOrAll,
+    /// The name of a rule.
     Rule,
     /// The limit of a rule.
     Value,
+    /// The name of a stock.
     Stock,
+    /// The name of a reader.
     Reader,
     /// `--yes`, without which the day is not closed.
     Yes,
+    /// A number of shares.
     Shares,
     /// A price in dollars.
     Price,
@@ -56,7 +61,9 @@ impl Wanted {
 /// behind its last one.
 #[derive(Clone, Copy, PartialEq, Eq)]
 pub struct Wrong {
+    /// Which word it is.
     pub word: usize,
+    /// What was wanted there.
     pub wanted: Wanted,
 }
 

@@ -18,6 +18,10 @@ fn zeros(count: usize) -> &'static [u8]
 }
 
 /// Puts the bytes at the end of the text.
+///
+/// # Errors
+///
+/// `OutOfMemory` where memory was refused; then the text is as it was.
 pub fn append(text: &mut Vec<u8>, more: &[u8]) -> Result<(), OutOfMemory>
     ensures appended { OnOk result (text.new.items ≡ text.old.items ++ more.now) }
     ensures refused { OnErr result (text.new.items ≡ text.old.items) }
@@ -27,6 +31,10 @@ pub fn append(text: &mut Vec<u8>, more: &[u8]) -> Result<(), OutOfMemory>
 }
 
 /// Puts the number in decimal digits at the end of the text.
+///
+/// # Errors
+///
+/// `OutOfMemory` where memory was refused; then the text is as it was.
 pub fn append_number(text: &mut Vec<u8>, number: u64) -> Result<(), OutOfMemory>
     ensures appended { OnOk result (text.new.items ≡ text.old.items ++ decimal number) }
     ensures refused { OnErr result (text.new.items ≡ text.old.items) }

@@ -22,6 +22,10 @@ pub enum Decimals {
 }
 
 /// Puts a minute at the end of the text, as `10:29`. Minutes count from midnight; the hours go on past 23.
+///
+/// # Errors
+///
+/// `OutOfMemory` where memory was refused; then a part of it may stand at the end of the text.
 #[tactic(auto, unfolding(crate::specs::Moments::minute_text))]
 pub fn append_minute(text: &mut Vec<u8>, minute: u64) -> Result<(), OutOfMemory>
     ensures { OnOk result (text.new.items ≡ text.old.items ++ minute_text minute) }
@@ -32,6 +36,10 @@ pub fn append_minute(text: &mut Vec<u8>, minute: u64) -> Result<(), OutOfMemory>
 }
 
 /// Puts a moment at the end of the text, as `10:29:43.698373` or `10:29:43.698373412`. The hours go on past 23.
+///
+/// # Errors
+///
+/// `OutOfMemory` where memory was refused; then a part of it may stand at the end of the text.
 #[tactic(auto, unfolding(crate::specs::Moments::moment_text))]
 pub fn append_moment(
     text: &mut Vec<u8>,

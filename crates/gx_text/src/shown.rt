@@ -49,6 +49,10 @@ fn append_shown_byte(text: &mut Vec<u8>, byte: u8) -> Result<(), OutOfMemory>
 }
 
 /// Puts bytes that a peer chose at the end of the text: visible ASCII as it is, all else and `\` as `\xNN`.
+///
+/// # Errors
+///
+/// `OutOfMemory` where memory was refused; then a part of it may stand at the end of the text.
 pub fn append_shown(text: &mut Vec<u8>, bytes: &[u8]) -> Result<(), OutOfMemory>
     ensures { OnOk result (text.new.items ≡ text.old.items ++ shown bytes.now) }
 {
@@ -59,6 +63,10 @@ pub fn append_shown(text: &mut Vec<u8>, bytes: &[u8]) -> Result<(), OutOfMemory>
 }
 
 /// Puts a name at the end of the text as [`append_shown`] does, without the spaces that fill it up.
+///
+/// # Errors
+///
+/// `OutOfMemory` where memory was refused; then a part of it may stand at the end of the text.
 pub fn append_name(text: &mut Vec<u8>, name: &[u8]) -> Result<(), OutOfMemory>
     ensures { OnOk result (text.new.items ≡ text.old.items ++ shown_name name.now) }
 {
@@ -90,6 +98,10 @@ fn append_json_bytes(text: &mut Vec<u8>, bytes: &[u8]) -> Result<(), OutOfMemory
 
 /// Puts bytes that a peer chose at the end of the text as a JSON string: visible ASCII and spaces as they are, but `"` and `\`
 /// behind a `\`, and all else as `\u00NN`.
+///
+/// # Errors
+///
+/// `OutOfMemory` where memory was refused; then a part of it may stand at the end of the text.
 pub fn append_json_string(text: &mut Vec<u8>, bytes: &[u8]) -> Result<(), OutOfMemory>
     ensures { OnOk result (text.new.items ≡ text.old.items ++ json_string bytes.now) }
 {
@@ -99,6 +111,10 @@ pub fn append_json_string(text: &mut Vec<u8>, bytes: &[u8]) -> Result<(), OutOfM
 }
 
 /// Puts a name at the end of the text as [`append_json_string`] does, without the spaces that fill it up.
+///
+/// # Errors
+///
+/// `OutOfMemory` where memory was refused; then a part of it may stand at the end of the text.
 pub fn append_json_name(text: &mut Vec<u8>, name: &[u8]) -> Result<(), OutOfMemory>
     ensures { OnOk result (text.new.items ≡ text.old.items ++ json_name name.now) }
 {

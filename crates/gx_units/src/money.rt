@@ -55,13 +55,6 @@ impl Price {
         }
         Some(Price { amount })
     }
-
-    /// The price in ten-thousandths of a dollar.
-    pub fn amount(&self) -> u32
-        ensures { result ≡ self.now }
-    {
-        self.amount
-    }
 }
 
 /// What this many shares are worth at this price.

@@ -38,6 +38,7 @@ impl<T: Drop> From<AllocFailed<T>> for OutOfMemory {
 /// An order token: 14 bytes that a trader chooses, compared as bytes.
 #[derive(Clone, Copy)]
 pub struct Token {
+    /// As the trader sent them.
     pub bytes: [u8; 14],
 }
 
@@ -71,6 +72,7 @@ impl Hash for Token {
 /// The name of a stock, padded with spaces.
 #[derive(Clone, Copy)]
 pub struct Symbol {
+    /// The name, with spaces behind a shorter one.
     pub bytes: [u8; 8],
 }
 
@@ -101,6 +103,7 @@ impl Hash for Symbol {
 /// The name of an account, padded with spaces.
 #[derive(Clone, Copy)]
 pub struct AccountName {
+    /// The name, with spaces behind a shorter one.
     pub bytes: [u8; 8],
 }
 
@@ -131,6 +134,7 @@ impl Hash for AccountName {
 /// The name of a rule, padded with spaces.
 #[derive(Clone, Copy)]
 pub struct RuleId {
+    /// The name, with spaces behind a shorter one.
     pub bytes: [u8; 8],
 }
 
@@ -161,6 +165,7 @@ impl Hash for RuleId {
 /// A firm, padded with spaces.
 #[derive(Clone, Copy, PartialEq, Eq)]
 pub struct Firm {
+    /// The name, with spaces behind a shorter one.
     pub bytes: [u8; 4],
 }
 
@@ -168,6 +173,7 @@ pub struct Firm {
 /// keeps it.
 #[derive(Clone, Copy)]
 pub struct UserName {
+    /// The name, with spaces behind a shorter one.
     pub bytes: [u8; 6],
 }
 
@@ -212,6 +218,7 @@ impl UserName {
 /// A password, padded with spaces. It is compared in upper case, as `folded` gives it, and never printed.
 #[derive(Clone, Copy, PartialEq, Eq)]
 pub struct Password {
+    /// The password, with spaces behind a shorter one.
     pub bytes: [u8; 10],
 }
 
@@ -229,6 +236,7 @@ impl Password {
 /// The name of a session, padded with spaces on either side. It is compared without them, as `folded` gives it.
 #[derive(Clone, Copy, PartialEq, Eq)]
 pub struct SessionName {
+    /// The name, with spaces on either side of a shorter one.
     pub bytes: [u8; 10],
 }
 

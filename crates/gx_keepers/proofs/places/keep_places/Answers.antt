@@ -1,5 +1,5 @@
 use Rattle.std.proofs.{Common.{◌≡◌, true, false, refl, ◌∙◌, sym}, lemmas.Result.on_ok_weaker}
-use Rattle.gx_keepers.proofs.{Trading.trader_has_enough, Keepings.{asked_are_placed, asker_fits, few_live, keep_still, kept_fit, many_fit}, Carrying.asked_takes}
+use Rattle.gx_keepers.proofs.{Trading.{trader_has_enough, trader_is_told}, Keepings.{asked_are_placed, asker_fits, few_live, keep_still, kept_fit, many_fit}, Carrying.asked_takes}
 use Rattle.gx_keepers.proofs.places.keep_places.Goals as goal
 
 pub keep_enough_for_all-requires : goal.keep_enough_for_all-requires
@@ -41,7 +41,11 @@ returns-then-concerns_many-clause-sure c = λ sure. let clash : false ≡ true =
 
 -- an Enter
 pub keep_enough_for_trader-requires : goal.keep_enough_for_trader-requires
-keep_enough_for_trader-requires c = record { few = few_live c.args.next.policy.now c.args.next.history.now.records c.args.keepers.now c.requires.takes.does.legal c.requires.takes.in_force }
+keep_enough_for_trader-requires c =
+    record {
+      few = few_live c.args.next.policy.now c.args.next.history.now.records c.args.keepers.now c.requires.takes.does.legal c.requires.takes.in_force;
+      told = trader_is_told c.args.next.policy.now c.args.next.history.now.records c.args.a.now c.args.next.left.now c.args.next.moves.now c.in-Adds.field-0 c.args.keepers.now c.requires.asks c.requires.takes c.in-Adds.is;
+    }
 
 pub returns-in-Adds-clause-kept : goal.returns-in-Adds-clause-kept
 returns-in-Adds-clause-kept c =

@@ -6,4 +6,4 @@ use Rattle.gx_book.proofs.book.Book.lists.Goals as goal
 
 pub returns : goal.returns
 returns c =
-    c.contains_key.ensures ∙ listed_found c.self.inside.by_stock.entries c.args.stock ∙ ap (λ (book : List StockOrders). is_some (stock_in book c.args.stock)) c.self.view_is
+    c.is_some.ensures ∙ c.index_near.ensures.found ∙ listed_found c.self.inside.by_stock.entries c.args.stock ∙ ap (λ (book : List StockOrders). is_some (stock_in book c.args.stock)) c.self.view_is

@@ -4,14 +4,14 @@ use Rattle.gx_day.specs.{DayData.kill_in, View.lifted_by, declared.day.Kill.Kill
 use Rattle.gx_day.proofs.Table.{kill_found}
 use Rattle.gx_day.proofs.day.Day.kill_of.Goals as goal
 
-pub returns-in_err-get : goal.returns-in_err-get
-returns-in_err-get c =
-    ap (option_map lifted_by) (c.from_residual.ensures ∙ ap (option_and_then (λ (kill : Option Kill). kill)) c.in_err-get.ensures.value)
+pub returns-in_err-get_near : goal.returns-in_err-get_near
+returns-in_err-get_near c =
+    ap (option_map lifted_by) (c.from_residual.ensures ∙ ap (option_and_then (λ (kill : Option Kill). kill)) c.in_err-get_near.ensures)
     ∙ sym (kill_found c.self.inside.kills.entries c.args.account)
     ∙ ap (λ day. kill_in day c.args.account) c.self.view_is
 
 pub returns : goal.returns
 returns c =
-    ap (λ (found : Option (Option Kill)). option_map lifted_by (option_and_then (λ (kill : Option Kill). kill) found)) c.in_ok-get.ensures.value
+    ap (λ (found : Option (Option Kill)). option_map lifted_by (option_and_then (λ (kill : Option Kill). kill) found)) c.in_ok-get_near.ensures
     ∙ sym (kill_found c.self.inside.kills.entries c.args.account)
     ∙ ap (λ day. kill_in day c.args.account) c.self.view_is

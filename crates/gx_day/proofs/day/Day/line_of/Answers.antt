@@ -4,15 +4,15 @@ use Rattle.gx_day.specs.DayData.{line_in}
 use Rattle.gx_day.proofs.Table.{line_found}
 use Rattle.gx_day.proofs.day.Day.line_of.Goals as goal
 
-pub returns-in_err-get : goal.returns-in_err-get
-returns-in_err-get c =
+pub returns-in_err-get_near : goal.returns-in_err-get_near
+returns-in_err-get_near c =
     c.from_residual.ensures
-    ∙ ap (option_and_then (λ (line : Option ℕ). line)) c.in_err-get.ensures.value
+    ∙ ap (option_and_then (λ (line : Option ℕ). line)) c.in_err-get_near.ensures
     ∙ sym (line_found c.self.inside.lines.entries c.args.user)
     ∙ ap (λ day. line_in day c.args.user) c.self.view_is
 
 pub returns : goal.returns
 returns c =
-    ap (option_and_then (λ (line : Option ℕ). line)) c.in_ok-get.ensures.value
+    ap (option_and_then (λ (line : Option ℕ). line)) c.in_ok-get_near.ensures
     ∙ sym (line_found c.self.inside.lines.entries c.args.user)
     ∙ ap (λ day. line_in day c.args.user) c.self.view_is

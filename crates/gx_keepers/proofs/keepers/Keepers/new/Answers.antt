@@ -6,10 +6,15 @@ use Rattle.gx_keepers.proofs.keepers.Keepers.new.Goals as goal
 
 pub returns-clause-in_force : goal.returns-clause-in_force
 returns-clause-in_force c =
-    begin c.args.policy.now c.in_ok-telling.telling.people c.in-Ok.settings.rules c.in-Ok.settings.day c.new.result c.in-Ok-first_trading.trading.book c.in-Ok-first_trading.trading.ledger c.in_ok-telling.telling.streams
-    c.in_ok-telling.ensures.people c.in-Ok.ensures.rules c.in-Ok.ensures.day c.new.ensures.live c.new.ensures.used c.in-Ok-first_trading.ensures.book c.in-Ok-first_trading.ensures.ledger c.in_ok-telling.ensures.shown c.in_ok-telling.ensures.sent
+    let told = c.in-Ok.telling in
+    let set = c.in-Ok-first_settings.settings in
+    let traded = c.in_ok-trading.trading in
+    begin c.args.policy.now told.people set.rules set.day traded.orders traded.book traded.ledger told.streams
+    c.in-Ok.ensures.people c.in-Ok-first_settings.ensures.rules c.in-Ok-first_settings.ensures.day c.in_ok-trading.ensures.live c.in_ok-trading.ensures.used
+    c.in_ok-trading.ensures.book c.in_ok-trading.ensures.ledger c.in-Ok.ensures.shown c.in-Ok.ensures.sent
 
 pub returns-clause-kept : goal.returns-clause-kept
 returns-clause-kept c =
-    kept_at_first c.args.policy.now _ c.in_ok-telling.telling.streams (returns-clause-in_force c) (λ user. refl)
-    (subst (λ (live : List LiveOrder). HaveEnough live c.in_ok-telling.telling.people c.args.policy.now c.in_ok-telling.telling.streams c.args.policy.now.users) (sym c.new.ensures.live) c.in_ok-telling.ensures.enough)
+    let told = c.in-Ok.telling in
+    kept_at_first c.args.policy.now _ told.streams (returns-clause-in_force c) (λ user. refl)
+    (subst (λ (live : List LiveOrder). HaveEnough live told.people c.args.policy.now told.streams c.args.policy.now.users) (sym c.in_ok-trading.ensures.live) c.in-Ok.ensures.enough)

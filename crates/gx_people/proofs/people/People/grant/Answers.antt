@@ -19,7 +19,7 @@ grant-requires c = record {
 -- his role is written back
 pub returns : goal.returns
 returns c =
-    let after : Person = record { password = c.in-Some.person.now.password; standing = c.grant.new.self } in
+    let after : Person = record { password = c.in-Some.person.now.password; standing = c.grant.new.self; near_account = c.in-Some.person.now.near_account } in
     let new_is =
     ap users_of (c.get_mut.follows.holds after).0
     ∙ role_written (with_account c.args.account) c.args.reader c.self.inside.by_name.entries c.in-Some.person.now after c.in-Some.ensures.unique (sym c.in-Some.ensures.value) refl c.grant.ensures

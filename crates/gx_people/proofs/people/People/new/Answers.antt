@@ -16,7 +16,7 @@ loop-user-preserved c =
     ap (are_distinct (λ (a b : User). same_user a.name b.name)) before.1 ∙ users_differ c.args.policy.now before.2
     in (
       ap users_of c.in_ok-insert.ensures.entries
-          ∙ added_next c.loop-user.by_name.entries u.name (record { password = u.password; standing = c.in_ok-standing.standing }) users c.loop-user.user-index u
+          ∙ added_next c.loop-user.by_name.entries u.name (record { password = u.password; standing = c.in_ok-standing.standing; near_account = c.near_account.result }) users c.loop-user.user-index u
           differ before.0 c.loop-user-test.true c.user-item.is
           (ap (λ (r : Role). record { name = u.name; password = u.password; role = r }) c.in_ok-standing.ensures),
       before.1,

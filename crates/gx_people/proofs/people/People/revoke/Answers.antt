@@ -11,7 +11,7 @@ returns-in_default c =
 
 pub returns : goal.returns
 returns c =
-    let after : Person = record { password = c.in-Some.person.now.password; standing = c.revoke.new.self } in
+    let after : Person = record { password = c.in-Some.person.now.password; standing = c.revoke.new.self; near_account = c.in-Some.person.now.near_account } in
     let new_is =
     ap users_of (c.get_mut.follows.holds after).0
     ∙ role_written (without_account c.args.account) c.args.reader c.self.inside.by_name.entries c.in-Some.person.now after c.in-Some.ensures.unique (sym c.in-Some.ensures.value) refl c.revoke.ensures

@@ -20,4 +20,4 @@ push_reserved-requires c =
 
 pub returns : goal.returns
 returns c =
-    written_back c.self.inside.by_user.entries _ c.args.self.now c.args.user (with_kept_last c.args.entry) c.in-Some.stream.now c.push_reserved.new.self (c.get_mut.follows.holds c.push_reserved.new.self).0 c.push_reserved.ensures c.in-Some.ensures.unique c.in-Some.ensures.value c.self.view_is
+    written_back c.self.inside.by_user.entries _ c.args.self.now c.args.user (with_kept_last c.args.entry) c.in-Some.stream.now c.push_reserved.new.self (c.get_mut_near.follows.holds c.push_reserved.new.self).0 c.push_reserved.ensures c.in-Some.ensures.unique c.in-Some.ensures.value c.self.view_is

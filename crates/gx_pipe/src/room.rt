@@ -1,0 +1,37 @@
+//! Room that a connection keeps.
+
+use gx_history::report::Report;
+use gx_soup::ClientPacket;
+use std::alloc::Global;
+
+/// Room that is kept from pull to pull. Its allocator is that of the connection.
+#[derive(Drop)]
+pub(crate) struct PullRoom {
+    pub(crate) alloc: Global,
+    /// The reports of a pull.
+    pub(crate) reports: Vec<Report>,
+    /// The same reports, in their packets.
+    pub(crate) text: Vec<u8>,
+}
+
+/// Room that is kept from piece to piece.
+#[derive(Drop)]
+pub(crate) struct Room {
+    /// The packets of a piece.
+    pub(crate) packets: Vec<ClientPacket>,
+    pub(crate) pull: PullRoom,
+}
+
+impl Room {
+    /// Room for nothing yet. It takes no memory.
+    pub(crate) fn new(alloc: Global) -> Room {
+        Room {
+            packets: Vec::new(alloc),
+            pull: PullRoom {
+                alloc,
+                reports: Vec::new(alloc),
+                text: Vec::new(alloc),
+            },
+        }
+    }
+}
