@@ -21,7 +21,8 @@ pub fn index_near<K: Eq + Hash + Copy, V, S: BuildHasher, A: Allocator>(
     ensures index { result ≡ index_of_by (K.eq key) map.now }
     ensures found { is_some result ≡ is_some (get_by (K.eq key) map.now) }
     ensures within { IfSome result (λ i. i < index_map_len map.now) }
-    ensures value { IfSome result (λ i. slice_get (values map.now) i ≡ get_by (K.eq key) map.now) }
+    ensures value { IfSome result (λ i.
+        slice_get (values map.now) i ≡ get_by (K.eq key) map.now) }
     ensures unique { IsUnique K.eq map.now }
 {
     // what this ensures: no two keys are equal
@@ -76,8 +77,11 @@ pub fn place_near<T: Eq + Hash + Copy>(set: &IndexSet<T>, near: usize, value: T)
 /// Where the names of a step stand in the policy: tables in its order look at these places first.
 #[derive(Clone, Copy)]
 pub struct Near {
+    /// The place of the user who asks, among the policy's users.
     pub user: usize,
+    /// The place of his account, among its accounts.
     pub account: usize,
+    /// The place of the order's stock, among its stocks.
     pub stock: usize,
 }
 

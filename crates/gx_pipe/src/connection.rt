@@ -216,7 +216,8 @@ impl Connection {
         ensures ok { OnOk result (IsRunOf
             (on_event (G.seen gate.old) self.old (happens.Packet (Data payload.now)) moment)
             (G.seen gate.new) self.new) }
-        ensures err { OnErr result ((G.seen gate.new ≡ G.seen gate.old) × (self.new ≡ self.old)) }
+        ensures err { OnErr result
+            ((G.seen gate.new ≡ G.seen gate.old) × (self.new ≡ self.old)) }
         ensures asks { IsTrue (asks_step
             (turn self.old.session (happens.Packet (Data payload.now)) moment).reply.next) }
         ensures full { IfErr result (IsToldFull (G.seen gate.new)) }
