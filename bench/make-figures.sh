@@ -1,7 +1,9 @@
 #!/bin/sh
 # Prints a script of about so many lines (10000 where none is given) under rules of each kind: 64 traders log in, and
 # then, in rounds of 16 lines, sell, buy, replace, sweep and cancel; nearly all is granted. `make-figures.sh policy` prints
-# its policy: 64 accounts and 128 rules of all twelve kinds, rates and repeats of 4096 orders among them. `make-figures.sh
+# its policy: 64 accounts and 128 rules of all twelve kinds, of which 16 count shares, 16 value, 16 a rate and 16 repeats,
+# half of them each account by itself and half all together; four rates and three repeats are over 4096 orders, the others
+# over 64. `make-figures.sh
 # policy 8 1000` prints one whose rules each concern every eighth account alone, so that an account is under 16 of them,
 # and whose rates and repeats are all of 1000 orders; `make-figures.sh policy plain` one of two rules, each for all: a
 # greatest size, and an account's gross value. Run as make-figures.sh [LINES], or make-figures.sh policy [EVERY ORDERS].

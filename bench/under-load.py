@@ -6,7 +6,9 @@
 #   bench/under-load.py [GATE] --before OLD/gate      orders a second, beside another version and an echo
 #
 # GATE: the built program; where none is named, crates/gate/out/gate of this repository.
-"""Lets native traders (load.c beside this file) enter orders, and looks at what that does to everybody else.
+"""Lets native traders (load.c beside this file) enter orders, and looks at what that does to everybody else: how long others'
+orders and an officer's kill take, also beside 64 users who are denied in silence, what 256 silent users cost, and whether any
+of 40 who send heartbeats is taken for silent where the server is held up for 17 seconds.
 
 - 64 traders with 20 orders in flight each: how many orders wait to be matched, how long an order does, how long a pair of
   others takes whose orders cross in another stock, and how long an officer's kill takes.

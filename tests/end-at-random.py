@@ -6,7 +6,8 @@
 #   tests/end-at-random.py GATE 20 --sync      20, each record forced to the disk
 #
 # GATE: the built program; where none is named, crates/gate/out/gate of this repository.
-"""Kills a server that keeps a journal, restarts it on the journal, and compares.
+"""Recovery: a server that keeps a journal is killed (SIGKILL) while six traders trade, 20 times. No acknowledged report is
+lost, and each journal is legal but for a cut last record.
 
 Traders enter orders that trade. At a random moment the server is killed (SIGKILL). The journal has to be that of a
 legal day, but for a cut last record. Then the server is started on it again, each trader logs in and asks for his

@@ -1,5 +1,6 @@
 #!/usr/bin/env python3
-"""Runs the examples and the tutorial with the built program, and compares what they print with what is stored.
+"""Runs the examples and the tutorial with the built program, and compares what they print with what is stored,
+byte for byte. Among them: a journal at its end is the audit, and a server goes on with one that was cut in its last record.
 
 Each file of examples/ whose first line is a call of the program is run by that line, and what it prints is to be what is
 stored beside its input: of NAME.ENDING in NAME.out.ENDING. Each `console` block of docs/TUTORIAL.md and of

@@ -1,5 +1,6 @@
 #!/usr/bin/env python3
-"""Two peers of `gate serve` over TCP: one drips his login a byte at a time, beside one that is served at once.
+"""Two peers of `gate serve` over TCP: one drips his login a byte at a time, beside one that is served at once; then one
+place, and three peers in turn.
 
 BOB gives the first 20 bytes of his login, a byte at a time. ALICE comes, logs in, enters an order, is sent both answers,
 byte for byte but for the time, logs out and is sent the end. Only then does BOB give the rest, and he is served as she

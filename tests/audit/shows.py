@@ -9,7 +9,7 @@
 # that alone which records each filter has to show: each account, each user, each stock, each rule, some orders, denials, spans
 # of time, and some of these together. Then it asks `gate show` for the same, and compares. The CSV is read by Python's csv and
 # compared with the JSON, field for field; the text has to have a line for each record. The status is 0 where all is the same.
-"""A run that compares `gate show` with a reading of its own."""
+"""`gate show` shows the records that a reading of its own finds."""
 
 import argparse
 import csv

@@ -1,5 +1,6 @@
 #!/usr/bin/env python3
-"""What `gate desk` does, seen from its users' side, against servers on the policies of examples/policies.
+"""What `gate desk` does, seen from its users' side, against servers on the policies of examples/policies:
+statuses, JSON, `--reconnect`, Wireshark's dissectors; and a kill in a flood of 64 traders, eleven times.
 
 An officer kills an account from the shell while 64 traders flood the server: how long that takes, and that the audit has no
 order and no fill of the account behind the kill. Each refusal of a command, of a login and of a line has its text and its

@@ -1,5 +1,6 @@
 #!/usr/bin/env python3
-"""What the program does with the files that it is given, and with those that it is not to touch.
+"""What the program does with the files that it is given, and with those that it is not to touch. No fault shows
+a password.
 
 A server whose standard streams are closed keeps a legal journal beside a peer who sends garbage, and a second start goes
 on with it. Two options that name one file are refused, whatever names it has, before anything is written. An audit takes

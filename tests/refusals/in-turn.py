@@ -1,5 +1,6 @@
 #!/usr/bin/env python3
-"""Each allocation of some runs refused in turn, of the built program and of the one that runs the cases.
+"""Each allocation of some runs refused in turn, of the built program and of the one that runs the cases: `gate: out
+of memory` after a front of the answer, and a Kill and a Logout that are granted where all is refused.
 
 A run of the program prints what the undisturbed one does, or ends for want of memory, having printed a front of that. In
 two cases each step that was refused is made again: the records are those of a day in which nothing was refused, at a

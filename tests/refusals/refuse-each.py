@@ -1,5 +1,6 @@
 #!/usr/bin/env python3
-"""Runs a program, and again with its first allocation refused, with its second, until each was refused once.
+"""Runs a program, and again with its first allocation refused, with its second, until each was refused once. By
+hand, for any program.
 
 usage: tests/refusals/refuse-each.py [--from-here-on] PROGRAM [ARGUMENT ...] < INPUT
 

@@ -1,5 +1,6 @@
 #!/usr/bin/env python3
-"""Tries wrong bodies: each is a bug in one function, and the function's contract has to refuse it.
+"""Tries wrong bodies: each is a bug in one function, and the function's contract has to refuse it. By hand; not every
+one has been tried yet.
 
 A file NAME.edit beside this one is one bug. It has the form of a must-fail edit of the toolchain, with four more lines:
 

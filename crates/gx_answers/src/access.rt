@@ -145,9 +145,13 @@ pub trait AccessGate {
 
     /// Puts what `reports` gives into this list, in place of what stands there, and answers how far that is. The list's
     /// room is kept from pull to pull.
+    ///
+    /// The user is looked for at this place of the policy's users first, and the answer says where he stands, for the next
+    /// pull. Nothing but time rests on it: any place is right, 0 where none is known.
     fn put_reports(
         &self,
         user: UserName,
+        near: usize,
         from: u64,
         most: u64,
         list: &mut Vec<Report>,

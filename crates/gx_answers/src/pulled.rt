@@ -54,6 +54,8 @@ pub struct Reached {
     pub next: u64,
     /// The day is closed, and no report is past these.
     pub ended: bool,
+    /// Where the user stands among the policy's users; the place that was asked for, if he is none of them.
+    pub place: usize,
 }
 
 /// How many reports there are: fewer than a pull may ask for.

@@ -1,50 +1,63 @@
--- The 128 bytes of a record.
+-- The 128 bytes of a record: where each part stands, and how many bytes it has.
 use Rattle.std.specs.{Prelude.{ℕ, List, [], ◌∷◌, codes}, Int.{w16, w32, w64, to_be_bytes}}
 use Rattle.gx_ouch.specs.{Layout.{Field, HasSizes, Layout, field, laid_out}, Writing.letter}
 use Rattle.gx_history.specs.{declared.record.{Step.Step, Verdict.Verdict, RecordData.RecordData}, Requests.handed_moment}
 use Rattle.gx_policy.specs.RuleNames.{rule_id}
 use Rattle.gx_audit_bytes.specs.{declared.version.AuditVersion.AuditVersion, Versions.mark_of, Bodies.{request_kind, request_body, zero_padded}}
 
--- where each part of a record stands behind the first letter of its mark, and how many bytes it has
+-- `XA2`, behind the first letter of the mark; in version 1 `XA1`, in version 3 `XA3`
 abbrev pub mark_place : Field
 mark_place = field 1 3
 
+-- the number of the record, from 1
 abbrev pub number_place : Field
 number_place = field 4 8
 
+-- the moment as it was handed in, in nanoseconds past midnight
 abbrev pub handed_place : Field
 handed_place = field 12 8
 
+-- the handed moment, or that of the record before where it is later
 abbrev pub moment_place : Field
 moment_place = field 20 8
 
+-- the number of the connection, from 1; 0 for a matching step
 abbrev pub line_place : Field
 line_place = field 28 2
 
+-- who asked, padded with spaces, without a lower-case letter; spaces for a matching step
 abbrev pub user_place : Field
 user_place = field 30 6
 
+-- the type byte of an order, a cancel or a command; `1` a login, `2` a logout, `3` what is unreadable, `4` a matching step
 abbrev pub kind_place : Field
 kind_place = field 36 1
 
+-- what was asked for, then zero bytes
 abbrev pub body_place : Field
 body_place = field 37 58
 
+-- `G` granted, `D` denied, `F` filled, `R` rested, `E` expired
 abbrev pub verdict_place : Field
 verdict_place = field 95 1
 
+-- the name of the rule that denies, padded; else spaces
 abbrev pub rule_place : Field
 rule_place = field 96 8
 
+-- the order that came in, of a fill; the one that rests or expires; else 0
 abbrev pub order_place : Field
 order_place = field 104 8
 
+-- the order that rested, of a fill; else 0
 abbrev pub maker_place : Field
 maker_place = field 112 8
 
+-- the shares of a fill; else 0
 abbrev pub shares_place : Field
 shares_place = field 120 4
 
+-- the price of a fill; else 0
 abbrev pub price_place : Field
 price_place = field 124 4
 

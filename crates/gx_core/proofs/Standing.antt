@@ -10,11 +10,11 @@ use Rattle.gx_people.specs.Entitled.{sees}
 use Rattle.gx_people.proofs.Entitling.{kept}
 use Rattle.gx_positions.proofs.{Sized.{IsSized, legal_is_sized}, Small.{IsSmall, IsSmallSide, below, product, sum_within}, Sound.{live_are_few, positions_are_sound}}
 use Rattle.gx_rules.specs.Settings.{limit_in}
-use Rattle.gx_ledger.specs.{declared.{sums.{NetSums.NetSums, Sums.Sums}, tally.Asks.Asks}, Standing.{GivesNet, GivesSums, counted_with, net_sums_of, of_sides}, StandsFor.sums_of, Tallies.{asks_of, count_of}}
+use Rattle.gx_ledger.specs.{declared.{asks.Asks.Asks, sums.{NetSums.NetSums, Sums.Sums}}, Standing.{GivesGross, GivesNet, counted_with, gross_sums_of, net_sums_of}, Tallies.{asks_of, count_of}}
 use Rattle.gx_keepers.specs.declared.keepers.Keepers.{Keepers}
 use Rattle.gx_slab.specs.Slabs.{of_account}
 use Rattle.gx_records.specs.State.{gross_of, gross_of_rule, gross_used, limit_in_force, net_of, net_of_rule, net_used}
-use Rattle.gx_core.specs.{Kept.IsKept, Used.{AreNetSmall, AreSmall, gross_at, gross_in, net_in}}
+use Rattle.gx_core.specs.{Kept.IsKept, Used.{AreNetSmall, AreSmall, gross_in, net_in}}
 
 pub live_is_known : (policy : PolicyData) (history : List RecordData) (k : Keepers) → IsKept policy history k → k.orders.live ≡ live policy history
 live_is_known policy history k kept = ap (λ (orders : OrdersData). orders.live) kept.in_force.orders
@@ -38,11 +38,11 @@ sight_is_known policy history k reader account is sound = ap (λ (users : List U
 -- ---- what sums a rule counts
 
 gross_is : (policy : PolicyData) (history : List RecordData) (account : AccountName) (rule : FileRule)
-    → option_and_then (gross_in rule.kind) (option_map (sums_of (positions policy history)) (counted_with policy account rule)) ≡ gross_of_rule policy history account rule
+    → option_map gross_in (option_and_then (gross_sums_of (asks_of rule.kind) (positions policy history)) (counted_with policy account rule)) ≡ gross_of_rule policy history account rule
 gross_is policy history account rule = by (is_some (account_named policy account) && covers rule.scope account) rule.kind
   where
     by : (b : Bool) (kind : RuleKind)
-        → option_and_then (gross_in kind) (option_map (sums_of (positions policy history)) (cond b (option_map (λ (count : Count). counts_account count rule.scope account) (count_of kind)) None))
+        → option_map gross_in (option_and_then (gross_sums_of (asks_of kind) (positions policy history)) (cond b (option_map (λ (count : Count). counts_account count rule.scope account) (count_of kind)) None))
         ≡ cond b (gross_of policy history (λ count. counts_account count rule.scope account) kind) None
     by false kind = refl
     by true (RuleKind.Exposure ExposureLimit.GrossShares limit count) = refl
@@ -55,28 +55,21 @@ gross_is policy history account rule = by (is_some (account_named policy account
     by true (RuleKind.Order kind limit) = refl
 
 net_is : (policy : PolicyData) (history : List RecordData) (account : AccountName) (side : StockSide) (rule : FileRule)
-    → option_map net_in (of_sides (asks_of rule.kind) (option_map (net_sums_of (positions policy history) side) (counted_with policy account rule))) ≡ net_of_rule policy history account side rule
+    → option_map net_in (option_and_then (net_sums_of (asks_of rule.kind) (positions policy history) side) (counted_with policy account rule)) ≡ net_of_rule policy history account side rule
 net_is policy history account side rule = by (is_some (account_named policy account) && covers rule.scope account) rule.kind
   where
     by : (b : Bool) (kind : RuleKind)
-        → option_map net_in (of_sides (asks_of kind) (option_map (net_sums_of (positions policy history) side) (cond b (option_map (λ (count : Count). counts_account count rule.scope account) (count_of kind)) None)))
+        → option_map net_in (option_and_then (net_sums_of (asks_of kind) (positions policy history) side) (cond b (option_map (λ (count : Count). counts_account count rule.scope account) (count_of kind)) None))
         ≡ cond b (net_of policy history (λ count. counts_account count rule.scope account) side kind) None
-    by true (RuleKind.Exposure ExposureLimit.NetShares limit count) = refl
-    by false (RuleKind.Exposure ExposureLimit.NetShares limit count) = refl
+    by false kind = refl
     by true (RuleKind.Exposure ExposureLimit.GrossShares limit count) = refl
-    by false (RuleKind.Exposure ExposureLimit.GrossShares limit count) = refl
     by true (RuleKind.Exposure ExposureLimit.GrossValue limit count) = refl
-    by false (RuleKind.Exposure ExposureLimit.GrossValue limit count) = refl
+    by true (RuleKind.Exposure ExposureLimit.NetShares limit count) = refl
     by true (RuleKind.Rate rate count) = refl
-    by false (RuleKind.Rate rate count) = refl
     by true (RuleKind.Repeat repeat count) = refl
-    by false (RuleKind.Repeat repeat count) = refl
     by true (RuleKind.Listed kind stocks) = refl
-    by false (RuleKind.Listed kind stocks) = refl
     by true (RuleKind.Plain kind) = refl
-    by false (RuleKind.Plain kind) = refl
     by true (RuleKind.Order kind limit) = refl
-    by false (RuleKind.Order kind limit) = refl
 
 -- the first that passes, or behind them all
 place_from : {X : Type 0} (p : X → Bool) (n : ℕ) (xs : List X) → unwrap_or (position_from p n xs) (n + length xs) ≡ n + position_or_len p xs
@@ -103,15 +96,15 @@ stands_there rules name =
     (sym (ap (λ o. unwrap_or o (length rules)) (position_from-zero named rules) ∙ ap (unwrap_or (position_from named 0 rules)) none ∙ place_from named 0 rules ∙ first))
 
 pub gross_is_known : (policy : PolicyData) (history : List RecordData) (k : Keepers) (name : RuleId) (account : AccountName) (given : Option Sums) → IsKept policy history k
-    → GivesSums k.ledger (place_of_rule policy.rules name) account given
-    → gross_at policy.rules (place_of_rule policy.rules name) given ≡ gross_used policy history name account
+    → GivesGross k.ledger (place_of_rule policy.rules name) account given
+    → option_map gross_in given ≡ gross_used policy history name account
 gross_is_known policy history k name account given is gives =
-    ap (gross_at policy.rules (place_of_rule policy.rules name)) (gives policy (positions policy history) is.in_force.ledger)
+    ap (option_map gross_in) (gives policy (positions policy history) is.in_force.ledger)
     ∙ by (slice_get policy.rules (place_of_rule policy.rules name))
     ∙ ap (option_and_then (gross_of_rule policy history account)) (sym (stands_there policy.rules name))
   where
     by : (found : Option FileRule)
-        → option_and_then (λ (rule : FileRule). option_and_then (gross_in rule.kind) (option_and_then (λ (rule : FileRule). option_map (sums_of (positions policy history)) (counted_with policy account rule)) found)) found
+        → option_map gross_in (option_and_then (λ (rule : FileRule). option_and_then (gross_sums_of (asks_of rule.kind) (positions policy history)) (counted_with policy account rule)) found)
         ≡ option_and_then (gross_of_rule policy history account) found
     by None = refl
     by (Some rule) = gross_is policy history account rule
@@ -125,7 +118,7 @@ net_is_known policy history k name account side given is gives =
     ∙ ap (option_and_then (net_of_rule policy history account side)) (sym (stands_there policy.rules name))
   where
     by : (found : Option FileRule)
-        → option_map net_in (option_and_then (λ (rule : FileRule). of_sides (asks_of rule.kind) (option_map (net_sums_of (positions policy history) side) (counted_with policy account rule))) found)
+        → option_map net_in (option_and_then (λ (rule : FileRule). option_and_then (net_sums_of (asks_of rule.kind) (positions policy history) side) (counted_with policy account rule)) found)
         ≡ option_and_then (net_of_rule policy history account side) found
     by None = refl
     by (Some rule) = net_is policy history account side rule
@@ -169,50 +162,46 @@ module _ (policy : PolicyData) (history : List RecordData) (legal : IsLegal poli
       (sum_within (λ (e : Execution). value e.fill.shares e.fill.price) IsSmallSide (λ e h. product e.fill.shares e.fill.price h.0 h.1) (λ (e : Execution). among e.order.account) (executions policy history) (sized).small_sides)
       (sized).few_sides.1
 
-  sums_small : (among : AccountName → Bool) → AreSmall (sums_of (positions policy history) among)
-  sums_small among = record {
-    shares = omega (arith, open_small (of_accounts among), done_small (of_accounts among));
-    values = omega (arith, open_value_small among, done_value_small among);
-  }
+  -- whatever the accounts count together
+  gross_small : (asked : Asks) (found : Option (AccountName → Bool)) → IfSome (option_and_then (gross_sums_of asked (positions policy history)) found) AreSmall
+  gross_small asked None = tt
+  gross_small Asks.Shares (Some among) = omega (arith, open_small (of_accounts among), done_small (of_accounts among))
+  gross_small Asks.Value (Some among) = omega (arith, open_value_small among, done_value_small among)
+  gross_small Asks.Sides (Some among) = tt
+  gross_small Asks.Nothing (Some among) = tt
+  gross_small Asks.Reference (Some among) = tt
+  gross_small (Asks.Recent rate) (Some among) = tt
+  gross_small (Asks.Alike repeat) (Some among) = tt
 
-  net_small : (side : StockSide) (among : AccountName → Bool) → AreNetSmall (net_sums_of (positions policy history) side among)
-  net_small side among = record {
+  net_small : (side : StockSide) (asked : Asks) (found : Option (AccountName → Bool)) → IfSome (option_and_then (net_sums_of asked (positions policy history) side) found) AreNetSmall
+  net_small side asked None = tt
+  net_small side Asks.Sides (Some among) = record {
     live = omega (arith, open_small (on_side among side));
     net = net_fits _ _ _ (done_small (on_side among side)) (done_small (on_side among (other_side side))) (open_small (on_side among side));
   }
+  net_small side Asks.Shares (Some among) = tt
+  net_small side Asks.Value (Some among) = tt
+  net_small side Asks.Nothing (Some among) = tt
+  net_small side Asks.Reference (Some among) = tt
+  net_small side (Asks.Recent rate) (Some among) = tt
+  net_small side (Asks.Alike repeat) (Some among) = tt
 
 pub gross_is_small : (policy : PolicyData) (history : List RecordData) (k : Keepers) (place : ℕ) (account : AccountName) (given : Option Sums) → IsKept policy history k
-    → GivesSums k.ledger place account given → IfSome given AreSmall
+    → GivesGross k.ledger place account given → IfSome given AreSmall
 gross_is_small policy history k place account given is gives =
     subst (λ (o : Option Sums). IfSome o AreSmall) (sym (gives policy (positions policy history) is.in_force.ledger)) (at (slice_get policy.rules place))
   where
-    by : (found : Option (AccountName → Bool)) → IfSome (option_map (sums_of (positions policy history)) found) AreSmall
-    by None = tt
-    by (Some among) = sums_small policy history is.legal among
-
-    at : (found : Option FileRule) → IfSome (option_and_then (λ (rule : FileRule). option_map (sums_of (positions policy history)) (counted_with policy account rule)) found) AreSmall
+    at : (found : Option FileRule)
+        → IfSome (option_and_then (λ (rule : FileRule). option_and_then (gross_sums_of (asks_of rule.kind) (positions policy history)) (counted_with policy account rule)) found) AreSmall
     at None = tt
-    at (Some rule) = by (counted_with policy account rule)
+    at (Some rule) = gross_small policy history is.legal (asks_of rule.kind) (counted_with policy account rule)
 
 pub net_is_small : (policy : PolicyData) (history : List RecordData) (k : Keepers) (place : ℕ) (account : AccountName) (side : StockSide) (given : Option NetSums) → IsKept policy history k
     → GivesNet k.ledger place account side given → IfSome given AreNetSmall
 net_is_small policy history k place account side given is gives =
     subst (λ (o : Option NetSums). IfSome o AreNetSmall) (sym (gives policy (positions policy history) is.in_force.ledger (positions_are_sound policy history is.legal))) (at (slice_get policy.rules place))
   where
-    mapped : (found : Option (AccountName → Bool)) → IfSome (option_map (net_sums_of (positions policy history) side) found) AreNetSmall
-    mapped None = tt
-    mapped (Some among) = net_small policy history is.legal side among
-
-    by : (asked : Asks) (found : Option (AccountName → Bool)) → IfSome (of_sides asked (option_map (net_sums_of (positions policy history) side) found)) AreNetSmall
-    by Asks.Sides found = mapped found
-    by Asks.Nothing found = tt
-    by Asks.Reference found = tt
-    by Asks.Shares found = tt
-    by Asks.Values found = tt
-    by (Asks.Recent rate) found = tt
-    by (Asks.Alike repeat) found = tt
-
     at : (found : Option FileRule)
-        → IfSome (option_and_then (λ (rule : FileRule). of_sides (asks_of rule.kind) (option_map (net_sums_of (positions policy history) side) (counted_with policy account rule))) found) AreNetSmall
+        → IfSome (option_and_then (λ (rule : FileRule). option_and_then (net_sums_of (asks_of rule.kind) (positions policy history) side) (counted_with policy account rule)) found) AreNetSmall
     at None = tt
-    at (Some rule) = by (asks_of rule.kind) (counted_with policy account rule)
+    at (Some rule) = net_small policy history is.legal side (asks_of rule.kind) (counted_with policy account rule)

@@ -6,10 +6,10 @@ ghost use Rattle.gx_history.specs.{InForce.is_closed, Streams.stream, Verdicts.l
 use crate::login::{login_answered, login_asked};
 use crate::moves::matched_move;
 use crate::places::{first_history, keep_for, keep_one};
-use crate::pulling::pull;
 use crate::putting::put_pull;
 use gx_answers::{
-    AccessGate, LoginAnswer, Outcome, Pulled, Reached, StepFault, record_of, record_of_match,
+    AccessGate, LoginAnswer, Outcome, Pulled, Reached, Reports, StepFault, record_of,
+    record_of_match,
 };
 use gx_history::history::History;
 use gx_history::moves::Move;
@@ -162,20 +162,26 @@ impl AccessGate for Gate {
         Ok(slice(self.history.as_slice(), from, most).to_vec(self.alloc)?)
     }
 
-    #[tactic(auto, using(crate::proofs::Judged::reports_are_known, crate::proofs::Judged::end_is_known))]
     fn reports(&self, user: UserName, from: u64, most: u64) -> Result<Pulled, OutOfMemory> {
-        pull(&self.keepers, user, from, most)
+        let mut list = Vec::new(self.alloc);
+        let reached = self.put_reports(user, 0, from, most, &mut list)?;
+        Ok(Pulled {
+            reports: Reports::new(list),
+            next: reached.next,
+            ended: reached.ended,
+        })
     }
 
     #[tactic(auto, using(crate::proofs::Judged::reports_are_known, crate::proofs::Judged::end_is_known))]
     fn put_reports(
         &self,
         user: UserName,
+        near: usize,
         from: u64,
         most: u64,
         list: &mut Vec<Report>,
     ) -> Result<Reached, OutOfMemory> {
-        put_pull(&self.keepers, user, from, most, list)
+        put_pull(&self.keepers, user, near, from, most, list)
     }
 
     #[tactic(auto, using(crate::proofs::Judged::passwords_are_known))]

@@ -10,7 +10,7 @@ use gx_keepers::keepers::Keepers;
 use gx_units::{OutOfMemory, UserName};
 
 /// Puts the user's reports from this number on, 0 counting as 1, and at most so many, into this list, in place of what
-/// stands there.
+/// stands there. He is looked for at this place of the policy's users first.
 ///
 /// # Errors
 ///
@@ -18,6 +18,7 @@ use gx_units::{OutOfMemory, UserName};
 pub(crate) fn put_pull(
     keepers: &Keepers,
     user: UserName,
+    near: usize,
     from: u64,
     most: u64,
     list: &mut Vec<Report>,
@@ -27,8 +28,12 @@ pub(crate) fn put_pull(
     ensures next { IfOk result (λ r. r.next ≡ max 1 from + length list.new.items) }
     ensures ended { IfOk result (λ r. r.ended ≡ is_past_the_end keepers.now user r.next) }
 {
-    let owed = keepers.streams.put_slice(user, from, most, list)? as u64;
+    let owed = keepers.streams.put_slice(user, near, from, most, list)?;
     let next = from.max(1) + list.len() as u64;
-    let ended = keepers.day.is_closed() && owed < next;
-    Ok(Reached { next, ended })
+    let ended = keepers.day.is_closed() && (owed.count as u64) < next;
+    Ok(Reached {
+        next,
+        ended,
+        place: owed.place,
+    })
 }

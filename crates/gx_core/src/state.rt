@@ -2,13 +2,13 @@
 
 ghost use Rattle.std.specs.Prelude.{◌≡◌, length, option_map, position, unwrap_or, IfSome};
 ghost use Rattle.gx_units.specs.Names.{same_rule};
-ghost use Rattle.gx_core.specs.Used.{gross_at, gross_in, net_in, AreNetSmall, AreSmall};
+ghost use Rattle.gx_core.specs.Used.{gross_in, net_in, AreNetSmall, AreSmall};
 
 use crate::gate::Gate;
 use gx_history::facts::StockSide;
 use gx_history::live_order::LiveOrder;
 use gx_ledger::sums::{NetSums, Sums};
-use gx_policy::{ExposureLimit, FileRule, RuleKind};
+use gx_policy::FileRule;
 use gx_records::ShowsState;
 use gx_slab::live::LiveOrders;
 use gx_units::{AccountName, Moment, RuleId, Symbol, UserName};
@@ -31,29 +31,20 @@ fn rule_place(rules: &[FileRule], name: RuleId) -> usize
 }
 
 /// What a gross rule compares with its limit.
-fn gross_in(kind: &RuleKind, sums: Sums) -> Option<u128>
+fn gross_in(sums: Sums) -> u128
     requires { AreSmall sums }
-    ensures { result ≡ gross_in kind.now sums }
+    ensures { result ≡ gross_in sums }
 {
-    match kind {
-        RuleKind::Exposure(ExposureLimit::GrossShares, _, _) => {
-            Some(sums.live_shares + sums.done_shares)
-        }
-        RuleKind::Exposure(ExposureLimit::GrossValue, _, _) => {
-            Some(sums.live_value + sums.done_value)
-        }
-        _ => None,
-    }
+    sums.live + sums.done
 }
 
-/// What the rule at this place in the file compares with its limit, where it is a gross rule.
-fn gross_at(rules: &[FileRule], place: usize, sums: Option<Sums>) -> Option<u128>
+fn gross_of(sums: Option<Sums>) -> Option<u128>
     requires { IfSome sums AreSmall }
-    ensures { result ≡ gross_at rules.now place sums }
+    ensures { result ≡ option_map gross_in sums }
 {
-    match (rules.get(place), sums) {
-        (Some(rule), Some(sums)) => gross_in(&rule.kind, sums),
-        _ => None,
+    match sums {
+        Some(sums) => Some(gross_in(sums)),
+        None => None,
     }
 }
 
@@ -117,9 +108,8 @@ impl ShowsState for Gate {
     }
 
     fn gross_used(&self, rule: RuleId, account: AccountName) -> Option<u128> {
-        let rules = self.policy.rules();
-        let place = rule_place(rules, rule);
-        gross_at(rules, place, self.keepers.ledger.sums(place, account))
+        let place = rule_place(self.policy.rules(), rule);
+        gross_of(self.keepers.ledger.gross(place, account))
     }
 
     fn net_used(&self, rule: RuleId, account: AccountName, side: StockSide) -> Option<i128> {

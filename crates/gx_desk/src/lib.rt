@@ -90,6 +90,6 @@ pub struct DropCopy {
     pub executed: Executed,
     /// The account of the order.
     pub account: AccountName,
-    /// The side of the order: Buy/Sell Indicator.
+    /// The side of the order: `B`, `S`, `T` or `E`.
     pub side: u8,
 }

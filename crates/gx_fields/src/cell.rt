@@ -63,20 +63,20 @@ pub const NAMES: [&str; CELLS] = [
 /// Live orders that a Kill or a Close Day ended.
 #[derive(Clone, Copy, PartialEq, Eq)]
 pub struct EndedOrders {
-    /// How many orders ended.
+    /// How many live orders ended.
     pub orders: u64,
-    /// The shares that they had open.
+    /// The shares that these had open.
     pub shares: u64,
 }
 
 /// What is told beside the fields of a record.
 #[derive(Clone, Copy)]
 pub struct Beside {
-    /// That of the trader who asked.
+    /// The account of the trader who asked.
     pub account: Option<AccountName>,
-    /// Why the request was denied.
+    /// Of a denial: why, in words.
     pub reason: Option<Reason>,
-    /// The reason of the Rejected that answers the denial.
+    /// Of a denial that is answered by a Rejected: its reason.
     pub reject: Option<RejectReason>,
     /// What the record ended, where it is a granted Kill or Close Day and that is known.
     pub ended: Option<EndedOrders>,

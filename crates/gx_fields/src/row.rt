@@ -71,9 +71,9 @@ pub struct Row {
     pub line: Option<u16>,
     /// Who asked.
     pub user: Option<UserName>,
-    /// Of a login.
+    /// Of a login: whether the password was right.
     pub password_is_right: Option<bool>,
-    /// Of a login.
+    /// Of a login: whether the session's name was right.
     pub session_is_right: Option<bool>,
     /// Of a login: the number of the first report that is wanted.
     pub wanted: Option<u64>,
@@ -119,13 +119,13 @@ pub struct Row {
     pub limit: Option<u64>,
     /// Of a Grant or a Revoke.
     pub reader: Option<WrittenName>,
-    /// That denied the request.
+    /// Of a denial: the rule that denied the request.
     pub rule: Option<RuleName>,
-    /// That came to rest, or expired.
+    /// Of a rest or an expiry: the order that came to rest, or expired.
     pub order: Option<u64>,
-    /// Of a fill.
+    /// Of a fill: the order that came in.
     pub taker: Option<u64>,
-    /// Of a fill.
+    /// Of a fill: the order that rested.
     pub maker: Option<u64>,
     /// Of a fill.
     pub fill_shares: Option<u32>,

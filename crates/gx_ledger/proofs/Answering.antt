@@ -4,11 +4,11 @@ use Rattle.std.proofs.Common.{◌≡◌, ℕ, suc, ◌<◌, ◌^◌, pos, ◌-�
 use Rattle.std.specs.{Prelude.{Option, Some, None, is_some, find, option_and_then, option_map, slice_get, unwrap_or}, Option.option_map_or, List.AllByRecursion, Map.lookup, Cmp.Lexicographic.nat_list_eq_equiv}
 use Rattle.gx_units.specs.{Money.value, Names.{same_account, same_stock}, declared.names.{AccountName.AccountName, Symbol.Symbol}}
 use Rattle.gx_ouch.specs.declared.outbound.OrderTerms.{OrderTerms}
-use Rattle.gx_history.specs.{LiveOrders.shares_open, declared.{live_order.LiveOrder.LiveOrder, facts.{RuleFigures.RuleFigures, StockSide.StockSide}, «record».Request.Request}, Executions.Execution, Book.is_on, Figures.{Positions, counts_account, figures, kind_figures, net_done, no_figures, on_side, other_side, reference, side_asked, side_done, side_live, stock_asked}, Rules.{figured, figured_from}, Verdicts.with_figures}
+use Rattle.gx_history.specs.{LiveOrders.shares_open, declared.{live_order.LiveOrder.LiveOrder, facts.{RuleFigures.RuleFigures, StockSide.StockSide}, «record».Request.Request}, Executions.Execution, Book.is_on, Figures.{Positions, counts_account, figures, kind_figures, net_done, no_figures, on_side, open_value, other_side, reference, side_asked, side_done, side_live, stock_asked}, Rules.{figured, figured_from}, Verdicts.with_figures}
 use Rattle.gx_history_laws.proofs.{Names.{account_is, same_account_flip, stock_is}, Numbers.all_weaker}
 use Rattle.gx_positions.specs.Sound.{AreSound, IsListed}
 use Rattle.gx_positions.proofs.Sums.{done_are, is_chosen, none_of, shares_of, sum_of_none}
-use Rattle.gx_ledger.specs.{declared.{group.Group.Group, sides.{SideSums.SideSums, StockSums.StockSums}, tally.{Asks.Asks, Tally.Tally, Wanted.Wanted}}, Keeping.{Kept, account_names, account_place, price_of, reference_for}, Running.{capped_signed, net_of, no_sides, on_its_side, sides_at}, StandsFor.{GivesFigures, IsMadeIn, StandsFor, both_sides, group_of, members_of, side_sums_of, sides_of, tally_of, total_of}, Tallies.{asks_of, count_of, figures_among, figures_of_group, live_in, net_in, place_in, tally_figures}, Told.figures_at}
+use Rattle.gx_ledger.specs.{declared.{group.Group.Group, asks.Asks.Asks, sides.StockSums.StockSums, sums.Sums.Sums, tally.{Tally.Tally, Wanted.Wanted}}, Accounts.{account_names, account_place}, Keeping.{Kept, price_of, reference_for}, Running.{asked_as, capped_signed, net_of, no_sides, on_its_side, sides_at}, StandsFor.{GivesFigures, IsMadeIn, StandsFor, both_sides, group_of, members_of, side_sums_of, sides_of, tally_of, total_of}, Tallies.{asks_of, count_of, figures_of_group, net_sums_in, place_in, seat_for, seat_in, seats_for, tally_figures, tells_reference}, Told.figures_at}
 use Rattle.gx_ledger.proofs.{Counted.{alike_is, recent_counted}, Counting.{map_twice, place-cons}, Totals.done_fit}
 
 later_group : {X : Type 0} (y : X) (ys : List X) (place : Option ℕ) → option_and_then (slice_get (y ∷ ys)) (option_map suc place) ≡ option_and_then (slice_get ys) place
@@ -127,27 +127,28 @@ module _ (policy : PolicyData) (held : Positions) (among : AccountName → Bool)
   done_fits side = let most = done_fit held.executions (on_side among side) in let fit = sound.fit.done_shares in omega (arith, most, fit)
 
   -- what was executed on a side, less what was on the other
-  pub net_answers : (side : Option StockSide) → option_map_or (net_in kept_sides) side (pos 0) ≡ option_map_or (net_done held.executions among) side (pos 0)
+  pub net_answers : (side : Option StockSide) → option_map_or (λ (s : StockSide). (net_sums_in kept_sides s).done) side (pos 0) ≡ option_map_or (net_done held.executions among) side (pos 0)
   net_answers None = refl
   net_answers (Some side) =
       (λ i. net_of (side_answers side.stock side.buys i).done (side_answers side.stock (not side.buys) i).done)
       ∙ net_fits (side_done held.executions among side) (side_done held.executions among (other_side side)) (done_fits side) (done_fits (other_side side))
 
   -- what is open there
-  pub live_answers : (side : Option StockSide) → option_map_or (live_in kept_sides) side 0 ≡ option_map_or (side_live held.live among) side 0
+  pub live_answers : (side : Option StockSide) → option_map_or (λ (s : StockSide). (net_sums_in kept_sides s).live) side 0 ≡ option_map_or (side_live held.live among) side 0
   live_answers None = refl
-  live_answers (Some side) = ap (λ (s : SideSums). s.live) (side_answers side.stock side.buys)
+  live_answers (Some side) = ap (λ (s : Sums). s.live) (side_answers side.stock side.buys)
 
 -- for one request
-module _ (policy : PolicyData) (held : Positions) (account : AccountName) (q : Request) (replaced : Option LiveOrder) (moment : ℕ) (sound : AreSound policy held) (all_made : AllByRecursion (IsMadeIn policy) held.executions)
+module _ (policy : PolicyData) (held : Positions) (account : AccountName) (q : Request) (replaced : Option LiveOrder) (moment near : ℕ) (sound : AreSound policy held) (all_made : AllByRecursion (IsMadeIn policy) held.executions)
     (known : is_some (account_named policy account) ≡ true) where
   abbrev asking : Wanted
   asking = record {
-    account = account;
     place = account_place (account_names policy.accounts) account;
-    request = q;
-    replaced = replaced;
+    entered = asked_as q;
+    replaced_shares = option_map_or shares_open replaced 0;
+    replaced_value = option_map_or open_value replaced 0;
     side = side_asked q replaced;
+    near = near;
     reference = option_map_or (reference policy held.executions) (stock_asked q replaced) 0;
     moment = moment;
   }
@@ -155,43 +156,65 @@ module _ (policy : PolicyData) (held : Positions) (account : AccountName) (q : R
   module _ (scope : Scope) (inside : covers scope account ≡ true) where
     abbrev group : Asks → Option Count → Option Group
     group asked count =
-        option_and_then (slice_get (map (λ (among : AccountName → Bool). group_of policy.stocks asked (total_of held among)) (members_of count scope (account_names policy.accounts)))) (place_in count asking.place)
+        option_and_then (slice_get (map (λ (among : AccountName → Bool). group_of policy.stocks asked (total_of held among)) (members_of count scope (account_names policy.accounts)))) (seat_in count asking.place)
 
     abbrev theirs : Count → AccountName → Bool
     theirs count = counts_account count scope account
 
-    kind_answers : (kind : RuleKind) → figures_among (asks_of kind) asking (group (asks_of kind) (count_of kind)) ≡ kind_figures policy held theirs q replaced moment kind
+    -- what is told of a group that may be there, under a kind of rule
+    abbrev told : RuleKind → Option Group → RuleFigures
+    told kind g = record (option_map_or (figures_of_group asking) g no_figures) { reference = cond (tells_reference kind && is_some (seat_in (count_of kind) asking.place)) asking.reference 0 }
+
+    kind_answers : (kind : RuleKind) → told kind (group (asks_of kind) (count_of kind)) ≡ kind_figures policy held theirs q replaced moment kind
     kind_answers (RuleKind.Listed kind stocks) = refl
     kind_answers (RuleKind.Plain kind) = refl
     kind_answers (RuleKind.Order kind limit) = refl
-    kind_answers (RuleKind.Exposure ExposureLimit.GrossShares limit count) =
-        ap (λ (g : Option Group). option_map_or (figures_of_group Asks.Shares asking) g no_figures) (group_found policy held Asks.Shares account scope count known inside)
-    kind_answers (RuleKind.Exposure ExposureLimit.GrossValue limit count) =
-        ap (λ (g : Option Group). option_map_or (figures_of_group Asks.Values asking) g no_figures) (group_found policy held Asks.Values account scope count known inside)
+    kind_answers (RuleKind.Exposure ExposureLimit.GrossShares limit count) = ap (told (RuleKind.Exposure ExposureLimit.GrossShares limit count)) (group_found policy held Asks.Shares account scope count known inside)
+    kind_answers (RuleKind.Exposure ExposureLimit.GrossValue limit count) = ap (told (RuleKind.Exposure ExposureLimit.GrossValue limit count)) (group_found policy held Asks.Value account scope count known inside)
     kind_answers (RuleKind.Exposure ExposureLimit.NetShares limit count) =
-        ap (λ (g : Option Group). option_map_or (figures_of_group Asks.Sides asking) g no_figures) (group_found policy held Asks.Sides account scope count known inside)
+        ap (told (RuleKind.Exposure ExposureLimit.NetShares limit count)) (group_found policy held Asks.Sides account scope count known inside)
         ∙ (λ i. record no_figures {
           net_done = net_answers policy held (theirs count) sound all_made (side_asked q replaced) i;
           side_live = live_answers policy held (theirs count) sound all_made (side_asked q replaced) i;
           replaced_shares = option_map_or shares_open replaced 0;
         })
     kind_answers (RuleKind.Rate rate count) =
-        ap (λ (g : Option Group). option_map_or (figures_of_group (Asks.Recent rate) asking) g no_figures) (group_found policy held (Asks.Recent rate) account scope count known inside)
+        ap (told (RuleKind.Rate rate count)) (group_found policy held (Asks.Recent rate) account scope count known inside)
         ∙ ap (λ n. record no_figures { recent = n }) (recent_counted rate.limit held.grants (theirs count) rate.window moment sound.never_fall)
     kind_answers (RuleKind.Repeat repeat count) =
-        ap (λ (g : Option Group). option_map_or (figures_of_group (Asks.Alike repeat) asking) g no_figures) (group_found policy held (Asks.Alike repeat) account scope count known inside)
+        ap (told (RuleKind.Repeat repeat count)) (group_found policy held (Asks.Alike repeat) account scope count known inside)
         ∙ ap (λ n. record no_figures { equal_recent = n }) (alike_is repeat.span held.grants (theirs count) q)
+
+  -- where the account's group stands
+  seat_is : (scope : Scope) (count : Option Count)
+      → option_and_then (λ p. unwrap_or (slice_get (seats_for scope count (account_names policy.accounts)) p) None) asking.place ≡ seat_for scope count account asking.place
+  seat_is scope count =
+      one asking.place
+      ∙ ap (λ (found : Option (Option ℕ)). unwrap_or found None) (found_at (λ name. seat_for scope count name (account_place (account_names policy.accounts) name)) account policy.accounts known)
+    where
+      one : (o : Option ℕ) → option_and_then (λ p. unwrap_or (slice_get (seats_for scope count (account_names policy.accounts)) p) None) o
+          ≡ unwrap_or (option_and_then (slice_get (seats_for scope count (account_names policy.accounts))) o) None
+      one None = refl
+      one (Some p) = refl
+
+  none_told : (b : Bool) → cond (b && false) asking.reference 0 ≡ 0
+  none_told true = refl
+  none_told false = refl
 
   -- the figures of one rule
   rule_answers : (rule : FileRule) → tally_figures asking (tally_of policy.stocks (account_names policy.accounts) (total_of held) rule) ≡ figures policy held account q replaced moment rule
   unfolding figures
-  rule_answers rule = by (covers rule.scope account) refl
+  rule_answers rule = ap told_at (seat_is rule.scope (count_of rule.kind)) ∙ by (covers rule.scope account) refl
     where
-      by : (b : Bool) → covers rule.scope account ≡ b
-          → cond b (figures_among (asks_of rule.kind) asking (option_and_then (slice_get (map (λ (among : AccountName → Bool). group_of policy.stocks (asks_of rule.kind) (total_of held among)) (members_of (count_of rule.kind) rule.scope (account_names policy.accounts)))) (place_in (count_of rule.kind) asking.place))) no_figures
-          ≡ cond b (kind_figures policy held (λ count. counts_account count rule.scope account) q replaced moment rule.kind) no_figures
+      told_at : Option ℕ → RuleFigures
+      told_at seat = record (option_map_or (figures_of_group asking)
+          (option_and_then (slice_get (map (λ (among : AccountName → Bool). group_of policy.stocks (asks_of rule.kind) (total_of held among)) (members_of (count_of rule.kind) rule.scope (account_names policy.accounts)))) seat) no_figures) {
+            reference = cond (tells_reference rule.kind && is_some seat) asking.reference 0;
+          }
+
+      by : (b : Bool) → covers rule.scope account ≡ b → told_at (cond b (seat_in (count_of rule.kind) asking.place) None) ≡ cond b (kind_figures policy held (λ count. counts_account count rule.scope account) q replaced moment rule.kind) no_figures
       by true inside = kind_answers rule.scope inside rule.kind
-      by false inside = refl
+      by false inside = ap (λ n. record no_figures { reference = n }) (none_told (tells_reference rule.kind))
 
 price_answers : (policy : PolicyData) (k : Kept) (held : Positions) → StandsFor policy k held → (stock : Symbol) → price_of k.prices stock ≡ reference policy held.executions stock
 price_answers policy k held stands stock = ap (λ prices. price_of prices stock) stands.prices ∙ value_answers policy (reference policy held.executions) 0 stock (stands.unlisted stock)
@@ -213,27 +236,37 @@ told_by_rule f t g same (rule ∷ rules) =
     λ i. (rule, same rule i) ∷ (shifted (λ place. option_map_or f (slice_get (t rule ∷ map t rules) place) no_figures) 0 rules ∙ told_by_rule f t g same rules) i
 
 -- the figures of all rules
-pub figures_answer : (k : Kept) (account : AccountName) (q : Request) (replaced : Option LiveOrder) (moment : ℕ)
+pub figures_answer : (k : Kept) (account : AccountName) (q : Request) (replaced : Option LiveOrder) (moment near : ℕ)
     → GivesFigures k account q replaced moment (record {
       tallies = k.tallies;
       wanted = record {
-        account = account;
         place = account_place k.accounts account;
-        request = q;
-        replaced = replaced;
+        entered = asked_as q;
+        replaced_shares = option_map_or shares_open replaced 0;
+        replaced_value = option_map_or open_value replaced 0;
         side = side_asked q replaced;
+        near = near;
         reference = reference_for k.prices q replaced;
         moment = moment;
       };
     })
-figures_answer k account q replaced moment policy held stands sound known =
+figures_answer k account q replaced moment near policy held stands sound known =
     let names : List AccountName = account_names policy.accounts in
     let price : reference_for k.prices q replaced ≡ option_map_or (reference policy held.executions) (stock_asked q replaced) 0 =
     same_price (price_of k.prices) (reference policy held.executions) (price_answers policy k held stands) (stock_asked q replaced) in
     let tallies : k.tallies ≡ map (tally_of policy.stocks names (total_of held)) policy.rules = stands.tallies ∙ ap (λ accounts. map (tally_of policy.stocks accounts (total_of held)) policy.rules) stands.accounts in
     (λ i. figured (figures_at (record {
       tallies = tallies i;
-      wanted = record { account = account; place = account_place (stands.accounts i) account; request = q; replaced = replaced; side = side_asked q replaced; reference = price i; moment = moment };
+      wanted = record {
+        place = account_place (stands.accounts i) account;
+        entered = asked_as q;
+        replaced_shares = option_map_or shares_open replaced 0;
+        replaced_value = option_map_or open_value replaced 0;
+        side = side_asked q replaced;
+        near = near;
+        reference = price i;
+        moment = moment;
+      };
     })) policy.rules)
-    ∙ told_by_rule (tally_figures (asking policy held account q replaced moment sound stands.all_made known)) (tally_of policy.stocks names (total_of held)) (figures policy held account q replaced moment)
-    (rule_answers policy held account q replaced moment sound stands.all_made known) policy.rules
+    ∙ told_by_rule (tally_figures (asking policy held account q replaced moment near sound stands.all_made known)) (tally_of policy.stocks names (total_of held)) (figures policy held account q replaced moment)
+    (rule_answers policy held account q replaced moment near sound stands.all_made known) policy.rules

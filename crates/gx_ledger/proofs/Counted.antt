@@ -1,11 +1,12 @@
 -- Counting among the last of a list, by moments and by likeness.
 use Rattle.std.proofs.{Common.{◌≡◌, ℕ, ◌+◌, ◌-◌, ◌<◌, ◌≤◌, zero, suc, Bool, true, false, cond, eqb, ◌&&◌, List, [], ◌∷◌, map, length, drop, reverse, refl, sym, ap, ◌∙◌, arith, min, true≢false}, lemmas.{Bool.{eq-eqb, eqb-true, lt-ltb, ltb-false, ltb-true}, List.{drop-map, length-map, length-reverse, Folds.prefix_len-append, Sums.sum_by-cons}, Grind.reverse_onto}}
-use Rattle.std.specs.{Prelude.{count_by, is_none, nat_lt}, List.{AllByRecursion, filter, prefix_len}}
+use Rattle.std.specs.{Option.option_map_or, Prelude.{count_by, is_none, nat_lt}, List.{AllByRecursion, filter, prefix_len}}
 use Rattle.gx_units.specs.declared.names.AccountName.{AccountName}
 use Rattle.gx_history.specs.{declared.record.Request.Request, Figures.{equal_recent, is_alike, recent}, Orders.Order}
 use Rattle.gx_policy.specs.Lists.{last_few}
 use Rattle.gx_positions.specs.Sound.{NeverFall}
-use Rattle.gx_ledger.specs.{Running.{alike_in, is_like, is_recent, recent_in}, StandsFor.{entered_of, enters_of, moments_of}}
+use Rattle.gx_ledger.specs.{Running.{asked_as, count_alike, is_recent, recent_in}, StandsFor.{entered_of, enters_of, moments_of}}
+use Rattle.gx_ledger.proofs.Likeness.{alike_in, asked_alike, is_like}
 
 none_left : {X : Type 0} (n : ℕ) → drop {A = X} n [] ≡ []
 none_left zero = refl
@@ -157,11 +158,13 @@ like_is (Request.Unreadable m) o = refl
 like_is (Request.Command m) o = refl
 
 -- counting like Enters is counting orders
-pub alike_is : (n : ℕ) (grants : List Order) (among : AccountName → Bool) (q : Request) → alike_in (last_few n (enters_of grants among)) q ≡ equal_recent grants among n (is_alike q)
+pub alike_is : (n : ℕ) (grants : List Order) (among : AccountName → Bool) (q : Request)
+    → option_map_or (count_alike (last_few n (enters_of grants among))) (asked_as q) 0 ≡ equal_recent grants among n (is_alike q)
 unfolding equal_recent
 alike_is n grants among q =
     let enters : List Order = filter (λ (o : Order). among o.account && is_none o.previous_token) grants in
-    ap (λ es. alike_in es q) (last_few-map entered_of n enters)
+    sym (asked_alike (last_few n (enters_of grants among)) q)
+    ∙ ap (λ es. alike_in es q) (last_few-map entered_of n enters)
     ∙ count_by-map (is_like q) entered_of (last_few n enters)
     ∙ (λ i. count_by (λ (o : Order). like_is q o i) (last_few n enters))
 

@@ -2,34 +2,41 @@
 use Rattle.std.proofs.{Common.{◌≡◌, ℕ, ◌+◌, ◌-◌, ◌≤◌, suc, Bool, true, false, cond, ◌&&◌, ◌||◌, not, List, [], ◌∷◌, ◌++◌, map, length, drop, refl, sym, ap, ◌∙◌, arith, ltb}, lemmas.{Bool.{lt-ltb, ltb-false, ltb-true, Decides.nat_tests}, List.{length-append, length-drop, drop-drop, drop-append-le}}}
 use Rattle.std.specs.{Prelude.{Option, Some, None, option_map}, List.{list_any, position_or_len}, Cmp.Lexicographic.nat_list_eq_equiv}
 use Rattle.circular_buffer.specs.Buffer.{buffer}
-use Rattle.gx_units.specs.{Names.{same_account, same_stock}, declared.names.{AccountName.AccountName, Symbol.Symbol}}
+use Rattle.gx_units.specs.{Money.value, Names.{same_account, same_stock}, declared.names.{AccountName.AccountName, Symbol.Symbol}}
 use Rattle.gx_history.specs.{declared.live_order.LiveOrder.LiveOrder, Book.{is_buy, is_on}, LiveOrders.shares_open}
 use Rattle.gx_policy.specs.{declared.policy.{Count.Count, FileRule.FileRule, PolicyData.PolicyData, Scope.Scope, Stock.Stock}, Lists.are_distinct, People.covers}
 use Rattle.gx_history_laws.proofs.{Granting.{left_false, right_false}, Names.same_account_flip}
-use Rattle.gx_ledger.specs.{declared.{group.Group.Group, change.{Change.Change, ChangeKind.ChangeKind}, sides.{SideSums.SideSums, StockSums.StockSums}, tally.Asks.Asks}, Keeping.{Kept, account_place, kept_noted, noted}, Running.{changed_group, changed_side, changed_so, entered_as, noted_sides, pushed, with_done, with_live, without_live}, StandsFor.{Total, group_of, members_of, ring, sides_of, tally_of}, Tallies.{asks_of, changed_in, count_of, place_in, room_for_enters, room_for_moments, stocks_for, tally_after}}
+use Rattle.gx_ledger.specs.{Changes.Change, declared.{group.{Entered.Entered, Group.Group}, change.ChangeKind.ChangeKind, sides.StockSums.StockSums, sums.Sums.Sums, asks.Asks.Asks}, Accounts.account_place, Keeping.{Kept, kept_noted, noted}, Running.{changed_group, changed_side, changed_sums, counted_singly, entered_as, noted_enters, noted_moments, noted_sides, pushed}, StandsFor.{Total, group_of, members_of, ring, sides_of, tally_of}, Tallies.{asks_of, changed_in, count_of, place_in, seats_for, tally_after, tells_reference}}
 
 -- the change is of an order on this side of the stock
 abbrev pub changes_side : Change → Symbol → Bool → Bool
 changes_side change stock buys = same_stock change.order.terms.stock stock && is_on buys change.order.terms.side
 
 -- what counts on each side of each stock, once an order of the accounts has changed
-abbrev pub sides_after : Change → (Symbol → Bool → SideSums) → Symbol → Bool → SideSums
+abbrev pub sides_after : Change → (Symbol → Bool → Sums) → Symbol → Bool → Sums
 sides_after change sides stock buys = cond (changes_side change stock buys) (changed_side change.order change.kind (sides stock buys)) (sides stock buys)
 
--- what counts but for the sides, once an order changed so
-abbrev pub total_so : LiveOrder → ChangeKind → Total → Total
-total_so o (ChangeKind.Accepted moment replacement) t = record {
-  sums = with_live (shares_open o) o.terms.price t.sums;
-  moments = t.moments ++ moment ∷ [];
-  enters = cond replacement t.enters (t.enters ++ entered_as o ∷ []);
-  sides = t.sides;
-}
-total_so o (ChangeKind.Left shares) t = record t { sums = without_live shares o.terms.price t.sums }
-total_so o (ChangeKind.Executed shares price) t = record t { sums = with_done shares price t.sums }
+-- the moments, once an order changed so
+abbrev pub more_moments : ChangeKind → List ℕ → List ℕ
+more_moments (ChangeKind.Accepted moment replacement) ms = ms ++ moment ∷ []
+more_moments (ChangeKind.Left shares) ms = ms
+more_moments (ChangeKind.Filled shares price) ms = ms
+
+-- the Enters
+abbrev pub more_enters : LiveOrder → ChangeKind → List Entered → List Entered
+more_enters o (ChangeKind.Accepted moment replacement) es = cond replacement es (es ++ entered_as o ∷ [])
+more_enters o (ChangeKind.Left shares) es = es
+more_enters o (ChangeKind.Filled shares price) es = es
 
 -- what counts of the accounts that a change is of
 abbrev pub changed_total : Change → Total → Total
-changed_total change t = total_so change.order change.kind (record t { sides = sides_after change t.sides })
+changed_total change t = record {
+  shares = changed_sums counted_singly change.order change.kind t.shares;
+  value = changed_sums value change.order change.kind t.value;
+  moments = more_moments change.kind t.moments;
+  enters = more_enters change.order change.kind t.enters;
+  sides = sides_after change t.sides;
+}
 
 -- what counts of any accounts
 abbrev pub Totals : Type 0
@@ -55,14 +62,14 @@ pushed_ring n xs x =
     ∙ ap (λ k. drop k (xs ++ x ∷ [])) places)
 
 -- the sums of each stock follow
-sides_changed : (change : Change) (sides : Symbol → Bool → SideSums) (stocks : List Stock) → noted_sides change (sides_of sides stocks) ≡ sides_of (sides_after change sides) stocks
+sides_changed : (change : Change) (sides : Symbol → Bool → Sums) (stocks : List Stock) → noted_sides change (sides_of sides stocks) ≡ sides_of (sides_after change sides) stocks
 sides_changed change sides [] = refl
 sides_changed change sides (s ∷ stocks) = λ i. (s.name, by (same_stock change.order.terms.stock s.name) (is_buy change.order.terms.side) i) ∷ sides_changed change sides stocks i
   where
-    buys : SideSums
+    buys : Sums
     buys = sides s.name true
 
-    sells : SideSums
+    sells : Sums
     sells = sides s.name false
 
     by : (b c : Bool)
@@ -74,25 +81,27 @@ sides_changed change sides (s ∷ stocks) = λ i. (s.name, by (same_stock change
 
 -- a group follows what counts
 pub group_changed : (stocks : List Stock) (change : Change) (asked : Asks) (t : Total) → changed_group change (group_of stocks asked t) ≡ group_of stocks asked (changed_total change t)
-group_changed stocks change asked t =
-    ap (λ sides. changed_so change.order change.kind (record (group_of stocks asked t) { sides = sides })) (sides_changed change t.sides (stocks_for asked stocks))
-    ∙ by change.order change.kind
+group_changed stocks change Asks.Shares t = refl
+group_changed stocks change Asks.Value t = refl
+group_changed stocks change Asks.Sides t = ap Group.Sides (sides_changed change t.sides stocks)
+group_changed stocks change (Asks.Recent rate) t = ap (Group.Recent rate.window) (by change.kind)
   where
-    told : Total
-    told = record t { sides = sides_after change t.sides }
+    by : (kind : ChangeKind) → noted_moments kind (ring rate.limit t.moments) ≡ ring rate.limit (more_moments kind t.moments)
+    by (ChangeKind.Accepted moment replacement) = pushed_ring rate.limit t.moments moment
+    by (ChangeKind.Left shares) = refl
+    by (ChangeKind.Filled shares price) = refl
+group_changed stocks change (Asks.Alike repeat) t = ap Group.Enters (by change.order change.kind)
+  where
+    entered : (o : LiveOrder) (b : Bool) → cond b (ring repeat.span t.enters) (pushed (entered_as o) (ring repeat.span t.enters)) ≡ ring repeat.span (cond b t.enters (t.enters ++ entered_as o ∷ []))
+    entered o true = refl
+    entered o false = pushed_ring repeat.span t.enters (entered_as o)
 
-    by : (o : LiveOrder) (kind : ChangeKind) → changed_so o kind (group_of stocks asked told) ≡ group_of stocks asked (total_so o kind told)
-    by o (ChangeKind.Accepted moment replacement) = λ i. record (group_of stocks asked told) {
-      sums = with_live (shares_open o) o.terms.price t.sums;
-      moments = pushed_ring (room_for_moments asked) t.moments moment i;
-      enters = entered replacement i;
-    }
-      where
-        entered : (b : Bool) → cond b (ring (room_for_enters asked) t.enters) (pushed (entered_as o) (ring (room_for_enters asked) t.enters)) ≡ ring (room_for_enters asked) (cond b t.enters (t.enters ++ entered_as o ∷ []))
-        entered true = refl
-        entered false = pushed_ring (room_for_enters asked) t.enters (entered_as o)
+    by : (o : LiveOrder) (kind : ChangeKind) → noted_enters o kind (ring repeat.span t.enters) ≡ ring repeat.span (more_enters o kind t.enters)
+    by o (ChangeKind.Accepted moment replacement) = entered o replacement
     by o (ChangeKind.Left shares) = refl
-    by o (ChangeKind.Executed shares price) = refl
+    by o (ChangeKind.Filled shares price) = refl
+group_changed stocks change Asks.Reference t = refl
+group_changed stocks change Asks.Nothing t = refl
 
 both_less : (m n : ℕ) → ltb (suc m) (suc n) ≡ ltb m n
 both_less m n = by (ltb m n) refl
@@ -228,8 +237,9 @@ pub tally_changed : (stocks : List Stock) (change : Change) (totals : Totals) (n
     → tally_after change (account_place names change.order.account) (tally_of stocks names totals rule) ≡ tally_of stocks names (totals_after change totals) rule
 tally_changed stocks change totals names distinct rule = λ i. record {
   scope = rule.scope;
-  asks = asks_of rule.kind;
+  tells_reference = tells_reference rule.kind;
   count = count_of rule.kind;
+  seats = seats_for rule.scope (count_of rule.kind) names;
   groups = groups_changed stocks change totals names (count_of rule.kind) (asks_of rule.kind) rule.scope distinct i;
 }
 

@@ -5,7 +5,7 @@ use Rattle.indexmap.specs.{IndexMap.insert_entry, IndexSet.insert_key}
 use Rattle.gx_units.specs.{Names.{same_account, same_stock}, declared.names.{AccountName.AccountName, Symbol.Symbol}}
 use Rattle.gx_policy.specs.{declared.policy.{Account.Account, Stock.Stock}, Lists.are_distinct}
 use Rattle.gx_history_laws.proofs.{Granting.{left_false, right_false}, Names.stock_is}
-use Rattle.gx_ledger.specs.{Keeping.{account_names, priced}, declared.{change.Change.Change, sides.StockSums.StockSums}, Running.noted_sides, Tables.{accounts_differ, names_differ}}
+use Rattle.gx_ledger.specs.{Accounts.account_names, Keeping.priced, declared.sides.StockSums.StockSums, Tables.{accounts_differ, names_differ}}
 use Rattle.gx_ledger.proofs.Counting.{left_none, right_true}
 
 pub some_is : {X : Type 0} {x y : X} → Some x ≡ Some y → x ≡ y
@@ -59,11 +59,6 @@ no_price_set stock price es none = absent same_stock stock_is stock (λ last. pr
 pub sums_set : (stock : Symbol) (change : StockSums → StockSums) (es : List (Symbol × StockSums)) (before : StockSums) → IsDistinct same_stock (keys_of es) → lookup (same_stock stock) es ≡ Some before
     → set_value (same_stock stock) es (change before) ≡ map (λ (e : Symbol × StockSums). (e.0, cond (same_stock stock e.0) (change e.1) e.1)) es
 sums_set stock change es before distinct found = written same_stock stock_is stock change es before distinct found
-
--- of no stock
-pub none_noted : (change : Change) (es : List (Symbol × StockSums)) → length es ≡ 0 → es ≡ noted_sides change es
-none_noted change [] none = refl
-none_noted change (e ∷ es) none = absurd (omega (arith, none))
 
 pub no_sums_set : (stock : Symbol) (change : StockSums → StockSums) (es : List (Symbol × StockSums)) → lookup (same_stock stock) es ≡ None
     → es ≡ map (λ (e : Symbol × StockSums). (e.0, cond (same_stock stock e.0) (change e.1) e.1)) es

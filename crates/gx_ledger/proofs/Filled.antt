@@ -1,5 +1,5 @@
 -- What counts, and which prices are last, once a fill was made.
-use Rattle.std.proofs.{Common.{◌≡◌, ℕ, ◌+◌, ◌<◌, ◌≤◌, ◌^◌, Bool, true, false, cond, ◌&&◌, List, [], ◌∷◌, ◌++◌, map, refl, sym, ap, ◌∙◌, arith, true≢false}, Math.Path.subst, lemmas.List.append-nil}
+use Rattle.std.proofs.{Common.{◌≡◌, ℕ, ◌+◌, ◌-◌, ◌<◌, ◌≤◌, ◌^◌, Bool, true, false, cond, ◌&&◌, List, [], ◌∷◌, ◌++◌, map, refl, sym, ap, ◌∙◌, arith, true≢false}, Math.Path.subst, lemmas.List.append-nil}
 use Rattle.std.specs.{Prelude.{None, ◌==◌, is_some, unwrap_or}, List.{AllByRecursion, cons_option, filter_map, last_or}}
 use Rattle.gx_units.specs.{Money.value, Names.same_stock, declared.names.{AccountName.AccountName, Symbol.Symbol}}
 use Rattle.gx_ouch.specs.declared.outbound.OrderTerms.{OrderTerms}
@@ -10,13 +10,12 @@ use Rattle.gx_history.specs.Turns as turns
 use Rattle.gx_effects.proofs.{Fills.both_sides, NewOrders.found_is}
 use Rattle.gx_positions.specs.{Changing.{executed_by, positions_with}, Sound.{AreSound, IsListed, MayFill, SumsFit, anyone}}
 use Rattle.gx_positions.proofs.Sums.{IsOpenSum, done_shares_filled, done_value_filled, filled_by, is_chosen, shares_of, sides_are, value_of}
-use Rattle.gx_ledger.specs.{declared.sides.SideSums.SideSums, Keeping.{Kept, executes, kept_executed, kept_noted, leaves, priced, with_price}, Running.capped, StandsFor.{AreFilled, Fills, IsMadeIn, StandsFor, Total, enters_of, moments_of, prices_of, total_of}}
-use Rattle.gx_ledger.proofs.{Carrying.tallies_same, Counting.{Totals, changed_total, changes_side, kept_follows, totals_after}, Totals.{done_fit, done_value_fit, leaves_so, less, more, on_its_own_side, with_left}}
+use Rattle.gx_ledger.specs.{declared.sums.Sums.Sums, Keeping.{Kept, is_filled, kept_noted, priced, with_price}, Running.capped, StandsFor.{AreFilled, Fills, IsMadeIn, StandsFor, Total, enters_of, moments_of, prices_of, total_of}}
+use Rattle.gx_ledger.proofs.{Carrying.tallies_same, Counting.{Totals, changed_total, changes_side, kept_follows, totals_after}, Totals.{done_fit, done_value_fit, less, more, on_its_own_side}}
 
 -- what counts after both sides
 abbrev pub totals_filled : LiveOrder → LiveOrder → ℕ → ℕ → Totals → Totals
-totals_filled taker maker shares price totals =
-    totals_after (executes maker shares price) (totals_after (leaves maker shares) (totals_after (executes taker shares price) (totals_after (leaves taker shares) totals)))
+totals_filled taker maker shares price totals = totals_after (is_filled maker shares price) (totals_after (is_filled taker shares price) totals)
 
 falls_twice : (b c : Bool) (before after first second : ℕ) → after + (cond b first 0 + cond c second 0) ≡ before → less c second (less b first before) ≡ after
 falls_twice true true before after first second is = omega (arith, is)
@@ -34,31 +33,31 @@ rises_twice false false before after gain whole is most fits = omega (arith, is)
 wide : {n : ℕ} → n < 2 ^ 127 → n < 2 ^ 128
 wide few = omega (arith, few)
 
--- what counts where some shares of an order of the accounts were executed, field by field
-abbrev with_executed : Bool → LiveOrder → ℕ → ℕ → Total → Total
-with_executed b o shares price t = record {
-  sums = record { live_shares = t.sums.live_shares; live_value = t.sums.live_value; done_shares = more b shares t.sums.done_shares; done_value = more b (value shares price) t.sums.done_value };
+-- what counts where some open shares of an order of the accounts were executed, field by field
+abbrev with_filled : Bool → LiveOrder → ℕ → ℕ → Total → Total
+with_filled b o shares price t = record {
+  shares = record { live = less b shares t.shares.live; done = more b shares t.shares.done };
+  value = record { live = less b (value shares o.terms.price) t.value.live; done = more b (value shares price) t.value.done };
   moments = t.moments;
   enters = t.enters;
-  sides = λ stock buys. record { live = (t.sides stock buys).live; done = more (b && changes_side (executes o shares price) stock buys) shares (t.sides stock buys).done };
+  sides = λ stock buys.
+      let there : Bool = b && changes_side (is_filled o shares price) stock buys in
+      record { live = less there shares (t.sides stock buys).live; done = more there shares (t.sides stock buys).done };
 }
 
-executes_so : (b : Bool) (o : LiveOrder) (shares price : ℕ) (t : Total) → cond b (changed_total (executes o shares price) t) t ≡ with_executed b o shares price t
-executes_so false o shares price t = refl
-executes_so true o shares price t = λ i. record (changed_total (executes o shares price) t) { sides = λ stock buys. side (changes_side (executes o shares price) stock buys) (t.sides stock buys) i }
+filled_one : (b : Bool) (o : LiveOrder) (shares price : ℕ) (t : Total) → cond b (changed_total (is_filled o shares price) t) t ≡ with_filled b o shares price t
+filled_one false o shares price t = refl
+filled_one true o shares price t = λ i. record (changed_total (is_filled o shares price) t) { sides = λ stock buys. side (changes_side (is_filled o shares price) stock buys) (t.sides stock buys) i }
   where
-    side : (c : Bool) (s : SideSums) → cond c (record { live = s.live; done = capped (s.done + shares) }) s ≡ record { live = s.live; done = more c shares s.done }
+    side : (c : Bool) (s : Sums) → cond c (record { live = s.live - shares; done = capped (s.done + shares) }) s ≡ record { live = less c shares s.live; done = more c shares s.done }
     side true s = refl
     side false s = refl
 
 -- what counts after both sides, field by field
 filled_so : (taker maker : LiveOrder) (shares price : ℕ) (totals : Totals) (among : AccountName → Bool) → totals_filled taker maker shares price totals among
-    ≡ with_executed (among maker.account) maker shares price (with_left (among maker.account) maker shares (with_executed (among taker.account) taker shares price (with_left (among taker.account) taker shares (totals among))))
+    ≡ with_filled (among maker.account) maker shares price (with_filled (among taker.account) taker shares price (totals among))
 filled_so taker maker shares price totals among =
-    executes_so (among maker.account) maker shares price _
-    ∙ ap (with_executed (among maker.account) maker shares price) (leaves_so (among maker.account) maker shares _
-    ∙ ap (with_left (among maker.account) maker shares) (executes_so (among taker.account) taker shares price _
-    ∙ ap (with_executed (among taker.account) taker shares price) (leaves_so (among taker.account) taker shares (totals among))))
+    filled_one (among maker.account) maker shares price _ ∙ ap (with_filled (among maker.account) maker shares price) (filled_one (among taker.account) taker shares price (totals among))
 
 module _ (held : Positions) (policy : PolicyData) (taker maker : LiveOrder) (shares price : ℕ) (sound : AreSound policy held) where
   abbrev f : Fill
@@ -121,13 +120,13 @@ module _ (held : Positions) (policy : PolicyData) (taker maker : LiveOrder) (sha
         side = record { stock = stock; buys = buys }
 
         abbrev took : Bool
-        took = b && changes_side (leaves taker shares) stock buys
+        took = b && changes_side (is_filled taker shares price) stock buys
 
         abbrev made : Bool
-        made = c && changes_side (leaves maker shares) stock buys
+        made = c && changes_side (is_filled maker shares price) stock buys
 
         of_side : {X : Type 0} (m : Bool → Bool → X) → m (is_chosen (on_side among side) taker) (is_chosen (on_side among side) maker) ≡ m took made
-        of_side m = λ i. m (on_its_own_side among (leaves taker shares) stock buys i) (on_its_own_side among (leaves maker shares) stock buys i)
+        of_side m = λ i. m (on_its_own_side among (is_filled taker shares price) stock buys i) (on_its_own_side among (is_filled maker shares price) stock buys i)
 
         live_then : less made shares (less took shares (side_live held.live among side)) ≡ side_live after.live among side
         live_then =
@@ -143,11 +142,13 @@ module _ (held : Positions) (policy : PolicyData) (taker maker : LiveOrder) (sha
       filled_total =
           filled_so taker maker shares price (total_of held) among
           ∙ (λ i. record {
-            sums = record {
-              live_shares = falls_twice b c (live_shares held.live among) (live_shares after.live among) shares shares (open_falls (shares_of (of_accounts among))) i;
-              live_value = falls_twice b c (live_value held.live among) (live_value after.live among) (value shares taker.terms.price) (value shares maker.terms.price) (open_falls (value_of among)) i;
-              done_shares = rises_twice b c (done_shares held.executions among) (done_shares after.executions among) shares (done_shares after.executions anyone) (done_rises (of_accounts among)) (done_fit after.executions (of_accounts among)) (wide fit.done_shares) i;
-              done_value = rises_twice b c (done_value held.executions among) (done_value after.executions among) (value shares price) (done_value after.executions anyone) paid (done_value_fit after.executions among) fit.done_value i;
+            shares = record {
+              live = falls_twice b c (live_shares held.live among) (live_shares after.live among) shares shares (open_falls (shares_of (of_accounts among))) i;
+              done = rises_twice b c (done_shares held.executions among) (done_shares after.executions among) shares (done_shares after.executions anyone) (done_rises (of_accounts among)) (done_fit after.executions (of_accounts among)) (wide fit.done_shares) i;
+            };
+            value = record {
+              live = falls_twice b c (live_value held.live among) (live_value after.live among) (value shares taker.terms.price) (value shares maker.terms.price) (open_falls (value_of among)) i;
+              done = rises_twice b c (done_value held.executions among) (done_value after.executions among) (value shares price) (done_value after.executions anyone) paid (done_value_fit after.executions among) fit.done_value i;
             };
             moments = moments_of held.grants among;
             enters = enters_of held.grants among;
@@ -189,25 +190,17 @@ module _ (held : Positions) (policy : PolicyData) (taker maker : LiveOrder) (sha
         all_both (IsMadeIn policy) held.executions (executed_by (turns.Fills f) held.grants) all (subst (AllByRecursion (IsMadeIn policy)) (sym (sides_are held f may)) theirs)
 
 pub fill_carries : (taker maker : LiveOrder) (shares price : ℕ) (k : Kept)
-    → Fills taker maker shares price k (with_price maker.terms.stock price (kept_executed maker shares price (kept_executed taker shares price k)))
+    → Fills taker maker shares price k (with_price maker.terms.stock price (kept_noted (is_filled maker shares price) (kept_noted (is_filled taker shares price) k)))
 fill_carries taker maker shares price k policy held stands sound are sound_then =
-    let first : Totals = totals_after (leaves taker shares) (total_of held) in
-    let second : Totals = totals_after (executes taker shares price) first in
-    let third : Totals = totals_after (leaves maker shares) second in
-    let differ = stands.accounts_differ in
-    let k1 : Kept = kept_noted (leaves taker shares) k in
-    let k2 : Kept = kept_noted (executes taker shares price) k1 in
-    let k3 : Kept = kept_noted (leaves maker shares) k2 in
-    let is1 = kept_follows policy k (total_of held) (leaves taker shares) differ stands.tallies in
-    let is2 = kept_follows policy k1 first (executes taker shares price) differ is1 in
-    let is3 = kept_follows policy k2 second (leaves maker shares) differ is2 in
-    let is4 = kept_follows policy k3 third (executes maker shares price) differ is3 in
+    let between : Kept = kept_noted (is_filled taker shares price) k in
+    let first = kept_follows policy k (total_of held) (is_filled taker shares price) stands.accounts_differ stands.tallies in
+    let both = kept_follows policy between (totals_after (is_filled taker shares price) (total_of held)) (is_filled maker shares price) stands.accounts_differ first in
     let then_is = filled_is held policy taker maker shares price sound in
-    subst (StandsFor policy (with_price maker.terms.stock price (kept_noted (executes maker shares price) k3))) (sym then_is) (record {
+    subst (StandsFor policy (with_price maker.terms.stock price (kept_noted (is_filled maker shares price) between))) (sym then_is) (record {
       accounts = stands.accounts;
       accounts_differ = stands.accounts_differ;
       unlisted = λ stock other. filled_unlisted held policy taker maker shares price sound are stock other (stands.unlisted stock other);
       all_made = filled_made held policy taker maker shares price sound are stands.all_made;
       prices = ap (priced maker.terms.stock price) stands.prices ∙ filled_prices held policy taker maker shares price sound are;
-      tallies = is4 ∙ tallies_same policy k _ _ (filled_total held policy taker maker shares price sound are (subst (AreSound policy) then_is sound_then));
+      tallies = both ∙ tallies_same policy k _ _ (filled_total held policy taker maker shares price sound are (subst (AreSound policy) then_is sound_then));
     })

@@ -6,11 +6,11 @@ pub mod Totals
 pub mod Carrying
 pub mod Filled
 pub mod Opening
+pub mod Likeness
 pub mod Counted
 pub mod Answering
 pub mod StandingSums
 pub mod Following
 pub mod Listing
-pub mod Likeness
 pub mod Halves
 pub mod CountedCells

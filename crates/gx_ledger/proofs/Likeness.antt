@@ -1,9 +1,18 @@
 -- Counting Enters that are alike.
-use Rattle.std.proofs.{Common.{◌≡◌, ◌+◌, Bool, true, false, ◌&&◌, ◌||◌, cond, List, [], ◌∷◌, refl, ap, ◌∙◌, true≢false, arith}, lemmas.List.Sums.sum_by-cons}
+use Rattle.std.proofs.{Common.{◌≡◌, ℕ, ◌+◌, Bool, true, false, ◌&&◌, ◌||◌, cond, List, [], ◌∷◌, refl, ap, ◌∙◌, true≢false, arith}, lemmas.List.Sums.sum_by-cons}
 use Rattle.std.specs.{Option.option_map_or, Prelude.{◌==◌, count_by}, List.list_any}
 use Rattle.gx_units.specs.Names.{same_stock}
 use Rattle.gx_history.specs.declared.record.Request.{Request}
-use Rattle.gx_ledger.specs.{declared.group.Entered.Entered, Running.{alike_in, are_alike, are_sized_alike, asked_as}}
+use Rattle.gx_ledger.specs.{declared.group.Entered.Entered, Running.{are_alike, are_sized_alike, asked_as, count_alike}}
+
+-- the request is such an Enter
+abbrev pub is_like : Request → Entered → Bool
+is_like (Request.Enter m) e = e.side == m.side && e.shares == m.shares && same_stock e.stock m.stock && e.price == m.price
+is_like other e = false
+
+-- the Enters that are such as the request is
+abbrev pub alike_in : List Entered → Request → ℕ
+alike_in enters q = count_by (is_like q) enters
 
 size_fails : (side shares stock price : Bool) → (price && shares) ≡ false → (side && shares && stock && price) ≡ false
 size_fails false shares stock price fails = refl
@@ -32,7 +41,7 @@ none_passes [] = refl
 none_passes (e ∷ es) = let more = sum_by-cons (λ (e : Entered). 0) e es in let rest = none_passes es in omega (arith, more, rest)
 
 -- an Enter is like those with which it has all in common, and no other request is
-pub asked_alike : (es : List Entered) (q : Request) → alike_in es q ≡ option_map_or (λ asked. count_by (are_alike asked) es) (asked_as q) 0
+pub asked_alike : (es : List Entered) (q : Request) → alike_in es q ≡ option_map_or (count_alike es) (asked_as q) 0
 asked_alike es (Request.Enter m) = refl
 asked_alike es (Request.Replace m) = none_passes es
 asked_alike es (Request.Cancel m) = none_passes es

@@ -4,7 +4,7 @@ use Rattle.std.specs.Prelude.{Option, Some, None, option_map, is_some, fold}
 use Rattle.gx_units.specs.{Names.same_account, declared.names.AccountName.AccountName}
 use Rattle.gx_policy.specs.{declared.policy.{Account.Account, Count.Count}, People.covers}
 use Rattle.gx_history_laws.proofs.Names.{account_is}
-use Rattle.gx_ledger.specs.{declared.{change.Change.Change, tally.Tally.Tally}, Counts.{AreCounted, counting, counting_from, counts, noted_in, tally_inside}, Keeping.{Kept, account_names, account_place, kept_noted, noted}, Running.changed_group, Tallies.{changed_at, changed_in, place_in, tally_after}}
+use Rattle.gx_ledger.specs.{Changes.Change, declared.tally.Tally.Tally, Counts.{AreCounted, counting, counting_from, counts, noted_in, tally_inside}, Accounts.{account_names, account_place}, Keeping.{Kept, kept_noted, noted}, Running.changed_group, Tallies.{changed_at, changed_in, place_in, tally_after}}
 use Rattle.gx_ledger.proofs.{Counting.place-cons, Entries.some_is}
 
 -- the place of one more tally
@@ -128,19 +128,14 @@ module _ (change : Change) (place : ℕ) where
   behind t (n ∷ ns) ts = behind t ns (told ts n)
 
   inside_is : (t : Tally) → counts t change.order.account ≡ true → tally_inside change (Some place) t ≡ tally_after change (Some place) t
-  inside_is t his = ap (λ b. record {
-    scope = t.scope;
-    asks = t.asks;
-    count = t.count;
-    groups = cond b (changed_in (place_in t.count (Some place)) (changed_group change) t.groups) t.groups;
-  }) (sym (right (is_some t.count) (covers t.scope change.order.account) his))
+  inside_is t his = ap (λ b. record t { groups = cond b (changed_in (place_in t.count (Some place)) (changed_group change) t.groups) t.groups }) (sym (right (is_some t.count) (covers t.scope change.order.account) his))
     where
       right : (a b : Bool) → (a && b) ≡ true → b ≡ true
       right true b h = h
       right false b h = cc
 
   outside_is : (t : Tally) → counts t change.order.account ≡ false → t ≡ tally_after change (Some place) t
-  outside_is t others = λ i. record { scope = t.scope; asks = t.asks; count = t.count; groups = by t.count (covers t.scope change.order.account) others i }
+  outside_is t others = λ i. record t { groups = by t.count (covers t.scope change.order.account) others i }
     where
       by : (count : Option Count) (b : Bool) → (is_some count && b) ≡ false → t.groups ≡ cond b (changed_in (place_in count (Some place)) (changed_group change) t.groups) t.groups
       by None true h = refl

@@ -8,7 +8,7 @@ use Rattle.gx_history.specs.{declared.facts.StockSide.StockSide, Figures.{of_acc
 use Rattle.gx_history_laws.proofs.{Granting.{left_false, right_false}, Judging.both, Names.accounts_differ as accounts_apart, NextFigures.{done_none, done_value_none, reference_none}}
 use Rattle.gx_positions.specs.Changing.{nothing}
 use Rattle.gx_positions.proofs.Sums.{none_of, shares_of, value_of}
-use Rattle.gx_ledger.specs.{declared.tally.Asks.Asks, Keeping.{account_names, reference_prices}, StandsFor.{StandsFor, group_of, members_of, prices_of, side_sums_of, tally_of, total_of}, Tables.{accounts_differ, names_differ}, Tallies.{asked_group, asks_of, count_of, new_groups, new_tally, room_for_enters, room_for_moments, stocks_for}}
+use Rattle.gx_ledger.specs.{declared.{asks.Asks.Asks, group.Group.Group}, Accounts.account_names, Keeping.reference_prices, Running.first_sides, StandsFor.{StandsFor, group_of, members_of, prices_of, ring, shares_among, side_sums_of, sides_of, tally_of, total_of, value_among}, Tables.{accounts_differ, names_differ}, Tallies.{asks_of, count_of, new_group, new_groups, new_tally, seats_for, tells_reference}}
 use Rattle.gx_ledger.proofs.Counting.{left_none, right_true}
 
 -- no two stocks of the policy have one name
@@ -63,13 +63,27 @@ none_left (suc n) = refl
 no_side_is : (among : AccountName → Bool) (side : StockSide) → record { live = 0; done = 0 } ≡ side_sums_of nothing among side.stock side.buys
 no_side_is among side = λ i. record { live = sym (none_of (shares_of (on_side among side)) [] tt) i; done = sym (done_none (on_side among side)) i }
 
-new_group_is : (stocks : List Stock) (asked : Asks) (among : AccountName → Bool) → asked_group asked stocks ≡ group_of stocks asked (total_of nothing among)
-new_group_is stocks asked among = λ i. record {
-  sums = record { live_shares = sym (none_of (shares_of (of_accounts among)) [] tt) i; live_value = sym (none_of (value_of among) [] tt) i; done_shares = sym (done_none (of_accounts among)) i; done_value = sym (done_value_none among) i };
-  moments = buffer (sym (none_left (0 - room_for_moments asked)) i) (room_for_moments asked);
-  enters = buffer (sym (none_left (0 - room_for_enters asked)) i) (room_for_enters asked);
-  sides = map (λ (s : Stock). (s.name, record { buys = no_side_is among (record { stock = s.name; buys = true }) i; sells = no_side_is among (record { stock = s.name; buys = false }) i })) (stocks_for asked stocks);
-}
+no_shares : (among : AccountName → Bool) → record { live = 0; done = 0 } ≡ shares_among nothing among
+no_shares among = λ i. record { live = sym (none_of (shares_of (of_accounts among)) [] tt) i; done = sym (done_none (of_accounts among)) i }
+
+no_value : (among : AccountName → Bool) → record { live = 0; done = 0 } ≡ value_among nothing among
+no_value among = λ i. record { live = sym (none_of (value_of among) [] tt) i; done = sym (done_value_none among) i }
+
+no_ring : {X : Type 0} (n : ℕ) → ring {X = X} n [] ≡ buffer [] n
+no_ring n = ap (λ items. buffer items n) (none_left (0 - n))
+
+no_stock_is : (among : AccountName → Bool) (stocks : List Stock) → first_sides stocks ≡ sides_of (side_sums_of nothing among) stocks
+no_stock_is among stocks = λ i. map
+    (λ (s : Stock). (s.name, record { buys = no_side_is among (record { stock = s.name; buys = true }) i; sells = no_side_is among (record { stock = s.name; buys = false }) i })) stocks
+
+new_group_is : (stocks : List Stock) (asked : Asks) (among : AccountName → Bool) → new_group asked stocks ≡ group_of stocks asked (total_of nothing among)
+new_group_is stocks Asks.Shares among = ap Group.Shares (no_shares among)
+new_group_is stocks Asks.Value among = ap Group.Value (no_value among)
+new_group_is stocks Asks.Sides among = ap Group.Sides (no_stock_is among stocks)
+new_group_is stocks (Asks.Recent rate) among = ap (Group.Recent rate.window) (sym (no_ring rate.limit))
+new_group_is stocks (Asks.Alike repeat) among = ap Group.Enters (sym (no_ring repeat.span))
+new_group_is stocks Asks.Reference among = refl
+new_group_is stocks Asks.Nothing among = refl
 
 new_groups_are : (stocks : List Stock) (count : Option Count) (asked : Asks) (scope : Scope) (accounts : List Account)
     → new_groups count asked accounts stocks ≡ map (λ (among : AccountName → Bool). group_of stocks asked (total_of nothing among)) (members_of count scope (account_names accounts))
@@ -84,8 +98,9 @@ new_tallies_are stocks accounts [] = refl
 new_tallies_are stocks accounts (rule ∷ rules) =
     λ i. record {
       scope = rule.scope;
-      asks = asks_of rule.kind;
+      tells_reference = tells_reference rule.kind;
       count = count_of rule.kind;
+      seats = seats_for rule.scope (count_of rule.kind) (account_names accounts);
       groups = new_groups_are stocks (count_of rule.kind) (asks_of rule.kind) rule.scope accounts i;
     } ∷ new_tallies_are stocks accounts rules i
 

@@ -6,7 +6,7 @@ use Rattle.gx_policy.specs.{declared.policy.{Account.Account, Count.Count, FileR
 use Rattle.gx_history.specs.{declared.facts.StockSide.StockSide, Figures.{Positions, counts_account}}
 use Rattle.gx_history_laws.proofs.Names.{same_account_flip}
 use Rattle.gx_positions.specs.Sound.{AreSound}
-use Rattle.gx_ledger.specs.{declared.{group.Group.Group, tally.{Asks.Asks, Tally.Tally}}, Keeping.{Kept, account_names, account_place}, Standing.{GivesNet, GivesSums, counted_with, group_net, group_with, net_sums_of, of_sides, tally_net, tally_sums}, StandsFor.{IsMadeIn, StandsFor, group_of, members_of, sums_of, tally_of, total_of}, Tallies.{asks_of, count_of, group_in, place_in}}
+use Rattle.gx_ledger.specs.{declared.{group.Group.Group, asks.Asks.Asks, sums.Sums.Sums, tally.Tally.Tally}, Accounts.{account_names, account_place}, Keeping.Kept, Standing.{GivesGross, GivesNet, counted_with, gross_in_group, gross_sums_of, group_with, net_in_group, net_sums_of, tally_gross, tally_net}, StandsFor.{IsMadeIn, StandsFor, group_of, members_of, tally_of, total_of}, Tallies.{asks_of, count_of, group_in, place_in}}
 use Rattle.gx_ledger.proofs.{Answering.{group_found, live_answers, net_answers}, Counting.place-cons}
 
 still_there : (o : Option ℕ) → is_some (option_map suc o) ≡ is_some o
@@ -57,31 +57,37 @@ module _ (policy : PolicyData) (held : Positions) (account : AccountName) (rule 
       by false known true inside = refl
       by false known false inside = refl
 
-  sums_are : tally_sums tally account (account_place names account) ≡ option_map (sums_of held) (counted_with policy account rule)
-  sums_are = ap (option_map (λ (g : Group). g.sums)) group_is ∙ by (counted_with policy account rule)
-    where
-      by : (found : Option (AccountName → Bool)) → option_map (λ (g : Group). g.sums) (option_map group found) ≡ option_map (sums_of held) found
-      by None = refl
-      by (Some among) = refl
-
-  net_is : (side : StockSide) → AreSound policy held → AllByRecursion (IsMadeIn policy) held.executions → tally_net tally account (account_place names account) side
-      ≡ of_sides (asks_of rule.kind) (option_map (net_sums_of held side) (counted_with policy account rule))
-  net_is side sound all_made = ap (λ found. of_sides (asks_of rule.kind) (option_map (group_net side) found)) group_is ∙ by (asks_of rule.kind) (counted_with policy account rule)
+  gross_is : tally_gross tally account (account_place names account) ≡ option_and_then (gross_sums_of (asks_of rule.kind) held) (counted_with policy account rule)
+  gross_is = ap (option_and_then gross_in_group) group_is ∙ by (asks_of rule.kind) (counted_with policy account rule)
     where
       by : (asked : Asks) (found : Option (AccountName → Bool))
-          → of_sides asked (option_map (group_net side) (option_map (λ among. group_of policy.stocks asked (total_of held among)) found))
-          ≡ of_sides asked (option_map (net_sums_of held side) found)
-      by Asks.Sides None = refl
+          → option_and_then gross_in_group (option_map (λ among. group_of policy.stocks asked (total_of held among)) found) ≡ option_and_then (gross_sums_of asked held) found
+      by asked None = refl
+      by Asks.Shares (Some among) = refl
+      by Asks.Value (Some among) = refl
+      by Asks.Sides (Some among) = refl
+      by Asks.Nothing (Some among) = refl
+      by Asks.Reference (Some among) = refl
+      by (Asks.Recent rate) (Some among) = refl
+      by (Asks.Alike repeat) (Some among) = refl
+
+  net_is : (side : StockSide) → AreSound policy held → AllByRecursion (IsMadeIn policy) held.executions → tally_net tally account (account_place names account) side
+      ≡ option_and_then (net_sums_of (asks_of rule.kind) held side) (counted_with policy account rule)
+  net_is side sound all_made = ap (option_and_then (net_in_group side)) group_is ∙ by (asks_of rule.kind) (counted_with policy account rule)
+    where
+      by : (asked : Asks) (found : Option (AccountName → Bool))
+          → option_and_then (net_in_group side) (option_map (λ among. group_of policy.stocks asked (total_of held among)) found) ≡ option_and_then (net_sums_of asked held side) found
+      by asked None = refl
       by Asks.Sides (Some among) = λ i. Some (record {
         done = net_answers policy held among sound all_made (Some side) i;
         live = live_answers policy held among sound all_made (Some side) i;
       })
-      by Asks.Nothing found = refl
-      by Asks.Reference found = refl
-      by Asks.Shares found = refl
-      by Asks.Values found = refl
-      by (Asks.Recent rate) found = refl
-      by (Asks.Alike repeat) found = refl
+      by Asks.Shares (Some among) = refl
+      by Asks.Value (Some among) = refl
+      by Asks.Nothing (Some among) = refl
+      by Asks.Reference (Some among) = refl
+      by (Asks.Recent rate) (Some among) = refl
+      by (Asks.Alike repeat) (Some among) = refl
 
 -- of the rule at a place
 at_place : {X : Type 0} (f : Tally → Option X) (t : FileRule → Tally) (g : FileRule → Option X) → ((rule : FileRule) → f (t rule) ≡ g rule) → (rules : List FileRule) (place : ℕ)
@@ -97,16 +103,16 @@ tallies_are : (k : Kept) (policy : PolicyData) (held : Positions) → StandsFor 
     → k.tallies ≡ map (tally_of policy.stocks (account_names policy.accounts) (total_of held)) policy.rules
 tallies_are k policy held stands = stands.tallies ∙ ap (λ accounts. map (tally_of policy.stocks accounts (total_of held)) policy.rules) stands.accounts
 
-pub sums_answer : (k : Kept) (place : ℕ) (account : AccountName)
-    → GivesSums k place account (option_and_then (λ (t : Tally). tally_sums t account (account_place k.accounts account)) (slice_get k.tallies place))
-sums_answer k place account policy held stands =
-    (λ i. option_and_then (λ (t : Tally). tally_sums t account (account_place (stands.accounts i) account)) (slice_get (tallies_are k policy held stands i) place))
-    ∙ at_place (λ (t : Tally). tally_sums t account (account_place (account_names policy.accounts) account)) (tally_of policy.stocks (account_names policy.accounts) (total_of held))
-    (λ (rule : FileRule). option_map (sums_of held) (counted_with policy account rule)) (sums_are policy held account) policy.rules place
+pub gross_answer : (k : Kept) (place : ℕ) (account : AccountName)
+    → GivesGross k place account (option_and_then (λ (t : Tally). tally_gross t account (account_place k.accounts account)) (slice_get k.tallies place))
+gross_answer k place account policy held stands =
+    (λ i. option_and_then (λ (t : Tally). tally_gross t account (account_place (stands.accounts i) account)) (slice_get (tallies_are k policy held stands i) place))
+    ∙ at_place (λ (t : Tally). tally_gross t account (account_place (account_names policy.accounts) account)) (tally_of policy.stocks (account_names policy.accounts) (total_of held))
+    (λ (rule : FileRule). option_and_then (gross_sums_of (asks_of rule.kind) held) (counted_with policy account rule)) (gross_is policy held account) policy.rules place
 
 pub net_answer : (k : Kept) (place : ℕ) (account : AccountName) (side : StockSide)
     → GivesNet k place account side (option_and_then (λ (t : Tally). tally_net t account (account_place k.accounts account) side) (slice_get k.tallies place))
 net_answer k place account side policy held stands sound =
     (λ i. option_and_then (λ (t : Tally). tally_net t account (account_place (stands.accounts i) account) side) (slice_get (tallies_are k policy held stands i) place))
     ∙ at_place (λ (t : Tally). tally_net t account (account_place (account_names policy.accounts) account) side) (tally_of policy.stocks (account_names policy.accounts) (total_of held))
-    (λ (rule : FileRule). of_sides (asks_of rule.kind) (option_map (net_sums_of held side) (counted_with policy account rule))) (λ rule. net_is policy held account rule side sound stands.all_made) policy.rules place
+    (λ (rule : FileRule). option_and_then (net_sums_of (asks_of rule.kind) held side) (counted_with policy account rule)) (λ rule. net_is policy held account rule side sound stands.all_made) policy.rules place

@@ -8,7 +8,7 @@ use Rattle.gx_history.specs.Turns as turns
 use Rattle.gx_effects.proofs.World.{all_stay}
 use Rattle.gx_positions.specs.{Changing.{executed_by, positions_with}, Sound.{SumsFit, anyone, numbers_of}}
 use Rattle.gx_positions.proofs.Sums.{IsOpenSum, Loses, added, done_are, done_value_are, is_chosen, left_by, lost_by, open_of, shares_of, stays_by, sum_where, value_of}
-use Rattle.gx_ledger.specs.{declared.{change.Change.Change, sides.SideSums.SideSums}, Keeping.{comes, leaves}, Running.{capped, entered_as}, StandsFor.{IsAccepted, Total, entered_of, enters_of, moments_of, total_of}}
+use Rattle.gx_ledger.specs.{Changes.Change, declared.sums.Sums.Sums, Keeping.{comes, leaves}, Running.{capped, entered_as}, StandsFor.{IsAccepted, Total, entered_of, enters_of, moments_of, total_of}}
 use Rattle.gx_ledger.proofs.Counting.{changed_total, changes_side, totals_after}
 
 -- a sum over some is at most that over all
@@ -124,7 +124,8 @@ module _ (held : Positions) (o : LiveOrder) (moment : ℕ) (replacement : Bool) 
 
   -- what counts then, field by field
   comes_so : (b : Bool) (t : Total) → cond b (changed_total coming t) t ≡ record {
-    sums = record { live_shares = more b (shares_open o) t.sums.live_shares; live_value = more b (open_value o) t.sums.live_value; done_shares = t.sums.done_shares; done_value = t.sums.done_value };
+    shares = record { live = more b (shares_open o) t.shares.live; done = t.shares.done };
+    value = record { live = more b (open_value o) t.value.live; done = t.value.done };
     moments = cond b (t.moments ++ moment ∷ []) t.moments;
     enters = cond b (cond replacement t.enters (t.enters ++ entered_as o ∷ [])) t.enters;
     sides = λ stock buys. record { live = more (b && changes_side coming stock buys) (shares_open o) (t.sides stock buys).live; done = (t.sides stock buys).done };
@@ -132,7 +133,7 @@ module _ (held : Positions) (o : LiveOrder) (moment : ℕ) (replacement : Bool) 
   comes_so false t = refl
   comes_so true t = λ i. record (changed_total coming t) { sides = λ stock buys. side (changes_side coming stock buys) (t.sides stock buys) i }
     where
-      side : (c : Bool) (s : SideSums) → cond c (record { live = capped (s.live + shares_open o); done = s.done }) s ≡ record { live = more c (shares_open o) s.live; done = s.done }
+      side : (c : Bool) (s : Sums) → cond c (record { live = capped (s.live + shares_open o); done = s.done }) s ≡ record { live = more c (shares_open o) s.live; done = s.done }
       side true s = refl
       side false s = refl
 
@@ -140,11 +141,13 @@ module _ (held : Positions) (o : LiveOrder) (moment : ℕ) (replacement : Bool) 
   accepted_total =
       comes_so (among o.account) (total_of held among)
       ∙ (λ i. record {
-        sums = record {
-          live_shares = rises (among o.account) (live_shares held.live among) (live_shares with_it.live among) (shares_open o) (live_shares with_it.live anyone) (added (shares_of (of_accounts among)) held.live o) (open_fit with_it.live (of_accounts among)) fit.live_shares i;
-          live_value = rises (among o.account) (live_value held.live among) (live_value with_it.live among) (open_value o) (live_value with_it.live anyone) (added (value_of among) held.live o) (live_value_fit with_it.live among) fit.live_value i;
-          done_shares = done_shares held.executions among;
-          done_value = done_value held.executions among;
+        shares = record {
+          live = rises (among o.account) (live_shares held.live among) (live_shares with_it.live among) (shares_open o) (live_shares with_it.live anyone) (added (shares_of (of_accounts among)) held.live o) (open_fit with_it.live (of_accounts among)) fit.live_shares i;
+          done = done_shares held.executions among;
+        };
+        value = record {
+          live = rises (among o.account) (live_value held.live among) (live_value with_it.live among) (open_value o) (live_value with_it.live anyone) (added (value_of among) held.live o) (live_value_fit with_it.live among) fit.live_value i;
+          done = done_value held.executions among;
         };
         moments = sym moments_are i;
         enters = sym enters_are i;
@@ -173,12 +176,8 @@ none_comes turn held none idle = λ i. record {
 -- where each order has as much open as before
 pub same_total : (held : Positions) (turn : Turn) → ((o : LiveOrder) → left_by turn o ≡ shares_open o) → (among : AccountName → Bool) → total_of held among ≡ total_of (left_so turn held) among
 same_total held turn same among = λ i. record {
-  sums = record {
-    live_shares = sym (stays_by (shares_of (of_accounts among)) turn held.live same) i;
-    live_value = sym (stays_by (value_of among) turn held.live same) i;
-    done_shares = done_shares held.executions among;
-    done_value = done_value held.executions among;
-  };
+  shares = record { live = sym (stays_by (shares_of (of_accounts among)) turn held.live same) i; done = done_shares held.executions among };
+  value = record { live = sym (stays_by (value_of among) turn held.live same) i; done = done_value held.executions among };
   moments = moments_of held.grants among;
   enters = enters_of held.grants among;
   sides = λ stock buys. record { live = sym (stays_by (shares_of (on_side among (record { stock = stock; buys = buys }))) turn held.live same) i; done = side_done held.executions among (record { stock = stock; buys = buys }) };
@@ -187,7 +186,8 @@ same_total held turn same among = λ i. record {
 -- what counts where an order of the accounts loses open shares, field by field
 abbrev pub with_left : Bool → LiveOrder → ℕ → Total → Total
 with_left b o lost t = record {
-  sums = record { live_shares = less b lost t.sums.live_shares; live_value = less b (value lost o.terms.price) t.sums.live_value; done_shares = t.sums.done_shares; done_value = t.sums.done_value };
+  shares = record { live = less b lost t.shares.live; done = t.shares.done };
+  value = record { live = less b (value lost o.terms.price) t.value.live; done = t.value.done };
   moments = t.moments;
   enters = t.enters;
   sides = λ stock buys. record { live = less (b && changes_side (leaves o lost) stock buys) lost (t.sides stock buys).live; done = (t.sides stock buys).done };
@@ -197,7 +197,7 @@ pub leaves_so : (b : Bool) (o : LiveOrder) (lost : ℕ) (t : Total) → cond b (
 leaves_so false o lost t = refl
 leaves_so true o lost t = λ i. record (changed_total (leaves o lost) t) { sides = λ stock buys. side (changes_side (leaves o lost) stock buys) (t.sides stock buys) i }
   where
-    side : (c : Bool) (s : SideSums) → cond c (record { live = s.live - lost; done = s.done }) s ≡ record { live = less c lost s.live; done = s.done }
+    side : (c : Bool) (s : Sums) → cond c (record { live = s.live - lost; done = s.done }) s ≡ record { live = less c lost s.live; done = s.done }
     side true s = refl
     side false s = refl
 
@@ -207,11 +207,13 @@ pub left_total : (held : Positions) (turn : Turn) (number : ℕ) (o : LiveOrder)
 left_total held turn number o lost differ loses among =
     leaves_so (among o.account) o lost (total_of held among)
     ∙ (λ i. record {
-      sums = record {
-        live_shares = falls (among o.account) (live_shares held.live among) (live_shares left among) lost (lost_by (shares_of (of_accounts among)) turn number held.live o lost differ loses) i;
-        live_value = falls (among o.account) (live_value held.live among) (live_value left among) (value lost o.terms.price) (lost_by (value_of among) turn number held.live o lost differ loses) i;
-        done_shares = done_shares held.executions among;
-        done_value = done_value held.executions among;
+      shares = record {
+        live = falls (among o.account) (live_shares held.live among) (live_shares left among) lost (lost_by (shares_of (of_accounts among)) turn number held.live o lost differ loses) i;
+        done = done_shares held.executions among;
+      };
+      value = record {
+        live = falls (among o.account) (live_value held.live among) (live_value left among) (value lost o.terms.price) (lost_by (value_of among) turn number held.live o lost differ loses) i;
+        done = done_value held.executions among;
       };
       moments = moments_of held.grants among;
       enters = enters_of held.grants among;

@@ -2,7 +2,7 @@
 use Rattle.std.specs.Prelude.{◌≡◌, ℕ, suc, Bool, ◌&&◌, List, [], ◌∷◌, map, fold, Option, is_some, if◌then◌else◌}
 use Rattle.gx_units.specs.declared.names.AccountName.{AccountName}
 use Rattle.gx_policy.specs.People.{covers}
-use Rattle.gx_ledger.specs.{declared.{change.Change.Change, tally.Tally.Tally}, Running.changed_group, Tallies.{changed_at, changed_in, place_in}}
+use Rattle.gx_ledger.specs.{Changes.Change, declared.tally.Tally.Tally, Running.changed_group, Tallies.{changed_at, changed_in, place_in}}
 
 -- the rule counts the orders of the account
 abbrev pub counts : Tally → AccountName → Bool
@@ -24,12 +24,7 @@ AreCounted accounts tallies places = places ≡ map (counting tallies) accounts
 
 -- what the rule counts after the change of an order of an account in scope
 abbrev pub tally_inside : Change → Option ℕ → Tally → Tally
-tally_inside change place t = record {
-  scope = t.scope;
-  asks = t.asks;
-  count = t.count;
-  groups = changed_in (place_in t.count place) (changed_group change) t.groups;
-}
+tally_inside change place t = record t { groups = changed_in (place_in t.count place) (changed_group change) t.groups }
 
 -- what is counted, after the tallies at these places were told of the change
 abbrev pub noted_in : Change → Option ℕ → List Tally → List ℕ → List Tally

@@ -1,9 +1,9 @@
 -- What the ledger keeps, and what each change makes of it.
-use Rattle.std.specs.{Option.option_map_or, Prelude.{ℕ, Bool, List, map, Option, unwrap_or, position, if◌then◌else◌}, Map.lookup}
-use Rattle.gx_units.specs.{Names.{same_account, same_stock}, declared.names.{AccountName.AccountName, Symbol.Symbol}}
+use Rattle.std.specs.{Option.option_map_or, Prelude.{ℕ, Bool, List, map, Option, unwrap_or, if◌then◌else◌}, Map.lookup}
+use Rattle.gx_units.specs.{Names.same_stock, declared.names.{AccountName.AccountName, Symbol.Symbol}}
 use Rattle.gx_history.specs.{declared.{live_order.LiveOrder.LiveOrder, «record».Request.Request}, Figures.stock_asked}
-use Rattle.gx_policy.specs.declared.policy.{Account.Account, Stock.Stock}
-use Rattle.gx_ledger.specs.{declared.{change.{Change.Change, ChangeKind.ChangeKind}, tally.Tally.Tally}, Tallies.tally_after}
+use Rattle.gx_policy.specs.declared.policy.Stock.{Stock}
+use Rattle.gx_ledger.specs.{Changes.Change, declared.{change.ChangeKind.ChangeKind, tally.Tally.Tally}, Accounts.account_place, Tallies.tally_after}
 
 -- what a ledger keeps
 pub record Kept : Type 0 where
@@ -13,14 +13,6 @@ pub record Kept : Type 0 where
   pub prices : List (Symbol × ℕ)
   -- what each rule of the file counts, in the file's order
   pub tallies : List Tally
-
--- the names of accounts
-abbrev pub account_names : List Account → List AccountName
-account_names accounts = map (λ (a : Account). a.name) accounts
-
--- the place of the account
-abbrev pub account_place : List AccountName → AccountName → Option ℕ
-account_place accounts account = position (same_account account) accounts
 
 -- the last price of the stock; 0 where it is not listed
 abbrev pub price_of : List (Symbol × ℕ) → Symbol → ℕ
@@ -54,13 +46,9 @@ comes o moment replacement = record { order = o; kind = ChangeKind.Accepted mome
 abbrev pub leaves : LiveOrder → ℕ → Change
 leaves o shares = record { order = o; kind = ChangeKind.Left shares }
 
--- so many shares of the order were executed at this price
-abbrev pub executes : LiveOrder → ℕ → ℕ → Change
-executes o shares price = record { order = o; kind = ChangeKind.Executed shares price }
-
--- some shares of the order were executed, and are open no more
-abbrev pub kept_executed : LiveOrder → ℕ → ℕ → Kept → Kept
-kept_executed o shares price k = kept_noted (executes o shares price) (kept_noted (leaves o shares) k)
+-- so many open shares of the order were executed at this price
+abbrev pub is_filled : LiveOrder → ℕ → ℕ → Change
+is_filled o shares price = record { order = o; kind = ChangeKind.Filled shares price }
 
 -- the last price of one stock changed
 abbrev pub with_price : Symbol → ℕ → Kept → Kept

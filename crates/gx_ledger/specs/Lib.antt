@@ -1,5 +1,7 @@
+pub mod Changes
 pub mod Cells
 pub mod Running
+pub mod Accounts
 pub mod Tallies
 pub mod Counts
 pub mod Keeping

@@ -4,38 +4,33 @@ use Rattle.circular_buffer.specs.Buffer.{Buffer, buffer, keep_last, last_item}
 use Rattle.gx_units.specs.{Money.value, Names.same_stock, declared.names.Symbol.Symbol}
 use Rattle.gx_history.specs.{declared.{live_order.LiveOrder.LiveOrder, «record».Request.Request}, Book.is_buy, LiveOrders.shares_open}
 use Rattle.gx_policy.specs.declared.policy.Stock.{Stock}
-use Rattle.gx_ledger.specs.declared.{group.{Entered.Entered, Group.Group}, change.{Change.Change, ChangeKind.ChangeKind}, sides.{SideSums.SideSums, StockSums.StockSums}, sums.Sums.Sums}
+use Rattle.gx_ledger.specs.{Changes.Change, declared.{group.{Entered.Entered, Group.Group}, change.ChangeKind.ChangeKind, sides.StockSums.StockSums, sums.Sums.Sums}}
 
 -- the number, or the greatest of 128 bits where it is past that
 abbrev pub capped : ℕ → ℕ
 capped n = min n (2 ^ 128 - 1)
 
--- with so many more open shares at this price
-abbrev pub with_live : ℕ → ℕ → Sums → Sums
-with_live shares price s = record {
-  live_shares = capped (s.live_shares + shares);
-  live_value = capped (s.live_value + value shares price);
-  done_shares = s.done_shares;
-  done_value = s.done_value;
-}
+-- with so much more open
+abbrev pub with_live : ℕ → Sums → Sums
+with_live more s = record { live = capped (s.live + more); done = s.done }
 
--- with so many fewer
-abbrev pub without_live : ℕ → ℕ → Sums → Sums
-without_live shares price s = record {
-  live_shares = s.live_shares - shares;
-  live_value = s.live_value - value shares price;
-  done_shares = s.done_shares;
-  done_value = s.done_value;
-}
+-- with so much less open
+abbrev pub without_live : ℕ → Sums → Sums
+without_live less s = record { live = s.live - less; done = s.done }
 
--- with so many more executed shares at this price
-abbrev pub with_done : ℕ → ℕ → Sums → Sums
-with_done shares price s = record {
-  live_shares = s.live_shares;
-  live_value = s.live_value;
-  done_shares = capped (s.done_shares + shares);
-  done_value = capped (s.done_value + value shares price);
-}
+-- with so much more executed
+abbrev pub with_done : ℕ → Sums → Sums
+with_done more s = record { live = s.live; done = capped (s.done + more) }
+
+-- shares are counted singly, whatever their price
+abbrev pub counted_singly : ℕ → ℕ → ℕ
+counted_singly shares price = shares
+
+-- the sums, once an order of the accounts has changed so; shares at a price count by the measure
+abbrev pub changed_sums : (ℕ → ℕ → ℕ) → LiveOrder → ChangeKind → Sums → Sums
+changed_sums measure o (ChangeKind.Accepted moment replacement) s = with_live (measure (shares_open o) o.terms.price) s
+changed_sums measure o (ChangeKind.Left shares) s = without_live (measure shares o.terms.price) s
+changed_sums measure o (ChangeKind.Filled shares price) s = with_done (measure shares price) (without_live (measure shares o.terms.price) s)
 
 -- what the order has in common with like ones
 abbrev pub entered_as : LiveOrder → Entered
@@ -45,20 +40,19 @@ entered_as o = record { side = o.terms.side; shares = o.terms.shares; stock = o.
 abbrev pub pushed : {X : Type 0} → X → Buffer X → Buffer X
 pushed x ring = buffer (keep_last ring.capacity (ring.items ++ x ∷ [])) ring.capacity
 
--- the group with one more order of its accounts, granted at the moment to a Replace or to an Enter
-abbrev pub with_accepted : LiveOrder → ℕ → Bool → Group → Group
-with_accepted o moment replacement g = record {
-  sums = with_live (shares_open o) o.terms.price g.sums;
-  moments = pushed moment g.moments;
-  enters = if replacement then g.enters else pushed (entered_as o) g.enters;
-  sides = g.sides;
-}
+-- the moments, with that of an order that comes
+abbrev pub noted_moments : ChangeKind → Buffer ℕ → Buffer ℕ
+noted_moments (ChangeKind.Accepted moment replacement) moments = pushed moment moments
+noted_moments other moments = moments
+
+-- the Enters, with one that comes
+abbrev pub noted_enters : LiveOrder → ChangeKind → Buffer Entered → Buffer Entered
+noted_enters o (ChangeKind.Accepted moment replacement) enters = if replacement then enters else pushed (entered_as o) enters
+noted_enters o other enters = enters
 
 -- the sums of a side of a stock, once an order there has changed so
-abbrev pub changed_side : LiveOrder → ChangeKind → SideSums → SideSums
-changed_side o (ChangeKind.Accepted moment replacement) s = record { live = capped (s.live + shares_open o); done = s.done }
-changed_side o (ChangeKind.Left shares) s = record { live = s.live - shares; done = s.done }
-changed_side o (ChangeKind.Executed shares price) s = record { live = s.live; done = capped (s.done + shares) }
+abbrev pub changed_side : LiveOrder → ChangeKind → Sums → Sums
+changed_side o kind s = changed_sums counted_singly o kind s
 
 -- the sums of a stock, once an order in it has changed
 abbrev pub changed_sides : Change → StockSums → StockSums
@@ -85,7 +79,7 @@ abbrev pub sides_at : List (Symbol × StockSums) → Symbol → StockSums
 sides_at sides stock = unwrap_or (lookup (same_stock stock) sides) no_sides
 
 -- those of buys, or of all others
-abbrev pub on_its_side : Bool → StockSums → SideSums
+abbrev pub on_its_side : Bool → StockSums → Sums
 on_its_side buys s = if buys then s.buys else s.sells
 
 -- the number, or the greatest of 127 bits where it is past that
@@ -96,32 +90,14 @@ capped_signed n = min n (2 ^ 127 - 1)
 abbrev pub net_of : ℕ → ℕ → ℤ
 net_of done other = pos (capped_signed done) -ℤ pos (capped_signed other)
 
--- the group with its sums changed
-abbrev pub with_sums : Sums → Group → Group
-with_sums sums g = record { sums = sums; moments = g.moments; enters = g.enters; sides = g.sides }
-
--- the group, its sides told of a change
-abbrev pub with_sides : Change → Group → Group
-with_sides change g = record { sums = g.sums; moments = g.moments; enters = g.enters; sides = noted_sides change g.sides }
-
--- the group but for its sides, once an order of its accounts changed so
-abbrev pub changed_so : LiveOrder → ChangeKind → Group → Group
-changed_so o (ChangeKind.Accepted moment replacement) g = with_accepted o moment replacement g
-changed_so o (ChangeKind.Left shares) g = with_sums (without_live shares o.terms.price g.sums) g
-changed_so o (ChangeKind.Executed shares price) g = with_sums (with_done shares price g.sums) g
-
 -- the group, once an order of its accounts changed
 abbrev pub changed_group : Change → Group → Group
-changed_group change g = changed_so change.order change.kind (with_sides change g)
-
--- a group before any order, with room for so many moments and Enters, and with sums for these stocks
-abbrev pub new_group : ℕ → ℕ → List Stock → Group
-new_group moments enters stocks = record {
-  sums = record { live_shares = 0; live_value = 0; done_shares = 0; done_value = 0 };
-  moments = buffer [] moments;
-  enters = buffer [] enters;
-  sides = first_sides stocks;
-}
+changed_group change (Group.Shares sums) = Group.Shares (changed_sums counted_singly change.order change.kind sums)
+changed_group change (Group.Value sums) = Group.Value (changed_sums value change.order change.kind sums)
+changed_group change (Group.Sides sides) = Group.Sides (noted_sides change sides)
+changed_group change (Group.Recent window moments) = Group.Recent window (noted_moments change.kind moments)
+changed_group change (Group.Enters enters) = Group.Enters (noted_enters change.order change.kind enters)
+changed_group change Group.Nothing = Group.Nothing
 
 -- the moment lies less than the window back
 abbrev pub is_recent : ℕ → ℕ → ℕ → Bool
@@ -152,11 +128,6 @@ abbrev pub asked_as : Request → Option Entered
 asked_as (Request.Enter m) = Some (record { side = m.side; shares = m.shares; stock = m.stock; price = m.price })
 asked_as other = None
 
--- the request is such an Enter
-abbrev pub is_like : Request → Entered → Bool
-is_like (Request.Enter m) e = e.side == m.side && e.shares == m.shares && same_stock e.stock m.stock && e.price == m.price
-is_like other e = false
-
--- the Enters that are such as the request is
-abbrev pub alike_in : List Entered → Request → ℕ
-alike_in enters q = count_by (is_like q) enters
+-- how many of the Enters are such as this one
+abbrev pub count_alike : List Entered → Entered → ℕ
+count_alike enters asked = count_by (are_alike asked) enters

@@ -6,19 +6,18 @@ use Rattle.gx_history.specs.{declared.{live_order.LiveOrder.LiveOrder, «record�
 use Rattle.gx_policy.specs.{declared.policy.{Count.Count, FileRule.FileRule, PolicyData.PolicyData, Scope.Scope, Stock.Stock}, Lists.{are_distinct, last_few}, People.{account_named, covers, stock_named}}
 use Rattle.gx_history.specs.Turns as turns
 use Rattle.gx_positions.specs.{Changing.positions_with, Sound.{AreSound, IsOf, MayCome, MayFill}}
-use Rattle.gx_ledger.specs.{declared.{group.{Entered.Entered, Group.Group}, sides.{SideSums.SideSums, StockSums.StockSums}, sums.Sums.Sums, tally.{Asks.Asks, Tally.Tally}}, Keeping.{Kept, account_names}, Tallies.{asks_of, count_of, room_for_enters, room_for_moments, stocks_for}, Told.{Asking, figures_at}}
+use Rattle.gx_ledger.specs.{declared.{asks.Asks.Asks, group.{Entered.Entered, Group.Group}, sides.StockSums.StockSums, sums.Sums.Sums, tally.Tally.Tally}, Accounts.account_names, Keeping.Kept, Tallies.{asks_of, count_of, seats_for, tells_reference}, Told.{Asking, figures_at}}
 
--- the sums over these accounts
-abbrev pub sums_of : Positions → (AccountName → Bool) → Sums
-sums_of held among = record {
-  live_shares = live_shares held.live among;
-  live_value = live_value held.live among;
-  done_shares = done_shares held.executions among;
-  done_value = done_value held.executions among;
-}
+-- the shares of these accounts
+abbrev pub shares_among : Positions → (AccountName → Bool) → Sums
+shares_among held among = record { live = live_shares held.live among; done = done_shares held.executions among }
 
--- the sums over these accounts on one side of a stock
-abbrev pub side_sums_of : Positions → (AccountName → Bool) → Symbol → Bool → SideSums
+-- their value
+abbrev pub value_among : Positions → (AccountName → Bool) → Sums
+value_among held among = record { live = live_value held.live among; done = done_value held.executions among }
+
+-- the shares of these accounts on one side of a stock
+abbrev pub side_sums_of : Positions → (AccountName → Bool) → Symbol → Bool → Sums
 side_sums_of held among stock buys = record {
   live = side_live held.live among (record { stock = stock; buys = buys });
   done = side_done held.executions among (record { stock = stock; buys = buys });
@@ -38,37 +37,39 @@ enters_of grants among = map entered_of (filter (λ (o : Order). among o.account
 
 -- all that counts of the orders and fills of some accounts
 pub record Total : Type 0 where
-  pub sums : Sums
+  pub shares : Sums
+  pub value : Sums
   -- of all orders
   pub moments : List ℕ
   pub enters : List Entered
   -- by stock, and whether of its buys
-  pub sides : Symbol → Bool → SideSums
+  pub sides : Symbol → Bool → Sums
 
 -- what counts of these accounts
 abbrev pub total_of : Positions → (AccountName → Bool) → Total
-total_of held among = record { sums = sums_of held among; moments = moments_of held.grants among; enters = enters_of held.grants among; sides = side_sums_of held among }
+total_of held among = record { shares = shares_among held among; value = value_among held among; moments = moments_of held.grants among; enters = enters_of held.grants among; sides = side_sums_of held among }
 
 -- a ring of the last n
 abbrev pub ring : {X : Type 0} → ℕ → List X → Buffer X
 ring n xs = buffer (last_few n xs) n
 
 -- the sums of both sides of a stock
-abbrev pub both_sides : (Symbol → Bool → SideSums) → Symbol → StockSums
+abbrev pub both_sides : (Symbol → Bool → Sums) → Symbol → StockSums
 both_sides sides stock = record { buys = sides stock true; sells = sides stock false }
 
 -- the sums of each of these stocks
-abbrev pub sides_of : (Symbol → Bool → SideSums) → List Stock → List (Symbol × StockSums)
+abbrev pub sides_of : (Symbol → Bool → Sums) → List Stock → List (Symbol × StockSums)
 sides_of sides stocks = map (λ (s : Stock). (s.name, both_sides sides s.name)) stocks
 
 -- what a group of a rule keeps of that
 abbrev pub group_of : List Stock → Asks → Total → Group
-group_of stocks asked total = record {
-  sums = total.sums;
-  moments = ring (room_for_moments asked) total.moments;
-  enters = ring (room_for_enters asked) total.enters;
-  sides = sides_of total.sides (stocks_for asked stocks);
-}
+group_of stocks Asks.Shares total = Group.Shares total.shares
+group_of stocks Asks.Value total = Group.Value total.value
+group_of stocks Asks.Sides total = Group.Sides (sides_of total.sides stocks)
+group_of stocks (Asks.Recent rate) total = Group.Recent rate.window (ring rate.limit total.moments)
+group_of stocks (Asks.Alike repeat) total = Group.Enters (ring repeat.span total.enters)
+group_of stocks Asks.Reference total = Group.Nothing
+group_of stocks Asks.Nothing total = Group.Nothing
 
 -- the accounts of each group of a rule: one group for each account of the policy, or one for all in scope
 abbrev pub members_of : Option Count → Scope → List AccountName → List (AccountName → Bool)
@@ -80,8 +81,9 @@ members_of (Some Count.Together) scope accounts = covers scope ∷ []
 abbrev pub tally_of : List Stock → List AccountName → ((AccountName → Bool) → Total) → FileRule → Tally
 tally_of stocks accounts totals rule = record {
   scope = rule.scope;
-  asks = asks_of rule.kind;
+  tells_reference = tells_reference rule.kind;
   count = count_of rule.kind;
+  seats = seats_for rule.scope (count_of rule.kind) accounts;
   groups = map (λ (among : AccountName → Bool). group_of stocks (asks_of rule.kind) (totals among)) (members_of (count_of rule.kind) rule.scope accounts);
 }
 

@@ -1,9 +1,10 @@
 -- What each rule of the file counts, and the figures that it asks for.
-use Rattle.gx_policy.specs.{declared.{kinds.ExposureLimit.ExposureLimit, policy.{Account.Account, Count.Count, FileRule.FileRule, RuleKind.RuleKind, Stock.Stock}}, People.covers}
-use Rattle.std.specs.{Option.option_map_or, Prelude.{ℕ, zero, suc, ℤ, pos, not, List, [], ◌∷◌, map, slice_get, Option, Some, None, option_and_then, if◌then◌else◌}}
-use Rattle.gx_units.specs.declared.names.Symbol.{Symbol}
-use Rattle.gx_history.specs.{declared.facts.{RuleFigures.RuleFigures, StockSide.StockSide}, Figures.{no_figures, open_value}, LiveOrders.shares_open}
-use Rattle.gx_ledger.specs.{declared.{group.Group.Group, change.Change.Change, sides.StockSums.StockSums, tally.{Asks.Asks, Tally.Tally, Wanted.Wanted}}, Running.{alike_in, changed_group, net_of, new_group, on_its_side, recent_in, sides_at}}
+use Rattle.gx_policy.specs.{declared.{kinds.ExposureLimit.ExposureLimit, policy.{Account.Account, Count.Count, FileRule.FileRule, RuleKind.RuleKind, Scope.Scope, Stock.Stock}}, People.covers}
+use Rattle.std.specs.{Option.option_map_or, Prelude.{ℕ, zero, suc, pos, Bool, true, false, not, ◌&&◌, List, [], ◌∷◌, map, slice_get, Option, Some, None, is_some, option_and_then, unwrap_or, if◌then◌else◌}}
+use Rattle.circular_buffer.specs.Buffer.{buffer}
+use Rattle.gx_units.specs.declared.names.{AccountName.AccountName, Symbol.Symbol}
+use Rattle.gx_history.specs.{declared.facts.{RuleFigures.RuleFigures, StockSide.StockSide}, Figures.no_figures}
+use Rattle.gx_ledger.specs.{Changes.Change, declared.{asks.Asks.Asks, group.Group.Group, sides.StockSums.StockSums, sums.NetSums.NetSums, tally.{Tally.Tally, Wanted.Wanted}}, Accounts.{account_names, account_place}, Running.{changed_group, count_alike, first_sides, net_of, on_its_side, recent_in, sides_at}}
 
 -- what a rule of this kind asks for
 abbrev pub asks_of : RuleKind → Asks
@@ -11,7 +12,7 @@ asks_of (RuleKind.Listed kind stocks) = Asks.Nothing
 asks_of (RuleKind.Plain kind) = Asks.Nothing
 asks_of (RuleKind.Order kind limit) = Asks.Reference
 asks_of (RuleKind.Exposure ExposureLimit.GrossShares limit count) = Asks.Shares
-asks_of (RuleKind.Exposure ExposureLimit.GrossValue limit count) = Asks.Values
+asks_of (RuleKind.Exposure ExposureLimit.GrossValue limit count) = Asks.Value
 asks_of (RuleKind.Exposure ExposureLimit.NetShares limit count) = Asks.Sides
 asks_of (RuleKind.Rate rate count) = Asks.Recent rate
 asks_of (RuleKind.Repeat repeat count) = Asks.Alike repeat
@@ -25,45 +26,55 @@ count_of (RuleKind.Listed kind stocks) = None
 count_of (RuleKind.Plain kind) = None
 count_of (RuleKind.Order kind limit) = None
 
--- a rate looks back on as many moments as its limit
-abbrev pub room_for_moments : Asks → ℕ
-room_for_moments (Asks.Recent rate) = rate.limit
-room_for_moments other = 0
+-- a rule asks for the last price where its kind does
+abbrev pub tells_reference : RuleKind → Bool
+tells_reference (RuleKind.Order kind limit) = true
+tells_reference other = false
 
--- a repeat looks back on as many Enters as its span
-abbrev pub room_for_enters : Asks → ℕ
-room_for_enters (Asks.Alike repeat) = repeat.span
-room_for_enters other = 0
-
--- the stocks whose sides the rule looks at
-abbrev pub stocks_for : Asks → List Stock → List Stock
-stocks_for Asks.Sides stocks = stocks
-stocks_for other stocks = []
-
--- a group with room for what is asked for
-abbrev pub asked_group : Asks → List Stock → Group
-asked_group a stocks = new_group (room_for_moments a) (room_for_enters a) (stocks_for a stocks)
+-- a group before any order: a rate looks back on as many moments as its limit, a repeat on as many Enters as its span
+abbrev pub new_group : Asks → List Stock → Group
+new_group Asks.Shares stocks = Group.Shares (record { live = 0; done = 0 })
+new_group Asks.Value stocks = Group.Value (record { live = 0; done = 0 })
+new_group Asks.Sides stocks = Group.Sides (first_sides stocks)
+new_group (Asks.Recent rate) stocks = Group.Recent rate.window (buffer [] rate.limit)
+new_group (Asks.Alike repeat) stocks = Group.Enters (buffer [] repeat.span)
+new_group Asks.Reference stocks = Group.Nothing
+new_group Asks.Nothing stocks = Group.Nothing
 
 -- one group for each account, or one for all in scope
 abbrev pub new_groups : Option Count → Asks → List Account → List Stock → List Group
 new_groups None a accounts stocks = []
-new_groups (Some Count.Each) a accounts stocks = map (λ (account : Account). asked_group a stocks) accounts
-new_groups (Some Count.Together) a accounts stocks = asked_group a stocks ∷ []
-
--- what the rule counts, before any order
-abbrev pub new_tally : List Account → List Stock → FileRule → Tally
-new_tally accounts stocks rule = record {
-  scope = rule.scope;
-  asks = asks_of rule.kind;
-  count = count_of rule.kind;
-  groups = new_groups (count_of rule.kind) (asks_of rule.kind) accounts stocks;
-}
+new_groups (Some Count.Each) a accounts stocks = map (λ (account : Account). new_group a stocks) accounts
+new_groups (Some Count.Together) a accounts stocks = new_group a stocks ∷ []
 
 -- the place of the group of an account in scope, which has this place in the policy
 abbrev pub place_in : Option Count → Option ℕ → Option ℕ
 place_in None place = None
 place_in (Some Count.Each) place = place
 place_in (Some Count.Together) place = Some 0
+
+-- the same where figures are asked for: in the scope of a rule that counts nothing there is a place, and no group stands there
+abbrev pub seat_in : Option Count → Option ℕ → Option ℕ
+seat_in None place = Some 0
+seat_in (Some count) place = place_in (Some count) place
+
+-- the same of any account
+abbrev pub seat_for : Scope → Option Count → AccountName → Option ℕ → Option ℕ
+seat_for scope count account place = if covers scope account then seat_in count place else None
+
+-- for each of these accounts the place of its group
+abbrev pub seats_for : Scope → Option Count → List AccountName → List (Option ℕ)
+seats_for scope count names = map (λ (name : AccountName). seat_for scope count name (account_place names name)) names
+
+-- what the rule counts, before any order
+abbrev pub new_tally : List Account → List Stock → FileRule → Tally
+new_tally accounts stocks rule = record {
+  scope = rule.scope;
+  tells_reference = tells_reference rule.kind;
+  count = count_of rule.kind;
+  seats = seats_for rule.scope (count_of rule.kind) (account_names accounts);
+  groups = new_groups (count_of rule.kind) (asks_of rule.kind) accounts stocks;
+}
 
 -- the list, its item at this place changed
 abbrev pub changed_at : {X : Type 0} → ℕ → (X → X) → List X → List X
@@ -78,60 +89,43 @@ changed_in (Some n) change xs = changed_at n change xs
 
 -- what the rule counts after the change of an order of an account that has this place in the policy
 abbrev pub tally_after : Change → Option ℕ → Tally → Tally
-tally_after change place t = record {
-  scope = t.scope;
-  asks = t.asks;
-  count = t.count;
-  groups = if covers t.scope change.order.account then changed_in (place_in t.count place) (changed_group change) t.groups else t.groups;
-}
+tally_after change place t =
+    record t { groups = if covers t.scope change.order.account then changed_in (place_in t.count place) (changed_group change) t.groups else t.groups }
 
 -- the group of an account in scope, which has this place in the policy
 abbrev pub group_in : Tally → Option ℕ → Option Group
 group_in t place = option_and_then (slice_get t.groups) (place_in t.count place)
 
+-- the place of the group of the account at this place of the policy
+abbrev pub seat_of : Tally → Option ℕ → Option ℕ
+seat_of t place = option_and_then (λ p. unwrap_or (slice_get t.seats p) None) place
+
 -- the group that counts the account which asks
 abbrev pub group_asked : Wanted → Tally → Option Group
-group_asked w t = if covers t.scope w.account then group_in t w.place else None
+group_asked w t = option_and_then (slice_get t.groups) (seat_of t w.place)
 
--- what was executed on the side of the stock, less what was on the other
-abbrev pub net_in : List (Symbol × StockSums) → StockSide → ℤ
-net_in sides side = net_of (on_its_side side.buys (sides_at sides side.stock)).done (on_its_side (not side.buys) (sides_at sides side.stock)).done
+-- what was executed on the side of the stock, less what was on the other, and the open shares there
+abbrev pub net_sums_in : List (Symbol × StockSums) → StockSide → NetSums
+net_sums_in sides side = record {
+  done = net_of (on_its_side side.buys (sides_at sides side.stock)).done (on_its_side (not side.buys) (sides_at sides side.stock)).done;
+  live = (on_its_side side.buys (sides_at sides side.stock)).live;
+}
 
--- the open shares on the side of the stock
-abbrev pub live_in : List (Symbol × StockSums) → StockSide → ℕ
-live_in sides side = (on_its_side side.buys (sides_at sides side.stock)).live
-
--- the figures of a group that the rule asks for
-abbrev pub figures_of_group : Asks → Wanted → Group → RuleFigures
-figures_of_group Asks.Shares w g =
+-- the figures of a group
+abbrev pub figures_of_group : Wanted → Group → RuleFigures
+figures_of_group w (Group.Shares sums) = record no_figures { live_shares = sums.live; done_shares = sums.done; replaced_shares = w.replaced_shares }
+figures_of_group w (Group.Value sums) = record no_figures { live_value = sums.live; done_value = sums.done; replaced_value = w.replaced_value }
+figures_of_group w (Group.Sides sides) =
     record no_figures {
-      live_shares = g.sums.live_shares;
-      done_shares = g.sums.done_shares;
-      replaced_shares = option_map_or shares_open w.replaced 0;
+      net_done = option_map_or (λ side. (net_sums_in sides side).done) w.side (pos 0);
+      side_live = option_map_or (λ side. (net_sums_in sides side).live) w.side 0;
+      replaced_shares = w.replaced_shares;
     }
-figures_of_group Asks.Values w g =
-    record no_figures {
-      live_value = g.sums.live_value;
-      done_value = g.sums.done_value;
-      replaced_value = option_map_or open_value w.replaced 0;
-    }
-figures_of_group Asks.Sides w g =
-    record no_figures {
-      net_done = option_map_or (net_in g.sides) w.side (pos 0);
-      side_live = option_map_or (live_in g.sides) w.side 0;
-      replaced_shares = option_map_or shares_open w.replaced 0;
-    }
-figures_of_group (Asks.Recent rate) w g = record no_figures { recent = recent_in g.moments.items rate.window w.moment }
-figures_of_group (Asks.Alike repeat) w g = record no_figures { equal_recent = alike_in g.enters.items w.request }
-figures_of_group Asks.Reference w g = record no_figures { reference = w.reference }
-figures_of_group Asks.Nothing w g = no_figures
-
--- the figures that the rule asks for, of the account's group, if it has one
-abbrev pub figures_among : Asks → Wanted → Option Group → RuleFigures
-figures_among Asks.Nothing w group = no_figures
-figures_among Asks.Reference w group = record no_figures { reference = w.reference }
-figures_among a w group = option_map_or (figures_of_group a w) group no_figures
+figures_of_group w (Group.Recent window moments) = record no_figures { recent = recent_in moments.items window w.moment }
+figures_of_group w (Group.Enters enters) = record no_figures { equal_recent = option_map_or (count_alike enters.items) w.entered 0 }
+figures_of_group w Group.Nothing = no_figures
 
 -- the figures that the rule asks for
 abbrev pub tally_figures : Wanted → Tally → RuleFigures
-tally_figures w t = if covers t.scope w.account then figures_among t.asks w (group_in t w.place) else no_figures
+tally_figures w t =
+    record (option_map_or (figures_of_group w) (group_asked w t) no_figures) { reference = if t.tells_reference && is_some (seat_of t w.place) then w.reference else 0 }

@@ -2,14 +2,23 @@
 
 use gx_history::live_order::LiveOrder;
 use gx_units::Moment;
+use std::marker::Model;
 
 /// What becomes of one order.
-#[derive(Clone, Copy)]
-pub struct Change {
+#[derive(Drop)]
+pub struct Change<'a> {
     /// Which order it is.
-    pub order: LiveOrder,
+    pub order: &'a LiveOrder,
     /// What becomes of it.
     pub kind: ChangeKind,
+}
+
+impl<'a> Model for Change<'a> {
+    ghost use Rattle.gx_ledger.specs.Changes.{Change as OrderChange};
+
+    ghost Value = { OrderChange };
+
+    ghost view = { λ change. record { order = change.order.now; kind = change.kind } };
 }
 
 /// What changes the running figures.
@@ -19,6 +28,6 @@ pub enum ChangeKind {
     Accepted { moment: Moment, replacement: bool },
     /// So many of its shares are open no more.
     Left(u32),
-    /// So many of its shares were executed, at the price of the fill.
-    Executed { shares: u32, price: u32 },
+    /// So many of its open shares were executed, at the price of the fill.
+    Filled { shares: u32, price: u32 },
 }

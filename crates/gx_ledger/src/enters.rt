@@ -2,7 +2,7 @@
 
 ghost use Rattle.std.specs.Prelude.{◌≡◌, ◌∷◌, ◌++◌, ◌<◌, List, [], IfOk, IsTrue, count_by, length, nat_le};
 ghost use Rattle.circular_buffer.specs.Buffer.{buffer};
-ghost use Rattle.gx_ledger.specs.{Cells.{AreCounted, cell_of, one_less, spread}, Running.{are_alike, pushed}, declared.group.Entered.Entered};
+ghost use Rattle.gx_ledger.specs.{Cells.{AreCounted, cell_of, one_less, spread}, Running.{are_alike, count_alike, pushed}, declared.group.Entered.Entered};
 
 use crate::alike::alike_among;
 use crate::group::Entered;
@@ -141,7 +141,7 @@ impl Enters {
     /// Whether the Enters that are such as this one come to the limit. The ring is looked at only where so many are in one
     /// cell.
     pub fn are_alike(&self, asked: &Entered, limit: u64) -> bool
-        ensures { result ≡ nat_le limit (count_by (are_alike asked.now) self.now.items) }
+        ensures { result ≡ nat_le limit (count_alike self.now.items asked.now) }
     {
         if are_fewer(&self.cells, asked, limit) {
             return false;

@@ -1,17 +1,17 @@
-//! The running figures of a group of accounts.
+//! The running figures of accounts that count together.
 
-ghost use Rattle.std.specs.Prelude.{◌≡◌, nat_le, IfOk, IsTrue};
-ghost use Rattle.gx_ledger.specs.{Running.{alike_in, asked_as, changed_group, entered_as, new_group, with_accepted}, Tables.names_differ};
+ghost use Rattle.std.specs.{Prelude.{◌≡◌, nat_le, IfOk, IsTrue}, Option.option_map_or};
+ghost use Rattle.gx_ledger.specs.{Running.{changed_group, entered_as, noted_enters, noted_moments}, Tables.names_differ, Tallies.new_group};
 
+use crate::asks::Asks;
 use crate::change::{Change, ChangeKind};
 use crate::enters::Enters;
 use crate::moments::Moments;
 use crate::sides::Sides;
 use crate::sums::Sums;
 use gx_history::live_order::LiveOrder;
-use gx_history::record::Request;
 use gx_policy::Stock;
-use gx_units::{Moment, OutOfMemory, Symbol};
+use gx_units::{OutOfMemory, Symbol};
 use std::alloc::Global;
 
 /// What like Enters have in common.
@@ -27,17 +27,21 @@ pub struct Entered {
     pub price: u32,
 }
 
-/// The figures of accounts that count together for a rule.
+/// The figures of accounts that count together for a rule: those that it asks for.
 #[derive(Drop)]
-pub struct Group {
-    /// Open and executed shares, and their values.
-    pub sums: Sums,
-    /// The moments of the last granted Enters and Replaces, as many as the rule's limit.
-    pub moments: Moments,
-    /// The last granted Enters, as many as the rule's span.
-    pub enters: Enters,
-    /// The sums of each side of a stock, where the rule asks for them.
-    pub sides: Sides,
+pub enum Group {
+    /// Open and executed shares.
+    Shares(Sums),
+    /// Their value.
+    Value(Sums),
+    /// The shares on each side of each stock.
+    Sides(Sides),
+    /// The window of a rate in nanoseconds, and the moments of the last granted Enters and Replaces, as many as its limit.
+    Recent(u64, Moments),
+    /// The last granted Enters, as many as the span of a repeat.
+    Enters(Enters),
+    /// None.
+    Nothing,
 }
 
 fn entered_as(order: &LiveOrder) -> Entered
@@ -51,85 +55,66 @@ fn entered_as(order: &LiveOrder) -> Entered
     }
 }
 
-/// What an Enter would have in common with like ones.
-fn asked_as(request: &Request) -> Option<Entered>
-    ensures { result ≡ asked_as request.now }
+/// Takes note of the moment of an order that comes.
+fn note_moment(moments: &mut Moments, change: &Change<'_>)
+    ensures { moments.new ≡ noted_moments change.now.kind moments.old }
 {
-    match request {
-        Request::Enter(m) => Some(Entered {
-            side: m.side,
-            shares: m.shares,
-            stock: m.stock,
-            price: m.price,
-        }),
-        _ => None,
+    if let ChangeKind::Accepted { moment, .. } = change.kind {
+        moments.push(moment);
+    }
+}
+
+/// Takes note of an Enter that comes.
+fn note_enter(enters: &mut Enters, change: &Change<'_>)
+    ensures { enters.new ≡ noted_enters change.now.order change.now.kind enters.old }
+{
+    match change.kind {
+        ChangeKind::Accepted {
+            replacement: false,
+            ..
+        } => enters.push(entered_as(change.order)),
+        _ => {}
     }
 }
 
 impl Group {
-    /// A group with room for so many moments and Enters and with sums for these stocks, and nothing
-    /// in it.
+    /// A group before any order, with room for what the rule asks for and with sums for these stocks.
     ///
     /// # Errors
     ///
     /// `OutOfMemory` where memory was refused.
-    pub fn new(
-        alloc: Global,
-        moments: usize,
-        enters: usize,
-        stocks: &[Stock],
-    ) -> Result<Group, OutOfMemory>
+    pub fn new(alloc: Global, asks: Asks, stocks: &[Stock]) -> Result<Group, OutOfMemory>
         requires { IsTrue (names_differ stocks.now) }
-        ensures { IfOk result (λ group. group ≡ new_group moments enters stocks.now) }
+        ensures { IfOk result (λ group. group ≡ new_group asks stocks.now) }
     {
-        let moments = Moments::with_room(alloc, moments)?;
-        let enters = Enters::with_room(alloc, enters)?;
-        let sides = Sides::of(alloc, stocks)?;
-        Ok(Group {
-            sums: Sums::NONE,
-            moments,
-            enters,
-            sides,
-        })
-    }
-
-    fn accept(&mut self, order: &LiveOrder, moment: Moment, replacement: bool)
-        ensures { self.new ≡ with_accepted order.now moment replacement self.old }
-    {
-        self.sums = self.sums.with_live(order.open(), order.terms.price);
-        self.moments.push(moment);
-        if !replacement {
-            self.enters.push(entered_as(order));
+        match asks {
+            Asks::Nothing | Asks::Reference => Ok(Group::Nothing),
+            Asks::Shares => Ok(Group::Shares(Sums::NONE)),
+            Asks::Value => Ok(Group::Value(Sums::NONE)),
+            Asks::Sides => Ok(Group::Sides(Sides::of(alloc, stocks)?)),
+            Asks::Recent(rate) => {
+                let moments = Moments::with_room(alloc, rate.limit as usize)?;
+                Ok(Group::Recent(rate.window, moments))
+            }
+            Asks::Alike(repeat) => {
+                let enters = Enters::with_room(alloc, repeat.span as usize)?;
+                Ok(Group::Enters(enters))
+            }
         }
     }
 
-    /// Takes note of a change of an order of its accounts.
-    pub fn note(&mut self, change: &Change)
+    /// Takes note of a change of an order of its accounts, whose stock is looked for at this place first.
+    #[inline(always)]
+    pub fn note(&mut self, change: &Change<'_>, near: usize)
         ensures { self.new ≡ changed_group change.now self.old }
     {
-        self.sides.note(change);
-        let order = &change.order;
-        match change.kind {
-            ChangeKind::Accepted {
-                moment,
-                replacement,
-            } => self.accept(order, moment, replacement),
-            ChangeKind::Left(shares) => {
-                self.sums = self.sums.without_live(shares, order.terms.price)
-            }
-            ChangeKind::Executed { shares, price } => {
-                self.sums = self.sums.with_done(shares, price)
-            }
-        }
-    }
-
-    /// Whether the Enters that are such as the request is come to the limit.
-    pub fn are_alike(&self, request: &Request, limit: u64) -> bool
-        ensures { result ≡ nat_le limit (alike_in self.now.enters.items request.now) }
-    {
-        match asked_as(request) {
-            Some(asked) => self.enters.are_alike(&asked, limit),
-            None => limit == 0,
+        match self {
+            Group::Shares(sums) => *sums = sums.of_shares_after(change),
+            Group::Value(sums) => *sums = sums.of_value_after(change),
+            Group::Sides(sides) => sides.note(change, near),
+            Group::Recent(_, moments) => note_moment(moments, change),
+            Group::Enters(enters) => note_enter(enters, change),
+            Group::Nothing => {}
         }
     }
 }

@@ -1,11 +1,12 @@
 //! The running figures of a day.
 
-ghost use Rattle.std.specs.Prelude.{◌≡◌, IfOk, option_and_then, slice_get};
-ghost use Rattle.gx_history.specs.Figures.{side_asked};
+ghost use Rattle.std.specs.{Prelude.{◌≡◌, IfOk, option_and_then, slice_get}, Option.option_map_or};
+ghost use Rattle.gx_history.specs.{Figures.{open_value, side_asked}, LiveOrders.shares_open};
 ghost use Rattle.gx_positions.specs.Changing.{nothing};
-ghost use Rattle.gx_ledger.specs.{Keeping.{account_place, kept_executed, kept_noted, price_of, reference_for, with_price}, StandsFor.{Accepts, Closes, Cuts, Fills, GivesFigures, StandsFor}, Standing.{GivesNet, GivesSums, tally_net, tally_sums}, Told.figures_at};
+ghost use Rattle.gx_ledger.specs.{Accounts.account_place, Keeping.{kept_noted, price_of, reference_for, with_price}, Running.asked_as, StandsFor.{Accepts, Closes, Cuts, Fills, GivesFigures, StandsFor}, Standing.{GivesGross, GivesNet, tally_gross, tally_net}, Told.figures_at};
 
 use crate::change::{Change, ChangeKind};
+use crate::group::Entered;
 use crate::sums::{NetSums, Sums};
 use crate::tables::{first_prices, first_tallies, names_of, note_in, note_in_all, set_price};
 use crate::tally::{Tally, Wanted};
@@ -15,7 +16,7 @@ use gx_history::live_order::LiveOrder;
 use gx_history::record::Request;
 use gx_index::{Near, get_near, place_near};
 use gx_policy::Policy;
-use gx_units::{AccountName, Moment, OutOfMemory, Symbol};
+use gx_units::{AccountName, Moment, OutOfMemory, Symbol, value_of};
 use indexmap::{IndexMap, IndexSet};
 use std::alloc::Global;
 use std::marker::Model;
@@ -123,8 +124,9 @@ impl Ledger {
     pub fn new(alloc: Global, policy: &Policy) -> Result<Ledger, OutOfMemory>
         ensures stands { IfOk result (λ ledger. StandsFor policy.now ledger nothing) }
     {
-        let tallies = first_tallies(alloc, policy.rules(), policy.accounts(), policy.stocks())?;
+        let rules = policy.rules();
         let accounts = names_of(alloc, policy.accounts())?;
+        let tallies = first_tallies(alloc, rules, &accounts, policy.accounts(), policy.stocks())?;
         let prices = first_prices(alloc, policy.stocks())?;
         let counting = counting_by_account(alloc, tallies.as_slice(), policy.accounts())?;
         Ok(Ledger {
@@ -162,8 +164,9 @@ impl Ledger {
     )
         ensures filled { Fills taker.now maker.now shares price self.old self.new }
     {
-        self.execute(taker, near_taker, shares, price);
-        self.execute(maker, near_maker, shares, price);
+        let filled = ChangeKind::Filled { shares, price };
+        self.note(taker, near_taker, filled);
+        self.note(maker, near_maker, filled);
         self.set_price(maker.terms.stock, near_maker.stock, price);
     }
 
@@ -193,11 +196,12 @@ impl Ledger {
         ensures figures { GivesFigures self.now account request.now replaced moment result }
     {
         let wanted = Wanted {
-            account,
             place: self.place(account, near.account),
-            request: *request,
-            replaced,
+            entered: asked_as(request),
+            replaced_shares: open_of(replaced),
+            replaced_value: open_value_of(replaced),
             side: side_of(request, replaced),
+            near: near.stock,
             reference: self.reference(request, near, replaced),
             moment,
         };
@@ -207,13 +211,14 @@ impl Ledger {
         }
     }
 
-    /// What is open and executed of the accounts that the rule at this place in the file, the first at
-    /// 0, counts together with this one: it alone, or all of the rule's scope. None where the rule
-    /// counts nothing or is not for the account, or the policy has no such rule or account.
-    pub fn sums(&self, rule: usize, account: AccountName) -> Option<Sums>
-        ensures sums { GivesSums self.now rule account result }
+    /// What is open and executed, of the accounts that the gross rule at this place in the file, the first
+    /// at 0, counts together with this one: it alone, or all of the rule's scope. In shares or in value, as
+    /// its limit is. None for any other rule, where the rule is not for the account, or where the policy has no
+    /// such rule or account.
+    pub fn gross(&self, rule: usize, account: AccountName) -> Option<Sums>
+        ensures gross { GivesGross self.now rule account result }
     {
-        sums_at(&self.tallies, rule, account, self.place(account, 0))
+        gross_at(&self.tallies, rule, account, self.place(account, 0))
     }
 
     /// What these accounts have on the side of the stock, where the rule limits net positions. None
@@ -235,41 +240,20 @@ impl Ledger {
         ensures { self.new ≡ kept_noted (record { order = order.now; kind = kind }) self.old }
     {
         let place = self.place(order.account, near.account);
-        self.note_at(
-            place,
-            &Change {
-                order: *order,
-                kind,
-            },
-        );
+        self.note_at(place, near.stock, &Change { order, kind });
     }
 
-    /// Takes note of a change of an order of the account that has this place in the policy.
-    fn note_at(&mut self, place: Option<usize>, change: &Change)
+    /// Takes note of a change of an order of the account that has this place in the policy. Its stock is
+    /// looked for at `near` first.
+    fn note_at(&mut self, place: Option<usize>, near: usize, change: &Change<'_>)
         requires { place ≡ account_place self.old.accounts change.now.order.account }
         ensures { self.new ≡ kept_noted change.now self.old }
     {
         let Some(place) = place else {
-            return note_in_all(&mut self.tallies, change);
+            return note_in_all(&mut self.tallies, change, near);
         };
         let counting = self.counting[place].as_slice();
-        note_in(&mut self.tallies, counting, change, place);
-    }
-
-    fn execute(&mut self, order: &LiveOrder, near: Near, shares: u32, price: u32)
-        ensures { self.new ≡ kept_executed order.now shares price self.old }
-    {
-        let place = self.place(order.account, near.account);
-        let left = Change {
-            order: *order,
-            kind: ChangeKind::Left(shares),
-        };
-        self.note_at(place, &left);
-        let executed = Change {
-            order: *order,
-            kind: ChangeKind::Executed { shares, price },
-        };
-        self.note_at(place, &executed);
+        note_in(&mut self.tallies, counting, change, place, near);
     }
 
     fn set_price(&mut self, stock: Symbol, near: usize, price: u32)
@@ -302,18 +286,18 @@ impl Ledger {
     pub fn let_go(self) {}
 }
 
-/// The sums of the account, which has this place in the policy, in the tally at a place.
-fn sums_at(
+/// What the account, which has this place in the policy, has in the tally at a place, of a gross rule.
+fn gross_at(
     tallies: &[Tally],
     rule: usize,
     account: AccountName,
     place: Option<usize>,
 ) -> Option<Sums>
     ensures { result ≡ option_and_then
-        (λ tally. tally_sums tally account place) (slice_get tallies.now rule) }
+        (λ tally. tally_gross tally account place) (slice_get tallies.now rule) }
 {
     match tallies.get(rule) {
-        Some(tally) => tally.sums(account, place),
+        Some(tally) => tally.gross(account, place),
         None => None,
     }
 }
@@ -348,5 +332,38 @@ fn side_of(request: &Request, replaced: Option<LiveOrder>) -> Option<StockSide>
             stock: order.terms.stock,
             buys: order.terms.side == b'B',
         }),
+    }
+}
+
+/// What an Enter would have in common with like ones.
+fn asked_as(request: &Request) -> Option<Entered>
+    ensures { result ≡ asked_as request.now }
+{
+    match request {
+        Request::Enter(m) => Some(Entered {
+            side: m.side,
+            shares: m.shares,
+            stock: m.stock,
+            price: m.price,
+        }),
+        _ => None,
+    }
+}
+
+fn open_of(order: Option<LiveOrder>) -> u128
+    ensures { result ≡ option_map_or shares_open order 0 }
+{
+    match order {
+        Some(order) => u128::from(order.open()),
+        None => 0,
+    }
+}
+
+fn open_value_of(order: Option<LiveOrder>) -> u128
+    ensures { result ≡ option_map_or open_value order 0 }
+{
+    match order {
+        Some(order) => value_of(order.open(), order.terms.price),
+        None => 0,
     }
 }

@@ -5,9 +5,11 @@
 #![tactic(auto)]
 
 mod alike;
+mod asks;
 mod change;
 mod enters;
 mod group;
+mod groups;
 pub mod laws;
 pub mod ledger;
 mod moments;

@@ -1,24 +1,21 @@
 //! Running sums over orders and fills.
 
 ghost use Rattle.std.specs.Prelude.{◌≡◌};
-ghost use Rattle.gx_ledger.specs.Running.{with_live, without_live, with_done};
+ghost use Rattle.gx_units.specs.Money.{value};
+ghost use Rattle.gx_ledger.specs.Running.{changed_sums, counted_singly, with_done, with_live, without_live};
 
+use crate::change::{Change, ChangeKind};
 use gx_units::value_of;
 
-/// The open and the executed shares of some accounts, with their values in ten-thousandths of a
-/// dollar.
+/// What some accounts have open and executed: in shares, or in value in ten-thousandths of a dollar.
 ///
 /// A sum that would pass 128 bits stops there: a day's orders and fills stay far below.
 #[derive(Clone, Copy)]
 pub struct Sums {
-    /// Open shares of the live orders.
-    pub live_shares: u128,
-    /// At the prices of the orders.
-    pub live_value: u128,
-    /// Executed shares.
-    pub done_shares: u128,
-    /// At the prices of the fills.
-    pub done_value: u128,
+    /// Of the live orders, at their own prices.
+    pub live: u128,
+    /// Of the executions, at the prices of the fills.
+    pub done: u128,
 }
 
 /// What some accounts have on one side of a stock, in shares.
@@ -32,46 +29,62 @@ pub struct NetSums {
 
 impl Sums {
     /// Of no order and no fill.
-    pub const NONE: Sums = Sums {
-        live_shares: 0,
-        live_value: 0,
-        done_shares: 0,
-        done_value: 0,
-    };
+    pub const NONE: Sums = Sums { live: 0, done: 0 };
 
-    /// With so many more open shares at this price.
-    pub fn with_live(self, shares: u32, price: u32) -> Sums
-        ensures { result ≡ with_live shares price self }
+    /// With so much more open.
+    fn with_live(self, more: u128) -> Sums
+        ensures { result ≡ with_live more self }
     {
         Sums {
-            live_shares: self.live_shares.saturating_add(u128::from(shares)),
-            live_value: self.live_value.saturating_add(value_of(shares, price)),
-            done_shares: self.done_shares,
-            done_value: self.done_value,
+            live: self.live.saturating_add(more),
+            done: self.done,
         }
     }
 
-    /// With so many fewer open shares at this price.
-    pub fn without_live(self, shares: u32, price: u32) -> Sums
-        ensures { result ≡ without_live shares price self }
+    /// With so much less open.
+    fn without_live(self, less: u128) -> Sums
+        ensures { result ≡ without_live less self }
     {
         Sums {
-            live_shares: self.live_shares.saturating_sub(u128::from(shares)),
-            live_value: self.live_value.saturating_sub(value_of(shares, price)),
-            done_shares: self.done_shares,
-            done_value: self.done_value,
+            live: self.live.saturating_sub(less),
+            done: self.done,
         }
     }
 
-    /// With so many more executed shares at this price.
-    pub fn with_done(self, shares: u32, price: u32) -> Sums
-        ensures { result ≡ with_done shares price self }
+    /// With so much more executed.
+    fn with_done(self, more: u128) -> Sums
+        ensures { result ≡ with_done more self }
     {
         Sums {
-            live_shares: self.live_shares,
-            live_value: self.live_value,
-            done_shares: self.done_shares.saturating_add(u128::from(shares)),
-            done_value: self.done_value.saturating_add(value_of(shares, price)),
+            live: self.live,
+            done: self.done.saturating_add(more),
+        }
+    }
+
+    /// The shares, once an order of the accounts has changed.
+    pub fn of_shares_after(self, change: &Change<'_>) -> Sums
+        ensures { result ≡ changed_sums counted_singly change.now.order change.now.kind self }
+    {
+        match change.kind {
+            ChangeKind::Accepted { .. } => self.with_live(u128::from(change.order.open())),
+            ChangeKind::Left(shares) => self.without_live(u128::from(shares)),
+            ChangeKind::Filled { shares, .. } => self
+                .without_live(u128::from(shares))
+                .with_done(u128::from(shares)),
+        }
+    }
+
+    /// Their value, once an order of the accounts has changed.
+    pub fn of_value_after(self, change: &Change<'_>) -> Sums
+        ensures { result ≡ changed_sums value change.now.order change.now.kind self }
+    {
+        let own = change.order.terms.price;
+        match change.kind {
+            ChangeKind::Accepted { .. } => self.with_live(value_of(change.order.open(), own)),
+            ChangeKind::Left(shares) => self.without_live(value_of(shares, own)),
+            ChangeKind::Filled { shares, price } => self
+                .without_live(value_of(shares, own))
+                .with_done(value_of(shares, price)),
         }
     }
 }

@@ -1,7 +1,7 @@
 //! The tables of a ledger.
 
 ghost use Rattle.std.specs.Prelude.{◌≡◌, map, None, Some, IfOk, IsTrue};
-ghost use Rattle.gx_ledger.specs.{Counts.{noted_in, tally_inside}, Keeping.{account_names, noted, priced, reference_prices}, Tables.{accounts_differ, names_differ}, Tallies.{changed_at, new_tally}};
+ghost use Rattle.gx_ledger.specs.{Counts.{noted_in, tally_inside}, Accounts.account_names, Keeping.{noted, priced, reference_prices}, Tables.{accounts_differ, names_differ}, Tallies.{changed_at, new_tally}};
 
 use crate::change::Change;
 use crate::tally::Tally;
@@ -20,34 +20,41 @@ pub fn set_price(prices: &mut IndexMap<Symbol, u32>, near: usize, stock: Symbol,
     }
 }
 
-/// Tells each rule's tally of a change of an order of an account that is not the policy's.
-pub fn note_in_all(tallies: &mut [Tally], change: &Change)
+/// Tells each rule's tally of a change of an order of an account that is not the policy's. Its stock
+/// is looked for at this place first, as by the calls below.
+pub fn note_in_all(tallies: &mut [Tally], change: &Change<'_>, near: usize)
     ensures { tallies.new ≡ noted change.now None tallies.old }
 {
     for tally in tallies.iter_mut() {
-        tally.note(change, None);
+        tally.note(change, None, near);
     }
 }
 
 /// Tells the tally at this place, if there is one, of a change of an order of an account in its
 /// scope that has this place in the policy.
 #[inline(always)]
-fn note_one(tallies: &mut [Tally], index: usize, change: &Change, place: usize)
+fn note_one(tallies: &mut [Tally], index: usize, change: &Change<'_>, place: usize, near: usize)
     ensures { tallies.new ≡ changed_at index (tally_inside change.now (Some place)) tallies.old }
 {
     if index < tallies.len() {
-        tallies[index].note_inside(change, Some(place));
+        tallies[index].note_inside(change, Some(place), near);
     }
 }
 
 /// Tells the tallies at these places of a change of an order of an account in their scopes that
 /// has this place in the policy.
 #[inline(always)]
-pub fn note_in(tallies: &mut [Tally], indexes: &[usize], change: &Change, place: usize)
+pub fn note_in(
+    tallies: &mut [Tally],
+    indexes: &[usize],
+    change: &Change<'_>,
+    place: usize,
+    near: usize,
+)
     ensures { tallies.new ≡ noted_in change.now (Some place) tallies.old indexes.now }
 {
     for index in indexes {
-        note_one(tallies, *index, change, place);
+        note_one(tallies, *index, change, place, near);
     }
 }
 
@@ -83,7 +90,7 @@ pub fn first_prices(alloc: Global, stocks: &[Stock]) -> Result<IndexMap<Symbol, 
     Ok(prices)
 }
 
-/// What each rule counts, before any order.
+/// What each rule counts, before any order; these are the names of the accounts.
 ///
 /// # Errors
 ///
@@ -91,16 +98,18 @@ pub fn first_prices(alloc: Global, stocks: &[Stock]) -> Result<IndexMap<Symbol, 
 pub fn first_tallies(
     alloc: Global,
     rules: &[FileRule],
+    names: &IndexSet<AccountName>,
     accounts: &[Account],
     stocks: &[Stock],
 ) -> Result<Vec<Tally>, OutOfMemory>
-    requires { IsTrue (names_differ stocks.now) }
+    requires named { names.now.keys ≡ account_names accounts.now }
+    requires differ { IsTrue (names_differ stocks.now) }
     ensures { IfOk result
         (λ tallies. tallies.items ≡ map (new_tally accounts.now stocks.now) rules.now) }
 {
     let mut tallies = Vec::new(alloc);
     for rule in rules {
-        tallies.push(Tally::new(alloc, rule, accounts, stocks)?)?;
+        tallies.push(Tally::new(alloc, rule, names, accounts, stocks)?)?;
     }
     Ok(tallies)
 }

@@ -1,201 +1,34 @@
 //! What one rule of the file counts.
 
-ghost use Rattle.std.specs.{Prelude.{◌≡◌, [], ◌∷◌, map, nat_le, option_copied, pos, slice_get, IfOk, IsTrue}, Option.option_map_or};
-ghost use Rattle.gx_history.specs.{LiveOrders.shares_open, Figures.{gross_shares_in, gross_value_in, net_shares_in, open_value}};
-ghost use Rattle.gx_ledger.specs.{Counts.{counts, tally_inside}, Running.changed_group, Tables.names_differ, Tallies.{asked_group, asks_of, changed_at, count_of, group_asked, group_in, live_in, net_in, new_groups, new_tally, place_in, stocks_for, room_for_enters, room_for_moments, tally_after, tally_figures}, Standing.{group_net, group_with, tally_net, tally_sums}};
+ghost use Rattle.std.specs.{Prelude.{◌≡◌, nat_le, option_and_then, option_copied, pos, IfOk, IsTrue}, Option.option_map_or};
+ghost use Rattle.gx_history.specs.Figures.{gross_shares_in, gross_value_in, net_shares_in};
+ghost use Rattle.gx_ledger.specs.declared.group.Group.TheVariants as groups;
+ghost use Rattle.gx_ledger.specs.{Counts.{counts, tally_inside}, Accounts.account_names, Running.count_alike, Tables.names_differ, Tallies.{figures_of_group, group_asked, group_in, net_sums_in, new_tally, seat_of, tally_after, tally_figures, tells_reference}, Standing.{gross_in_group, group_with, net_in_group, tally_gross, tally_net}};
 
+use crate::asks::{Asks, count_of};
 use crate::change::Change;
-use crate::group::Group;
+use crate::enters::Enters;
+use crate::group::{Entered, Group};
+use crate::groups::{Groups, Seats, place_in};
 use crate::sides::{Sides, net_of};
 use crate::sums::{NetSums, Sums};
 use gx_history::facts::{GrossFigures, NetFigures, StockSide};
-use gx_history::live_order::LiveOrder;
-use gx_history::record::Request;
-use gx_policy::{Account, Count, ExposureLimit, FileRule, Rate, Repeat, RuleKind, Scope, Stock};
-use gx_units::{AccountName, OutOfMemory, value_of};
+use gx_policy::{Account, Count, FileRule, Scope, Stock};
+use gx_units::{AccountName, OutOfMemory};
+use indexmap::IndexSet;
 use std::alloc::Global;
-use std::marker::Model;
-
-/// What a rule asks for.
-#[derive(Clone, Copy)]
-pub enum Asks {
-    /// No figure of accounts or stocks.
-    Nothing,
-    /// The last price of the stock, which is all that a limit of one order can ask for.
-    Reference,
-    /// Open and executed shares.
-    Shares,
-    /// Their values.
-    Values,
-    /// Open and executed shares on the sides of a stock.
-    Sides,
-    /// Recent orders.
-    Recent(Rate),
-    /// Like ones among the last.
-    Alike(Repeat),
-}
-
-impl Asks {
-    fn of(kind: &RuleKind) -> Asks
-        ensures { result ≡ asks_of kind.now }
-    {
-        match kind {
-            RuleKind::Listed(_, _) | RuleKind::Plain(_) => Asks::Nothing,
-            RuleKind::Order(_, _) => Asks::Reference,
-            RuleKind::Exposure(ExposureLimit::GrossShares, _, _) => Asks::Shares,
-            RuleKind::Exposure(ExposureLimit::GrossValue, _, _) => Asks::Values,
-            RuleKind::Exposure(ExposureLimit::NetShares, _, _) => Asks::Sides,
-            RuleKind::Rate(rate, _) => Asks::Recent(*rate),
-            RuleKind::Repeat(repeat, _) => Asks::Alike(*repeat),
-        }
-    }
-
-    /// How many moments the rule looks back on.
-    fn moments(self) -> usize
-        ensures { result ≡ room_for_moments self }
-    {
-        match self {
-            Asks::Recent(rate) => rate.limit as usize,
-            _ => 0,
-        }
-    }
-
-    /// How many Enters the rule looks back on.
-    fn enters(self) -> usize
-        ensures { result ≡ room_for_enters self }
-    {
-        match self {
-            Asks::Alike(repeat) => repeat.span as usize,
-            _ => 0,
-        }
-    }
-
-    /// The stocks whose sides the rule looks at, among those of the policy.
-    fn stocks<'a>(self, all: &'a [Stock]) -> &'a [Stock]
-        requires { IsTrue (names_differ all.now) }
-        ensures are { result.now ≡ stocks_for self all.now }
-        ensures differ { IsTrue (names_differ result.now) }
-    {
-        match self {
-            Asks::Sides => all,
-            _ => &[],
-        }
-    }
-}
-
-/// Whose orders count together; None where the kind counts nothing.
-fn count_of(kind: &RuleKind) -> Option<Count>
-    ensures { result ≡ count_of kind.now }
-{
-    match kind {
-        RuleKind::Exposure(_, _, count) | RuleKind::Rate(_, count) | RuleKind::Repeat(_, count) =>
-            Some(*count),
-        RuleKind::Listed(_, _) | RuleKind::Plain(_) | RuleKind::Order(_, _) => None,
-    }
-}
-
-/// A group with room for what the rule asks for.
-fn group_for(alloc: Global, asks: Asks, stocks: &[Stock]) -> Result<Group, OutOfMemory>
-    requires { IsTrue (names_differ stocks.now) }
-    ensures { IfOk result (λ group. group ≡ asked_group asks stocks.now) }
-{
-    let stocks = asks.stocks(stocks);
-    Group::new(alloc, asks.moments(), asks.enters(), stocks)
-}
-
-/// The groups of a rule: one for each account of the policy, in its order, one for all in scope, or
-/// none.
-#[derive(Drop)]
-pub struct Groups {
-    items: Vec<Group>,
-}
-
-impl Model for Groups {
-    ghost use Rattle.std.specs.Prelude.{List};
-    ghost use Rattle.gx_ledger.specs.declared.group.Group.{Group};
-
-    ghost Value = { List Group };
-
-    ghost view = { λ list. list.items.items };
-}
-
-impl Groups {
-    fn none(alloc: Global) -> Groups
-        ensures { result ≡ [] }
-    {
-        Groups {
-            items: Vec::new(alloc),
-        }
-    }
-
-    fn each(
-        alloc: Global,
-        asks: Asks,
-        accounts: &[Account],
-        stocks: &[Stock],
-    ) -> Result<Groups, OutOfMemory>
-        requires { IsTrue (names_differ stocks.now) }
-        ensures { IfOk result (λ groups. groups
-            ≡ map (λ a. asked_group asks stocks.now) accounts.now) }
-    {
-        let mut items = Vec::new(alloc);
-        for _account in accounts {
-            items.push(group_for(alloc, asks, stocks)?)?;
-        }
-        Ok(Groups { items })
-    }
-
-    fn together(alloc: Global, asks: Asks, stocks: &[Stock]) -> Result<Groups, OutOfMemory>
-        requires { IsTrue (names_differ stocks.now) }
-        ensures { IfOk result (λ groups. groups ≡ asked_group asks stocks.now ∷ []) }
-    {
-        let mut items = Vec::new(alloc);
-        items.push(group_for(alloc, asks, stocks)?)?;
-        Ok(Groups { items })
-    }
-
-    fn of(
-        alloc: Global,
-        count: Option<Count>,
-        asks: Asks,
-        accounts: &[Account],
-        stocks: &[Stock],
-    ) -> Result<Groups, OutOfMemory>
-        requires { IsTrue (names_differ stocks.now) }
-        ensures { IfOk result
-            (λ groups. groups ≡ new_groups count asks accounts.now stocks.now) }
-    {
-        match count {
-            None => Ok(Groups::none(alloc)),
-            Some(Count::Each) => Groups::each(alloc, asks, accounts, stocks),
-            Some(Count::Together) => Groups::together(alloc, asks, stocks),
-        }
-    }
-
-    fn note(&mut self, place: usize, change: &Change)
-        ensures { self.new ≡ changed_at place (changed_group change.now) self.old }
-    {
-        if place < self.items.len() {
-            self.items[place].note(change);
-        }
-    }
-
-    fn at(&self, place: usize) -> Option<&Group>
-        ensures { option_copied result ≡ slice_get self.now place }
-    {
-        self.items.get(place)
-    }
-}
 
 /// What a rule asks for, for which accounts, and the running figures of their groups.
 #[derive(Drop)]
 pub struct Tally {
     /// The accounts that the rule is for.
     pub scope: Scope,
-    /// Which figures it asks for.
-    pub asks: Asks,
+    /// Whether it asks for the last price of the stock.
+    pub tells_reference: bool,
     /// Whether its limit is for each account or for all together; None where it counts no accounts.
     pub count: Option<Count>,
+    /// Where the groups of the policy's accounts stand.
+    pub seats: Seats,
     /// The running figures: of each account, or of all together.
     pub groups: Groups,
 }
@@ -203,86 +36,89 @@ pub struct Tally {
 /// What a request asks the figures for.
 #[derive(Clone, Copy)]
 pub struct Wanted {
-    /// The account that the user trades for.
-    pub account: AccountName,
-    /// The account's place in the policy.
+    /// The place in the policy of the account that the user trades for.
     pub place: Option<usize>,
-    /// The request itself.
-    pub request: Request,
-    /// The order that would be replaced.
-    pub replaced: Option<LiveOrder>,
+    /// What an Enter has in common with like ones.
+    pub entered: Option<Entered>,
+    /// The open shares of the order that would be replaced.
+    pub replaced_shares: u128,
+    /// Their value at its price, in ten-thousandths of a dollar.
+    pub replaced_value: u128,
     /// The side of the stock that the order is for.
     pub side: Option<StockSide>,
+    /// Where that stock is looked for first.
+    pub near: usize,
     /// The price of the last fill in the order's stock, or the policy's.
     pub reference: u32,
     /// When it is asked for, in nanoseconds past midnight.
     pub moment: u64,
 }
 
-fn open_of(order: Option<LiveOrder>) -> u128
-    ensures { result ≡ option_map_or shares_open order 0 }
+/// What a group has on a side of a stock, which is looked for at this place first.
+fn net_sums_in(sides: &Sides, side: StockSide, near: usize) -> NetSums
+    ensures { result ≡ net_sums_in sides.now side }
 {
-    match order {
-        Some(order) => u128::from(order.open()),
-        None => 0,
-    }
-}
-
-fn open_value_of(order: Option<LiveOrder>) -> u128
-    ensures { result ≡ option_map_or open_value order 0 }
-{
-    match order {
-        Some(order) => value_of(order.open(), order.terms.price),
-        None => 0,
-    }
-}
-
-/// What was executed on the side that is asked for, less what was on the other.
-fn net_in(sides: &Sides, side: Option<StockSide>) -> i128
-    ensures { result ≡ option_map_or (net_in sides.now) side (pos 0) }
-{
-    match side {
-        Some(side) => {
-            let sums = sides.at(side.stock);
-            net_of(sums.on_side(side.buys).done, sums.on_side(!side.buys).done)
-        }
-        None => 0,
-    }
-}
-
-/// The open shares on the side that is asked for.
-fn live_in(sides: &Sides, side: Option<StockSide>) -> u128
-    ensures { result ≡ option_map_or (live_in sides.now) side 0 }
-{
-    match side {
-        Some(side) => sides.at(side.stock).on_side(side.buys).live,
-        None => 0,
-    }
-}
-
-/// What a group has on the side of the stock.
-fn net_of_group(group: &Group, side: StockSide) -> NetSums
-    ensures { result ≡ group_net side group.now }
-{
+    let sums = sides.at(side.stock, near);
+    let own = sums.on_side(side.buys);
     NetSums {
-        done: net_in(&group.sides, Some(side)),
-        live: live_in(&group.sides, Some(side)),
+        done: net_of(own.done, sums.on_side(!side.buys).done),
+        live: own.live,
     }
 }
 
-/// The place of the group of an account in scope, which has this place in the policy.
-fn place_in(count: Option<Count>, place: Option<usize>) -> Option<usize>
-    ensures { result ≡ place_in count place }
+/// Whether the Enters that are such as the one asked for come to the limit.
+fn are_alike(enters: &Enters, asked: Option<Entered>, limit: u64) -> bool
+    ensures { result ≡ nat_le limit (option_map_or (count_alike enters.now.items) asked 0) }
 {
-    match count {
-        None => None,
-        Some(Count::Each) => place,
-        Some(Count::Together) => Some(0),
+    match asked {
+        Some(asked) => enters.are_alike(&asked, limit),
+        None => limit == 0,
+    }
+}
+
+/// The sums that a gross limit is for.
+fn gross_in_group(group: &Group) -> Option<Sums>
+    ensures { result ≡ gross_in_group group.now }
+{
+    match group {
+        Group::Shares(sums) | Group::Value(sums) => Some(*sums),
+        _ => None,
+    }
+}
+
+/// What a group has on the side of the stock, where it looks at sides.
+fn net_in_group(group: &Group, side: StockSide) -> Option<NetSums>
+    ensures { result ≡ net_in_group side group.now }
+{
+    match group {
+        Group::Sides(sides) => Some(net_sums_in(sides, side, 0)),
+        _ => None,
+    }
+}
+
+/// What a net limit compares, of a group that looks at sides.
+fn net_figures(sides: &Sides, wanted: &Wanted) -> NetFigures
+    ensures { result ≡ net_shares_in (figures_of_group wanted.now (groups.Sides sides.now)) }
+{
+    match wanted.side {
+        Some(side) => {
+            let sums = net_sums_in(sides, side, wanted.near);
+            NetFigures {
+                done: sums.done,
+                live: sums.live,
+                replaced: wanted.replaced_shares,
+            }
+        }
+        None => NetFigures {
+            replaced: wanted.replaced_shares,
+            ..NetFigures::NONE
+        },
     }
 }
 
 impl Tally {
-    /// The tally of a rule before any order, for these accounts and stocks of the policy.
+    /// The tally of a rule before any order, for these accounts and stocks of the policy; these are the names of the
+    /// accounts.
     ///
     /// # Errors
     ///
@@ -290,41 +126,45 @@ impl Tally {
     pub fn new(
         alloc: Global,
         rule: &FileRule,
+        names: &IndexSet<AccountName>,
         accounts: &[Account],
         stocks: &[Stock],
     ) -> Result<Tally, OutOfMemory>
-        requires { IsTrue (names_differ stocks.now) }
+        requires named { names.now.keys ≡ account_names accounts.now }
+        requires differ { IsTrue (names_differ stocks.now) }
         ensures { IfOk result (λ tally. tally ≡ new_tally accounts.now stocks.now rule.now) }
     {
         let asks = Asks::of(&rule.kind);
         let count = count_of(&rule.kind);
+        let seats = Seats::of(alloc, &rule.scope, count, names, accounts)?;
         let groups = Groups::of(alloc, count, asks, accounts, stocks)?;
         let scope = rule.scope.copied(alloc)?;
         Ok(Tally {
             scope,
-            asks,
+            tells_reference: matches!(asks, Asks::Reference),
             count,
+            seats,
             groups,
         })
     }
 
-    /// Takes note of a change of an order of the account that has this place in the policy.
-    pub fn note(&mut self, change: &Change, place: Option<usize>)
+    /// Takes note of a change of an order of the account that has this place in the policy. Its stock is looked for at
+    /// `near` first.
+    pub fn note(&mut self, change: &Change<'_>, place: Option<usize>, near: usize)
         ensures { self.new ≡ tally_after change.now place self.old }
     {
         if self.scope.covers(change.order.account) {
-            self.note_inside(change, place);
+            self.note_inside(change, place, near);
         }
     }
 
-    /// Takes note of a change of an order of an account in scope, which has this place in the
-    /// policy.
+    /// The same of an account in scope.
     #[inline(always)]
-    pub fn note_inside(&mut self, change: &Change, place: Option<usize>)
+    pub fn note_inside(&mut self, change: &Change<'_>, place: Option<usize>, near: usize)
         ensures { self.new ≡ tally_inside change.now place self.old }
     {
         if let Some(place) = place_in(self.count, place) {
-            self.groups.note(place, change);
+            self.groups.note(place, change, near);
         }
     }
 
@@ -335,6 +175,7 @@ impl Tally {
         self.count.is_some() && self.scope.covers(account)
     }
 
+    /// The group of an account in scope, which has this place in the policy.
     fn group(&self, place: Option<usize>) -> Option<&Group>
         ensures { option_copied result ≡ group_in self.now place }
     {
@@ -355,13 +196,13 @@ impl Tally {
         }
     }
 
-    /// The sums that the rule counts for the account, which has this place in the policy. None where
-    /// it counts nothing, or not for the account.
-    pub fn sums(&self, account: AccountName, place: Option<usize>) -> Option<Sums>
-        ensures { result ≡ tally_sums self.now account place }
+    /// What a gross limit counts for the account, which has this place in the policy. None for any other rule, or where
+    /// it does not count the account.
+    pub fn gross(&self, account: AccountName, place: Option<usize>) -> Option<Sums>
+        ensures { result ≡ tally_gross self.now account place }
     {
         match self.group_with(account, place) {
-            Some(group) => Some(group.sums),
+            Some(group) => gross_in_group(group),
             None => None,
         }
     }
@@ -376,9 +217,20 @@ impl Tally {
     ) -> Option<NetSums>
         ensures { result ≡ tally_net self.now account place side }
     {
-        match (self.asks, self.group_with(account, place)) {
-            (Asks::Sides, Some(group)) => Some(net_of_group(group, side)),
-            _ => None,
+        match self.group_with(account, place) {
+            Some(group) => net_in_group(group, side),
+            None => None,
+        }
+    }
+
+    /// The place of the group of the account at this place of the policy; None outside the scope.
+    #[inline(always)]
+    fn seat_of(&self, place: Option<usize>) -> Option<usize>
+        ensures { result ≡ seat_of self.now place }
+    {
+        match place {
+            Some(place) => self.seats.at(place),
+            None => None,
         }
     }
 
@@ -387,10 +239,9 @@ impl Tally {
     fn group_asked(&self, wanted: &Wanted) -> Option<&Group>
         ensures { option_copied result ≡ group_asked wanted.now self.now }
     {
-        if self.scope.covers(wanted.account) {
-            self.group(wanted.place)
-        } else {
-            None
+        match self.seat_of(wanted.place) {
+            Some(seat) => self.groups.at(seat),
+            None => None,
         }
     }
 
@@ -399,14 +250,14 @@ impl Tally {
     pub fn gross_shares(&self, wanted: &Wanted) -> GrossFigures
         ensures { result ≡ gross_shares_in (tally_figures wanted.now self.now) }
     {
-        match (self.asks, self.group_asked(wanted)) {
-            (Asks::Shares, Some(group)) => GrossFigures {
-                live: group.sums.live_shares,
-                done: group.sums.done_shares,
-                replaced: open_of(wanted.replaced),
+        match self.group_asked(wanted) {
+            Some(Group::Shares(sums)) => GrossFigures {
+                live: sums.live,
+                done: sums.done,
+                replaced: wanted.replaced_shares,
             },
-            (Asks::Sides, Some(_)) => GrossFigures {
-                replaced: open_of(wanted.replaced),
+            Some(Group::Sides(_)) => GrossFigures {
+                replaced: wanted.replaced_shares,
                 ..GrossFigures::NONE
             },
             _ => GrossFigures::NONE,
@@ -418,11 +269,11 @@ impl Tally {
     pub fn gross_value(&self, wanted: &Wanted) -> GrossFigures
         ensures { result ≡ gross_value_in (tally_figures wanted.now self.now) }
     {
-        match (self.asks, self.group_asked(wanted)) {
-            (Asks::Values, Some(group)) => GrossFigures {
-                live: group.sums.live_value,
-                done: group.sums.done_value,
-                replaced: open_value_of(wanted.replaced),
+        match self.group_asked(wanted) {
+            Some(Group::Value(sums)) => GrossFigures {
+                live: sums.live,
+                done: sums.done,
+                replaced: wanted.replaced_value,
             },
             _ => GrossFigures::NONE,
         }
@@ -432,14 +283,10 @@ impl Tally {
     pub fn net_shares(&self, wanted: &Wanted) -> NetFigures
         ensures { result ≡ net_shares_in (tally_figures wanted.now self.now) }
     {
-        match (self.asks, self.group_asked(wanted)) {
-            (Asks::Sides, Some(group)) => NetFigures {
-                done: net_in(&group.sides, wanted.side),
-                live: live_in(&group.sides, wanted.side),
-                replaced: open_of(wanted.replaced),
-            },
-            (Asks::Shares, Some(_)) => NetFigures {
-                replaced: open_of(wanted.replaced),
+        match self.group_asked(wanted) {
+            Some(Group::Sides(sides)) => net_figures(sides, wanted),
+            Some(Group::Shares(_)) => NetFigures {
+                replaced: wanted.replaced_shares,
                 ..NetFigures::NONE
             },
             _ => NetFigures::NONE,
@@ -451,9 +298,9 @@ impl Tally {
     pub fn has_recent(&self, wanted: &Wanted, limit: u64) -> bool
         ensures { result ≡ nat_le limit (tally_figures wanted.now self.now).recent }
     {
-        match (self.asks, self.group_asked(wanted)) {
-            (Asks::Recent(rate), Some(group)) => {
-                group.moments.are_recent(rate.window, wanted.moment, limit)
+        match self.group_asked(wanted) {
+            Some(Group::Recent(window, moments)) => {
+                moments.are_recent(*window, wanted.moment, limit)
             }
             _ => limit == 0,
         }
@@ -464,8 +311,8 @@ impl Tally {
     pub fn has_equal_recent(&self, wanted: &Wanted, limit: u64) -> bool
         ensures { result ≡ nat_le limit (tally_figures wanted.now self.now).equal_recent }
     {
-        match (self.asks, self.group_asked(wanted)) {
-            (Asks::Alike(_), Some(group)) => group.are_alike(&wanted.request, limit),
+        match self.group_asked(wanted) {
+            Some(Group::Enters(enters)) => are_alike(enters, wanted.entered, limit),
             _ => limit == 0,
         }
     }
@@ -475,9 +322,10 @@ impl Tally {
     pub fn reference(&self, wanted: &Wanted) -> u32
         ensures { result ≡ (tally_figures wanted.now self.now).reference }
     {
-        match self.asks {
-            Asks::Reference if self.scope.covers(wanted.account) => wanted.reference,
-            _ => 0,
+        if self.tells_reference && self.seat_of(wanted.place).is_some() {
+            wanted.reference
+        } else {
+            0
         }
     }
 }

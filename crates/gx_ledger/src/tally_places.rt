@@ -1,7 +1,7 @@
 //! Which tallies count an account's orders.
 
 ghost use Rattle.std.specs.Prelude.{◌≡◌, ◌∷◌, ◌++◌, [], map, IfOk, OnOk, if◌then◌else◌};
-ghost use Rattle.gx_ledger.specs.{Counts.counting, Keeping.account_names};
+ghost use Rattle.gx_ledger.specs.{Counts.counting, Accounts.account_names};
 
 use crate::tally::Tally;
 use gx_policy::Account;

@@ -35,6 +35,7 @@ impl Draft {
     }
 
     /// Writes these bytes behind the others.
+    #[inline(always)]
     pub fn put(&mut self, bytes: &[u8])
         requires { length self.old + length bytes.now ≤ MESSAGE_ROOM }
         ensures bytes { self.new ≡ self.old ++ bytes.now }

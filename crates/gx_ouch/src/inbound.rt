@@ -5,61 +5,61 @@ use gx_units::{Firm, Symbol, Token};
 /// A new order: Enter Order, `O`.
 #[derive(Clone, Copy, PartialEq, Eq)]
 pub struct EnterOrder {
-    /// Order Token.
+    /// The name of the order: any bytes, compared as bytes, each user's by themselves (Order Token).
     pub token: Token,
-    /// Buy/Sell Indicator: `B` buys, `S`, `T` and `E` sell.
+    /// The side: `B` buys; `S`, `T` and `E` sell (Buy/Sell Indicator).
     pub side: u8,
     /// Shares.
     pub shares: u32,
     /// Stock.
     pub stock: Symbol,
-    /// Price, in ten-thousandths of a dollar.
+    /// The price of a share, in ten-thousandths of a dollar (Price).
     pub price: u32,
-    /// Time in Force.
+    /// How long it lives: 0 is immediate-or-cancel; 99998 and 99999 rest until the day is closed (Time in Force).
     pub time_in_force: u32,
-    /// Firm. A blank one is the account's.
+    /// The firm of the account, or blank, which stands for it (Firm).
     pub firm: Firm,
-    /// Display.
+    /// How it is shown: `A` or `Y` (Display).
     pub display: u8,
-    /// Capacity.
+    /// The capacity in which it is entered, any byte (Capacity).
     pub capacity: u8,
-    /// Intermarket Sweep Eligibility: `Y` asks for it.
+    /// `Y` asks for a sweep, no other byte does (Intermarket Sweep Eligibility).
     pub intermarket_sweep: u8,
-    /// Minimum Quantity.
+    /// 0, since no minimum is taken (Minimum Quantity).
     pub minimum_quantity: u32,
-    /// Cross Type.
+    /// `N`, since no cross is taken (Cross Type).
     pub cross_type: u8,
-    /// Customer Type.
+    /// The sort of customer, any byte (Customer Type).
     pub customer_type: u8,
 }
 
 /// An order in place of an earlier one: Replace Order, `U`.
 #[derive(Clone, Copy, PartialEq, Eq)]
 pub struct ReplaceOrder {
-    /// Existing Order Token.
+    /// The token of the live order (Existing Order Token).
     pub existing_token: Token,
-    /// Replacement Order Token.
+    /// A token that the user has not used (Replacement Order Token).
     pub replacement_token: Token,
-    /// Shares: the new total of the whole chain, executed shares included.
+    /// The size of the whole chain of orders, what is executed of it included (Shares).
     pub shares: u32,
-    /// Price, in ten-thousandths of a dollar.
+    /// The price of a share, in ten-thousandths of a dollar (Price).
     pub price: u32,
-    /// Time in Force.
+    /// As of an Enter Order (Time in Force).
     pub time_in_force: u32,
-    /// Display.
+    /// As of an Enter Order (Display).
     pub display: u8,
-    /// Intermarket Sweep Eligibility: `Y` asks for it.
+    /// As of an Enter Order (Intermarket Sweep Eligibility).
     pub intermarket_sweep: u8,
-    /// Minimum Quantity.
+    /// As of an Enter Order (Minimum Quantity).
     pub minimum_quantity: u32,
 }
 
 /// A new total size for an order: Cancel Order, `X`.
 #[derive(Clone, Copy, PartialEq, Eq)]
 pub struct CancelOrder {
-    /// Order Token.
+    /// The token of the order (Order Token).
     pub token: Token,
-    /// Shares: the new total size, executed shares included.
+    /// The new size of the order in all, what is executed of it included (Shares).
     pub shares: u32,
 }
 

@@ -15,11 +15,11 @@ pub struct OrderTerms {
     pub shares: u32,
     /// Stock.
     pub stock: Symbol,
-    /// Price, in ten-thousandths of a dollar.
+    /// The price of a share, in ten-thousandths of a dollar (Price).
     pub price: u32,
     /// Time in Force.
     pub time_in_force: u32,
-    /// Firm.
+    /// The firm of the account (Firm).
     pub firm: Firm,
     /// Display.
     pub display: u8,
@@ -40,20 +40,20 @@ pub struct Accepted {
     pub token: Token,
     /// The order's own terms.
     pub terms: OrderTerms,
-    /// Order Reference Number.
+    /// The number of the record that granted the order (Order Reference Number).
     pub order_reference: u64,
 }
 
 /// An order stands in place of an earlier one: Replaced, `U`.
 #[derive(Clone, Copy, PartialEq, Eq)]
 pub struct Replaced {
-    /// Replacement Order Token.
+    /// The new order's token (Replacement Order Token).
     pub token: Token,
     /// The new order's terms, its Shares those that are open right after it.
     pub terms: OrderTerms,
-    /// Order Reference Number.
+    /// The number of the record that granted the order (Order Reference Number).
     pub order_reference: u64,
-    /// Previous Order Token.
+    /// The token of the order that was replaced (Previous Order Token).
     pub previous_token: Token,
 }
 
@@ -62,7 +62,7 @@ pub struct Replaced {
 pub struct Canceled {
     /// Order Token.
     pub token: Token,
-    /// Decrement Shares.
+    /// By how many shares what is open has become less; at `I` and `S` by all that was open (Decrement Shares).
     pub decrement: u32,
     /// Reason.
     pub reason: CancelReason,
@@ -75,11 +75,11 @@ pub struct Executed {
     pub token: Token,
     /// Executed Shares.
     pub shares: u32,
-    /// Execution Price, in ten-thousandths of a dollar.
+    /// The price of the order that rested, in ten-thousandths of a dollar (Execution Price).
     pub price: u32,
     /// Liquidity Flag.
     pub liquidity: Liquidity,
-    /// Match Number.
+    /// The number of the fill's record, the same for both orders (Match Number).
     pub match_number: u64,
 }
 
@@ -88,7 +88,7 @@ pub struct Executed {
 pub struct Rejected {
     /// Order Token.
     pub token: Token,
-    /// Reason.
+    /// The letter of the rule that denies the order (Reason).
     pub reason: RejectReason,
 }
 

@@ -31,6 +31,7 @@ impl Outbound {
 
     /// The message's bytes, with its moment, in nanoseconds past midnight, as Timestamp.
     #[tactic(auto, unfolding(crate::specs::Writing::outbound_bytes))]
+    #[inline(always)]
     pub fn draft(&self, timestamp: u64) -> Draft
         ensures bytes { result ≡ outbound_bytes timestamp self.now }
         ensures len { length result ≡ (outbound_layout self.now).size }
@@ -67,6 +68,7 @@ impl Outbound {
 
 impl OrderTerms {
     /// Writes what Accepted and Replaced say alike of an order.
+    #[inline(always)]
     fn put(&self, order_reference: u64, draft: &mut Draft)
         requires { length draft.old ≡ 23 }
         ensures bytes { draft.new
@@ -92,6 +94,7 @@ impl OrderTerms {
 }
 
 impl Accepted {
+    #[inline(always)]
     fn put(&self, draft: &mut Draft)
         requires { length draft.old ≡ 9 }
         ensures bytes { draft.new
@@ -106,6 +109,7 @@ impl Accepted {
 }
 
 impl Replaced {
+    #[inline(always)]
     fn put(&self, draft: &mut Draft)
         requires { length draft.old ≡ 9 }
         ensures bytes { draft.new
@@ -121,6 +125,7 @@ impl Replaced {
 }
 
 impl Canceled {
+    #[inline(always)]
     fn put(&self, draft: &mut Draft)
         requires { length draft.old ≡ 9 }
         ensures bytes { draft.new
@@ -135,6 +140,7 @@ impl Canceled {
 }
 
 impl Executed {
+    #[inline(always)]
     fn put(&self, draft: &mut Draft)
         requires { length draft.old ≡ 9 }
         ensures bytes { draft.new
@@ -151,6 +157,7 @@ impl Executed {
 }
 
 impl Rejected {
+    #[inline(always)]
     fn put(&self, draft: &mut Draft)
         requires { length draft.old ≡ 9 }
         ensures bytes { draft.new

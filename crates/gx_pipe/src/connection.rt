@@ -1,11 +1,12 @@
 //! A connection: what happens to its session, done to the gate and to the writer.
 
 ghost use Rattle.std.specs.Prelude.{◌≡◌, ℕ, ◌-◌, ◌^◌, ◌<◌, ◌≤◌, List, ◌++◌, length, IfOk, IfErr, OnOk, OnErr, IsFalse, IsTrue};
-ghost use Rattle.gx_history.specs.declared.record.RecordData.{RecordData};
+ghost use Rattle.gx_units.specs.Spelling.{folded_user};
+ghost use Rattle.gx_history.specs.{declared.record.RecordData.RecordData, Showing.has_its_first};
 ghost use Rattle.gx_answers.specs.Matches.{settled_gate, IsSettling};
 ghost use Rattle.gx_soup.specs.declared.packet.ClientPacket.TheVariants.{Data};
 ghost use Rattle.gx_devices.specs.Stopping.{AreFewer, Mark};
-ghost use Rattle.gx_session.specs.{declared.session.Phase.TheVariants.Waiting, Events.{CanAsk, asks_step, is_on}, Happenings.happening, Table.turn};
+ghost use Rattle.gx_session.specs.{declared.{event.Next.TheVariants.Act, session.Phase.TheVariants.Waiting}, Events.{CanAsk, asks_step, is_on}, Happenings.happening, Table.turn};
 ghost use Rattle.gx_session.specs.Happenings as happens;
 ghost use Rattle.gx_pipe.specs.{Faults.{IsToldFull, IsToldRightly, IsFinite, fault_of_step}, Piping.{is_never_refused, logout_of, IsRunOf, IsTaken, IsGivenUp, IsTurnGivenUp, Standing, pull_marks, packet_marks, StopsIn, GivesAll, IsLeaving, IsMatchedInPart}, Transcript.{acted, silent, step_of, on_event, logged_in, answered, matched, pulled, handled, opened_at, run_at, finished, first_told}};
 
@@ -71,6 +72,28 @@ fn act<G: AccessGate>(
         }
         Next::Idle | Next::Login | Next::Close => Ok(()),
     }
+}
+
+/// Makes the step of a request, and answers the user's name as the gate knows it.
+#[inline(always)]
+#[tactic(auto, using(crate::proofs::Stepping::told_full))]
+fn make_step<G: AccessGate>(
+    gate: &mut G,
+    user: UserName,
+    request: Request,
+    moment: u64,
+) -> Result<UserName, StepFault>
+    requires { IsTrue (has_its_first request) }
+    ensures name { IfOk result (λ name. name ≡ folded_user user) }
+    ensures ok { OnOk result
+        (G.seen gate.new ≡ acted (G.seen gate.old) user moment (Act request)) }
+    ensures err { OnErr result (G.seen gate.new ≡ G.seen gate.old) }
+    ensures full { IfErr result (IsToldFull (G.seen gate.new)) }
+{
+    let asked = asked(user, request, moment);
+    let name = asked.user;
+    let _ = gate.step(asked)?;
+    Ok(name)
 }
 
 /// Makes matching steps at this moment until no order waits.
@@ -205,14 +228,15 @@ impl Connection {
         }
     }
 
-    /// Makes the step that a message of a user who is logged in asks for.
+    /// Makes the step that a message of a user who is logged in asks for. Answers his name as the gate knows it.
     fn ask<G: AccessGate>(
         &mut self,
         gate: &mut G,
         payload: &Payload,
         moment: u64,
-    ) -> Result<(), StepFault>
+    ) -> Result<UserName, StepFault>
         requires { IsTrue (is_on self.old.session.phase) }
+        ensures name { IfOk result (λ name. name ≡ folded_user self.new.user) }
         ensures ok { OnOk result (IsRunOf
             (on_event (G.seen gate.old) self.old (happens.Packet (Data payload.now)) moment)
             (G.seen gate.new) self.new) }
@@ -224,13 +248,13 @@ impl Connection {
     {
         let mut session = self.session;
         let request = session.take_message(payload, moment);
-        act(gate, self.user, Next::Act(request), moment)?;
+        let name = make_step(gate, self.user, request, moment)?;
         self.session = session;
-        Ok(())
+        Ok(name)
     }
 
     /// Tells the session of a packet, and makes the step that it asks for: `answer`, and a short
-    /// way for messages.
+    /// way for messages. Answers the name of the user behind it, as the gate knows it.
     fn hear<G: AccessGate, W: Write>(
         &mut self,
         alloc: Global,
@@ -238,8 +262,9 @@ impl Connection {
         packet: &ClientPacket,
         moment: u64,
         writer: &mut Counted<W>,
-    ) -> Result<(), PipeFault>
+    ) -> Result<UserName, PipeFault>
         requires { writer.old.failed < 2 ^ 64 - 1 }
+        ensures name { IfOk result (λ name. name ≡ folded_user self.new.user) }
         ensures ok { OnOk result (IsTaken (answered (G.seen gate.old) self.old packet.now moment)
             (G.seen gate.new) self.new
             (W.contents writer.old.device) (W.contents writer.new.device)) }
@@ -253,10 +278,12 @@ impl Connection {
     {
         match packet {
             ClientPacket::Data(payload) if self.session.is_on() => {
-                self.ask(gate, payload, moment)?;
-                Ok(())
+                Ok(self.ask(gate, payload, moment)?)
             }
-            _ => self.answer(alloc, gate, packet, moment, writer),
+            _ => {
+                self.answer(alloc, gate, packet, moment, writer)?;
+                Ok(self.user.folded())
+            }
         }
     }
 
@@ -275,16 +302,20 @@ impl Connection {
         settle(gate, moment)
     }
 
-    /// Puts all reports that are there into this list.
+    /// Puts all reports that are there for the user of this name into this list. He is looked for at this place of the
+    /// policy's users first.
     fn put_reports<G: AccessGate>(
         &self,
         gate: &G,
+        name: UserName,
+        near: usize,
         list: &mut Vec<Report>,
     ) -> Result<Reached, OutOfMemory>
+        requires { name ≡ folded_user self.now.user }
         ensures all { IfOk result (λ r.
             GivesAll (G.seen gate.now) self.now list.new.items r.next r.ended) }
     {
-        let reached = gate.put_reports(self.user.folded(), self.next, u64::MAX, list)?;
+        let reached = gate.put_reports(name, near, self.next, u64::MAX, list)?;
         let _few = count_of(list.as_slice());
         Ok(reached)
     }
@@ -320,17 +351,19 @@ impl Connection {
         Ok(())
     }
 
-    /// Sends all reports that are there, where a user is logged in, and tells the session of them.
-    /// They are put together in this room.
+    /// Sends all reports that are there, where a user is logged in, whose name as the gate knows it is this, and tells
+    /// the session of them. They are put together in this room.
     #[tactic(auto, unfolding(crate::specs::Transcript::pulled, crate::specs::Transcript::sent))]
     fn pull<G: AccessGate, W: Write>(
         &mut self,
         room: &mut PullRoom,
         gate: &mut G,
+        name: UserName,
         moment: u64,
         writer: &mut Counted<W>,
     ) -> Result<(), PipeFault>
-        requires { writer.old.failed < 2 ^ 64 - 1 }
+        requires name { name ≡ folded_user self.old.user }
+        requires writer { writer.old.failed < 2 ^ 64 - 1 }
         ensures ok { OnOk result (IsTaken (pulled (G.seen gate.old) self.old moment)
             (G.seen gate.new) self.new
             (W.contents writer.old.device) (W.contents writer.new.device)) }
@@ -348,7 +381,8 @@ impl Connection {
         if !self.session.is_on() {
             return Ok(());
         }
-        let reached = self.put_reports(gate, &mut room.reports)?;
+        let reached = self.put_reports(gate, name, room.near, &mut room.reports)?;
+        room.near = reached.place;
         let ended = reached.ended;
         let count = count_of(room.reports.as_slice());
         send_reports(&mut room.text, room.reports.as_slice(), writer)?;
@@ -387,9 +421,9 @@ impl Connection {
         }
         let moment = self.coming;
         self.coming = moment.saturating_add(1);
-        self.hear(room.alloc, gate, packet, moment, writer)?;
+        let name = self.hear(room.alloc, gate, packet, moment, writer)?;
         self.match_orders(gate, moment)?;
-        self.pull(room, gate, moment, writer)
+        self.pull(room, gate, name, moment, writer)
     }
 
     /// Tells the session that its input has a fault or is at its end, and logs out a user who is on.

@@ -12,6 +12,8 @@ pub(crate) struct PullRoom {
     pub(crate) reports: Vec<Report>,
     /// The same reports, in their packets.
     pub(crate) text: Vec<u8>,
+    /// Where the user stood among the policy's users: a pull looks for him there first.
+    pub(crate) near: usize,
 }
 
 /// Room that is kept from piece to piece.
@@ -31,6 +33,7 @@ impl Room {
                 alloc,
                 reports: Vec::new(alloc),
                 text: Vec::new(alloc),
+                near: 0,
             },
         }
     }

@@ -269,7 +269,7 @@ impl Held {
 }
 
 /// Runs a script on a gate: reads it to its end, does its lines in order, and writes what each prints. The lines and
-/// what they print are told in `docs/OPERATIONS.md`.
+/// what they print are told in `docs/SCRIPTS.md`.
 ///
 /// `BadLine`: the number of the first bad line, and beside it what is wrong with it; the lines before it were done, and
 /// what they print was written.

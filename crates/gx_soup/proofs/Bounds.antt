@@ -1,6 +1,6 @@
 -- How much is left over.
 use Rattle.std.proofs.{Common.{◌≡◌, ℕ, zero, suc, ◌+◌, ◌-◌, ◌*◌, ◌<◌, ◌≤◌, ◌⊎◌, inl, inr, Bool, true, false, cond, not, ◌&&◌, ◌==◌, nat_lt, List, [], ◌∷◌, length, take, drop, get_or, Option, Some, None, refl, ap, arith}, lemmas.{Bool.Decides.nat_tests, List.{nil_from_length, get_or-drop, length-drop}}}
-use Rattle.gx_soup.specs.{declared.{packet.{ClientPacket.ClientPacket, SoupFault.SoupFault}, front.Front.{Front, TheVariants.{Short, Faulty, Whole}}}, Standard.{login_request, login_length, longest_packet}, Packets.{front, typed_front, whole_front, login_front, is_client_type, Soup, packets_of}}
+use Rattle.gx_soup.specs.{declared.{packet.{ClientPacket.ClientPacket, SoupFault.SoupFault}}, Standard.{login_request, login_length, longest_packet}, Packets.{Front, Short, Faulty, Whole, front, typed_front, whole_front, login_front, is_client_type, Soup, packets_of}}
 use Rattle.gx_soup.proofs.Soup.{packets_short, packets_faulty, packets_whole, packets_nil, front_takes}
 
 abbrev pub IsBytes : List ℕ → Type 0

@@ -1,6 +1,6 @@
 -- The laws of `front` and of `packets_of`: a text that goes on, and one packet after another.
 use Rattle.std.proofs.{Common.{◌≡◌, ℕ, zero, suc, ◌+◌, ◌-◌, ◌*◌, ◌<◌, ◌≤◌, ◌⊎◌, inl, inr, Bool, true, false, cond, not, ◌&&◌, nat_lt, ◌==◌, List, [], ◌∷◌, ◌++◌, length, take, drop, Option, Some, None, refl, sym, ap, ◌∙◌, arith}, lemmas.{Bool.Decides.nat_tests, List.{nil_from_length, drop-append-le, take-append-le, length-take-le, length-drop, length-append}}}
-use Rattle.gx_soup.specs.{declared.{packet.{ClientPacket.ClientPacket, SoupFault.SoupFault}, front.Front.{Front, TheVariants.{Short, Faulty, Whole}}}, Standard.{login_request, login_length}, Packets.{front, typed_front, whole_front, login_front, is_client_type, Soup, with_packet, soup_from, soup_within, packets_of}}
+use Rattle.gx_soup.specs.{declared.{packet.{ClientPacket.ClientPacket, SoupFault.SoupFault}}, Standard.{login_request, login_length}, Packets.{Front, Short, Faulty, Whole, front, typed_front, whole_front, login_front, is_client_type, Soup, with_packet, soup_from, soup_within, packets_of}}
 
 -- packets that stand before those of a text
 abbrev pub behind : List ClientPacket → Soup → Soup

@@ -1,6 +1,6 @@
 -- A client's packet is read back as itself.
 use Rattle.std.proofs.{Common.{◌≡◌, ℕ, ◌+◌, ◌-◌, ◌*◌, ◌/◌, ◌%◌, ◌^◌, ◌<◌, Bool, true, false, cond, not, ◌&&◌, ◌==◌, nat_lt, List, [], ◌∷◌, ◌++◌, length, take, drop, Some, refl, sym, ap, ◌∙◌, append_assoc, arith, decimal, replicate}, lemmas.{Bool.Decides.nat_tests, List.{take_at, take_all, drop_at, length-append, length-replicate}, Fmt.length-decimal-le}}
-use Rattle.gx_soup.specs.{declared.{packet.{ClientPacket.ClientPacket, LoginRequest.LoginRequest, SoupFault.{SoupFault, TheVariants.ZeroLength}}, front.Front.{Front, TheVariants.{Short, Faulty, Whole}}}, Standard.{login_request, login_length, unsequenced_data, client_heartbeat, logout_request, debug}, Login.number_of, Packets.{front, counted_front, typed_front, whole_front, login_front, is_client_type, with_packet, packets_of}, Writing.{framed, number_field, login_payload, FitsFields, client_bytes, IsPacket}}
+use Rattle.gx_soup.specs.{declared.{packet.{ClientPacket.ClientPacket, LoginRequest.LoginRequest, SoupFault.{SoupFault, TheVariants.ZeroLength}}}, Standard.{login_request, login_length, unsequenced_data, client_heartbeat, logout_request, debug}, Login.number_of, Packets.{Front, Short, Faulty, Whole, front, counted_front, typed_front, whole_front, login_front, is_client_type, with_packet, packets_of}, Writing.{framed, number_field, login_payload, FitsFields, client_bytes, IsPacket}}
 use Rattle.gx_soup.proofs.{Soup.packets_whole, Numbers.number_read}
 
 told : (u l s : Bool) (x y : SoupFault) (w : Front) → u ≡ true → l ≡ false → s ≡ false → cond (not u) (Faulty x) (cond l (Faulty y) (cond s Short w)) ≡ w

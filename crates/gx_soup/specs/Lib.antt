@@ -1,6 +1,6 @@
 pub mod Standard
 pub mod Login
 pub mod Packets
+pub mod Fronts
 pub mod Feeding
 pub mod Writing
-pub mod Places

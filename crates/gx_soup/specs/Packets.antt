@@ -1,6 +1,12 @@
 -- The packets of a text.
 use Rattle.std.specs.Prelude.{ℕ, zero, suc, ◌+◌, ◌-◌, ◌*◌, Bool, not, ◌&&◌, ◌||◌, ◌==◌, nat_lt, if◌then◌else◌, List, [], ◌∷◌, length, take, drop, slice_range, Option, Some, None}
-use Rattle.gx_soup.specs.{declared.{packet.{SoupFault.{SoupFault, TheVariants.{ZeroLength, UnknownType, BadLogin}}, LoginRequest.LoginRequest, ClientPacket.{ClientPacket, TheVariants.{Login, Data, Heartbeat, Logout, Debug}}}, front.Front.{Front, TheVariants.{Short, Faulty, Whole}}}, Standard.{login_request, unsequenced_data, client_heartbeat, logout_request, debug, login_length}, Login.number_of}
+use Rattle.gx_soup.specs.{declared.packet.{SoupFault.{SoupFault, TheVariants.{ZeroLength, UnknownType, BadLogin}}, LoginRequest.LoginRequest, ClientPacket.{ClientPacket, TheVariants.{Login, Data, Heartbeat, Logout, Debug}}}, Standard.{login_request, unsequenced_data, client_heartbeat, logout_request, debug, login_length}, Login.number_of}
+
+-- what stands first in a text: less than a packet, a fault, or a packet and how many bytes it takes
+pub data Front : Type 0 where
+  Short : Front
+  Faulty : SoupFault → Front
+  Whole : ClientPacket → ℕ → Front
 
 -- a type that a client sends
 abbrev pub is_client_type : ℕ → Bool
@@ -47,7 +53,7 @@ typed_front count (kind ∷ body) =
 abbrev pub counted_front : ℕ → List ℕ → Front
 counted_front count body = if count == 0 then Faulty ZeroLength else typed_front count body
 
--- what stands first in a text: less than a packet, a fault, or a packet and how many bytes it takes; a length has two bytes
+-- what stands first in a text; a length has two bytes
 unfoldable pub front : List ℕ → Front
 front [] = Short
 front (high ∷ []) = Short

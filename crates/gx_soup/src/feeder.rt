@@ -3,7 +3,7 @@
 ghost use Rattle.std.specs.Prelude.{◌≡◌, ℕ, ◌≤◌, ◌<◌, List, [], drop, length, is_some, IsTrue, IfOk, OnErr};
 ghost use Rattle.gx_soup.specs.{Standard.longest_packet, Packets.packets_of, Feeding.{HasRead, Gives}};
 
-use crate::front::{Front, read_front};
+use crate::front::{First, put_front};
 use crate::packet::{ClientPacket, SoupFault};
 use gx_units::OutOfMemory;
 use std::alloc::Global;
@@ -127,18 +127,15 @@ fn cut(alloc: Global, bytes: &[u8], packets: &mut Vec<ClientPacket>) -> Result<S
 {
     let mut used = 0;
     while used < bytes.len() {
-        match read_front(alloc, &bytes[used..])? {
-            Front::Short => return Ok(Split { fault: None, used }),
-            Front::Faulty(fault) => {
+        match put_front(alloc, &bytes[used..], packets)? {
+            First::Short => return Ok(Split { fault: None, used }),
+            First::Faulty(fault) => {
                 return Ok(Split {
                     fault: Some(fault),
                     used: bytes.len(),
                 });
             }
-            Front::Whole(packet, taken) => {
-                packets.push(packet)?;
-                used += taken;
-            }
+            First::Whole(taken) => used += taken,
         }
     }
     Ok(Split { fault: None, used })
@@ -150,6 +147,8 @@ fn drop_front(bytes: &mut Vec<u8>, count: usize)
     ensures { bytes.new.items ≡ drop count bytes.old.items }
 {
     if count > 0 {
-        bytes.drain(..count);
+        let left = bytes.len() - count;
+        bytes.copy_within(count.., 0);
+        bytes.truncate(left);
     }
 }

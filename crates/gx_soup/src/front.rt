@@ -1,7 +1,7 @@
 //! What stands first in a text.
 
-ghost use Rattle.std.specs.Prelude.{◌≡◌, ◌<◌, length, slice_range, IfOk};
-ghost use Rattle.gx_soup.specs.{Login.number_of, Packets.{front, login_front, plain_packet, is_client_type, typed_front}};
+ghost use Rattle.std.specs.Prelude.{◌≡◌, ◌<◌, ◌++◌, ◌∷◌, [], length, slice_range, IfOk, OnOk};
+ghost use Rattle.gx_soup.specs.{Fronts.{told, with_front}, Login.number_of, Packets.{front, login_front, plain_packet, is_client_type, typed_front}};
 
 use crate::fields::{fixed, number_of};
 use crate::packet::{ClientPacket, LoginRequest, SoupFault};
@@ -9,59 +9,72 @@ use crate::payload::Payload;
 use gx_units::{OutOfMemory, Password, SessionName, UserName};
 use std::alloc::Global;
 
-/// What stands first in some bytes.
-#[derive(Drop)]
-pub(crate) enum Front {
+/// What stands first in some bytes; a packet is put into a list.
+#[derive(Clone, Copy)]
+pub(crate) enum First {
     /// Less than a packet.
     Short,
     Faulty(SoupFault),
-    /// A packet, and how many bytes it takes.
-    Whole(ClientPacket, usize),
+    /// A packet that takes so many bytes.
+    Whole(usize),
 }
 
 /// The length that a Login Request gives.
 const LOGIN_LENGTH: usize = 47;
 
-/// What stands first in the bytes. It looks at no more than the bytes of one packet, and at three while they are
-/// not all there.
+/// What stands first in the bytes; a packet is put last in the list. It looks at no more than the bytes of one packet, and
+/// at three while they are not all there.
 #[tactic(auto, unfolding(crate::specs::Packets::front))]
-pub(crate) fn read_front(alloc: Global, bytes: &[u8]) -> Result<Front, OutOfMemory>
-    ensures { IfOk result (λ f. f ≡ front bytes.now) }
+pub(crate) fn put_front(
+    alloc: Global,
+    bytes: &[u8],
+    packets: &mut Vec<ClientPacket>,
+) -> Result<First, OutOfMemory>
+    ensures told { IfOk result (λ f. f ≡ told (front bytes.now)) }
+    ensures put { OnOk result
+        (packets.new.items ≡ with_front packets.old.items (front bytes.now)) }
 {
     let [high, low, body @ ..] = bytes else {
-        return Ok(Front::Short);
+        return Ok(First::Short);
     };
     let count = 256 * (*high as usize) + *low as usize;
     if count == 0 {
-        return Ok(Front::Faulty(SoupFault::ZeroLength));
+        return Ok(First::Faulty(SoupFault::ZeroLength));
     }
-    typed_front(alloc, count, body)
+    put_typed(alloc, count, body, packets)
 }
 
-fn typed_front(alloc: Global, count: usize, body: &[u8]) -> Result<Front, OutOfMemory>
+fn put_typed(
+    alloc: Global,
+    count: usize,
+    body: &[u8],
+    packets: &mut Vec<ClientPacket>,
+) -> Result<First, OutOfMemory>
     requires above { 0 < count }
     requires below { count < 65536 }
-    ensures { IfOk result (λ f. f ≡ typed_front count body.now) }
+    ensures told { IfOk result (λ f. f ≡ told (typed_front count body.now)) }
+    ensures put { OnOk result
+        (packets.new.items ≡ with_front packets.old.items (typed_front count body.now)) }
 {
     let [kind, body @ ..] = body else {
-        return Ok(Front::Short);
+        return Ok(First::Short);
     };
     let kind = *kind;
     if !is_client_type(kind) {
-        return Ok(Front::Faulty(SoupFault::UnknownType));
+        return Ok(First::Faulty(SoupFault::UnknownType));
     }
     if kind == b'L' && count != LOGIN_LENGTH {
-        return Ok(Front::Faulty(SoupFault::BadLogin));
+        return Ok(First::Faulty(SoupFault::BadLogin));
     }
     if body.len() < count - 1 {
-        return Ok(Front::Short);
+        return Ok(First::Short);
     }
     let payload = &body[..count - 1];
     if kind == b'L' {
-        return Ok(login_front(payload));
+        return put_login(payload, packets);
     }
-    let packet = plain_packet(alloc, kind, payload)?;
-    Ok(Front::Whole(packet, payload.len() + 3))
+    put_plain(alloc, kind, payload, packets)?;
+    Ok(First::Whole(payload.len() + 3))
 }
 
 fn is_client_type(kind: u8) -> bool
@@ -70,24 +83,38 @@ fn is_client_type(kind: u8) -> bool
     matches!(kind, b'L' | b'U' | b'R' | b'O' | b'+')
 }
 
-/// A packet of a type that is not a login's.
-fn plain_packet(alloc: Global, kind: u8, payload: &[u8]) -> Result<ClientPacket, OutOfMemory>
-    ensures { IfOk result (λ packet. packet ≡ plain_packet kind payload.now) }
+/// Puts a packet of a type that is not a login's last in the list.
+fn put_plain(
+    alloc: Global,
+    kind: u8,
+    payload: &[u8],
+    packets: &mut Vec<ClientPacket>,
+) -> Result<(), OutOfMemory>
+    ensures { OnOk result
+        (packets.new.items ≡ packets.old.items ++ plain_packet kind payload.now ∷ []) }
 {
-    Ok(match kind {
-        b'U' => ClientPacket::Data(Payload::new(alloc, payload)?),
+    if kind == b'U' {
+        packets.push(ClientPacket::Data(Payload::new(alloc, payload)?))?;
+        return Ok(());
+    }
+    packets.push(match kind {
         b'R' => ClientPacket::Heartbeat,
         b'O' => ClientPacket::Logout,
         _ => ClientPacket::Debug,
-    })
+    })?;
+    Ok(())
 }
 
-fn login_front(payload: &[u8]) -> Front
+/// Puts a login last in the list, where its number is one.
+fn put_login(payload: &[u8], packets: &mut Vec<ClientPacket>) -> Result<First, OutOfMemory>
     requires { length payload.now ≡ 46 }
-    ensures { result ≡ login_front payload.now (number_of (slice_range payload.now 26 46)) }
+    ensures told { IfOk result (λ f. f
+        ≡ told (login_front payload.now (number_of (slice_range payload.now 26 46)))) }
+    ensures put { OnOk result (packets.new.items ≡ with_front packets.old.items
+        (login_front payload.now (number_of (slice_range payload.now 26 46)))) }
 {
     let Some(wanted) = number_of(&payload[26..46]) else {
-        return Front::Faulty(SoupFault::BadLogin);
+        return Ok(First::Faulty(SoupFault::BadLogin));
     };
     let login = LoginRequest {
         user: UserName {
@@ -101,5 +128,6 @@ fn login_front(payload: &[u8]) -> Front
         },
         wanted,
     };
-    Front::Whole(ClientPacket::Login(login), LOGIN_LENGTH + 2)
+    packets.push(ClientPacket::Login(login))?;
+    Ok(First::Whole(LOGIN_LENGTH + 2))
 }

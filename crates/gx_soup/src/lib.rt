@@ -7,7 +7,6 @@ mod front;
 mod laws;
 mod packet;
 mod payload;
-mod place;
 mod writing;
 
 pub use feeder::{Fed, Feeder};

@@ -2,24 +2,26 @@
 
 ghost use Rattle.std.specs.Prelude.{◌≡◌, ◌≤◌, length, IfOk, IsOk};
 
-use crate::place::Place;
 use gx_units::OutOfMemory;
+use smallvec::SmallVec;
 use std::alloc::Global;
 use std::marker::Model;
+
+/// So many bytes lie in their packet. More take memory.
+const NEAR: usize = 64;
 
 /// The bytes that a packet carries behind its type. Contracts see them as a list.
 #[derive(Drop)]
 pub struct Payload {
-    place: Place,
+    bytes: SmallVec<u8, NEAR>,
 }
 
 impl Model for Payload {
     ghost use Rattle.std.specs.Prelude.{List, ℕ};
-    ghost use Rattle.gx_soup.specs.Places.{held};
 
     ghost Value = { List ℕ };
 
-    ghost view = { λ p. held p.place };
+    ghost view = { λ p. p.bytes.items };
 }
 
 impl Payload {
@@ -32,14 +34,14 @@ impl Payload {
         ensures bytes { IfOk result (λ payload. payload ≡ bytes.now) }
         ensures near { length bytes.now ≤ 64 → IsOk result }
     {
-        let place = Place::of(alloc, bytes)?;
-        Ok(Payload { place })
+        let bytes = SmallVec::from_slice(alloc, bytes)?;
+        Ok(Payload { bytes })
     }
 
     /// Its bytes.
     pub fn as_slice(&self) -> &[u8]
         ensures { result.now ≡ self.now }
     {
-        self.place.as_slice()
+        self.bytes.as_slice()
     }
 }

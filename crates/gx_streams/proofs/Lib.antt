@@ -4,6 +4,7 @@ pub mod Windows
 pub mod Spanning
 pub mod Named
 pub mod Shown
+pub mod Silent
 pub mod Opened
 pub mod Whole
 pub mod Continuing

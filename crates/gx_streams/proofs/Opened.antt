@@ -6,7 +6,7 @@ use Rattle.gx_policy.specs.{declared.policy.{User.User, PolicyData.PolicyData}, 
 use Rattle.gx_history.specs.declared.report.Report.{Report}
 use Rattle.gx_history_laws.proofs.Adding.{user_is_itself}
 use Rattle.gx_streams.specs.{declared.{entry.Entry.Entry, fill.ToldFill.ToldFill}, Kept.{Kept, UserList, list_of, nothing_kept, nothing_told, told_nothing}, Spans.{IsSound, ReaderSpans, first_spans, is_named, no_spans, spans_for}, Streams.{AllStreams, ReaderMask, empty_streams, no_mask}, Table.{IsSoundTable, IsThere, kept_copies, list_shown, reader_mask, streams_of}}
-use Rattle.gx_streams.proofs.Shown.{AllKnown}
+use Rattle.gx_streams.proofs.{Shown.{AllKnown}, Silent.silent_first}
 
 -- whoever is found among readers without spans has nothing
 none_copied : (users : List User) (name : UserName) → option_map_or (kept_copies []) (find (is_named name) (flat_map spans_for users)) nothing_kept ≡ nothing_kept
@@ -69,5 +69,5 @@ known (u ∷ users) =
 
 pub opened_sound : (policy : PolicyData) (fills : List ToldFill) (lists : List (UserList Entry)) (spans : List ReaderSpans) → fills ≡ [] → lists ≡ nothing_told policy → spans ≡ first_spans policy → IsSoundTable fills lists spans
 opened_sound policy fills lists spans none is are =
-    let good : IsSoundTable [] (nothing_told policy) (first_spans policy) = record { there = there policy.users; sound = sound policy.users; known = known policy.users } in
+    let good : IsSoundTable [] (nothing_told policy) (first_spans policy) = record { there = there policy.users; sound = sound policy.users; known = known policy.users; silent = silent_first policy.users (first_spans policy) } in
     subst (λ f. IsSoundTable f lists spans) (sym none) (subst (λ l. IsSoundTable [] l spans) (sym is) (subst (IsSoundTable [] (nothing_told policy)) (sym are) good))

@@ -5,7 +5,7 @@ use Rattle.gx_units.specs.declared.names.UserName.{UserName}
 use Rattle.gx_history.specs.declared.report.Report.{Report}
 use Rattle.gx_history_laws.proofs.Judging.{both}
 use Rattle.gx_streams.specs.{declared.{fill.{ToldFill.ToldFill, Party.Party}, entry.Entry.Entry}, Kept.{Kept, UserList, at_first, is_known, on_user, places_in, with_last}, Spans.{ReaderSpans, counted, entitled_from, is_named}, Streams.{AllStreams, ReaderMask, entitled, is_told, mask_in, on_told, with_fill, with_fill_told}, Table.{IsSoundTable, list_shown, reader_mask, streams_of}}
-use Rattle.gx_streams.proofs.{Shown.{fill_shown, fill_there, known_changed, known_counted, known_masked, known_shown, mask_found, mask_shown, no_reader, place_shown, with_sides}, Spanning.{all_masked, all_noted, masks_changed, masks_noted}}
+use Rattle.gx_streams.proofs.{Shown.{fill_shown, fill_there, known_changed, known_counted, known_masked, known_shown, mask_found, mask_shown, no_reader, place_shown, with_sides}, Silent.{silent_changed, silent_counted, silent_masked}, Spanning.{all_masked, all_noted, masks_changed, masks_noted}}
 
 -- a user who is told, among entries and readers
 pub record IsToldHere (told : List (UserList Entry)) (readers : List ReaderSpans) (user : UserName) : Type 0 where
@@ -73,15 +73,19 @@ filled fills seen after told now readers noted f self pushed at done counts soun
     ∙ ap (with_fill f) view
 
 pub filled_sound : (fills seen after : List ToldFill) (told now : List (UserList Entry)) (readers noted : List ReaderSpans) (f : ToldFill)
+    → find (is_named f.taker.user) readers ≡ None → find (is_named f.maker.user) readers ≡ None
     → after ≡ fills ++ f ∷ [] → seen ≡ fills → now ≡ with_sides f (length seen) told → noted ≡ map (counted f) readers → IsSoundTable fills told readers
     → IsSoundTable after now noted
-filled_sound fills seen after told now readers noted f pushed at done counts sound =
+filled_sound fills seen after told now readers noted f taker_none maker_none pushed at done counts sound =
     let all = fills ++ f ∷ [] in
     let good : IsSoundTable all (with_sides f (length fills) told) (map (counted f) readers) = record {
       there = fill_there fills f told sound.there;
       sound = all_noted fills f readers sound.sound;
       known = known_changed _ f.maker.user (with_last (Entry.Filled (length fills) Party.Maker)) (map (counted f) readers)
           (known_changed told f.taker.user (with_last (Entry.Filled (length fills) Party.Taker)) (map (counted f) readers) (known_counted told f readers sound.known));
+      silent = silent_counted _ f readers
+          (silent_changed _ f.maker.user (with_last (Entry.Filled (length fills) Party.Maker)) readers maker_none
+          (silent_changed told f.taker.user (with_last (Entry.Filled (length fills) Party.Taker)) readers taker_none sound.silent));
     } in
     subst (λ l. IsSoundTable l now noted) (sym pushed)
     (subst (λ t. IsSoundTable all t noted) (sym (done ∙ ap (λ l. with_sides f (length l) told) at))
@@ -102,4 +106,4 @@ pub masked_sound : (fills seen : List ToldFill) (told : List (UserList Entry)) (
     → seen ≡ fills → IsSoundTable fills told readers → IsSoundTable fills told (at_first (is_named user) (entitled_from mask (length seen)) readers)
 masked_sound fills seen told readers user mask at sound =
     subst (λ (l : List ToldFill). IsSoundTable fills told (at_first (is_named user) (entitled_from mask (length l)) readers)) (sym at)
-    (record { there = sound.there; sound = all_masked fills user mask readers sound.sound; known = known_masked told user mask (length fills) readers sound.known })
+    (record { there = sound.there; sound = all_masked fills user mask readers sound.sound; known = known_masked told user mask (length fills) readers sound.known; silent = silent_masked told user mask (length fills) readers sound.silent })

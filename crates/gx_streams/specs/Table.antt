@@ -1,9 +1,9 @@
 -- The streams that the tables stand for.
-use Rattle.std.specs.{Prelude.{◌<◌, ℕ, IsTrue, List, length, map}, Option.option_map_or, List.{AllByRecursion, find, slice_get}}
+use Rattle.std.specs.{Prelude.{◌≡◌, ◌<◌, ℕ, IsTrue, List, [], length, map}, Option.option_map_or, List.{AllByRecursion, find, slice_get}}
 use Rattle.gx_units.specs.declared.names.UserName.{UserName}
 use Rattle.gx_ouch.specs.declared.{outbound.Outbound.Outbound, letters.EventCode.EventCode}
 use Rattle.gx_history.specs.declared.report.{Message.Message, Report.Report}
-use Rattle.gx_streams.specs.{declared.{fill.ToldFill.ToldFill, entry.Entry.Entry}, Fills.executed_report, Kept.{Kept, UserList, is_known}, Spans.{ReaderSpans, IsSound, copies_in, is_named}, Streams.{AllStreams, ReaderMask}}
+use Rattle.gx_streams.specs.{declared.{fill.ToldFill.ToldFill, entry.Entry.Entry}, Fills.executed_report, Kept.{Kept, UserList, is_known, items_in}, Spans.{ReaderSpans, IsSound, copies_in, is_named}, Streams.{AllStreams, ReaderMask}}
 
 -- the user of an entry
 abbrev pub user_list : UserName × Kept Entry → UserList Entry
@@ -47,8 +47,9 @@ reader_mask r = record { user = r.user; mask = r.current.mask }
 abbrev pub streams_of : List ToldFill → List (UserList Entry) → List ReaderSpans → AllStreams
 streams_of fills told readers = record { told = map (list_shown fills readers) told; readers = map reader_mask readers }
 
--- each entry's fill is there, each reader's spans are sound, and he is one of the users
+-- each entry's fill is there; each reader's spans are sound, and he is one of the users, and has no entry
 pub record IsSoundTable (fills : List ToldFill) (told : List (UserList Entry)) (readers : List ReaderSpans) : Type 0 where
   pub there : AllByRecursion (λ (l : UserList Entry). AllByRecursion (IsThere (length fills)) l.kept.items) told
   pub sound : AllByRecursion (IsSound fills) readers
   pub known : AllByRecursion (λ (r : ReaderSpans). IsTrue (is_known told r.user)) readers
+  pub silent : AllByRecursion (λ (r : ReaderSpans). items_in told r.user ≡ []) readers

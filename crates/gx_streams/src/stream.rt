@@ -1,6 +1,6 @@
 //! What is kept of one user's reports.
 
-ghost use Rattle.std.specs.Prelude.{◌≡◌, ◌<◌, ◌≤◌, length, IsOk, OnOk, OnErr};
+ghost use Rattle.std.specs.Prelude.{◌≡◌, ◌+◌, ◌<◌, ◌≤◌, vec_capacity, vec_len, IsOk, OnOk, OnErr};
 ghost use Rattle.gx_streams.specs.Kept.{nothing_kept, with_kept_last, with_last, with_places, without_last};
 
 use crate::entry::Entry;
@@ -27,6 +27,24 @@ impl Model for Stream {
     ghost invariant = { λ s. vec_len s.entries + s.spare ≤ vec_capacity s.entries };
 }
 
+/// Makes room for so many more entries. A list without it becomes four times as long, so that its entries are moved less
+/// often; where so much is refused, no more is taken than is asked for.
+#[inline(never)]
+fn make_room(entries: &mut Vec<Entry>, more: usize) -> Result<(), OutOfMemory>
+    ensures items { entries.new.items ≡ entries.old.items }
+    ensures len { vec_len entries.new ≡ vec_len entries.old }
+    ensures capacity { vec_capacity entries.old ≤ vec_capacity entries.new }
+    ensures ok { OnOk result (vec_len entries.new + more ≤ vec_capacity entries.new) }
+    ensures enough { vec_len entries.old + more ≤ vec_capacity entries.old → IsOk result }
+{
+    let far = entries.capacity().saturating_mul(3).max(more);
+    if entries.capacity() - entries.len() < more && entries.reserve(far).is_ok() {
+        return Ok(());
+    }
+    entries.reserve(more)?;
+    Ok(())
+}
+
 impl Stream {
     /// Nothing, and no place kept. Takes no memory.
     pub(crate) fn new(alloc: Global) -> Stream
@@ -43,7 +61,7 @@ impl Stream {
         ensures ok { OnOk result (self.new ≡ with_last entry self.old) }
         ensures err { OnErr result (self.new ≡ self.old) }
     {
-        self.entries.reserve(self.spare + 1)?;
+        make_room(&mut self.entries, self.spare + 1)?;
         self.entries.push(entry)?;
         Ok(())
     }
@@ -56,7 +74,7 @@ impl Stream {
         ensures err { OnErr result (self.new ≡ self.old) }
     {
         if self.spare < places {
-            self.entries.reserve(places)?;
+            make_room(&mut self.entries, places)?;
             self.spare = places;
         }
         Ok(())

@@ -1,8 +1,8 @@
 //! The streams of all users.
 
-ghost use Rattle.std.specs.Prelude.{◌≡◌, ◌<◌, ◌^◌, ◌≤◌, [], ◌∷◌, ◌++◌, length, map, option_map, IsTrue, IfOk, IsOk, OnOk, OnErr};
+ghost use Rattle.std.specs.{Prelude.{◌≡◌, ◌<◌, ◌^◌, ◌≤◌, [], ◌∷◌, ◌++◌, is_some, length, map, option_map, IsTrue, IfOk, IsOk, OnOk, OnErr}, List.find};
 ghost use Rattle.gx_policy.specs.Lists.{slice};
-ghost use Rattle.gx_streams.specs.{Kept.{places_in, with_kept_last, with_last, with_places}, Spans.{copies_in, AreNumbered}, Streams.{empty_streams, entitled, is_told, on_told, reports_in, with_fill}, Table.{no_report, report_of}};
+ghost use Rattle.gx_streams.specs.{Kept.{places_in, with_kept_last, with_last, with_places}, Spans.{copies_in, is_named, AreNumbered}, Streams.{empty_streams, entitled, is_told, on_told, reports_in, with_fill}, Table.{no_report, report_of}};
 
 use crate::entry::Entry;
 use crate::fill::{Party, ToldFill};
@@ -20,6 +20,16 @@ use std::marker::Model;
 
 /// No span has more fills.
 const SPAN_LIMIT: usize = 1024;
+
+/// How many reports a user has, and where he stands among the policy's users: a call that looks
+/// for him at this place first finds him there. The place that was asked for, if he is none of them.
+#[derive(Clone, Copy)]
+pub struct Owed {
+    /// How many reports he has.
+    pub count: usize,
+    /// His place.
+    pub place: usize,
+}
 
 /// What each user of the policy was told, in order, places kept for more, and whose later fills
 /// each reader gets.
@@ -53,20 +63,16 @@ fn no_report() -> Report
     }
 }
 
-/// Puts the report that the entry stands for last in the list.
-fn put_report_of(
-    fills: &[ToldFill],
-    entry: &Entry,
-    reports: &mut Vec<Report>,
-) -> Result<(), OutOfMemory>
-    ensures { OnOk result
-        (reports.new.items ≡ reports.old.items ++ report_of fills.now entry.now ∷ []) }
+/// The report that the entry stands for.
+#[inline(always)]
+fn report_of(fills: &[ToldFill], entry: &Entry) -> Report
+    ensures { result ≡ report_of fills.now entry.now }
 {
     match entry {
-        Entry::Typed(report) => Ok(reports.push(*report)?),
+        Entry::Typed(report) => *report,
         Entry::Filled(place, party) => match fills.get(*place) {
-            Some(fill) => Ok(reports.push(fill.report(*party))?),
-            None => Ok(reports.push(no_report())?),
+            Some(fill) => fill.report(*party),
+            None => no_report(),
         },
     }
 }
@@ -82,21 +88,22 @@ fn put_reports_of(
     reports.clear();
     reports.reserve(entries.len())?;
     for entry in entries {
-        put_report_of(fills, entry, reports)?;
+        reports.push_reserved(report_of(fills, entry));
     }
     Ok(())
 }
 
-fn reports_of(
-    alloc: Global,
-    fills: &[ToldFill],
-    entries: &[Entry],
-) -> Result<Vec<Report>, OutOfMemory>
-    ensures { IfOk result (λ reports. reports.items ≡ map (report_of fills.now) entries.now) }
+/// The reader of this name, who has these entries. A reader has none, so whoever has some is not
+/// looked for.
+#[inline(always)]
+fn reader_of<'a>(readers: &'a Readers, user: UserName, entries: &[Entry]) -> Option<&'a Reader>
+    requires { IsTrue (is_some (find (is_named user) readers.now)) → entries.now ≡ [] }
+    ensures { option_map (λ r. r.now) result ≡ find (is_named user) readers.now }
 {
-    let mut reports = Vec::new(alloc);
-    put_reports_of(fills, entries, &mut reports)?;
-    Ok(reports)
+    if !entries.is_empty() {
+        return None;
+    }
+    readers.find(user)
 }
 
 #[tactic(auto, using(crate::proofs::Reading::taken_is))]
@@ -266,53 +273,59 @@ impl Streams {
         self.readers.entitle(reader, mask, fill)
     }
 
-    /// The user's reports from this number on, 0 counting as 1, and at most so many. It takes
-    /// memory for these alone. Of a reader it looks at each span, and at the fills of those that it
-    /// gives something of, at most 1,024 of each, up to the last report that is asked for.
+    /// Puts the user's reports from this number on, 0 counting as 1, and at most so many, into this
+    /// list, in place of what stands there, and answers how many reports he has. He is looked for at
+    /// this place of the policy's users first.
     ///
-    /// `OutOfMemory`: there was no memory for the copy.
-    pub fn slice(&self, user: UserName, from: u64, most: u64) -> Result<Vec<Report>, OutOfMemory>
-        ensures { IfOk result (λ part. part.items ≡ slice (reports_in self.now user) from most) }
-    {
-        let fills = self.fills.as_slice();
-        match self.readers.find(user) {
-            Some(reader) => copies(self.alloc, fills, reader, from, most),
-            None => {
-                let entries = slice(self.told.entries(user), from, most);
-                reports_of(self.alloc, fills, entries)
-            }
-        }
-    }
-
-    /// Puts what `slice` gives into this list, in place of what stands there, and answers how many
-    /// reports the user has. The list's room is kept, so that a user who is no reader is told
-    /// without memory while it is enough.
+    /// The list's room is kept, so that a user who is no reader is told without memory while it is
+    /// enough. Of a reader it looks at each span, and at the fills of those that it gives something
+    /// of, at most 1,024 of each, up to the last report that is asked for.
     ///
     /// `OutOfMemory`: there was no memory for the copy, and what the list has is nothing to go by.
     pub fn put_slice(
         &self,
         user: UserName,
+        near: usize,
         from: u64,
         most: u64,
         reports: &mut Vec<Report>,
-    ) -> Result<usize, OutOfMemory>
+    ) -> Result<Owed, OutOfMemory>
         ensures part { OnOk result
             (reports.new.items ≡ slice (reports_in self.now user) from most) }
-        ensures count { IfOk result (λ count. count ≡ length (reports_in self.now user)) }
-        ensures few { IfOk result (λ count. count < 2 ^ 63) }
+        ensures count { IfOk result (λ o. o.count ≡ length (reports_in self.now user)) }
+        ensures few { IfOk result (λ o. o.count < 2 ^ 63) }
     {
         let fills = self.fills.as_slice();
-        match self.readers.find(user) {
+        let found = self.told.find(user, near);
+        match reader_of(&self.readers, user, found.entries) {
             Some(reader) => {
                 *reports = copies(self.alloc, fills, reader, from, most)?;
-                Ok(reader.count())
+                Ok(Owed {
+                    count: reader.count(),
+                    place: found.place,
+                })
             }
             None => {
-                let entries = self.told.entries(user);
-                put_reports_of(fills, slice(entries, from, most), reports)?;
-                Ok(entries.len())
+                put_reports_of(fills, slice(found.entries, from, most), reports)?;
+                Ok(Owed {
+                    count: found.entries.len(),
+                    place: found.place,
+                })
             }
         }
+    }
+
+    /// The user's reports from this number on, 0 counting as 1, and at most so many, in a list of their own. The program
+    /// makes `put_slice` in its place, into a list that is kept.
+    ///
+    /// `OutOfMemory`: there was no memory for the list.
+    pub fn slice(&self, user: UserName, from: u64, most: u64) -> Result<Vec<Report>, OutOfMemory>
+        ensures part { IfOk result
+            (λ part. part.items ≡ slice (reports_in self.now user) from most) }
+    {
+        let mut reports = Vec::new(self.alloc);
+        let _ = self.put_slice(user, 0, from, most, &mut reports)?;
+        Ok(reports)
     }
 
     /// How many reports the user has. Takes no memory, and walks no fills.
@@ -324,7 +337,7 @@ impl Streams {
         let _ = self.fills.as_slice();
         match self.readers.find(user) {
             Some(reader) => reader.count(),
-            None => self.told.entries(user).len(),
+            None => self.told.find(user, 0).entries.len(),
         }
     }
 

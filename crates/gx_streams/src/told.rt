@@ -5,7 +5,7 @@ ghost use Rattle.gx_streams.specs.Kept.{is_known, items_in, nothing_told, on_use
 
 use crate::entry::Entry;
 use crate::stream::Stream;
-use gx_index::get_mut_near;
+use gx_index::{get_mut_near, index_near};
 use gx_policy::Policy;
 use gx_units::{OutOfMemory, UserName};
 use indexmap::IndexMap;
@@ -16,6 +16,14 @@ use std::marker::Model;
 #[derive(Drop)]
 pub(crate) struct Told {
     by_user: IndexMap<UserName, Stream>,
+}
+
+/// A user's entries, in order, and where he stands among the policy's users: a look-up that tries this place first finds
+/// him there.
+#[derive(Clone, Copy)]
+pub(crate) struct Found<'a> {
+    pub(crate) entries: &'a [Entry],
+    pub(crate) place: usize,
 }
 
 impl Model for Told {
@@ -144,14 +152,21 @@ impl Told {
         stream.push_reserved(entry);
     }
 
-    /// The user's entries, in order.
+    /// The user's entries; none of a user who is not known.
+    #[inline(always)]
     #[tactic(auto, using(crate::proofs::Users::items_found))]
-    pub(crate) fn entries(&self, user: UserName) -> &[Entry]
-        ensures { result.now ≡ items_in self.now user }
+    pub(crate) fn find(&self, user: UserName, near: usize) -> Found<'_>
+        ensures { result.entries.now ≡ items_in self.now user }
     {
-        match self.by_user.get(&user) {
-            Some(stream) => stream.as_slice(),
-            None => &[],
+        match index_near(&self.by_user, near, user) {
+            Some(place) => Found {
+                entries: self.by_user[place].as_slice(),
+                place,
+            },
+            None => Found {
+                entries: &[],
+                place: near,
+            },
         }
     }
 }

@@ -3,21 +3,29 @@
 /// A table of the report.
 #[derive(Clone, Copy, PartialEq, Eq)]
 pub enum TableKind {
-    /// What the report is of: one row.
+    /// What the report is of, in one row: the moment of the first record and of the last, and whether the day is
+    /// closed.
     Day,
-    /// A row for each account.
+    /// A row for each account of the policy: how many orders, replaces and cancels its traders were granted, how many
+    /// of these were denied, fills (each side of one), what it bought and sold, its live orders at the end, and whether
+    /// it is killed.
     Accounts,
-    /// A row for each gross rule and account: the greatest that was used of the limit.
+    /// A row for each gross rule and account, or all accounts `together`: the most that was used of the limit, the
+    /// moment and the record after which it first stood, the limit in force then, the used share of it in percent, and
+    /// the first record after which more was used than the limit then in force, if there is one.
     GrossPeaks,
-    /// A row for each net rule, account, stock and side that was ever used.
+    /// As of gross rules, for each net rule, account, stock and side on which anything was used.
     NetPeaks,
-    /// A row for each account and stock in which something was executed.
+    /// A row for each account and stock in which it executed anything: what it bought, what it sold, and the net.
     Positions,
-    /// A row for each officer's command.
+    /// A row for each command that an officer asked for: what it is of and about, what stood before it (a limit;
+    /// `killed` or `live` of an account) and after, `granted` or the rule that denied it, and the orders and shares
+    /// that it ended.
     Commands,
-    /// A row for each rule and account whose requests it denied.
+    /// A row for each rule and account whose requests it denied; no account where an officer or a stranger asked.
     Denials,
-    /// A row for each span of the day.
+    /// A row for each 48th part of the time from the first record to the last: orders and replaces granted, fills and
+    /// denials.
     Spans,
 }
 

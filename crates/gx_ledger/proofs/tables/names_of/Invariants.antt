@@ -1,5 +1,5 @@
 use Rattle.std.proofs.Common.{◌≡◌, take}
-use Rattle.gx_ledger.specs.Keeping.{account_names}
+use Rattle.gx_ledger.specs.Accounts.{account_names}
 use Rattle.gx_ledger.proofs.tables.names_of.Given as goal
 
 abbrev pub invariant-loop-account : goal.invariant-loop-account

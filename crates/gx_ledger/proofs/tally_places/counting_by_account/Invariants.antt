@@ -1,5 +1,5 @@
 use Rattle.std.proofs.Common.{◌≡◌, map, take}
-use Rattle.gx_ledger.specs.{Counts.counting, Keeping.account_names}
+use Rattle.gx_ledger.specs.{Counts.counting, Accounts.account_names}
 use Rattle.gx_ledger.proofs.tally_places.counting_by_account.Given as goal
 
 abbrev pub invariant-loop-account : goal.invariant-loop-account

@@ -1,4 +1,4 @@
-use Rattle.std.proofs.{Common.{◌≡◌, ◌≢◌, ℕ, ◌≤◌, ◌<◌, ◌^◌, Bool, true, false, cond, ltb, take, get_or, Option, Some, None, IfNone, IfSome, refl, ap, sym, ◌∙◌, arith}, lemmas.{Bool.{ltb-false, le-ltb}, List.Sums.fold_more}}
+use Rattle.std.proofs.{Common.{◌≡◌, ℕ, ◌^◌, Bool, true, false, cond, ltb, take, get_or, Option, Some, None, IfNone, IfSome, refl, ap, sym, ◌∙◌, arith}, lemmas.{Bool.{ltb-false, le-ltb}, List.Sums.fold_more}}
 use Rattle.gx_soup.specs.Login.{in_64_bits, spelled, with_digit}
 use Rattle.gx_soup.proofs.fields.spelled_value.Goals as goal
 

@@ -11,14 +11,15 @@ returns c =
           (λ i. record {
             tallies = sym (c.deref.ensures.value ∙ ap (λ (k : Kept). k.tallies) c.self.view_is) i;
             wanted = record {
-              account = c.args.account;
               place = sym c.place.ensures i;
-              request = c.args.request.now;
-              replaced = c.args.replaced;
+              entered = sym c.asked_as.ensures i;
+              replaced_shares = sym c.open_of.ensures i;
+              replaced_value = sym c.open_value_of.ensures i;
               side = sym c.side_of.ensures i;
+              near = c.args.near.stock;
               reference = sym c.reference.ensures i;
               moment = c.args.moment;
             };
           })
-          (figures_answer c.args.self.now c.args.account c.args.request.now c.args.replaced c.args.moment);
+          (figures_answer c.args.self.now c.args.account c.args.request.now c.args.replaced c.args.moment c.args.near.stock);
     }

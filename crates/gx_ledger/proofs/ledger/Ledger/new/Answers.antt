@@ -2,32 +2,35 @@ use Rattle.std.proofs.Common.{◌≡◌, ◌∙◌, ap, sym, subst, map}
 use Rattle.gx_policy.specs.declared.policy.PolicyData.{PolicyData}
 use Rattle.gx_history_laws.proofs.Names.{accounts_differ as accounts_apart}
 use Rattle.gx_positions.specs.Changing.{nothing}
-use Rattle.gx_ledger.specs.{Counts.counting, Keeping.{Kept, account_names, reference_prices}, StandsFor.StandsFor, Tables.{accounts_differ, names_differ}, Tallies.new_tally, contracts.ledger.Ledger.the_view}
+use Rattle.gx_ledger.specs.{Counts.counting, Accounts.account_names, Keeping.{Kept, reference_prices}, StandsFor.StandsFor, Tables.{accounts_differ, names_differ}, Tallies.new_tally, contracts.ledger.Ledger.the_view}
 use Rattle.gx_ledger.proofs.Opening.{opened_stands, sound_stocks}
 use Rattle.gx_ledger.proofs.ledger.Ledger.new.Goals as goal
 
 pub names_of-requires : goal.names_of-requires
-names_of-requires c = ap accounts_differ c.accounts-2.ensures ∙ accounts_apart c.args.policy.now c.rules.ensures.sound
+names_of-requires c = ap accounts_differ c.accounts.ensures ∙ accounts_apart c.args.policy.now c.rules-rules.ensures.sound
 
 pub first_tallies-requires : goal.first_tallies-requires
-first_tallies-requires c = ap names_differ c.stocks.ensures ∙ sound_stocks c.args.policy.now c.rules.ensures.sound
+first_tallies-requires c = record {
+  named = c.in_ok-accounts.ensures ∙ ap account_names (c.accounts.ensures ∙ sym c.accounts-3.ensures);
+  differ = ap names_differ c.stocks.ensures ∙ sound_stocks c.args.policy.now c.rules-rules.ensures.sound;
+}
 
 pub first_prices-requires : goal.first_prices-requires
-first_prices-requires c = ap names_differ c.stocks-2.ensures ∙ sound_stocks c.args.policy.now c.rules.ensures.sound
+first_prices-requires c = ap names_differ c.stocks-2.ensures ∙ sound_stocks c.args.policy.now c.rules-rules.ensures.sound
 
 pub returns : goal.returns
 returns c =
     let policy : PolicyData = c.args.policy.now in
     let opened : Kept = record { accounts = account_names policy.accounts; prices = reference_prices policy.stocks; tallies = map (new_tally policy.accounts policy.stocks) policy.rules } in
     let new_is : the_view (record { accounts = c.in_ok-accounts.accounts; prices = c.in_ok-prices.prices; tallies = c.in_ok-tallies.tallies; counting = c.in_ok-counting.counting }) ≡ opened = λ i. record {
-      accounts = (c.in_ok-accounts.ensures ∙ ap account_names c.accounts-2.ensures) i;
+      accounts = (c.in_ok-accounts.ensures ∙ ap account_names c.accounts.ensures) i;
       prices = (c.in_ok-prices.ensures ∙ ap reference_prices c.stocks-2.ensures) i;
-      tallies = (c.in_ok-tallies.ensures ∙ (λ j. map (new_tally (c.accounts.ensures j) (c.stocks.ensures j)) (c.rules.ensures.same j))) i;
+      tallies = (c.in_ok-tallies.ensures ∙ (λ j. map (new_tally (c.accounts-3.ensures j) (c.stocks.ensures j)) (c.rules-rules.ensures.same j))) i;
     } in
-    record { stands = subst (λ k. StandsFor policy k nothing) (sym new_is) (opened_stands policy c.rules.ensures.sound) }
+    record { stands = subst (λ k. StandsFor policy k nothing) (sym new_is) (opened_stands policy c.rules-rules.ensures.sound) }
 
 pub invariant_of-result : goal.invariant_of-result
 invariant_of-result c =
     c.in_ok-counting.ensures
-    ∙ (λ i. map (counting (c.as_slice.ensures.value i)) (account_names ((c.accounts-4.ensures ∙ sym c.accounts-2.ensures) i)))
+    ∙ (λ i. map (counting (c.as_slice.ensures.value i)) (account_names ((c.accounts-4.ensures ∙ sym c.accounts.ensures) i)))
     ∙ ap (map (counting c.in_ok-tallies.tallies.items)) (sym c.in_ok-accounts.ensures)

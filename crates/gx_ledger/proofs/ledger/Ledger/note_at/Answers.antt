@@ -1,6 +1,6 @@
 use Rattle.std.proofs.{Common.{◌∙◌, None, Some, ap, sym, rules}, lemmas.List.{places, with_items_is}}
 use Rattle.std.specs.Vec.{with_items}
-use Rattle.gx_ledger.specs.{Keeping.{Kept, account_place, kept_noted, noted}, contracts.ledger.Ledger.the_view}
+use Rattle.gx_ledger.specs.{Accounts.account_place, Keeping.{Kept, kept_noted, noted}, contracts.ledger.Ledger.the_view}
 use Rattle.gx_ledger.proofs.Listing.{his_list, item_is, kept_told, still_counted, told_his}
 use Rattle.gx_ledger.proofs.ledger.Ledger.note_at.Goals as goal
 

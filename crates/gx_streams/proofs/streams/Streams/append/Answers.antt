@@ -1,6 +1,6 @@
 use Rattle.std.proofs.{Common.length, lemmas.Result.on_ok_weaker}
 use Rattle.gx_streams.specs.{declared.entry.Entry.Entry, Kept.{on_user, with_last}}
-use Rattle.gx_streams.proofs.{Shown.{known_changed, last_shown, there_with_last}, Whole.{sound_told, told_changed, told_here}}
+use Rattle.gx_streams.proofs.{Shown.{known_changed, last_shown, there_with_last}, Silent.silent_changed, Whole.{sound_told, told_changed, told_here}}
 use Rattle.gx_streams.proofs.streams.Streams.append.Goals as goal
 
 pub append-requires : goal.append-requires
@@ -10,11 +10,13 @@ pub invariant_of-self : goal.invariant_of-self
 invariant_of-self c =
     let entry = Entry.Typed c.args.report in
     let was = c.self.invariant in
+    let his = told_here c.self.inside.fills.items c.self.inside.told c.self.inside.readers c.args.self.now c.args.user c.self.view_is c.requires.told in
     sound_told c.append.result c.self.inside.fills.items c.self.inside.told (on_user c.args.user (with_last entry) c.self.inside.told) c.append.new.self c.self.inside.readers c.append.ensures.ok c.append.ensures.err
     (record {
       there = there_with_last (length c.self.inside.fills.items) entry c.args.user c.self.inside.told tt was.there;
       sound = was.sound;
       known = known_changed c.self.inside.told c.args.user (with_last entry) c.self.inside.readers was.known;
+      silent = silent_changed c.self.inside.told c.args.user (with_last entry) c.self.inside.readers his.reads_not was.silent;
     }) was
 
 pub returns-clause-ok : goal.returns-clause-ok

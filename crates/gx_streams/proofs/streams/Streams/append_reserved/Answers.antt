@@ -1,6 +1,6 @@
 use Rattle.std.proofs.Common.{length, subst, sym}
 use Rattle.gx_streams.specs.{declared.entry.Entry.Entry, Kept.with_kept_last, Table.IsSoundTable}
-use Rattle.gx_streams.proofs.{Shown.{kept_last_shown, known_changed, there_with_kept_last}, Whole.{placed_here, told_changed}}
+use Rattle.gx_streams.proofs.{Shown.{kept_last_shown, known_changed, there_with_kept_last}, Silent.silent_changed, Whole.{placed_here, told_changed}}
 use Rattle.gx_streams.proofs.streams.Streams.append_reserved.Goals as goal
 
 pub append_reserved-requires : goal.append_reserved-requires
@@ -10,11 +10,13 @@ pub invariant_of-self : goal.invariant_of-self
 invariant_of-self c =
     let entry = Entry.Typed c.args.report in
     let was = c.self.invariant in
+    let reads_not = (placed_here c.self.inside.fills.items c.self.inside.told c.self.inside.readers c.args.self.now c.args.user c.self.view_is c.requires).0 in
     subst (λ t. IsSoundTable c.self.inside.fills.items t c.self.inside.readers) (sym c.append_reserved.ensures)
     (record {
       there = there_with_kept_last (length c.self.inside.fills.items) entry c.args.user c.self.inside.told tt was.there;
       sound = was.sound;
       known = known_changed c.self.inside.told c.args.user (with_kept_last entry) c.self.inside.readers was.known;
+      silent = silent_changed c.self.inside.told c.args.user (with_kept_last entry) c.self.inside.readers reads_not was.silent;
     })
 
 pub returns : goal.returns

@@ -2,8 +2,12 @@ use Rattle.std.proofs.Common.{◌≡◌, List, ◌∙◌, ap, length, map, subst
 use Rattle.gx_policy.specs.Lists.{slice}
 use Rattle.gx_history.specs.declared.report.Report.{Report}
 use Rattle.gx_streams.specs.{declared.{entry.Entry.Entry, fill.ToldFill.ToldFill}, Spans.{AreNumbered, copies_in}, Table.report_of}
-use Rattle.gx_streams.proofs.Reading.{count_read, read_copies, sound_reader, told_count, told_slice}
+use Rattle.gx_streams.proofs.{Reading.{count_read, read_copies, sound_reader, told_count, told_slice}, Silent.found_silent}
 use Rattle.gx_streams.proofs.streams.Streams.put_slice.Goals as goal
+
+pub reader_of-requires : goal.reader_of-requires
+reader_of-requires c = λ some.
+    c.find-found.ensures ∙ found_silent c.self.inside.told c.args.user c.self.inside.readers (c.self.invariant).silent some
 
 pub copies-requires : goal.copies-requires
 copies-requires c =
@@ -34,9 +38,9 @@ pub returns-in_ok-put_reports_of-in-None-clause-part : goal.returns-in_ok-put_re
 returns-in_ok-put_reports_of-in-None-clause-part c =
     c.in_ok-put_reports_of-in-None.ensures
     ∙ (ap (λ (f : List ToldFill). map (report_of f) c.slice.result.now) c.as_slice-fills.ensures.value
-    ∙ (ap (map (report_of c.self.inside.fills.items)) (c.slice.ensures ∙ ap (λ (l : List Entry). slice l c.args.from c.args.most) c.entries-entries.ensures)
+    ∙ (ap (map (report_of c.self.inside.fills.items)) (c.slice.ensures ∙ ap (λ (l : List Entry). slice l c.args.from c.args.most) c.find-found.ensures)
     ∙ told_slice c.self.inside.fills.items c.self.inside.told c.self.inside.readers c.args.self.now c.args.user c.args.from c.args.most c.in-None.ensures c.self.view_is))
 
 pub returns-in_ok-put_reports_of-in-None-clause-count : goal.returns-in_ok-put_reports_of-in-None-clause-count
 returns-in_ok-put_reports_of-in-None-clause-count c =
-    ap length c.entries-entries.ensures ∙ told_count c.self.inside.fills.items c.self.inside.told c.self.inside.readers c.args.self.now c.args.user c.in-None.ensures c.self.view_is
+    ap length c.find-found.ensures ∙ told_count c.self.inside.fills.items c.self.inside.told c.self.inside.readers c.args.self.now c.args.user c.in-None.ensures c.self.view_is
