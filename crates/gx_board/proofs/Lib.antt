@@ -1,0 +1,4 @@
+mod Denying
+mod Following
+mod Belonging
+mod Catching

@@ -1,0 +1,5 @@
+pub mod Counting
+pub mod Summaries
+pub mod Sight
+pub mod Views
+pub mod Laws

@@ -1,0 +1,56 @@
+-- What is kept of the records that were followed.
+use Rattle.std.specs.Prelude.{◌≡◌, ◌≤◌, ℕ, Bool, List, [], ◌∷◌, ◌++◌, length, map, take, filter, if◌then◌else◌}
+use Rattle.circular_buffer.specs.Buffer.{Buffer, buffer, keep_last}
+use Rattle.gx_policy.specs.declared.policy.PolicyData.{PolicyData}
+use Rattle.gx_history.specs.declared.record.RecordData.{RecordData}
+use Rattle.gx_overview.specs.Commands.{granted_commands}
+use Rattle.gx_board.specs.{declared.summary.Summary.Summary, Counting.{commands, counted, counts_of, denied_rows, denies, row_counted}}
+
+-- so many denials are shown, and so many commands
+abbrev pub most_recent : ℕ
+most_recent = 100
+
+-- the last of these
+abbrev pub recent : List RecordData → Buffer RecordData
+recent found = buffer (keep_last most_recent found) most_recent
+
+-- the ring with one more item, where the condition holds
+abbrev pub pushed : Bool → RecordData → Buffer RecordData → Buffer RecordData
+pushed is r ring = if is then buffer (keep_last ring.capacity (ring.items ++ r ∷ [])) ring.capacity else ring
+
+-- all but the commands of the summary is that of these records
+pub record IsCounted (policy : PolicyData) (records : List RecordData) (d : Summary) : Type 0 where
+  pub counts : d.counts ≡ counts_of records
+  pub denied : d.denied.items ≡ denied_rows policy records
+  pub last_denied : d.last_denied ≡ recent (filter denies records)
+  pub last_commands : d.last_commands ≡ recent (filter commands records)
+
+-- the summary is that of these records
+pub record IsSummary (policy : PolicyData) (records : List RecordData) (d : Summary) : Type 0 where
+  pub counted : IsCounted policy records d
+  pub commands : d.commands.items ≡ granted_commands records
+
+-- it counts these further records, whatever records it was that of
+abbrev pub Counted : List RecordData → Summary → Summary → Type 0
+Counted more old new = (policy : PolicyData) (records : List RecordData) → IsCounted policy records old → IsCounted policy (records ++ more) new
+
+-- and follows them
+abbrev pub Follows : List RecordData → Summary → Summary → Type 0
+Follows more old new = (policy : PolicyData) (records : List RecordData) → IsSummary policy records old → IsSummary policy (records ++ more) new
+
+-- what the record changes but for the commands
+pub record Notes (r : RecordData) (old new : Summary) : Type 0 where
+  pub counts : new.counts ≡ counted r old.counts
+  pub denied : new.denied.items ≡ map (row_counted r) old.denied.items
+  pub last_denied : new.last_denied ≡ pushed (denies r) r old.last_denied
+  pub last_commands : new.last_commands ≡ pushed (commands r) r old.last_commands
+  pub commands_kept : new.commands.items ≡ old.commands.items
+
+-- it is that of the same records, whatever records these were
+abbrev pub Stays : Summary → Summary → Type 0
+Stays old new = (policy : PolicyData) (records : List RecordData) → IsSummary policy records old → IsSummary policy records new
+
+-- the summary is that of the first of these records, as many as it counts
+pub record IsBehind (policy : PolicyData) (records : List RecordData) (d : Summary) : Type 0 where
+  pub few : d.counts.records ≤ length records
+  pub summary : IsSummary policy (take d.counts.records records) d

@@ -1,0 +1,146 @@
+//! What is kept of a day's records, so that no view walks them.
+
+ghost use Rattle.std.specs.Prelude.{◌≡◌, ◌+◌, ◌≤◌, [], drop, length, take, IfOk, IsFalse, IsTrue, OnErr, OnOk};
+ghost use Rattle.gx_board.specs.Summaries.{Counted, Follows, IsBehind, IsSummary, Notes, pushed, recent, Stays};
+
+use crate::counts::{Counts, commands, denies};
+use crate::denied::{DeniedRow, first_rows, note};
+use circular_buffer::HeapCircularBuffer;
+use gx_history::record::{Record, RecordData};
+use gx_overview::commands::{GrantedCommand, granted_commands};
+use gx_policy::Policy;
+use gx_records::ShowsRecords;
+use gx_units::OutOfMemory;
+use std::alloc::Global;
+
+/// So many denials are kept, and so many commands.
+const MOST_RECENT: usize = 100;
+
+/// What is kept of a day's records: numbers, all commands that were granted, how often each rule denied a request, and the last
+/// denials and commands.
+#[derive(Drop)]
+pub struct Summary {
+    /// What the records say in numbers.
+    pub counts: Counts,
+    /// The commands that they grant, in their order.
+    pub commands: Vec<GrantedCommand>,
+    /// How often each rule denied a request.
+    pub denied: Vec<DeniedRow>,
+    /// The last records whose requests were denied.
+    pub last_denied: HeapCircularBuffer<RecordData>,
+    /// The last records of commands, granted or denied.
+    pub last_commands: HeapCircularBuffer<RecordData>,
+}
+
+/// Room for the last records.
+fn ring(alloc: Global) -> Result<HeapCircularBuffer<RecordData>, OutOfMemory>
+    ensures { IfOk result (λ ring. ring ≡ recent []) }
+{
+    Ok(HeapCircularBuffer::with_capacity(alloc, MOST_RECENT)?)
+}
+
+/// Puts the record last, where the condition holds.
+fn push_where(is_so: bool, ring: &mut HeapCircularBuffer<RecordData>, left: &RecordData)
+    ensures { ring.new ≡ pushed is_so left.now ring.old }
+{
+    if is_so {
+        ring.push_back(*left);
+    }
+}
+
+/// The records behind the first so many, but no more than so many.
+fn portion(records: &[Record], done: usize, most: usize) -> &[Record]
+    requires { done ≤ length records.now }
+    ensures { result.now ≡ take most (drop done records.now) }
+{
+    let left = &records[done..];
+    if left.len() <= most {
+        left
+    } else {
+        &left[..most]
+    }
+}
+
+impl Summary {
+    /// Of no record.
+    ///
+    /// # Errors
+    ///
+    /// `OutOfMemory` where memory was refused.
+    pub fn new(alloc: Global, policy: &Policy) -> Result<Summary, OutOfMemory>
+        ensures none { IfOk result (IsSummary policy.now []) }
+    {
+        let denied = first_rows(alloc, policy)?;
+        let last_denied = ring(alloc)?;
+        let last_commands = ring(alloc)?;
+        Ok(Summary {
+            counts: Counts::none(),
+            commands: Vec::new(alloc),
+            denied,
+            last_denied,
+            last_commands,
+        })
+    }
+
+    /// Notes the record, but for the command that it may grant.
+    fn note(&mut self, left: &RecordData)
+        ensures { Notes left.now self.old self.new }
+    {
+        self.counts = self.counts.with_record(left);
+        note(&mut self.denied, left);
+        push_where(denies(left), &mut self.last_denied, left);
+        push_where(commands(left), &mut self.last_commands, left);
+    }
+
+    /// Counts these records, which come behind those that it has counted.
+    fn count(&mut self, more: &[Record])
+        ensures counted { Counted more.now self.old self.new }
+        ensures commands_kept { self.new.commands.items ≡ self.old.commands.items }
+    {
+        for record in more {
+            self.note(&record.content());
+        }
+    }
+
+    /// Follows these records, which come behind those that it has followed.
+    ///
+    /// # Errors
+    ///
+    /// `OutOfMemory` where memory was refused; then it has followed none of them.
+    pub fn follow(&mut self, alloc: Global, more: &[Record]) -> Result<(), OutOfMemory>
+        ensures followed { OnOk result (Follows more.now self.old self.new) }
+        ensures refused { OnErr result (Stays self.old self.new) }
+    {
+        let granted = granted_commands(alloc, more)?;
+        self.commands.extend_from_slice(granted.as_slice())?;
+        self.count(more);
+        Ok(())
+    }
+
+    /// Follows the gate's records behind those that it has followed, but no more than so many. Answers whether it has followed
+    /// all that there are.
+    ///
+    /// # Errors
+    ///
+    /// `OutOfMemory` where memory was refused; then it has followed none of them.
+    pub fn catch_up<G: ShowsRecords>(
+        &mut self,
+        alloc: Global,
+        gate: &G,
+        most: usize,
+    ) -> Result<bool, OutOfMemory>
+        requires behind { IsBehind (G.seen gate.now).policy (G.seen gate.now).records self.old }
+        ensures behind { IsBehind (G.seen gate.now).policy (G.seen gate.now).records self.new }
+        ensures all { IfOk result (λ all. IsTrue all
+            → IsSummary (G.seen gate.now).policy (G.seen gate.now).records self.new) }
+        ensures further { IfOk result (λ all. IsFalse all
+            → self.new.counts.records ≡ self.old.counts.records + most) }
+    {
+        // The records are fewer than 2^63, so that no count stops.
+        gate.length();
+        let records = gate.shown_records();
+        let more = portion(records, self.counts.records as usize, most);
+        self.follow(alloc, more)?;
+        Ok(self.counts.records == records.len() as u64)
+    }
+}

@@ -1,0 +1,3 @@
+pub mod Permission
+pub mod Tokens
+pub mod Steps

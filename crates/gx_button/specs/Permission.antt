@@ -1,0 +1,13 @@
+-- Who may kill an account from the page.
+use Rattle.std.specs.Prelude.{Bool, false, ◌&&◌, Option, Some, is_some}
+use Rattle.gx_units.specs.declared.names.{AccountName.AccountName, UserName.UserName}
+use Rattle.gx_policy.specs.{declared.policy.{PolicyData.PolicyData, Role.Role}, People.{account_named, covers, role_in}}
+
+-- an officer who has the power to kill, and the account in his scope
+abbrev pub may_in_role : Option Role → AccountName → Bool
+may_in_role (Some (Role.Officer powers scope)) account = powers.kill && covers scope account
+may_in_role other account = false
+
+-- and the account is one of the policy
+abbrev pub may_kill : PolicyData → UserName → AccountName → Bool
+may_kill policy user account = may_in_role (role_in policy.users user) account && is_some (account_named policy account)

@@ -1,0 +1,5 @@
+mod Decoded
+mod Heads
+mod Named
+mod ReadingBack
+mod Sending

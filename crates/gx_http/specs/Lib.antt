@@ -1,0 +1,7 @@
+pub mod Words
+pub mod Routes
+pub mod Credentials
+pub mod Forms
+pub mod Requests
+pub mod Responses
+pub mod Laws

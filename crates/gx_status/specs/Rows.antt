@@ -1,0 +1,96 @@
+-- Each row of a view as a JSON object.
+use Rattle.std.specs.Prelude.{ℕ, List, ◌++◌, Option, Some, None, codes, decimal}
+use Rattle.gx_text.specs.Shown.{json_name}
+use Rattle.gx_units.specs.declared.names.UserName.{UserName}
+use Rattle.gx_desk.specs.declared.Action.{Action}
+use Rattle.gx_policy.specs.{RuleNames.rule_id, declared.rule_name.RuleName.RuleName}
+use Rattle.gx_history.specs.declared.record.{Asked.Asked, RecordData.RecordData, Request.Request, Step.Step, Verdict.Verdict}
+use Rattle.gx_overview.specs.declared.{accounts.AccountRow.AccountRow, day.UserRow.UserRow, rules.LimitRow.LimitRow}
+use Rattle.gx_board.specs.declared.{denied.DeniedRow.DeniedRow, uses.{GrossUse.GrossUse, NetUse.NetUse}}
+use Rattle.gx_status.specs.Parts.{bool_text, command_text, first_member, integer_or_null, member, number_or_null, time_text}
+
+-- an account: whether it is killed, by whom and when, who has lifted it since, and what it has live
+abbrev pub account_json : AccountRow → List ℕ
+account_json row =
+    first_member (codes "account") (json_name row.account.bytes) ++ member (codes "killed") (bool_text row.is_killed) ++ member (codes "kill") (command_text row.kill)
+    ++ member (codes "lift") (command_text row.lift) ++ member (codes "live") (decimal row.live.orders) ++ codes "}"
+
+-- a rule's limit: that in force, and that of the file
+abbrev pub limit_json : LimitRow → List ℕ
+limit_json row = first_member (codes "rule") (json_name row.rule.bytes) ++ member (codes "limit") (number_or_null row.limit) ++ member (codes "file") (number_or_null row.file) ++ codes "}"
+
+-- what an account has used of the limit of a gross rule
+abbrev pub gross_json : GrossUse → List ℕ
+gross_json seen =
+    first_member (codes "rule") (json_name seen.rule.bytes) ++ member (codes "account") (json_name seen.row.account.bytes) ++ member (codes "used") (number_or_null seen.row.used)
+    ++ member (codes "left") (number_or_null seen.row.left) ++ codes "}"
+
+-- of a net rule, in a stock
+abbrev pub net_json : NetUse → List ℕ
+net_json seen =
+    first_member (codes "rule") (json_name seen.rule.bytes) ++ member (codes "account") (json_name seen.account.bytes) ++ member (codes "stock") (json_name seen.row.stock.bytes)
+    ++ member (codes "buys") (integer_or_null seen.row.buys) ++ member (codes "sells") (integer_or_null seen.row.sells) ++ codes "}"
+
+-- how often a rule denied a request
+abbrev pub denied_json : DeniedRow → List ℕ
+denied_json row = first_member (codes "rule") (json_name row.rule.bytes) ++ member (codes "count") (decimal row.count) ++ codes "}"
+
+-- a user, and the line that he is logged in on
+abbrev pub user_json : UserRow → List ℕ
+user_json row = first_member (codes "user") (json_name row.user.bytes) ++ member (codes "line") (number_or_null row.line) ++ codes "}"
+
+-- what was asked for, in a word
+abbrev pub action_word : Action → List ℕ
+action_word (Action.Kill account) = codes "kill"
+action_word (Action.Lift account) = codes "lift"
+action_word (Action.SetLimit rule limit) = codes "limit"
+action_word (Action.Restrict rule stock) = codes "restrict"
+action_word (Action.Unrestrict rule stock) = codes "unrestrict"
+action_word (Action.Grant reader account) = codes "grant"
+action_word (Action.Revoke reader account) = codes "revoke"
+action_word Action.CloseDay = codes "close"
+
+abbrev pub request_word : Request → List ℕ
+request_word (Request.Login m) = codes "login"
+request_word Request.Logout = codes "logout"
+request_word (Request.Unreadable m) = codes "unreadable"
+request_word (Request.Enter m) = codes "enter"
+request_word (Request.Replace m) = codes "replace"
+request_word (Request.Cancel m) = codes "cancel"
+request_word (Request.Command c) = action_word c.action
+
+-- the account, the rule or the stock that it names first
+abbrev pub named_by_action : Action → List ℕ
+named_by_action (Action.Kill account) = account.bytes
+named_by_action (Action.Lift account) = account.bytes
+named_by_action (Action.SetLimit rule limit) = rule.bytes
+named_by_action (Action.Restrict rule stock) = rule.bytes
+named_by_action (Action.Unrestrict rule stock) = rule.bytes
+named_by_action (Action.Grant reader account) = account.bytes
+named_by_action (Action.Revoke reader account) = account.bytes
+named_by_action Action.CloseDay = codes ""
+
+abbrev pub named_by : Request → List ℕ
+named_by (Request.Enter m) = m.stock.bytes
+named_by (Request.Command c) = named_by_action c.action
+named_by other = codes ""
+
+-- the rule that denied it, or null
+abbrev pub denied_by : Verdict → List ℕ
+denied_by (Verdict.Denied rule) = json_name (rule_id rule).bytes
+denied_by other = codes "null"
+
+-- who asked for what
+abbrev pub asked_json : Step → List ℕ
+asked_json (Step.Asked a) = member (codes "user") (json_name a.user.bytes) ++ member (codes "asked") (json_name (request_word a.request)) ++ member (codes "about") (json_name (named_by a.request))
+asked_json (Step.Matching handed) = codes ""
+
+unfoldable pub first_members : ℕ → ℕ → List ℕ
+first_members number moment = first_member (codes "record") (decimal number) ++ member (codes "at") (time_text moment)
+
+unfoldable pub last_member : Verdict → List ℕ
+last_member verdict = member (codes "denied_by") (denied_by verdict) ++ codes "}"
+
+-- a record of a request, with the rule that denied it
+abbrev pub record_json : RecordData → List ℕ
+record_json r = first_members r.number r.moment ++ asked_json r.step ++ last_member r.verdict
