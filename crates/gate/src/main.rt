@@ -11,6 +11,7 @@ mod ends;
 mod files;
 mod keeping;
 mod limits;
+mod page;
 mod report;
 mod showing;
 mod starts;
@@ -35,7 +36,7 @@ use gx_command_line::{
 };
 use gx_core::Gate;
 use gx_devices::{Counted, WriteFault};
-use gx_listen::{Ending, ServeFault};
+use gx_listen::{Ending, PagePort};
 use gx_lobby::Lobby;
 use gx_log::{Log, write_on};
 use gx_pipe::run_pipe;
@@ -46,13 +47,14 @@ use gx_shared::{Kept, Served, serve, serve_journaled};
 use gx_units::{Moment, OutOfMemory};
 use keeping::{Day, JournalDevice, look_back, open_journal, take_up, tell_cut};
 use limits::places_for;
+use page::{listen, open_page};
 use report::report_told;
 use showing::show_under;
 use starts::{Start, audit_version};
 use state::state;
 use std::alloc::Global;
 use std::io::{ErrorKind, Read, Write};
-use std::net::{Ipv4Addr, Net, SocketAddr, TcpListener, TcpStream};
+use std::net::{Net, TcpListener, TcpStream};
 use std::process::ExitCode;
 use std::sync::{Arc, Wait};
 use std::thread::Threads;
@@ -183,22 +185,12 @@ fn policy_of<'a>(rt: &HostRuntime, path: Option<&'a str>) -> Result<Policy, Ende
     Ok(policy_for(rt.alloc(), file.as_deref())?)
 }
 
-/// Listens on a port of this machine's own address.
-fn listen<'a, R: Net<Listener = TcpListener, Stream = TcpStream>>(
-    rt: &R,
-    port: u16,
-) -> Result<TcpListener, Ended<'a>> {
-    let address = SocketAddr::from((Ipv4Addr::LOCALHOST, port));
-    match TcpListener::bind(rt, address) {
-        Ok(listener) => Ok(listener),
-        Err(error) => Err(ServeFault::ListenFailed(error).into()),
-    }
-}
-
-/// Where connections come in: who listens for them, the lobby of the server, and who tells that it listens.
+/// Where connections come in: who listens for them, where the risk desk's page is served, the lobby of the server, and who tells
+/// that it listens.
 #[derive(Drop)]
 struct Entrance {
     listener: TcpListener,
+    page: Option<PagePort>,
     lobby: Arc<Lobby, Global>,
     announcer: Announcer,
 }
@@ -224,8 +216,9 @@ where
         + 'static,
 {
     let listener = listen(rt, serving.port)?;
+    let page = open_page(rt, host, serving)?;
     let alloc = host.alloc();
-    let places = places_for(rt, host, log, serving.at_once);
+    let places = places_for(rt, host, log, serving.at_once, page.is_some());
     let clock = start.clock(serving.midnight, last);
     let Ok(log) = Arc::try_clone(log) else {
         return Err(OutOfMemory.into());
@@ -238,6 +231,7 @@ where
     let announcer = Announcer::begin(*rt, *host, &lobby, serving.port)?;
     Ok(Entrance {
         listener,
+        page,
         lobby,
         announcer,
     })
@@ -265,11 +259,20 @@ where
 {
     let Entrance {
         listener,
+        page,
         lobby,
         announcer,
     } = open_lobby(rt, host, serving, start, NO_MOMENT, log)?;
     let connections = connections_of(serving.ends);
-    let served = serve(rt, host.alloc(), policy, &lobby, listener, connections);
+    let served = serve(
+        rt,
+        host.alloc(),
+        policy,
+        &lobby,
+        page,
+        listener,
+        connections,
+    );
     let announced = announcer.end(rt);
     Ok((served?, announced))
 }
@@ -346,6 +349,7 @@ where
         Ok(
             Entrance {
                 listener,
+                page,
                 lobby,
                 announcer,
             },
@@ -362,6 +366,7 @@ where
                 count,
                 device,
                 &lobby,
+                page,
                 listener,
                 connections,
             );

@@ -2,6 +2,7 @@ pub mod Rest
 pub mod Fronts
 pub mod Walking
 pub mod Only
+pub mod Outcomes
 pub mod Full
 pub mod Whole
 pub mod Journals

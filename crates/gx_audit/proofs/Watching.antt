@@ -1,5 +1,5 @@
 -- What a watcher is shown behind a step.
-use Rattle.std.proofs.{Common.{◌≡◌, ℕ, ◌-◌, List, [], ◌∷◌, ◌++◌, length, take, sym, ap, ◌∙◌, subst, arith}, Math.Seq.take-append_seam, lemmas.List.length-append}
+use Rattle.std.proofs.{Common.{◌≡◌, ℕ, List, [], ◌∷◌, ◌++◌, take, sym, ap, ◌∙◌, subst, arith}, Math.Seq.take-append_seam, lemmas.List.length-append}
 use Rattle.std.specs.Prelude.{Some}
 use Rattle.gx_policy.specs.declared.policy.PolicyData.{PolicyData}
 use Rattle.gx_history.specs.declared.record.RecordData.{RecordData}

@@ -1,16 +1,16 @@
 //! The check that bytes are the records of a legal day.
 
-ghost use Rattle.std.specs.Prelude.{◌≡◌, ◌≢◌, ◌+◌, ◌-◌, ◌<◌, ◌≤◌, ◌^◌, IsTrue, IsFalse, IfOk, IfErr, OnOk, Err, ◌++◌, [], length, take, drop, Some};
+ghost use Rattle.std.specs.Prelude.{◌≡◌, ◌≢◌, ◌+◌, ◌-◌, ◌<◌, ◌≤◌, ◌^◌, IsTrue, IsFalse, IfOk, IfErr, OnOk, Err, ◌++◌, [], length, take, drop, option_map, Some};
 ghost use Rattle.gx_history.specs.Verdicts.{next, IsLegal};
 ghost use Rattle.gx_answers.specs.declared.outcome.StepFault.TheVariants as stepping;
 ghost use Rattle.gx_audit.specs.declared.fault.AuditFault.TheVariants as faults;
-ghost use Rattle.gx_audit.specs.{Auditing.{with_left, HasOtherHeader, IsAnswer, IsOneMore, IsOnlyAnswer, IsRecordFault, NoneFollows}, Replaying.{EndsAt, IsHeaderFault, IsRecordsFault}};
-ghost use Rattle.gx_audit_bytes.specs.{Reading.{record_of, IsAskableStep, IsShown}, Headers.front_of, Records.record_bytes, Versions.{has_header, version_of}};
+ghost use Rattle.gx_audit.specs.{Auditing.{left_by, with_left, HasOtherHeader, IsAnswer, IsOneMore, IsOnlyAnswer, IsRecordFault, NoneFollows}, Replaying.{EndsAt, IsHeaderFault, IsRecordsFault}};
+ghost use Rattle.gx_audit_bytes.specs.{Reading.{record_of, shows_rule, IsAskableStep, IsShown}, Headers.front_of, Records.record_bytes, Versions.{has_header, version_of}};
 
 use crate::fault::AuditFault;
 use gx_answers::{AccessGate, Outcome, StepFault};
 use gx_audit_bytes::{
-    AuditVersion, RECORD_SIZE, has_bytes, read_record_in, same_bytes, whole, write_header_in,
+    AuditVersion, RECORD_SIZE, read_record_in, same_bytes, shows_verdict, whole, write_header_in,
 };
 use gx_history::record::{RecordData, Step};
 use gx_policy::Policy;
@@ -218,6 +218,7 @@ pub fn check_record<G: AccessGate>(
 }
 
 /// Checks that these bytes are the gate's next record in this version, as [`check_record`] does, while the watcher looks on.
+#[tactic(auto, using(gx_audit_bytes::proofs::Rules::shown_names_rule))]
 pub(crate) fn check_watched<G: AccessGate, W: Watches<G>>(
     gate: &mut G,
     watcher: &mut W,
@@ -263,6 +264,9 @@ fn follow_watched<G: AccessGate, W: Watches<G>>(
     requires number { number ≡ length (G.seen gate.old).records + 1 }
     requires numbered { shown.now.number ≡ number }
     requires shows { record_of version bytes.now ≡ Some shown.now }
+    requires bytes { record_bytes version shown.now ≡ bytes.now }
+    requires read_back { IsShown version shown.now }
+    requires named { IsTrue (shows_rule shown.now.verdict) }
     requires askable { IsAskableStep shown.now.step }
     ensures policy { (G.seen gate.new).policy ≡ (G.seen gate.old).policy }
     ensures ok { OnOk result
@@ -295,6 +299,9 @@ fn follow<G: AccessGate>(
     requires number { number ≡ length (G.seen gate.old).records + 1 }
     requires numbered { shown.now.number ≡ number }
     requires shows { record_of version bytes.now ≡ Some shown.now }
+    requires bytes { record_bytes version shown.now ≡ bytes.now }
+    requires read_back { IsShown version shown.now }
+    requires named { IsTrue (shows_rule shown.now.verdict) }
     requires askable { IsAskableStep shown.now.step }
     ensures policy { (G.seen gate.new).policy ≡ (G.seen gate.old).policy }
     ensures ok { OnOk result
@@ -305,8 +312,8 @@ fn follow<G: AccessGate>(
         IsRecordFault version (G.seen gate.old).policy (G.seen gate.old).records bytes.now e) }
 {
     match made(gate, shown.step) {
-        Ok(Some(left)) => {
-            if has_bytes(version, &left, bytes) {
+        Ok(Some(outcome)) => {
+            if has_outcome(shown, &outcome) {
                 Ok(())
             } else {
                 Err(AuditFault::IllegalVerdict(number))
@@ -317,43 +324,37 @@ fn follow<G: AccessGate>(
     }
 }
 
-/// Makes the step: the record that it leaves, if it leaves one. `DayFull` where no record of this step follows.
+/// Makes the step: what came of it, if it leaves a record. `DayFull` where no record of this step follows.
 #[tactic(auto, using(crate::proofs::Full::none_asked, crate::proofs::Full::none_matched))]
-fn made<G: AccessGate>(gate: &mut G, step: Step) -> Result<Option<RecordData>, StepFault>
+fn made<G: AccessGate>(gate: &mut G, step: Step) -> Result<Option<Outcome>, StepFault>
     requires askable { IsAskableStep step }
     ensures policy { (G.seen gate.new).policy ≡ (G.seen gate.old).policy }
-    ensures next { IfOk result
-        (λ left. next (G.seen gate.old).policy (G.seen gate.old).records step ≡ left) }
-    ensures records { IfOk result (λ left.
-        (G.seen gate.new).records ≡ with_left (G.seen gate.old).records left) }
+    ensures next { IfOk result (λ found. next
+        (G.seen gate.old).policy
+        (G.seen gate.old).records
+        step ≡ option_map (left_by step) found) }
+    ensures records { IfOk result (λ found. (G.seen gate.new).records
+        ≡ with_left (G.seen gate.old).records (option_map (left_by step) found)) }
     ensures day_full { IfErr result (λ e. e ≡ stepping.DayFull
         → NoneFollows (G.seen gate.old).policy (G.seen gate.old).records step) }
 {
     match step {
         Step::Asked(asked) => {
             let outcome = gate.step(asked)?;
-            Ok(Some(left_by(step, outcome)))
+            Ok(Some(outcome))
         }
-        Step::Matching(handed) => match gate.match_one(handed)? {
-            Some(outcome) => Ok(Some(left_by(step, outcome))),
-            None => Ok(None),
-        },
+        Step::Matching(handed) => gate.match_one(handed),
     }
 }
 
-/// The record that a step left.
-fn left_by(step: Step, outcome: Outcome) -> RecordData
-    ensures { result ≡ record {
-      number = outcome.number;
-      moment = outcome.moment;
-      step = step;
-      verdict = outcome.verdict;
-    } }
+/// Whether the record shows this outcome of its step.
+#[tactic(auto, using(crate::proofs::Outcomes::same_outcome))]
+fn has_outcome(shown: &RecordData, outcome: &Outcome) -> bool
+    requires { IsTrue (shows_rule shown.now.verdict) }
+    ensures same { IsTrue result → left_by shown.now.step outcome.now ≡ shown.now }
+    ensures other { IsFalse result → left_by shown.now.step outcome.now ≢ shown.now }
 {
-    RecordData {
-        number: outcome.number,
-        moment: outcome.moment,
-        step,
-        verdict: outcome.verdict,
-    }
+    shown.number == outcome.number
+        && shown.moment == outcome.moment
+        && shows_verdict(&shown.verdict, &outcome.verdict)
 }

@@ -6,7 +6,6 @@ use Rattle.gx_ouch.specs.Layout.{LiesIn, cut}
 use Rattle.gx_history.specs.{Requests.handed_moment, Showing.is_showable, declared.record.{RecordData.RecordData, Step.Step, Verdict.Verdict}}
 use Rattle.gx_audit_bytes.specs.{declared.version.AuditVersion.AuditVersion, Bodies.zero_padded, Records.{audit_record, record_contents, record_bytes, HasPlaces, line_shown, user_shown, kind_shown, body_shown, verdict_letter, rule_shown, order_shown, maker_shown, shares_shown, price_shown}, Reading.{step_in, verdict_in, step_shown, verdict_shown, content_in, record_of, is_record_of, NumbersFit, StepIsRead, VerdictIsRead, shows_rule, IsShown}}
 use Rattle.gx_audit_bytes.proofs.{Rules.shown_names_rule, Messages.one_byte}
-use Rattle.gx_history_laws.proofs.Order.{some_same}
 
 pub is_true : (b : Bool) → IsTrue b → b ≡ true
 is_true true h = refl
@@ -97,26 +96,6 @@ pub fields_lie : (version : AuditVersion) (r : RecordData) (bytes : List ℕ) �
 unfolding record_bytes
 fields_lie version r bytes known places = known_to_lie audit_record (record_contents version r) bytes known (record { offsets = refl; size = refl }) places
 
--- what bytes show can be shown, and these are its bytes
-filtered : (version : AuditVersion) (bytes : List ℕ) (found : Option RecordData) (r : RecordData)
-    → option_and_then (λ (x : RecordData). if is_record_of version bytes x then Some x else None) found ≡ Some r → is_record_of version bytes r ≡ true
-filtered version bytes None r h = cc
-filtered version bytes (Some x) r h = by (is_record_of version bytes x) refl h
-  where
-    by : (b : Bool) → is_record_of version bytes x ≡ b → (if b then Some x else None) ≡ Some r → is_record_of version bytes r ≡ true
-    by true is h = ap (is_record_of version bytes) (sym (some_same h)) ∙ is
-    by false is h = cc
-
 pub both_true : (a b : Bool) → (a && b) ≡ true → (a ≡ true) × (b ≡ true)
 both_true true b h = (refl, h)
 both_true false b h = cc
-
-passes : (version : AuditVersion) (bytes : List ℕ) (r : RecordData) → record_of version bytes ≡ Some r → (is_showable r ≡ true) × (bytes_eq (record_bytes version r) bytes ≡ true)
-unfolding record_of
-passes version bytes r h = both_true (is_showable r) (bytes_eq (record_bytes version r) bytes) (filtered version bytes (content_in bytes) r h)
-
-pub shown_is_showable : (version : AuditVersion) (bytes : List ℕ) (r : RecordData) → record_of version bytes ≡ Some r → is_showable r ≡ true
-shown_is_showable version bytes r h = (passes version bytes r h).0
-
-pub shown_has_bytes : (version : AuditVersion) (bytes : List ℕ) (r : RecordData) → record_of version bytes ≡ Some r → record_bytes version r ≡ bytes
-shown_has_bytes version bytes r h = (bytes_eq-Decides (record_bytes version r) bytes).0 (passes version bytes r h).1

@@ -1,5 +1,5 @@
 -- A rule is read from its name as itself, and a verdict from its parts.
-use Rattle.std.proofs.Common.{◌≡◌, ℕ, Bool, true, false, ◌||◌, ◌&&◌, not, List, [], ◌∷◌, ◌++◌, refl, ap, ◌∙◌}
+use Rattle.std.proofs.Common.{◌≡◌, ℕ, Bool, true, false, ◌||◌, ◌&&◌, not, List, [], ◌∷◌, ◌++◌, refl, sym, ap, ◌∙◌}
 use Rattle.std.specs.{Prelude.{Option, Some, None, IsTrue, codes, cond, bytes_eq, unwrap_or}, List.{find, list_any}}
 use Rattle.gx_units.specs.declared.names.RuleId.{RuleId}
 use Rattle.gx_policy.specs.{RuleNames.{NameFits, rule_id, rules_before, rules_behind, is_built_in}, declared.rule_name.RuleName.{RuleName, TheVariants.{L1, L2, L3, G1, G2, G3, I1, I2, I3, P1, P2, P3, P4, P5, P6, P7, P8, P9, P10, P11, P12, Q1, Q2, Q3, Q4, File}}}
@@ -56,6 +56,14 @@ rule_read Q3 fits shown = refl
 rule_read Q4 fits shown = refl
 rule_read (File name) fits shown =
     ap rule_in (take_whole name.bytes (codes "        ") fits) ∙ file_read name (not_built_in (is_built_in name) _ shown)
+
+-- two that can be shown are one where their names are
+pub one_rule : (shown made : RuleName) → NameFits shown → NameFits made → IsTrue (is_rule_shown shown) → IsTrue (is_rule_shown made) → (rule_id shown).bytes ≡ (rule_id made).bytes
+    → shown ≡ made
+one_rule shown made fits made_fits is_shown is_made named = sym (rule_read shown fits is_shown) ∙ ap rule_in named ∙ rule_read made made_fits is_made
+
+pub one_fill : (shown made : Fill) → shown.taker ≡ made.taker → shown.maker ≡ made.maker → shown.shares ≡ made.shares → shown.price ≡ made.price → shown ≡ made
+one_fill shown made taker maker shares price = λ i. record { taker = taker i; maker = maker i; shares = shares i; price = price i }
 
 -- a denial, by its rule
 pub denial_read : (rule : RuleName) → NameFits rule → IsTrue (is_rule_shown rule) → VerdictIsRead (Verdict.Denied rule)

@@ -1,5 +1,5 @@
 -- The record that some bytes show.
-use Rattle.std.specs.{Prelude.{◌≡◌, ◌<◌, ◌^◌, ℕ, Bool, true, ◌==◌, ◌&&◌, List, ◌++◌, length, take, drop, Option, Some, None, option_map, option_and_then, unwrap_or, if◌then◌else◌, bytes_eq, IsTrue}, Int.{w8, w16, w32, w64, from_be_bytes}, List.find}
+use Rattle.std.specs.{Prelude.{◌≡◌, ◌<◌, ◌^◌, ℕ, Bool, true, ◌==◌, ◌&&◌, List, ◌++◌, take, drop, Option, Some, None, option_map, option_and_then, unwrap_or, if◌then◌else◌, bytes_eq, IsTrue}, Int.{w8, w16, w32, w64, from_be_bytes}, List.find}
 use Rattle.gx_ouch.specs.{Layout.bytes_at, Messages.{enter_order, replace_order, cancel_order}}
 use Rattle.gx_desk.specs.Messages.{kill, lift, set_limit, restrict, unrestrict, grant, revoke, close_day}
 use Rattle.gx_history.specs.{declared.record.{Request.Request, Step.Step, Verdict.Verdict, RecordData.RecordData}, Payloads.request_of, Showing.{is_askable, is_showable, is_rule_shown}, Requests.handed_moment}

@@ -48,6 +48,15 @@ impl Draft {
         self.used = end;
     }
 
+    /// The bytes of a whole record.
+    pub(crate) fn into_whole(self) -> [u8; RECORD_SIZE]
+        requires { length self ≡ RECORD_SIZE }
+        ensures { result ≡ self }
+    {
+        let Draft { room, used: _ } = self;
+        room
+    }
+
     /// The bytes that are written.
     pub(crate) fn as_slice(&self) -> &[u8]
         ensures { result.now ≡ self.now }

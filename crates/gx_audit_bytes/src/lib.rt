@@ -14,7 +14,7 @@ mod wrong;
 pub use day::AuditDay;
 pub use draft::{RECORD_SIZE, same_bytes, whole};
 pub use header::{write_header, write_header_3, write_header_in};
-pub use reading::{has_bytes, read_record, read_record_2, read_record_in};
+pub use reading::{read_record, read_record_2, read_record_in, shows_verdict};
 pub use records::audit_bytes;
 pub use version::AuditVersion;
 pub use writing::{write_record, write_record_2, write_record_in};

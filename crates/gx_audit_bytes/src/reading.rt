@@ -6,7 +6,7 @@ ghost use Rattle.gx_history.specs.declared.record.Request.TheVariants as request
 ghost use Rattle.gx_history.specs.{Payloads.request_of, Showing.{is_showable, is_verdict_of, is_askable, answers, is_rule_shown, has_its_first}};
 ghost use Rattle.gx_policy.specs.RuleNames.{rule_id};
 ghost use Rattle.gx_audit_bytes.specs.declared.version.AuditVersion.TheVariants as versions;
-ghost use Rattle.gx_audit_bytes.specs.{Records.record_bytes, Reading.{record_of, IsShown, content_in, step_in, verdict_in, rule_in, request_in, login_in, unreadable_in, message_size, step_shown, verdict_shown}};
+ghost use Rattle.gx_audit_bytes.specs.{Records.record_bytes, Reading.{record_of, shows_rule, IsShown, content_in, step_in, verdict_in, rule_in, request_in, login_in, unreadable_in, message_size, step_shown, verdict_shown}};
 
 use crate::draft::{RECORD_SIZE, same_bytes, whole};
 use crate::version::AuditVersion;
@@ -42,6 +42,7 @@ pub fn read_record_2(bytes: &[u8; RECORD_SIZE]) -> Option<Record>
 pub fn read_record_in(version: AuditVersion, bytes: &[u8; RECORD_SIZE]) -> Option<Record>
     ensures shown { result ≡ record_of version bytes.now }
     ensures bytes { IfSome result (λ r. record_bytes version r ≡ bytes.now) }
+    ensures read_back { IfSome result (IsShown version) }
 {
     let content = content(bytes)?;
     if !is_showable(&content) {
@@ -308,15 +309,39 @@ pub(crate) fn short(field: &[u8]) -> u16
     u16::from_be_bytes(whole(field))
 }
 
-/// Whether the record can be shown, and these are its bytes in this version.
-#[tactic(auto, using(crate::proofs::ReadBack::shown_is_showable, crate::proofs::ReadBack::shown_has_bytes))]
-pub fn has_bytes(version: AuditVersion, left: &RecordData, bytes: &[u8; RECORD_SIZE]) -> bool
-    ensures shown { IsTrue result → IsShown version left.now }
-    ensures same { IsTrue result → record_bytes version left.now ≡ bytes.now }
-    ensures other { IsFalse result → record_of version bytes.now ≢ Some left.now }
+/// Whether this verdict was made, of which a record can name the rule.
+pub fn shows_verdict(shown: &Verdict, made: &Verdict) -> bool
+    requires { IsTrue (shows_rule shown.now) }
+    ensures same { IsTrue result → shown.now ≡ made.now }
+    ensures other { IsFalse result → shown.now ≢ made.now }
 {
-    if !is_showable(left) {
-        return false;
+    match (shown, made) {
+        (Verdict::Granted, Verdict::Granted) => true,
+        (Verdict::Denied(rule), Verdict::Denied(other)) => shows_rule(rule, other),
+        (Verdict::Filled(fill), Verdict::Filled(other)) => shows_fill(fill, other),
+        (Verdict::Rested(order), Verdict::Rested(other)) => *order == *other,
+        (Verdict::Expired(order), Verdict::Expired(other)) => *order == *other,
+        _ => false,
     }
-    same_bytes(&write_content(version, left), bytes)
+}
+
+/// Whether this rule denied.
+fn shows_rule(shown: &RuleName, made: &RuleName) -> bool
+    requires { IsTrue (is_rule_shown shown.now) }
+    ensures same { IsTrue result → shown.now ≡ made.now }
+    ensures other { IsFalse result → shown.now ≢ made.now }
+{
+    shown.id().bytes == made.id().bytes && is_rule_shown(made)
+}
+
+/// Whether this fill was made.
+#[tactic(auto, using(crate::proofs::Rules::one_fill))]
+fn shows_fill(shown: &Fill, made: &Fill) -> bool
+    ensures same { IsTrue result → shown.now ≡ made.now }
+    ensures other { IsFalse result → shown.now ≢ made.now }
+{
+    shown.taker == made.taker
+        && shown.maker == made.maker
+        && shown.shares == made.shares
+        && shown.price == made.price
 }

@@ -1,6 +1,6 @@
 //! A record, written as bytes.
 
-ghost use Rattle.std.specs.Prelude.{◌≡◌, ◌++◌, ◌∷◌, Some, length, take, codes, IsTrue};
+ghost use Rattle.std.specs.Prelude.{◌≡◌, ◌+◌, ◌≤◌, ◌++◌, ◌∷◌, Some, length, take, codes, IsTrue};
 ghost use Rattle.gx_ouch.specs.Layout.{LiesIn};
 ghost use Rattle.gx_policy.specs.RuleNames.{rule_id};
 ghost use Rattle.gx_history.specs.{Requests.handed_moment, Showing.is_showable};
@@ -8,7 +8,7 @@ ghost use Rattle.gx_audit_bytes.specs.declared.version.AuditVersion.TheVariants 
 ghost use Rattle.gx_audit_bytes.specs.{Bodies.zero_padded, Reading.{record_of, shows_rule, IsShown, NumbersFit, StepIsRead, VerdictIsRead}, Records.{audit_record, record_contents, record_bytes, line_shown, user_shown, kind_shown, body_shown, verdict_letter, rule_shown, order_shown, maker_shown, shares_shown, price_shown, HasPlaces}, Versions.mark_of};
 
 use crate::bodies::{request_body, request_kind};
-use crate::draft::{Draft, RECORD_SIZE, whole, zero_padded};
+use crate::draft::{Draft, RECORD_SIZE, zero_padded};
 use crate::version::AuditVersion;
 use gx_history::record::{Record, RecordData, Step, Verdict};
 use gx_policy::RuleName;
@@ -58,7 +58,7 @@ pub(crate) fn write_content(version: AuditVersion, content: &RecordData) -> [u8;
         → record_of version result ≡ Some content.now }
     ensures shown { IsTrue (is_showable content.now) → IsShown version content.now }
 {
-    whole(record_draft(version, content).as_slice())
+    record_draft(version, content).into_whole()
 }
 
 #[tactic(auto, unfolding(crate::specs::Records::record_bytes))]
@@ -79,7 +79,7 @@ fn record_draft(version: AuditVersion, content: &RecordData) -> Draft
     draft.put(&line(&content.step).to_be_bytes());
     draft.put(&user(&content.step));
     draft.put(&[kind(&content.step)]);
-    draft.put(&body(&content.step));
+    put_body(&mut draft, &content.step);
     draft.put(&[letter(&content.verdict)]);
     draft.put(&rule(&content.verdict));
     draft.put(&order(&content.verdict).to_be_bytes());
@@ -136,14 +136,19 @@ fn kind(step: &Step) -> u8
     }
 }
 
+/// Writes what the step shows in its body, with zero bytes up to the body's end.
 #[tactic(auto, using(crate::proofs::Requests::asked_read, crate::proofs::Requests::matching_read))]
-fn body(step: &Step) -> [u8; 58]
-    ensures bytes { result ≡ zero_padded 58 (body_shown step.now) }
+fn put_body(draft: &mut Draft, step: &Step)
+    requires { length draft.old + 58 ≤ RECORD_SIZE }
+    ensures bytes { draft.new ≡ draft.old ++ zero_padded 58 (body_shown step.now) }
+    ensures len { length draft.new ≡ length draft.old + 58 }
     ensures read { StepIsRead step.now }
 {
     match step {
-        Step::Asked(asked) => zero_padded(request_body(&asked.request).as_slice()),
-        Step::Matching(_) => [0; 58],
+        Step::Asked(asked) => {
+            draft.put(&zero_padded::<58>(request_body(&asked.request).as_slice()))
+        }
+        Step::Matching(_) => draft.put(&[0; 58]),
     }
 }
 

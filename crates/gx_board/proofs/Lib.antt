@@ -1,4 +1,4 @@
 mod Denying
 mod Following
 mod Belonging
-mod Catching
+pub mod Catching

@@ -10,6 +10,6 @@ mod permission;
 mod steps;
 mod token;
 
-pub use permission::may_kill;
+pub use permission::{has_power, may_kill};
 pub use steps::{Deed, Refusal, kill};
 pub use token::Secret;

@@ -2,7 +2,7 @@
 
 ghost use Rattle.std.specs.Prelude.{◌≡◌, option_copied};
 ghost use Rattle.gx_policy.specs.People.{account_named, user_in};
-ghost use Rattle.gx_button.specs.Permission.{may_kill};
+ghost use Rattle.gx_button.specs.Permission.{has_power, may_kill};
 
 use gx_policy::{Account, Policy, Role, User};
 use gx_units::{AccountName, UserName};
@@ -22,6 +22,19 @@ fn account_named(policy: &Policy, name: AccountName) -> Option<&Account>
         .accounts()
         .iter()
         .find(|account| account.name == name)
+}
+
+/// Whether the user is an officer who has the power to kill.
+pub fn has_power(policy: &Policy, user: UserName) -> bool
+    ensures { result ≡ has_power policy.now user }
+{
+    match user_in(policy.users(), user) {
+        Some(known) => match &known.role {
+            Role::Officer(powers, _) => powers.kill,
+            Role::Trader(_) | Role::Reader(_) => false,
+        },
+        None => false,
+    }
 }
 
 /// Whether the user may kill the account: an officer who has the power, and the account, which is one of the policy.

@@ -63,6 +63,8 @@ enum Kind {
     Port,
     /// An option with a number from 1 to the most, and the one that holds without it.
     Count(i64, &'static [&'static str]),
+    /// An option with a number from 1 to 65,535.
+    OtherPort,
     /// An option with a number from 1 on.
     Number,
     /// An option with an offset from UTC, which may begin with `-`, and the one that holds without it.
@@ -223,6 +225,12 @@ const SERVE: Subcommand = Subcommand {
             value: "S",
             kind: Kind::Count(15, &["10"]),
             help: "Hang up on a connection that has not logged in S seconds after it came",
+        },
+        Argument {
+            name: "status-port",
+            value: "P",
+            kind: Kind::OtherPort,
+            help: "Serve the risk desk's page there too, for officers and readers, by HTTP on 127.0.0.1 alone",
         },
         Argument {
             name: MIDNIGHT,
@@ -544,6 +552,7 @@ fn build_argument<'a>(alloc: Global, asked: &Argument) -> Result<Arg<'a>, AllocE
         ),
         Kind::Port => Ok(number(made.required(true), asked, 65_535)),
         Kind::Count(most, default) => Ok(number(made.default_values(default), asked, most)),
+        Kind::OtherPort => Ok(number(made, asked, 65_535)),
         Kind::Number => Ok(number(made, asked, i64::MAX)),
         Kind::Offset(default) => Ok(offset(made.default_values(default), asked)),
         Kind::FlagBeside(other) => flag(made, asked).requires_arg(other),

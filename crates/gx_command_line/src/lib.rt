@@ -57,6 +57,8 @@ pub struct Serving<'a> {
     pub files: RunFiles<'a>,
     /// The port to listen on.
     pub port: u16,
+    /// The port of the risk desk's page, if it is served.
+    pub status_port: Option<u16>,
     /// When it ends.
     pub ends: Ends<'a>,
     /// How many connections to serve at once.
@@ -232,6 +234,7 @@ fn server_options<'a>(given: &ArgMatches<'a>) -> Option<Serving<'a>> {
     Some(Serving {
         files: run_files(given),
         port: given.get_one::<u16>("port")?,
+        status_port: given.get_one::<u16>("status-port"),
         ends: ends_of_server(given),
         at_once: given.get_one::<u16>("connections-at-once")?,
         login_within: given.get_one::<u16>("login-within")?,

@@ -3,6 +3,7 @@
 //! - `accepting`: connections are taken, and each has a place;
 //! - `visiting`: a connection from its beginning to its end;
 //! - `serving`: the threads of a server;
+//! - `paging`: the risk desk's page beside it;
 //! - `announcing`: what commands ended, as the log tells it;
 //! - `telling`: the log of the day's records, as they are made;
 //! - `ending`, `fault`: how a server ended.
@@ -15,10 +16,12 @@ mod announcing;
 mod dated;
 mod ending;
 mod fault;
+mod paging;
 mod serving;
 mod telling;
 mod visiting;
 
 pub use ending::{Ending, Unserved};
 pub use fault::ServeFault;
+pub use paging::PagePort;
 pub use serving::{DayLog, serve_door};

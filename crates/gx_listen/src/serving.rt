@@ -8,13 +8,16 @@ use crate::accepting::{accept, take_place};
 use crate::dated::Dated;
 use crate::ending::{Ending, Halt, Unserved};
 use crate::fault::ServeFault;
+use crate::paging::{Aside, PagePort, open_page};
 use crate::telling::{Telling, tell_records};
 use crate::visiting::{Hall, serve_stream, tell_gone};
 use gx_door::{Door, Issuer};
 use gx_events::EventLog;
-use gx_lobby::{Lobby, Mishap, Peer, Place};
+use gx_lobby::{Lobby, Mishap, Peer, Place, Stop};
 use gx_logging::RecordLog;
+use gx_lookout::Lookout;
 use gx_pass::PassFault;
+use gx_policy::Policy;
 use gx_reception::{Admits, Reception};
 use gx_serve::{keep_on, match_on};
 use std::alloc::Global;
@@ -324,11 +327,67 @@ fn run<
     })
 }
 
+/// Runs the matcher and the connections, beside the risk desk's page, if it is to be served. Gives the matcher's pass, and how
+/// the server ended; `OutOfMemory` where no thread could be made for one of these, or for one of those beside them.
+fn run_paged<
+    'x,
+    T: Drop + Send,
+    D: Door<Ticket = T> + Sync,
+    A: Admits<D> + Sync,
+    P: Aside + Drop + Send,
+    R: Threads + Wait + Clock + Sync,
+>(
+    rt: &'x R,
+    alloc: Global,
+    door: &'x D,
+    reception: &A,
+    lobby: &'x Lobby,
+    closing: &'x Stop,
+    pass: T,
+    telling: Option<Telling<D>>,
+    paging: Option<P>,
+    listener: TcpListener,
+    connections: u64,
+) -> Result<(T, Ending), Unserved> {
+    let Some(paging) = paging else {
+        return run(
+            rt,
+            alloc,
+            door,
+            reception,
+            lobby,
+            pass,
+            telling,
+            listener,
+            connections,
+        );
+    };
+    thread::scope(thread::scope_env(), rt, |scope| {
+        let Ok(_paging) = (&*scope).spawn(move || paging.go_on(rt, alloc, lobby, closing)) else {
+            return Err(Unserved::of_fault(ServeFault::OutOfMemory));
+        };
+        let ran = run(
+            rt,
+            alloc,
+            door,
+            reception,
+            lobby,
+            pass,
+            telling,
+            listener,
+            connections,
+        );
+        closing.ask();
+        ran
+    })
+}
+
 /// Serves at any door, with passes of its gate: takes connections, each in threads of its own, and makes matching steps,
 /// until so many were served, or the lobby was asked to end. All threads have ended then.
 ///
 /// A connection has a line from its login on, if its user has the right password. The log of the records, if one is asked
-/// for, is told in the lobby's.
+/// for, is told in the lobby's. The risk desk's page, if it has a port, is served beside it, of this gate and by this policy: it
+/// has two lines of the day.
 ///
 /// Gives back a pass, and how the server ended.
 ///
@@ -338,20 +397,26 @@ fn run<
 /// taken.
 pub fn serve_door<
     T: Drop + Send,
+    L: Lookout<Pass = T> + Sync,
     D: Door<Ticket = T> + Sync,
     I: Issuer<D> + Drop + Send,
     R: Threads + Wait + Clock + Sync,
 >(
     rt: &R,
     alloc: Global,
+    gate: &L,
     door: &D,
+    policy: &Policy,
     issuer: I,
     lobby: &Lobby,
     log: Option<DayLog>,
+    page: Option<PagePort>,
     listener: TcpListener,
     connections: u64,
 ) -> Result<(T, Ending), Unserved>
     requires known { IfSome log (λ l. l.events.known ≡ known_of D.policy []) }
+    requires policies { L.policy ≡ D.policy }
+    requires policy { policy.now ≡ D.policy }
 {
     let mut issuer = issuer;
     let pass = match issuer.issue(rt) {
@@ -361,6 +426,10 @@ pub fn serve_door<
     let telling = match open_log(rt, &mut issuer, log) {
         Ok(telling) => telling,
         Err(fault) => return Err(Unserved::of_fault(fault.into())),
+    };
+    let paging = match open_page(rt, alloc, gate, door, policy, lobby, &mut issuer, page) {
+        Ok(paging) => paging,
+        Err(fault) => return Err(Unserved::of_fault(fault)),
     };
     let reception = match Reception::open(rt, door, issuer) {
         Ok(reception) => reception,
@@ -372,14 +441,17 @@ pub fn serve_door<
     }
     lobby.bell.open(rt);
     lobby.keeping.open(rt);
-    run(
+    let closing = Stop::new();
+    run_paged(
         rt,
         alloc,
         door,
         &reception,
         lobby,
+        &closing,
         pass,
         telling,
+        paging,
         listener,
         connections,
     )

@@ -62,6 +62,11 @@ impl Places {
         }
     }
 
+    /// How many places are taken.
+    pub fn count<R: Wait>(&self, rt: &R) -> u16 {
+        self.taken.lock(rt).count
+    }
+
     /// Waits until a place is given back, or so long.
     pub fn await_one<R: Wait + Clock>(&self, rt: &R, patience: Duration) {
         let _ = self.news.wait_timeout(rt, self.taken.lock(rt), patience);

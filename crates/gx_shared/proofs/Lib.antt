@@ -1,4 +1,5 @@
 pub mod Commanding
+pub mod Following
 pub mod Idling
 pub mod Matchings
 pub mod Meetings

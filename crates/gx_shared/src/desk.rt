@@ -10,19 +10,22 @@ ghost use Rattle.gx_pass.specs.declared.pass.PassFault.TheVariants as pass_fault
 ghost use Rattle.gx_pass.specs.Views.{highest_line, mine, of_line};
 ghost use Rattle.gx_door.specs.declared.fault.PullFault.TheVariants as pull_faults;
 ghost use Rattle.gx_door.specs.{Acts.{asked_on, gate_at, gate_met, login_on, AddsOwn, EndsWith, IsLater, IsPulled, IsToldFull, LogsIn, MayBeRefused}, Callers.caller_of, Matching.{EndsSo, Matches, Turns}};
+ghost use Rattle.gx_board.specs.{Summaries.IsBehind, Views.IsView};
 ghost use Rattle.gx_shared.specs.Permits.{all_parts};
 
 use crate::counting::CountingKeeper;
+use crate::looking::look;
 use crate::permit::{BlankLedgers, Permits};
 use crate::resuming::resume;
 use crate::steps::{asked_on, leave, match_one, match_some, pull, step, turn};
 use crate::ticket::Ticket;
 use gx_answers::{AccessGate, LoginAnswer, Outcome, Pulled, StepFault};
+use gx_board::{Summary, View};
 use gx_door::{Caller, Matched, PullFault, Turned};
 use gx_history::record::{Record, Request};
 use gx_pass::{Blank, GateName, Keeper, Pass, PassFault};
 use gx_policy::Policy;
-use gx_records::ShowsState;
+use gx_records::{ShowsRecords, ShowsState};
 use gx_units::{Moment, OutOfMemory, Password, SessionName, UserName};
 use std::alloc::Global;
 use std::marker::Model;
@@ -391,5 +394,33 @@ impl<G: ShowsState, N: GateName> Desk<G, N> {
         let asked = asked_on(line, user, request, moment);
         let result = turn(&mut self.gate, &mut self.keeper, share, asked, most);
         (leave(&self.gate, &mut self.keeper, entered), result)
+    }
+}
+
+impl<G: ShowsRecords + ShowsState, N: GateName> Desk<G, N> {
+    /// Lets the summary follow at most so many records behind those that it has followed, which the pass had met, and once
+    /// it has followed all, shows what the viewer is shown.
+    #[tactic(auto, using(crate::proofs::Following::behind_gate))]
+    pub fn look(
+        &mut self,
+        alloc: Global,
+        pass: Pass<N>,
+        summary: &mut Summary,
+        viewer: UserName,
+        most: usize,
+    ) -> (Pass<N>, Result<Option<View>, OutOfMemory>)
+        requires behind { IsBehind N.policy pass.front summary.old }
+        ensures same { self.new ≡ self.old }
+        ensures front { result.0.front ≡ self.new }
+        ensures later { IsLater N.policy pass result.0 }
+        ensures own { mine result.0 ≡ mine pass }
+        ensures behind { IsBehind N.policy self.new summary.new }
+        ensures view { IfOk result.1 (λ found. IfSome found (IsView N.policy self.new viewer)) }
+        ensures further { IfOk result.1 (λ found. IfNone found
+            (summary.new.counts.records ≡ summary.old.counts.records + most)) }
+    {
+        let entered = self.keeper.enter(pass);
+        let found = look(&self.gate, alloc, summary, viewer, most);
+        (leave(&self.gate, &mut self.keeper, entered), found)
     }
 }

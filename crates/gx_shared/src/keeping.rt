@@ -17,10 +17,11 @@ use gx_audit_bytes::AuditVersion;
 use gx_devices::WriteFault;
 use gx_journal::{Journal, JournalName, Journaled};
 use gx_leaving::log_out_at_last;
-use gx_listen::{DayLog, Ending, serve_door};
+use gx_listen::{DayLog, Ending, PagePort, serve_door};
 use gx_lobby::Lobby;
 use gx_pass::{Blank, GateName, PassFault};
-use gx_records::ShowsState;
+use gx_policy::Policy;
+use gx_records::{ShowsRecords, ShowsState};
 use std::alloc::Global;
 use std::io::Write;
 use std::marker::Brand;
@@ -69,7 +70,7 @@ pub fn close_kept<G: ShowsState, N: GateName, J: JournalName, W: Write + Drop>(
 /// Serves at a gate whose records are kept on this device, on which there are so many of those that the pass has met.
 /// Gives a pass too, which has met all that was done, how many records that are, and how the server ended.
 fn serve_kept<
-    G: ShowsState + Send,
+    G: ShowsRecords + ShowsState + Send,
     N: GateName + Send + Sync,
     J: JournalName + Send + Sync,
     W: Write + Drop + Send,
@@ -83,12 +84,15 @@ fn serve_kept<
     version: AuditVersion,
     count: u64,
     device: W,
+    policy: &Policy,
     lobby: &Lobby,
     log: Option<DayLog>,
+    page: Option<PagePort>,
     listener: TcpListener,
     connections: u64,
 ) -> (Kept<G, W>, Ticket<N>, Total<N>, Ending)
     requires known { IfSome log (λ l. l.events.known ≡ known_of N.policy []) }
+    requires policy { policy.now ≡ N.policy }
     requires version { version ≡ J.version }
     requires begun { W.contents device ≡ J.begun }
     requires count { count ≡ J.count }
@@ -110,10 +114,13 @@ fn serve_kept<
     let served = serve_door(
         rt,
         alloc,
+        &shared,
         &door,
+        policy,
         entrance,
         lobby,
         log,
+        page,
         listener,
         connections,
     );
@@ -127,7 +134,7 @@ fn serve_kept<
 }
 
 fn serve_named<
-    G: ShowsState + Send,
+    G: ShowsRecords + ShowsState + Send,
     N: GateName + Send + Sync,
     J: JournalName + Send + Sync,
     W: Write + Drop + Send,
@@ -141,11 +148,14 @@ fn serve_named<
     version: AuditVersion,
     count: u64,
     device: W,
+    policy: &Policy,
     lobby: &Lobby,
+    page: Option<PagePort>,
     listener: TcpListener,
     connections: u64,
 ) -> Result<(Kept<G, W>, Ending), PassFault>
     requires policy { (G.seen gate).policy ≡ N.policy }
+    requires same { policy.now ≡ N.policy }
     requires blank { blank ≡ N.table }
     requires records { ledgers.records ≡ N.name }
     requires lines { ledgers.lines ≡ N.lines }
@@ -177,8 +187,10 @@ fn serve_named<
                 version,
                 count,
                 device,
+                policy,
                 lobby,
                 log,
+                page,
                 listener,
                 connections,
             );
@@ -198,7 +210,7 @@ fn serve_named<
 ///
 /// `NoLines` where the records have the last line that there is. The gate is closed then, as it is where memory is refused.
 pub fn serve_journaled<
-    G: ShowsState + Send,
+    G: ShowsRecords + ShowsState + Send,
     W: Write + Drop + Send,
     R: Threads + Wait + Clock + Sync,
 >(
@@ -209,6 +221,7 @@ pub fn serve_journaled<
     count: u64,
     device: W,
     lobby: &Lobby,
+    page: Option<PagePort>,
     listener: TcpListener,
     connections: u64,
 ) -> Result<(Kept<G, W>, Ending), PassFault>
@@ -228,6 +241,10 @@ pub fn serve_journaled<
         gate.close();
         return Err(PassFault::OutOfMemory);
     };
+    let Ok(policy) = gate.policy().copied(alloc) else {
+        gate.close();
+        return Err(PassFault::OutOfMemory);
+    };
     // no connection is left that made the records
     log_out_at_last(&mut gate);
     serve_named::<G, Brand, Brand, W, R>(
@@ -239,7 +256,9 @@ pub fn serve_journaled<
         version,
         count,
         device,
+        &policy,
         lobby,
+        page,
         listener,
         connections,
     )

@@ -9,13 +9,14 @@
 //!
 //! # Modules
 //!
-//! - `shared`: the gate that threads share, a [`Door`](gx_door::Door), behind its lock;
+//! - `shared`: the gate that threads share, a [`Door`](gx_door::Door) and a [`Lookout`](gx_lookout::Lookout), behind its lock;
 //! - `desk`: what lies under the lock, a gate and the keeper of its history, whose records are the same;
 //! - `entrance`: where passes are issued, an [`Issuer`](gx_door::Issuer);
 //! - `permit`: what passes are issued for, each with a part of a ledger, and how many lines were issued;
 //! - `ticket`: a pass, and how many records were added with it;
 //! - `counting`: the keeper, and the books in which each record and each line is counted;
 //! - `steps`: each step is one call of the gate, and the keeper notes its record before the lock is let go;
+//! - `looking`: a summary follows the records, and a viewer is shown what is his: no step is made;
 //! - `ending`: what a Kill or a Close Day ends, counted in front of its step;
 //! - `resuming`: the keeper of a history that was there before it, which it reads a portion at a time;
 //! - `serving`: a server whose day begins with it, and the gate that was served;
@@ -30,6 +31,7 @@ mod ending;
 mod entrance;
 mod keeping;
 mod logging;
+mod looking;
 mod permit;
 mod rest;
 mod resuming;

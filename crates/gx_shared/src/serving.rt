@@ -9,11 +9,11 @@ use crate::logging::day_log;
 use crate::permit::BlankLedgers;
 use crate::shared::SharedGate;
 use crate::ticket::Ticket;
-use gx_listen::{Ending, ServeFault, serve_door};
+use gx_listen::{Ending, PagePort, ServeFault, serve_door};
 use gx_lobby::Lobby;
 use gx_pass::{Blank, GateName};
 use gx_policy::Policy;
-use gx_records::ShowsState;
+use gx_records::{ShowsRecords, ShowsState};
 use std::alloc::Global;
 use std::marker::Brand;
 use std::net::TcpListener;
@@ -31,13 +31,18 @@ pub struct Served<G> {
 }
 
 /// Serves at a gate of this name. Gives a pass too, which has met all that was done, and how many records that are.
-fn serve_shared<G: ShowsState + Send, N: GateName + Send + Sync, R: Threads + Wait + Clock + Sync>(
+fn serve_shared<
+    G: ShowsRecords + ShowsState + Send,
+    N: GateName + Send + Sync,
+    R: Threads + Wait + Clock + Sync,
+>(
     rt: &R,
     alloc: Global,
     policy: &Policy,
     blank: Blank,
     ledgers: BlankLedgers,
     lobby: &Lobby,
+    page: Option<PagePort>,
     listener: TcpListener,
     connections: u64,
 ) -> Result<(Served<G>, Ticket<N>, Total<N>), ServeFault>
@@ -59,9 +64,12 @@ fn serve_shared<G: ShowsState + Send, N: GateName + Send + Sync, R: Threads + Wa
         rt,
         alloc,
         &door,
+        &door,
+        policy,
         entrance,
         lobby,
         log,
+        page,
         listener,
         connections,
     );
@@ -78,13 +86,18 @@ fn serve_shared<G: ShowsState + Send, N: GateName + Send + Sync, R: Threads + Wa
 }
 
 /// Serves at a gate of this name.
-fn serve_named<G: ShowsState + Send, N: GateName + Send + Sync, R: Threads + Wait + Clock + Sync>(
+fn serve_named<
+    G: ShowsRecords + ShowsState + Send,
+    N: GateName + Send + Sync,
+    R: Threads + Wait + Clock + Sync,
+>(
     rt: &R,
     alloc: Global,
     policy: &Policy,
     blank: Blank,
     ledgers: BlankLedgers,
     lobby: &Lobby,
+    page: Option<PagePort>,
     listener: TcpListener,
     connections: u64,
 ) -> Result<Served<G>, ServeFault>
@@ -103,6 +116,7 @@ fn serve_named<G: ShowsState + Send, N: GateName + Send + Sync, R: Threads + Wai
         blank,
         ledgers,
         lobby,
+        page,
         listener,
         connections,
     ) {
@@ -112,12 +126,14 @@ fn serve_named<G: ShowsState + Send, N: GateName + Send + Sync, R: Threads + Wai
 }
 
 /// Takes connections under the policy, and serves each until it ends: so many of them, or
-/// fewer where the lobby is asked to end. Gives the gate back, also where it gave up.
-pub fn serve<G: ShowsState + Send, R: Threads + Wait + Clock + Sync>(
+/// fewer where the lobby is asked to end. The risk desk's page is served beside them, if it has a port. Gives the gate back, also
+/// where it gave up.
+pub fn serve<G: ShowsRecords + ShowsState + Send, R: Threads + Wait + Clock + Sync>(
     rt: &R,
     alloc: Global,
     policy: &Policy,
     lobby: &Lobby,
+    page: Option<PagePort>,
     listener: TcpListener,
     connections: u64,
 ) -> Result<Served<G>, ServeFault>
@@ -133,6 +149,7 @@ pub fn serve<G: ShowsState + Send, R: Threads + Wait + Clock + Sync>(
         blank,
         ledgers,
         lobby,
+        page,
         listener,
         connections,
     )

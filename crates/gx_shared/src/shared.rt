@@ -11,17 +11,20 @@ ghost use Rattle.gx_pass.specs.declared.pass.PassFault.TheVariants as pass_fault
 ghost use Rattle.gx_pass.specs.Views.{highest_line, mine, of_line};
 ghost use Rattle.gx_door.specs.declared.fault.PullFault.TheVariants as pull_faults;
 ghost use Rattle.gx_door.specs.{Acts.{asked_on, gate_met, login_on, AddsOwn, EndsWith, IsLater, IsPulled, IsToldFull, LogsIn, MayBeRefused}, Callers.caller_of};
+ghost use Rattle.gx_board.specs.{Summaries.IsBehind, Views.IsView};
 ghost use Rattle.gx_shared.specs.Permits.{all_parts};
 
 use crate::desk::Desk;
 use crate::permit::{BlankLedgers, Permits};
 use crate::ticket::Ticket;
 use gx_answers::{AccessGate, LoginAnswer, Outcome, Pulled, StepFault};
+use gx_board::{Summary, View};
 use gx_door::{Caller, Dial, Door, Matched, PullFault, Turned};
 use gx_history::record::{Record, Request};
+use gx_lookout::Lookout;
 use gx_pass::{Blank, GateName, PassFault};
 use gx_policy::Policy;
-use gx_records::ShowsState;
+use gx_records::{ShowsRecords, ShowsState};
 use gx_units::{Moment, OutOfMemory, Password, SessionName, UserName};
 use std::alloc::Global;
 use std::hint::spin_loop;
@@ -329,5 +332,27 @@ impl<G: ShowsState, N: GateName> Door for SharedGate<G, N> {
 
     fn length(&self, pass: &mut Ticket<N>) -> u64 {
         pass.length()
+    }
+}
+
+impl<G: ShowsRecords + ShowsState, N: GateName> Lookout for SharedGate<G, N> {
+    type Pass = Ticket<N>;
+
+    ghost policy = { N.policy };
+
+    ghost held = { λ p. p.held };
+
+    fn look<R: Wait>(
+        &self,
+        rt: &R,
+        alloc: Global,
+        pass: Ticket<N>,
+        summary: &mut Summary,
+        viewer: UserName,
+        most: usize,
+    ) -> (Ticket<N>, Result<Option<View>, OutOfMemory>) {
+        let Ticket { pass, share } = pass;
+        let (pass, found) = self.desk(rt).look(alloc, pass, summary, viewer, most);
+        (Ticket { pass, share }, found)
     }
 }

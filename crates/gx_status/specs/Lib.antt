@@ -2,3 +2,4 @@ pub mod Parts
 pub mod Rows
 pub mod States
 pub mod Metrics
+pub mod Viewers

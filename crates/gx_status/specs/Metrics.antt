@@ -1,5 +1,5 @@
 -- A view as a Prometheus server reads it: the text format, version 0.0.4.
-use Rattle.std.specs.Prelude.{ℕ, ◌-◌, List, ◌++◌, codes, decimal, flat_map, unwrap_or, if◌then◌else◌}
+use Rattle.std.specs.Prelude.{ℕ, ◌-◌, List, ◌++◌, codes, decimal, flat_map, unwrap_or, if◌then◌else◌, Bool}
 use Rattle.gx_text.specs.Shown.{json_name}
 use Rattle.gx_overview.specs.declared.{accounts.AccountRow.AccountRow, day.DayRow.DayRow}
 use Rattle.gx_board.specs.declared.{counts.Counts.Counts, denied.DeniedRow.DeniedRow, uses.GrossUse.GrossUse, view.View.View}
@@ -97,3 +97,13 @@ view_figures v =
     records_figure v.counts ++ granted_figure v.counts ++ fills_figure v.counts ++ records_left_figure v.day ++ lines_left_figure v.counts.highest_line
     ++ denied_figure v.denied.items ++ live_figure v.accounts.items ++ killed_figure v.accounts.items
     ++ used_figure v.gross.items ++ left_figure v.gross.items
+
+-- what the server says of itself
+unfoldable pub connections_figure : ℕ → List ℕ
+connections_figure n = figure (codes "boskurige_connections") (codes "Connections that are served.") (codes "gauge") n
+
+unfoldable pub journaled_figure : Bool → List ℕ
+journaled_figure is_journaled = figure (codes "boskurige_journaled") (codes "1 where each record is kept before it is told.") (codes "gauge") (if is_journaled then 1 else 0)
+
+abbrev pub server_figures : Bool → ℕ → List ℕ
+server_figures is_journaled n = connections_figure n ++ journaled_figure is_journaled

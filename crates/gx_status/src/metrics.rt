@@ -1,7 +1,7 @@
 //! A view as a Prometheus server reads it: the text format, version 0.0.4.
 
 ghost use Rattle.std.specs.Prelude.{◌≡◌, ◌++◌, flat_map, OnOk};
-ghost use Rattle.gx_status.specs.Metrics.{denied_family, denied_figure, denied_sample, family, figure, fills_figure, granted_figure, killed_family, killed_figure, killed_sample, left_family, left_figure, left_sample, lines_left_figure, live_family, live_figure, live_sample, records_figure, records_left_figure, sample, sample_of, sample_under, used_family, used_figure, used_sample, view_figures};
+ghost use Rattle.gx_status.specs.Metrics.{connections_figure, denied_family, denied_figure, denied_sample, family, figure, fills_figure, granted_figure, killed_family, killed_figure, killed_sample, journaled_figure, left_family, left_figure, left_sample, lines_left_figure, live_family, live_figure, live_sample, records_figure, records_left_figure, sample, sample_of, sample_under, server_figures, used_family, used_figure, used_sample, view_figures};
 
 use gx_board::{Counts, DeniedRow, GrossUse, View};
 use gx_overview::accounts::AccountRow;
@@ -397,4 +397,47 @@ pub fn append_figures(text: &mut Vec<u8>, view: &View) -> Result<(), OutOfMemory
     append_all_killed(text, view.accounts.as_slice())?;
     append_all_used(text, view.gross.as_slice())?;
     append_all_left(text, view.gross.as_slice())
+}
+
+#[tactic(auto, unfolding(crate::specs::Metrics::connections_figure))]
+fn append_connections(text: &mut Vec<u8>, connections: u16) -> Result<(), OutOfMemory>
+    ensures { OnOk result (text.new.items ≡ text.old.items ++ connections_figure connections) }
+{
+    append_figure(
+        text,
+        b"boskurige_connections",
+        b"Connections that are served.",
+        b"gauge",
+        u64::from(connections),
+    )
+}
+
+#[tactic(auto, unfolding(crate::specs::Metrics::journaled_figure))]
+fn append_journaled(text: &mut Vec<u8>, is_journaled: bool) -> Result<(), OutOfMemory>
+    ensures { OnOk result (text.new.items ≡ text.old.items ++ journaled_figure is_journaled) }
+{
+    append_figure(
+        text,
+        b"boskurige_journaled",
+        b"1 where each record is kept before it is told.",
+        b"gauge",
+        if is_journaled { 1 } else { 0 },
+    )
+}
+
+/// Puts the figures of a server at the end of the text: how many connections it serves, and whether it has a journal.
+///
+/// # Errors
+///
+/// `OutOfMemory` where memory was refused; then a part of them may stand at the end of the text.
+pub fn append_server_figures(
+    text: &mut Vec<u8>,
+    is_journaled: bool,
+    connections: u16,
+) -> Result<(), OutOfMemory>
+    ensures { OnOk result
+        (text.new.items ≡ text.old.items ++ server_figures is_journaled connections) }
+{
+    append_connections(text, connections)?;
+    append_journaled(text, is_journaled)
 }

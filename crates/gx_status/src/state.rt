@@ -98,7 +98,7 @@ fn append_people(text: &mut Vec<u8>, view: &View) -> Result<(), OutOfMemory>
 /// # Errors
 ///
 /// `OutOfMemory` where memory was refused; then a part of it may stand at the end of the text.
-pub fn append_view(text: &mut Vec<u8>, view: &View) -> Result<(), OutOfMemory>
+pub(crate) fn append_view(text: &mut Vec<u8>, view: &View) -> Result<(), OutOfMemory>
     ensures { OnOk result (text.new.items ≡ text.old.items ++ view_members view.now) }
 {
     append_day_numbers(text, &view.day)?;

@@ -1,0 +1,106 @@
+//! The risk desk's page beside a server.
+
+ghost use Rattle.std.specs.Prelude.{◌≡◌};
+
+use crate::dated::Dated;
+use crate::fault::ServeFault;
+use gx_button::Secret;
+use gx_door::{Door, Issuer};
+use gx_lobby::{Lobby, Stop};
+use gx_lookout::{Board, Lookout};
+use gx_page::{Means, PageServer, serve_page};
+use gx_policy::Policy;
+use std::alloc::Global;
+use std::net::TcpListener;
+use std::sync::Wait;
+use std::time::Clock;
+
+/// Where the risk desk's page is served.
+#[derive(Drop)]
+pub struct PagePort {
+    /// Browsers come in there.
+    pub listener: TcpListener,
+    /// What the page's tokens are made of, which nobody else knows.
+    pub secret: Secret,
+    /// Whether there is a journal, which the page says.
+    pub is_journaled: bool,
+}
+
+/// The page that is served, what it looks at the gate and makes kills with, and where browsers come in.
+#[derive(Drop)]
+pub(crate) struct Paging<'x, D: Door, L: Lookout> {
+    server: PageServer<'x, D, L>,
+    means: Means<D, L>,
+    listener: TcpListener,
+}
+
+/// What the page looks at the gate with, and makes kills with: two lines of the day.
+fn means_of<T: Drop, L: Lookout<Pass = T>, D: Door<Ticket = T>, I: Issuer<D>, R: Wait>(
+    rt: &R,
+    alloc: Global,
+    policy: &Policy,
+    issuer: &mut I,
+) -> Result<Means<D, L>, ServeFault>
+    requires policy { policy.now ≡ L.policy }
+{
+    let pass = issuer.issue(rt)?;
+    let watching = issuer.issue(rt)?;
+    let board = Board::new(alloc, policy, watching)?;
+    Ok(Means { pass, board })
+}
+
+/// The page of this gate, whose kills are made at this door, if it is to be served somewhere.
+pub(crate) fn open_page<
+    'x,
+    T: Drop,
+    L: Lookout<Pass = T>,
+    D: Door<Ticket = T>,
+    I: Issuer<D>,
+    R: Wait,
+>(
+    rt: &R,
+    alloc: Global,
+    gate: &'x L,
+    door: &'x D,
+    policy: &'x Policy,
+    lobby: &'x Lobby,
+    issuer: &mut I,
+    page: Option<PagePort>,
+) -> Result<Option<Paging<'x, D, L>>, ServeFault>
+    requires policies { L.policy ≡ D.policy }
+    requires policy { policy.now ≡ D.policy }
+{
+    let Some(page) = page else {
+        return Ok(None);
+    };
+    let means = means_of(rt, alloc, policy, issuer)?;
+    let PagePort {
+        listener,
+        secret,
+        is_journaled,
+    } = page;
+    let server = PageServer::new(door, gate, policy, secret, is_journaled, lobby);
+    Ok(Some(Paging {
+        server,
+        means,
+        listener,
+    }))
+}
+
+/// What goes on beside a server, until its end is asked for.
+pub(crate) trait Aside {
+    /// Goes on.
+    fn go_on<R: Wait + Clock>(self, rt: &R, alloc: Global, lobby: &Lobby, closing: &Stop);
+}
+
+impl<D: Door, L: Lookout> Aside for Paging<'_, D, L> {
+    fn go_on<R: Wait + Clock>(self, rt: &R, alloc: Global, lobby: &Lobby, closing: &Stop) {
+        let Paging {
+            server,
+            means,
+            listener,
+        } = self;
+        let rt = &Dated::new(rt, alloc, lobby);
+        serve_page(rt, alloc, &server, means, &listener, closing);
+    }
+}

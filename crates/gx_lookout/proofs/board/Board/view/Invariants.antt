@@ -1,0 +1,14 @@
+use Rattle.std.proofs.Common.{◌≡◌}
+use Rattle.gx_pass.specs.Views.{mine}
+use Rattle.gx_board.specs.Summaries.{IsBehind}
+use Rattle.gx_lookout.proofs.Standing.{GoesOn}
+use Rattle.gx_lookout.proofs.board.Board.view.Given as goal
+
+abbrev pub invariant-loop : goal.invariant-loop
+invariant-loop g l = record {
+  next : (goal.iterator-loop g).can_next l.iterator';
+  finite : (goal.iterator-loop g).is_finite l.iterator';
+  later : GoesOn g.L.Lookout.policy l.fn.self (g.L.Lookout.held l.pass);
+  own : mine (g.L.Lookout.held l.pass) ≡ mine l.fn.self;
+  behind : IsBehind g.L.Lookout.policy (g.L.Lookout.held l.pass).front l.summary;
+}

@@ -1,0 +1,85 @@
+//! What follows a gate's records for a risk desk's page.
+
+ghost use Rattle.std.specs.Prelude.{◌≡◌, IfOk};
+ghost use Rattle.gx_pass.specs.Views.{mine};
+ghost use Rattle.gx_door.specs.Acts.{IsLater};
+ghost use Rattle.gx_board.specs.Views.{IsView};
+
+use crate::lookout::Lookout;
+use gx_board::{Summary, View};
+use gx_policy::Policy;
+use gx_units::{OutOfMemory, UserName};
+use std::alloc::Global;
+use std::marker::Model;
+use std::sync::Wait;
+
+/// So many records are followed at one hold of the gate's lock, so that whoever waits for it does not wait for long.
+const PORTION: usize = 2_000;
+
+/// A pass, and the summary of those records that it has followed, the first of what the pass has met. Contracts see what the
+/// pass has met.
+#[derive(Drop)]
+pub struct Board<L: Lookout> {
+    pass: L::Pass,
+    summary: Summary,
+}
+
+impl<L: Lookout> Model for Board<L> {
+    ghost use Rattle.gx_pass.specs.declared.view.Holds.{Holds};
+    ghost use Rattle.gx_board.specs.Summaries.{IsBehind};
+
+    ghost Value = { Holds };
+
+    ghost view = { λ b. L.held b.pass };
+
+    ghost invariant = { λ b. IsBehind L.policy (L.held b.pass).front b.summary };
+}
+
+impl<L: Lookout> Board<L> {
+    /// Of no record yet, by the policy of the gate that the pass is of.
+    ///
+    /// # Errors
+    ///
+    /// `OutOfMemory` where memory was refused. The pass is let go then.
+    #[tactic(auto, using(crate::proofs::Standing::begins))]
+    pub fn new(alloc: Global, policy: &Policy, pass: L::Pass) -> Result<Board<L>, OutOfMemory>
+        requires policy { policy.now ≡ L.policy }
+        ensures held { IfOk result (λ board. board ≡ L.held pass) }
+    {
+        let summary = Summary::new(alloc, policy)?;
+        Ok(Board { pass, summary })
+    }
+
+    /// What the viewer is shown of all records that the gate has once the last of them is followed: at least of those that the
+    /// pass had met, or was told of.
+    ///
+    /// # Errors
+    ///
+    /// `OutOfMemory` where memory was refused. What was followed by then stays so.
+    pub fn view<R: Wait>(
+        self,
+        rt: &R,
+        gate: &L,
+        alloc: Global,
+        viewer: UserName,
+    ) -> (Board<L>, Result<View, OutOfMemory>)
+        ensures later { IsLater L.policy self result.0 }
+        ensures own { mine result.0 ≡ mine self }
+        ensures view { IfOk result.1 (IsView L.policy result.0.front viewer) }
+    {
+        let Board {
+            mut pass,
+            mut summary,
+        } = self;
+        for _ in rt.forever() {
+            let (back, found) = gate.look(rt, alloc, pass, &mut summary, viewer, PORTION);
+            pass = back;
+            match found {
+                Ok(Some(view)) => return (Board { pass, summary }, Ok(view)),
+                Ok(None) => {}
+                Err(refused) => return (Board { pass, summary }, Err(refused)),
+            }
+        }
+        unreachable!()
+    }
+}

@@ -1,0 +1,80 @@
+-- What becomes of a request.
+use Rattle.std.specs.Prelude.{◌≡◌, ℕ, Bool, true, false, nat_eq, List, Option, Some, None, Result, Ok, Err, IfSome, IsSome, is_some, IsFalse, IsTrue, if◌then◌else◌}
+use Rattle.gx_units.specs.{Spelling.folded_user, declared.names.UserName.UserName}
+use Rattle.gx_policy.specs.declared.policy.PolicyData.{PolicyData}
+use Rattle.gx_history.specs.{declared.record.RecordData.RecordData, Verdicts.IsLegal}
+use Rattle.gx_desk.specs.declared.Tag.{Tag}
+use Rattle.gx_pass.specs.declared.view.Holds.{Holds}
+use Rattle.gx_overview.specs.{Rules.day_row, declared.day.DayRow.DayRow}
+use Rattle.gx_board.specs.{declared.view.View.View, Views.IsView}
+use Rattle.gx_http.specs.declared.{credentials.Credentials.Credentials, forms.KillForm.KillForm, request.{Asked.Asked, Request.Request}}
+use Rattle.gx_button.specs.{declared.steps.{Deed.Deed, Refusal.Refusal}, Steps.{is_staff, kill_command, IsPermitted, IsRefusal, Makes}}
+use Rattle.gx_page.specs.declared.reply.{Health.Health, Reply.Reply}
+
+-- the officer or the reader who asks, if it is one with his password
+abbrev pub viewer_of : PolicyData → Option Credentials → Option UserName
+viewer_of policy None = None
+viewer_of policy (Some who) = if is_staff policy who then Some (folded_user who.user) else None
+
+-- whether a gate whose day is so far takes orders
+abbrev pub health_of : DayRow → Health
+health_of day = if day.is_closed then Health.Closed else (if nat_eq day.left 0 then Health.Full else Health.Well)
+
+-- what the user is shown of a legal day with these records, all of one moment
+pub record IsSeen (policy : PolicyData) (records : List RecordData) (user : UserName) (v : View) : Type 0 where
+  pub legal : IsLegal policy records
+  pub view : IsView policy records user v
+
+-- his kill, with the tag that the page's commands have, was permitted, and these steps were made
+pub record IsDone (policy : PolicyData) (secret : List ℕ) (was is : Holds) (caller : Option Credentials) (form : KillForm) (deed : Deed) : Type 0 where
+  pub tag : Tag
+  pub named : IsSome caller
+  pub permitted : IfSome caller (λ who. IsPermitted policy secret who form)
+  pub steps : IfSome caller (λ who. Makes policy was is who (kill_command tag form.account) deed)
+
+-- what was done for a kill; or why nothing was
+abbrev pub IsKill : PolicyData → List ℕ → Holds → Holds → Option Credentials → KillForm → Result Deed Refusal → Type 0
+IsKill policy secret was is caller form (Ok deed) = IsDone policy secret was is caller form deed
+IsKill policy secret was is caller form (Err why) = IsRefusal policy secret caller form why × (is ≡ was)
+
+-- this is asked for, and its user is known
+abbrev pub IsAskedFor : PolicyData → Request → Asked → Type 0
+IsAskedFor policy q asked = (q.asked ≡ asked) × IsTrue (is_some (viewer_of policy q.caller))
+
+-- the user is known who asks for this, and he is shown this
+pub record IsShownTo (policy : PolicyData) (records : List RecordData) (q : Request) (asked : Asked) (user : UserName) (v : View) : Type 0 where
+  pub asks : q.asked ≡ asked
+  pub known : viewer_of policy q.caller ≡ Some user
+  pub seen : IsSeen policy records user v
+
+-- whoever asks is answered: whether the gate takes orders, and why he may not kill
+abbrev pub is_for_all : Asked → Bool
+is_for_all Asked.Page = false
+is_for_all Asked.Script = false
+is_for_all Asked.Style = false
+is_for_all Asked.State = false
+is_for_all Asked.Metrics = false
+is_for_all Asked.Health = true
+is_for_all (Asked.Kill form) = true
+
+-- the request's user is not known, and what it asks for is not for everybody
+pub record IsStranger (policy : PolicyData) (q : Request) : Type 0 where
+  pub own : IsFalse (is_for_all q.asked)
+  pub unknown : viewer_of policy q.caller ≡ None
+
+-- it asks for a kill
+pub record IsKillOf (policy : PolicyData) (secret : List ℕ) (was is : Holds) (q : Request) (done : Result Deed Refusal) : Type 0 where
+  pub form : KillForm
+  pub asked : q.asked ≡ Asked.Kill form
+  pub kill : IsKill policy secret was is q.caller form done
+
+-- what becomes of a request at the gate's door, which has these records then; of the page's pass, which was and is so
+abbrev pub IsReply : PolicyData → List ℕ → Holds → Holds → List RecordData → Request → Reply → Type 0
+IsReply policy secret was is records q Reply.Page = IsAskedFor policy q Asked.Page × (is ≡ was)
+IsReply policy secret was is records q Reply.Script = IsAskedFor policy q Asked.Script × (is ≡ was)
+IsReply policy secret was is records q Reply.Style = IsAskedFor policy q Asked.Style × (is ≡ was)
+IsReply policy secret was is records q (Reply.State user v) = IsShownTo policy records q Asked.State user v × (is ≡ was)
+IsReply policy secret was is records q (Reply.Metrics user v) = IsShownTo policy records q Asked.Metrics user v × (is ≡ was)
+IsReply policy secret was is records q (Reply.Health health) = (q.asked ≡ Asked.Health) × (IsLegal policy records × (health ≡ health_of (day_row records))) × (is ≡ was)
+IsReply policy secret was is records q Reply.Stranger = IsStranger policy q × (is ≡ was)
+IsReply policy secret was is records q (Reply.Kill done) = IsKillOf policy secret was is q done
