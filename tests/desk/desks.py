@@ -6,6 +6,7 @@ import re
 import signal
 import socket
 import subprocess
+import sys
 import threading
 import time
 from collections.abc import Iterator
@@ -15,6 +16,7 @@ from pathlib import Path
 
 HOST = "127.0.0.1"
 POLICIES = Path(__file__).resolve().parents[2] / "examples" / "policies"
+FLOOD = Path(__file__).resolve().parent / "flood.py"
 PASSWORDS = {
     "ALICE": "apple", "BOB": "banana", "OLGA": "orange", "OTTO": "olive", "RITA": "raisin",
 }
@@ -174,3 +176,16 @@ def serving(gate: str, folder: Path, policy: str | Path = "sample.toml", *words:
     finally:
         server.run.kill()
         server.run.wait(PATIENCE_SECONDS)
+
+
+@contextmanager
+def flooding(port: int, traders: int) -> Iterator[None]:
+    """So many traders who enter orders all the time, in a process of their own."""
+    words = [sys.executable, str(FLOOD), str(port), str(traders)]
+    with subprocess.Popen(words, stdin=subprocess.PIPE, stdout=subprocess.PIPE, text=True) as flood:
+        try:
+            if flood.stdout.readline() != "flooding\n":
+                raise ConnectionError("the traders can't flood")
+            yield
+        finally:
+            flood.stdin.close()

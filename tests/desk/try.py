@@ -30,8 +30,7 @@ import sys
 import tempfile
 import threading
 import time
-from collections.abc import Callable, Iterator
-from contextlib import contextmanager
+from collections.abc import Callable
 from pathlib import Path
 
 sys.dont_write_bytecode = True
@@ -39,9 +38,8 @@ TOP = Path(__file__).resolve().parents[2]
 sys.path[:0] = [str(Path(__file__).resolve().parent), str(TOP / "examples")]
 
 from client import Packets, packet  # noqa: E402  (in the folder above)
-from desks import HOST, POLICIES, Server, Session, Told, serving  # noqa: E402  (beside this file)
+from desks import HOST, POLICIES, Server, Session, Told, flooding, serving  # noqa: E402  (beside this file)
 
-FLOOD = Path(__file__).resolve().parent / "flood.py"
 TRADERS = 64
 TURNS = 10
 KILL_SECONDS = 0.1
@@ -96,19 +94,6 @@ def flood_policy(folder: Path) -> Path:
     return path
 
 
-@contextmanager
-def flooding(port: int) -> Iterator[None]:
-    """Traders who flood the server."""
-    words = [sys.executable, str(FLOOD), str(port), str(TRADERS)]
-    with subprocess.Popen(words, stdin=subprocess.PIPE, stdout=subprocess.PIPE, text=True) as flood:
-        try:
-            if flood.stdout.readline() != "flooding\n":
-                raise ConnectionError("the traders can't flood")
-            yield
-        finally:
-            flood.stdin.close()
-
-
 def orders_between(lines: list[str], first: int, last: float) -> tuple[int, int]:
     """How many orders and fills of an account stand between two records of its audit, and how many orders denied by P2."""
     taken = denied = 0
@@ -124,7 +109,7 @@ def kills_in_a_flood(gate: str, folder: Path, points: Points) -> None:
     """An officer kills ALFA from the shell, time and again, and leaves it killed in the end."""
     kills, lifts = [], []
     with serving(gate, folder, flood_policy(folder)) as server:
-        with flooding(server.port):
+        with flooding(server.port, TRADERS):
             for _ in range(TURNS):
                 kills.append(server.desk("OLGA", "kill", "ALFA"))
                 lifts.append(server.desk("OLGA", "lift", "ALFA"))

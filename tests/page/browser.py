@@ -13,7 +13,7 @@ from contextlib import contextmanager
 from pathlib import Path
 
 from pages import (
-    HOST, KILLED_SECONDS, OLGA, OTTO, PATIENCE_SECONDS, POLICY, RITA, Points, Server, flood_policy, flooding, serving, traded,
+    HOST, KILLED_SECONDS, OLGA, OTTO, PATIENCE_SECONDS, POLICY, RITA, TRADERS, Points, Server, flood_policy, flooding, serving, traded,
 )
 
 INSTALL_SECONDS = 240
@@ -293,7 +293,7 @@ def browser(gate: str, folder: Path, points: Points) -> None:
 def in_a_flood(browser: Browser, gate: str, folder: Path, points: Points) -> None:
     """A kill by the button while 64 traders enter orders all the time."""
     folder.mkdir()
-    with serving(gate, folder, flood_policy()) as server, flooding(server.port):
+    with serving(gate, folder, flood_policy()) as server, flooding(server.port, TRADERS):
         browser.opens(page_of(server, OLGA))
         is_right = browser.waits("document.querySelectorAll('#accounts tr').length === 3")
         points.look("the page of a server in a flood shows the accounts", is_right, browser.value("document.body.innerText"))

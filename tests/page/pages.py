@@ -17,7 +17,7 @@ TOP = Path(__file__).resolve().parents[2]
 sys.path[:0] = [str(TOP / "tests"), str(TOP / "tests" / "desk")]
 
 import peers  # noqa: E402  (of tests)
-from desks import HOST  # noqa: E402  (of tests/desk)
+from desks import HOST, flooding  # noqa: E402, F401  (of tests/desk; the files beside this one take both from here)
 
 PATIENCE_SECONDS = 10.0
 KILLED_SECONDS = 2.0
@@ -307,16 +307,3 @@ def flood_policy() -> str:
         for i in range(TRADERS)
     )
     return front + rest[rest.index("[[account]]"):] + "".join(traders)
-
-
-@contextmanager
-def flooding(port: int) -> Iterator[None]:
-    """Traders who enter orders all the time, in a process of their own."""
-    words = [sys.executable, str(TOP / "tests" / "desk" / "flood.py"), str(port), str(TRADERS)]
-    with subprocess.Popen(words, stdin=subprocess.PIPE, stdout=subprocess.PIPE, text=True) as flood:
-        try:
-            if flood.stdout.readline() != "flooding\n":
-                raise ConnectionError("the traders can't flood")
-            yield
-        finally:
-            flood.stdin.close()

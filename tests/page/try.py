@@ -44,7 +44,7 @@ from browser import browser  # noqa: E402  (beside this file)
 from costs import idle_cost, reading_cost  # noqa: E402
 from desks import HOST  # noqa: E402  (of tests/desk)
 from pages import (  # noqa: E402
-    ALICE, KILLED_SECONDS, OLGA, OMAR, OTTO, PATIENCE_SECONDS, RITA, Answer, Points, Server, asked, comes, exchanged,
+    ALICE, KILLED_SECONDS, OLGA, OMAR, OTTO, PATIENCE_SECONDS, RITA, TRADERS, Answer, Points, Server, asked, comes, exchanged,
     flood_policy, flooding, request_for, serving, traded,
 )
 
@@ -376,7 +376,7 @@ def kills_in_a_flood(gate: str, folder: Path, points: Points) -> None:
     """Kills while 64 traders enter orders all the time."""
     took = []
     with serving(gate, folder, flood_policy()) as server:
-        with flooding(server.port):
+        with flooding(server.port, TRADERS):
             for _ in range(FLOOD_KILLS):
                 body = f"account=ALFA&token={server.state()['token']}"
                 began = time.monotonic()

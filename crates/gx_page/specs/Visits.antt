@@ -1,10 +1,11 @@
 -- What comes on a connection, and what goes out on it.
-use Rattle.std.specs.{Prelude.{◌≡◌, ◌≤◌, ℕ, ◌-◌, List, ◌++◌, take, drop, Option}, Io.KnownBytes.{Appends, Consumes, Keeps}}
+use Rattle.std.specs.{Prelude.{◌≡◌, ◌<◌, ◌≤◌, ℕ, ◌-◌, List, ◌++◌, length, take, drop, Option}, Io.KnownBytes.{Appends, Consumes, Keeps}}
 use Rattle.gx_page.specs.declared.visit.Gulp.{Gulp}
 
--- these bytes came behind those that had come
+-- some bytes came behind those that had come
 pub record HasCome (left left' : Option (List ℕ)) (bytes bytes' : List ℕ) : Type 0 where
   pub piece : List ℕ
+  pub some : 0 < length piece
   pub consumed : Consumes left left' piece
   pub behind : bytes' ≡ bytes ++ piece
 

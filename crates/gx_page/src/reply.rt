@@ -94,7 +94,8 @@ fn told_health(seen: Result<View, OutOfMemory>) -> Result<Reply, OutOfMemory>
 
 /// What the user is told of what he is shown.
 fn told_state(user: UserName, seen: Result<View, OutOfMemory>) -> Result<Reply, OutOfMemory>
-    ensures { MatchResult seen (λ v. result ≡ Ok (replies.State user v)) (λ e. result ≡ Err e) }
+    ensures { MatchResult seen (λ v. result ≡ Ok (replies.State user v))
+        (λ e. result ≡ Err e) }
 {
     match seen {
         Ok(view) => Ok(Reply::State(user, view)),
@@ -104,7 +105,8 @@ fn told_state(user: UserName, seen: Result<View, OutOfMemory>) -> Result<Reply, 
 
 /// The figures of what the user is shown.
 fn told_metrics(user: UserName, seen: Result<View, OutOfMemory>) -> Result<Reply, OutOfMemory>
-    ensures { MatchResult seen (λ v. result ≡ Ok (replies.Metrics user v)) (λ e. result ≡ Err e) }
+    ensures { MatchResult seen (λ v. result ≡ Ok (replies.Metrics user v))
+        (λ e. result ≡ Err e) }
 {
     match seen {
         Ok(view) => Ok(Reply::Metrics(user, view)),
