@@ -4,6 +4,8 @@
 // and so many nanoseconds of work for each order, under one lock for all, as a server has that has one book.
 //
 //   load PORT CLIENTS WINDOW SECONDS cross|rest      one line: orders, seconds, orders a second, p50, p99, longest in us
+//   load PORT CLIENTS WINDOW SECONDS cross|rest MS   a line before it: the nanosecond of the monotonic clock when it began;
+//                                                    and one behind it: the orders of each so many milliseconds from then on
 //   load echo PORT [NANOSECONDS]
 #include <arpa/inet.h>
 #include <errno.h>
@@ -29,6 +31,7 @@ struct trader {
 
 static uint64_t *latencies;
 static uint64_t measured;
+static uint64_t *portions, portion, portion_count;
 
 static void fail(const char *what) {
     perror(what);
@@ -128,6 +131,11 @@ static int listen_to(struct trader *t, int window) {
     return accepted;
 }
 
+// Counts orders to the portion of time that they were accepted in.
+static void count_at(uint64_t since, int accepted) {
+    if (portion > 0 && since / portion < portion_count) portions[since / portion] += (uint64_t)accepted;
+}
+
 static int by_size(const void *a, const void *b) {
     uint64_t x = *(const uint64_t *)a, y = *(const uint64_t *)b;
     return x < y ? -1 : x > y;
@@ -147,6 +155,12 @@ static void drive(int port, int clients, int window, double seconds, int cross) 
         epoll_ctl(poll, EPOLL_CTL_ADD, t->line, &event);
     }
     uint64_t begun = now(), until = begun + (uint64_t)(seconds * 1e9), last = begun, open = 0;
+    if (portion > 0) {
+        portion_count = (until - begun) / portion;
+        portions = calloc((size_t)portion_count, sizeof *portions);
+        printf("%llu\n", (unsigned long long)begun);
+        fflush(stdout);
+    }
     for (int i = 0; i < clients; i++) enter(&traders[i], window, window, cross);
     open = (uint64_t)clients * (uint64_t)window;
     while (open > 0) {
@@ -160,6 +174,7 @@ static void drive(int port, int clients, int window, double seconds, int cross) 
             int accepted = listen_to(t, window);
             open -= (uint64_t)accepted;
             last = accepted > 0 ? now() : last;
+            count_at(last - begun, accepted);
             if (accepted > 0 && last < until) {
                 enter(t, accepted, window, cross);
                 open += (uint64_t)accepted;
@@ -172,6 +187,7 @@ static void drive(int port, int clients, int window, double seconds, int cross) 
     printf("%llu %.3f %.0f %.1f %.1f %.1f\n", (unsigned long long)measured, took, (double)measured / took,
            (double)latencies[kept / 2] / 1e3, (double)latencies[kept * 99 / 100] / 1e3,
            (double)latencies[kept - 1] / 1e3);
+    for (uint64_t i = 0; i < portion_count; i++) printf("%llu ", (unsigned long long)portions[i]);
 }
 
 struct speaker {
@@ -280,7 +296,8 @@ int main(int count, char **words) {
         if (count == 4) work = atol(words[3]);
         echo(atoi(words[2]));
     }
-    if (count != 6) return 2;
+    if (count != 6 && count != 7) return 2;
+    if (count == 7) portion = (uint64_t)atol(words[6]) * 1000000u;
     latencies = malloc(LATENCIES * sizeof *latencies);
     drive(atoi(words[1]), atoi(words[2]), atoi(words[3]), atof(words[4]), strcmp(words[5], "cross") == 0);
     return 0;

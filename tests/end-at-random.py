@@ -90,8 +90,8 @@ class Trader:
         self.orders = 0
         self.line: socket.socket | None = None
 
-    def connect(self, port: int) -> None:
-        """Logs in, for the reports from the first on."""
+    def connect(self, port: int, wanted: int = 1) -> None:
+        """Logs in, for the reports from this number on."""
         self.heard = b""             # what came of packets that are not whole yet
         self.reports = bytearray()   # the reports of this connection
         self.in_flight = 0
@@ -99,7 +99,7 @@ class Trader:
         self.line = socket.create_connection(("127.0.0.1", port), timeout=PATIENCE_SECONDS)
         self.line.setsockopt(socket.IPPROTO_TCP, socket.TCP_NODELAY, 1)
         name = self.name.encode()
-        self.line.sendall(b"\0\x2fL" + name.ljust(6) + b"P" + name[1:].ljust(9) + b" " * 10 + b"%20d" % 1)
+        self.line.sendall(b"\0\x2fL" + name.ljust(6) + b"P" + name[1:].ljust(9) + b" " * 10 + b"%20d" % wanted)
 
     def listen(self) -> bool:
         """Takes what is there. False at the end."""

@@ -110,11 +110,12 @@ accounts = ["BETA"]
 
 
 class Points:
-    """The points that were looked at, how many times as high a cost may be, and until when they have to be."""
+    """The points that were looked at, how many times as high a cost may be, on how many servers what a reader costs is
+    measured, and until when they have to be."""
 
-    def __init__(self, slack: float, screenshots: Path | None, until: float) -> None:
+    def __init__(self, slack: float, days: int, screenshots: Path | None, until: float) -> None:
         self.are_right = True
-        self.slack, self.screenshots, self.until = slack, screenshots, until
+        self.slack, self.days, self.screenshots, self.until = slack, days, screenshots, until
 
     def left(self) -> float:
         """So many seconds are left for what is still to be looked at."""
@@ -159,7 +160,7 @@ class Server:
         """Starts it, and waits until it listens: its page listens by then."""
         self.told.clear()
         self.run = subprocess.Popen(
-            self.words, stdin=subprocess.PIPE, stdout=subprocess.PIPE, stderr=subprocess.PIPE, text=True
+            self.words, stdin=subprocess.PIPE, stdout=subprocess.PIPE, stderr=subprocess.PIPE, text=True, restore_signals=False
         )
         for output in (self.run.stdout, self.run.stderr):
             threading.Thread(target=self.hear, args=(output,), daemon=True).start()
@@ -181,6 +182,10 @@ class Server:
     def listens(self) -> bool:
         """Whether it has told that it listens."""
         return f"listening {self.port}" in self.told
+
+    def logged(self) -> list[dict]:
+        """What its log has told, where it is asked for as JSON."""
+        return [json.loads(line) for line in list(self.told) if line.startswith("{")]
 
     def crash(self) -> None:
         """Kills it where it stands."""

@@ -3,17 +3,18 @@
 
 A server with a page (`gate serve --status-port`) is asked for each of its paths: who gets in and who does not, what an officer
 of two accounts and a reader are shown, what is refused and makes no record, what becomes of bytes that are no request and of
-half a request, of wrong passwords and of more connections than it serves at once, and whether the figures are what a
-Prometheus server reads. Then a kill in a flood of 64 traders, and what a thousand idle connections to the page, and one that
-asks ten times a second, cost a trader. Last a browser opens the page with an officer's password, presses Kill by keyboard, and
-has to show the account as killed within two seconds, also in a flood; where no browser can be had that is told, and nothing
-fails. A line is printed for each point, and behind one that is not as wanted what was seen. The status is 1 where there is
-such a one. Run as
+half a request, of wrong passwords and of more connections than it serves at once, and whether the figures are what a Prometheus
+server reads, with the times of a trader's reports in buckets, and with a journal what was written to it. Then a kill in a flood
+of 64 traders, and what a thousand idle connections to the page, and one that asks ten times a second, cost a trader. Last a
+browser opens the page with an officer's password, presses Kill by keyboard, and has to show the account as killed within two
+seconds, also in a flood; where no browser can be had that is told, and nothing fails. A line is printed for each point, and
+behind one that is not as wanted what was seen. The status is 1 where there is such a one. Run as
 
   tests/page/try.py [GATE]
   tests/page/try.py [GATE] --slack 5                    costs may be five times as high
   tests/page/try.py [GATE] --within 90                  takes no longer than so many seconds
   tests/page/try.py [GATE] --only requests,browser      parts of it
+  tests/page/try.py [GATE] --only reading --days 8      what one costs that asks ten times a second, measured on eight servers
   tests/page/try.py [GATE] --screenshots FOLDER         writes pictures of the page: light, dark and narrow
 
 GATE: the built program; where none is named, crates/gate/out/gate of this repository.
@@ -44,8 +45,8 @@ from browser import browser  # noqa: E402  (beside this file)
 from costs import idle_cost, reading_cost  # noqa: E402
 from desks import HOST  # noqa: E402  (of tests/desk)
 from pages import (  # noqa: E402
-    ALICE, KILLED_SECONDS, OLGA, OMAR, OTTO, PATIENCE_SECONDS, RITA, TRADERS, Answer, Points, Server, asked, comes, exchanged,
-    flood_policy, flooding, request_for, serving, traded,
+    ALICE, KILLED_SECONDS, OLGA, OMAR, OTTO, PATIENCE_SECONDS, POLICY, RITA, TRADERS, Answer, Points, Server, asked, comes,
+    exchanged, flood_policy, flooding, request_for, serving, traded,
 )
 
 PART_SECONDS = 240
@@ -62,6 +63,7 @@ NO_TOKEN = "the page is of an earlier run of the server: try again"
 NO_POWER = "you may not kill this account"
 ELSEWHERE = "you are logged in elsewhere: kill from there, or log out there"
 KILLED = "the account is killed"
+UNKEPT = "the journal can't be written: nothing more is told"
 DENIED = "the gate denied the kill: the last commands say why"
 # The members of a state, in their order, and those of the rows of its lists.
 MEMBERS = [
@@ -69,7 +71,7 @@ MEMBERS = [
     "denials", "commands", "users", "user", "may_kill", "token", "journal", "connections",
 ]
 ROWS = {
-    "accounts": ["account", "killed", "kill", "lift", "live"], "limits": ["rule", "limit", "file"],
+    "accounts": ["account", "killed", "kill", "lift", "live"], "limits": ["rule", "unit", "limit", "file"],
     "gross": ["rule", "account", "used", "left"], "net": ["rule", "account", "stock", "buys", "sells"],
     "rules": ["rule", "count"], "denials": ["record", "at", "user", "asked", "about", "denied_by"],
     "commands": ["record", "at", "user", "asked", "about", "denied_by"], "users": ["user", "line"],
@@ -263,11 +265,13 @@ def kill_requests(server: Server, points: Points) -> None:
     body = f"account=ALFA&token={server.state(OTTO)['token']}"
     answer = asked(server.page, "/kill", OTTO, method="POST", body=body)
     points.look("a kill: 303 to the page", answer.says(303, KILLED) and answer.fields.get("location") == "/", answer)
-    comes(lambda: server.state(OTTO)["accounts"][0]["killed"])
     state = server.state(OTTO)
     row = state["accounts"][0]
     is_right = row["killed"] and row["kill"]["officer"] == "OTTO" and row["live"] == 0
-    points.look("it stands in a state soon", is_right and state["commands"][-1]["asked"] == "kill", row, state["commands"])
+    points.look("it stands in the next state", is_right and state["commands"][-1]["asked"] == "kill", row, state["commands"])
+    ended = {"event": "orders_ended", "user": "OTTO", "command": "kill", "account": "ALFA", "record": row["kill"]["record"]}
+    is_told = comes(lambda: any(ended.items() <= one.items() and one["orders"] > 0 for one in server.logged()))
+    points.look("the log tells what it ended", is_told, ended, server.logged())
     answer = asked(server.page, "/kill", OTTO, method="POST", body=body)
     points.look("a kill of what is killed: 403", answer.says(403, DENIED), answer)
     peer = peers.Peer(server.port)
@@ -286,7 +290,29 @@ def kill_requests(server: Server, points: Points) -> None:
 
 NAME = r"[a-zA-Z_:][a-zA-Z0-9_:]*"
 LABEL = r'[a-zA-Z_][a-zA-Z0-9_]*="(?:[^"\\\n]|\\[\\"n])*"'
-SAMPLE = re.compile(rf"({NAME})(?:\{{({LABEL}(?:,{LABEL})*)?\}})? ([0-9]+)")
+VALUE = r"-?[0-9]+(?:\.[0-9]{9})?"
+SAMPLE = re.compile(rf"({NAME})(?:\{{({LABEL}(?:,{LABEL})*)?\}})? ({VALUE})")
+ANSWERS = "boskurige_answer_seconds"
+# What stands behind a histogram's name in those of its samples.
+PARTS_OF_HISTOGRAM = ("_bucket", "_sum", "_count")
+BOUNDS = [
+    0.00001, 0.000025, 0.00005, 0.0001, 0.00025, 0.0005, 0.001, 0.0025, 0.005, 0.01, 0.025, 0.05, 0.1, 0.25, 0.5, 1, float("inf"),
+]
+
+
+def labelled(family: str, kind: str, name: str, labels: str) -> str:
+    """What tells a sample of this family apart: its labels, behind its part where it is a histogram's. A fault is a ValueError."""
+    part = name.removeprefix(family)
+    if not name.startswith(family) or part not in (PARTS_OF_HISTOGRAM if kind == "histogram" else ("",)):
+        raise ValueError(f"{name} under {family}")
+    return f"{part} {labels}".strip()
+
+
+def value_of(kind: str, key: str, text: str) -> int | float:
+    """The value of a sample: only the sum of a histogram has decimals. A fault is a ValueError."""
+    if ("." in text) != (kind == "histogram" and key == "_sum"):
+        raise ValueError(f"{text} for {key}")
+    return float(text) if "." in text else int(text)
 
 
 def figures_in(text: str) -> dict:
@@ -300,20 +326,57 @@ def figures_in(text: str) -> dict:
                 raise ValueError(f"{found[1]} is told of twice")
             helped.add(found[1])
             name, kind = found[1], None
-        elif found := re.fullmatch(rf"# TYPE ({NAME}) (counter|gauge)", line):
+        elif found := re.fullmatch(rf"# TYPE ({NAME}) (counter|gauge|histogram)", line):
             if found[1] != name or name in families:
                 raise ValueError(f"TYPE of {found[1]} behind HELP of {name}")
             kind, families[name] = found[2], {}
             if (kind == "counter") != name.endswith("_total"):
                 raise ValueError(f"{name} is a {kind}")
         elif found := SAMPLE.fullmatch(line):
-            labels = found[2] or ""
-            if found[1] != name or kind is None or labels in families[name]:
+            if kind is None:
                 raise ValueError(f"out of place: {line}")
-            families[name][labels] = int(found[3])
+            key = labelled(name, kind, found[1], found[2] or "")
+            if key in families[name]:
+                raise ValueError(f"twice: {line}")
+            families[name][key] = value_of(kind, key, found[3])
         else:
             raise ValueError(f"no line of the format: {line!r}")
     return families
+
+
+def figures(server: Server) -> dict:
+    """The samples of each family, as an officer of all accounts is shown them."""
+    return figures_in(asked(server.page, "/metrics", OLGA).body.decode())
+
+
+def is_histogram(samples: dict) -> bool:
+    """Whether each bucket counts those before it, too, the last one has all, and the sum is no more than the bounds allow."""
+    buckets = {key: count for key, count in samples.items() if key.startswith("_bucket ")}
+    bounds = [float(key.removeprefix('_bucket le="').removesuffix('"')) for key in buckets]
+    counts = list(buckets.values())
+    alone = [count - before for before, count in zip([0, *counts], counts)]
+    least = sum(count * bound for count, bound in zip(alone[1:], bounds))
+    is_within = samples["_sum"] >= least * 0.999 and samples["_sum"] <= least + sum(alone) * PATIENCE_SECONDS
+    return bounds == BOUNDS and min(alone) >= 0 and counts[-1] == samples["_count"] and is_within
+
+
+def answer_times(server: Server, points: Points) -> None:
+    """Each report that a trader is sent is counted once, but for those that he is told again."""
+    before = figures(server)[ANSWERS]
+    points.look("the times of reports are a histogram", is_histogram(before) and before["_count"] > 0, before)
+    peer = peers.Peer(server.port)
+    peer.line.sendall(peers.login(*(word.encode() for word in ALICE)))
+    peer.packet()
+    again = []
+    peer.line.sendall(peers.order(b"H1", 100, 90_000))
+    while (packet := peer.packet()) and not packet.startswith(b"SA" + b"H1".ljust(14)):
+        again.append(packet)
+    new = 1 + sum(packet[:1] == peers.SEQUENCED for packet in peer.log_out())
+    is_right = comes(lambda: figures(server)[ANSWERS]["_count"] == before["_count"] + new)
+    after = figures(server)[ANSWERS]
+    is_right &= len(again) > 0 and is_histogram(after) and after["_sum"] > before["_sum"]
+    what = f"{new} more are counted for {new} reports, and none for {len(again)} that are told again"
+    points.look(what, is_right, before, after)
 
 
 def metrics(server: Server, points: Points) -> None:
@@ -335,21 +398,32 @@ def metrics(server: Server, points: Points) -> None:
         for name, value in of_accounts.items()
     )
     points.look("its figures of accounts too", is_right, found, state)
+    limits = {f'rule="{row["rule"]}"': row["limit"] for row in state["limits"] if row["limit"] is not None}
+    points.look("and the limits in force", found.get("boskurige_limit") == limits, found, limits)
+    sides = {
+        f'rule="{row["rule"]}",account="{row["account"]}",stock="{row["stock"]}",side="{side}"': row[side]
+        for row in state["net"] for side in ("buys", "sells") if row[side] is not None
+    }
+    is_right = found.get("boskurige_net_used") == sides and min(sides.values()) < 0
+    points.look("and what is used of net limits", is_right, found, sides)
     for name, member in (("limit_used", "used"), ("limit_left", "left")):
         rows = {f'rule="{row["rule"]}",account="{row["account"]}"': row[member] for row in state["gross"]}
         points.look(f"and those of {name}", found.get(f"boskurige_{name}") == rows, found, rows)
     rows = {f'rule="{row["rule"]}"': row["count"] for row in state["rules"]}
     points.look("and how often each rule denied", found.get("boskurige_denied_total") == rows, found, rows)
+    journal = {name: found.get(f"boskurige_{name}") for name in ("journaled", "journal_bytes_total", "journal_failures_total")}
+    points.look("and that there is no journal", all(samples == {"": 0} for samples in journal.values()), journal)
 
 
 def requests(gate: str, folder: Path, points: Points) -> None:
     """All that raw sockets show."""
-    with serving(gate, folder) as server:
+    with serving(gate, folder, POLICY, "--log", "json") as server:
         wrong_passwords(server, points)
         traded(server)
         paths(server, points)
         states(server, points)
         metrics(server, points)
+        answer_times(server, points)
         refused_kills(server, points)
         kill_requests(server, points)
         bad_bytes(server, points)
@@ -370,6 +444,24 @@ def ends(server: Server, points: Points) -> None:
     words = [server.gate, "check", str(server.audit), "--policy", str(server.policy)]
     checked = subprocess.run(words, capture_output=True, check=False)
     points.look("the server ends, and its audit is legal", status == 0 and checked.stdout.startswith(b"legal "), status, checked)
+
+
+def journaled(gate: str, folder: Path, points: Points) -> None:
+    """What was written to a journal: 128 bytes a record of this run, before the records are told, and nothing that failed."""
+    path = folder / "journal"
+    with serving(gate, folder, POLICY, "--journal", str(path)) as server:
+        header = path.stat().st_size
+        traded(server)
+
+        def is_written() -> bool:
+            found = figures(server)
+            return found["boskurige_journal_bytes_total"] == {"": 128 * server.state()["record"]}
+
+        is_right, found = comes(is_written), figures(server)
+        is_right &= found["boskurige_journal_bytes_total"][""] == path.stat().st_size - header > 0
+        is_right &= found["boskurige_journal_failures_total"] == {"": 0} and found["boskurige_journaled"] == {"": 1}
+        points.look("128 bytes a record were written to the journal", is_right, header, path.stat().st_size, found)
+        ends(server, points)
 
 
 def kills_in_a_flood(gate: str, folder: Path, points: Points) -> None:
@@ -393,10 +485,25 @@ def kills_in_a_flood(gate: str, folder: Path, points: Points) -> None:
         ends(server, points)
 
 
+def unkept_kill(gate: str, folder: Path, points: Points) -> None:
+    """A kill that the journal can't keep: nothing is told of it."""
+    journal = folder / "journal"
+    with serving(gate, folder, POLICY, "--journal", str(journal)) as server:
+        body = f"account=ALFA&token={server.state()['token']}"
+        size = journal.stat().st_size
+        resource.prlimit(server.run.pid, resource.RLIMIT_FSIZE, (size, size))
+        answer = asked(server.page, "/kill", OLGA, method="POST", body=body)
+        status = server.run.wait(PATIENCE_SECONDS)
+    is_right = (answer.body == b"" or answer.says(503, UNKEPT)) and status != 0 and journal.stat().st_size == size
+    points.look("a kill that the journal can't keep is not told, and the server ends", is_right, answer, status)
+
+
 # All of it.
 
 PARTS: dict[str, Callable[[str, Path, Points], None]] = {
     "requests": requests,
+    "unkept": unkept_kill,
+    "journal": journaled,
     "flood": kills_in_a_flood,
     "idle": idle_cost,
     "reading": reading_cost,
@@ -409,6 +516,7 @@ def arguments() -> argparse.Namespace:
     parser = argparse.ArgumentParser(description="Shows what the risk desk's page does.")
     parser.add_argument("gate", nargs="?", default=str(TOP / "crates" / "gate" / "out" / "gate"), help="the built program")
     parser.add_argument("--slack", type=float, default=1.0, help="how many times as high a cost may be (1)")
+    parser.add_argument("--days", type=int, default=1, help="on how many servers what a reader costs is measured (1)")
     parser.add_argument("--within", type=float, default=PART_SECONDS * len(PARTS), help="the seconds that all may take")
     parser.add_argument("--only", default=",".join(PARTS), help=f"parts to run: {', '.join(PARTS)} (all)")
     parser.add_argument("--screenshots", type=Path, help="a folder for pictures of the page (none)")
@@ -423,7 +531,8 @@ def too_late(*_: object) -> None:
 def main() -> int:
     """Runs all parts. Answers the status: 1 where something is not as wanted."""
     words = arguments()
-    gate, points = str(Path(words.gate).resolve()), Points(words.slack, words.screenshots, time.monotonic() + words.within)
+    gate, until = str(Path(words.gate).resolve()), time.monotonic() + words.within
+    points = Points(words.slack, words.days, words.screenshots, until)
     resource.setrlimit(resource.RLIMIT_NOFILE, (4096, 4096))
     signal.signal(signal.SIGALRM, too_late)
     for name, part in PARTS.items():

@@ -3,9 +3,10 @@
 ghost use Rattle.std.specs.Prelude.{◌≤◌};
 ghost use Rattle.gx_clock.specs.Moments.{last_shown};
 
-use gx_clock::TimeOfDay;
+use gx_clock::{DayClock, TimeOfDay};
 use gx_command_line::Ends;
 use gx_lobby::Lobby;
+use gx_log::Log;
 use gx_shortened::Shortened;
 use gx_units::{Moment, OutOfMemory};
 use std::alloc::Global;
@@ -49,7 +50,7 @@ fn await_input<I: Read, R: Wait + Clock>(rt: &R, alloc: Global, reader: &mut I, 
 
 /// What a server is ended for.
 #[derive(Drop)]
-struct Awaited {
+pub(crate) struct Awaited {
     /// At this moment.
     at: Option<Moment>,
     /// Once there is this file.
@@ -58,7 +59,7 @@ struct Awaited {
 
 /// Why a server ends, as a line of its log.
 #[derive(Clone, Copy)]
-enum Why<'a> {
+pub(crate) enum Why<'a> {
     /// It is this moment.
     Time(Moment),
     /// There is this file.
@@ -87,10 +88,10 @@ impl fmt::Display for Why<'_> {
 }
 
 impl Awaited {
-    /// Why the server is to end now, if it is.
-    fn why(&self, host: &HostRuntime, lobby: &Lobby) -> Option<Why<'_>> {
+    /// Why the server is to end now, by this clock, if it is.
+    pub(crate) fn why(&self, host: &HostRuntime, clock: &DayClock) -> Option<Why<'_>> {
         if let Some(moment) = self.at {
-            if lobby.clock.now(host) >= moment {
+            if clock.now(host) >= moment {
                 return Some(Why::Time(moment));
             }
         }
@@ -103,20 +104,26 @@ impl Awaited {
     }
 }
 
-/// Ends the server, and tells why.
-fn end_for<R: Wait + Clock>(rt: &R, alloc: Global, lobby: &Lobby, why: Why<'_>) {
+/// Tells in the log why the server ends, by this clock.
+pub(crate) fn tell_why<R: Wait + Clock>(
+    rt: &R,
+    alloc: Global,
+    log: &Log,
+    clock: &DayClock,
+    why: Why<'_>,
+) {
     match format!(in alloc; "{why}") {
-        Ok(words) => lobby.tell(rt, alloc, "end", words.as_str()),
-        Err(_) => lobby.log.leave_out(rt),
+        Ok(words) => log.tell_event(rt, alloc, clock.now(rt), "end", words.as_str()),
+        Err(_) => log.leave_out(rt),
     }
-    lobby.end();
 }
 
 /// Ends the server once what is awaited has come.
 fn await_end<R: Wait + Clock>(rt: &R, host: &HostRuntime, lobby: &Lobby, awaited: &Awaited) {
     for _ in rt.forever() {
-        if let Some(why) = awaited.why(host, lobby) {
-            end_for(rt, host.alloc(), lobby, why);
+        if let Some(why) = awaited.why(host, &lobby.clock) {
+            tell_why(rt, host.alloc(), &lobby.log, &lobby.clock, why);
+            lobby.end();
             return;
         }
         thread::sleep(rt, Duration::from_millis(LOOK));
@@ -155,7 +162,11 @@ fn end_when_come<R: Threads + Wait + Clock + Copy + Send + 'static>(
 }
 
 /// What is awaited, as it is asked for.
-fn awaited_of(host: &HostRuntime, ends: Ends, now: Moment) -> Result<Awaited, OutOfMemory>
+pub(crate) fn awaited_of(
+    host: &HostRuntime,
+    ends: Ends,
+    now: Moment,
+) -> Result<Awaited, OutOfMemory>
     requires { now ≤ last_shown }
 {
     let stop_file = match ends.stop_file {

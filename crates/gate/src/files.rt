@@ -38,7 +38,7 @@ impl Content {
     }
 
     /// What is told of a file that has more.
-    fn too_long(self) -> &'static str {
+    pub(crate) fn too_long(self) -> &'static str {
         match self {
             Content::Policy => "longer than a policy may be, 16777216 bytes",
             Content::Password => "longer than a password's file may be, 4096 bytes",
@@ -89,7 +89,7 @@ pub(crate) fn tell_apart<'a>(rt: &HostRuntime, named: Named) -> Result<(), Ended
 }
 
 /// That a file is refused, in these words.
-fn refused<'a>(path: &'a str, why: &str) -> Ended<'a> {
+pub(crate) fn refused<'a>(path: &'a str, why: &str) -> Ended<'a> {
     Ended::unread(path, Error::new(ErrorKind::InvalidData, why))
 }
 

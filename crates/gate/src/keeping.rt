@@ -53,29 +53,47 @@ pub(crate) struct Day {
     pub(crate) device: Noted<JournalDevice>,
 }
 
-/// Opens the file of a journal, for this program alone, and leaves it as it is.
-pub(crate) fn open_journal<'a>(rt: &HostRuntime, path: &'a str) -> Result<File, Ended<'a>> {
+/// Opens the file of a journal, to be read and written, and leaves it as it is. Where there is none it is made, or refused.
+pub(crate) fn open_file<'a>(
+    rt: &HostRuntime,
+    path: &'a str,
+    is_made: bool,
+) -> Result<File, Ended<'a>> {
     look_before(rt, path, Content::Records)?;
     let mut options = OpenOptions::new();
-    options.read(true).append(true).create(true);
-    let file = match options.open(rt, path) {
-        Ok(file) => file,
-        Err(error) => return Err(Ended::unwritten(Place::File(path), error)),
-    };
+    options.read(true).append(true).create(is_made);
+    match options.open(rt, path) {
+        Ok(file) => Ok(file),
+        Err(error) => Err(Ended::unwritten(Place::File(path), error)),
+    }
+}
+
+/// Whether the file of a journal is this program's alone, from now on: no other one keeps it.
+pub(crate) fn is_ours<'a>(path: &'a str, file: &File) -> Result<bool, Ended<'a>> {
     match file.try_lock() {
-        Ok(()) => Ok(file),
-        Err(TryLockError::WouldBlock) => Err(ProgramFault::JournalInUse.into()),
+        Ok(()) => Ok(true),
+        Err(TryLockError::WouldBlock) => Ok(false),
         Err(TryLockError::Error(error)) => Err(Ended::unwritten(Place::File(path), error)),
     }
 }
 
-/// A day as its journal's file holds it.
-struct Found {
-    resumed: Resumed<Gate>,
+/// Opens the file of a journal, for this program alone, and leaves it as it is.
+pub(crate) fn open_journal<'a>(rt: &HostRuntime, path: &'a str) -> Result<File, Ended<'a>> {
+    let file = open_file(rt, path, true)?;
+    if is_ours(path, &file)? {
+        Ok(file)
+    } else {
+        Err(ProgramFault::JournalInUse.into())
+    }
+}
+
+/// A day as its journal's file holds it. Its gate is closed, and never dropped.
+pub(crate) struct Found {
+    pub(crate) resumed: Resumed<Gate>,
     /// The version of the journal: that of the file where a day was begun in it, else the one that is asked for.
-    version: AuditVersion,
+    pub(crate) version: AuditVersion,
     /// How many bytes the file has.
-    length: u64,
+    pub(crate) length: u64,
 }
 
 /// The day that the file holds.
@@ -166,11 +184,23 @@ pub(crate) fn take_up<'a>(
     file: File,
     asked: AuditVersion,
 ) -> Result<Day, Ended<'a>> {
+    let found = read_day(rt, policy, journal.path, &file, asked)?;
+    go_on_from(rt, policy, journal, file, found)
+}
+
+/// The day that was found in the journal's file, which is this program's: what does not stand there is cut off.
+pub(crate) fn go_on_from<'a>(
+    rt: &HostRuntime,
+    policy: &Policy,
+    journal: JournalFile<'a>,
+    file: File,
+    found: Found,
+) -> Result<Day, Ended<'a>> {
     let Found {
         resumed,
         version,
         length,
-    } = read_day(rt, policy, journal.path, &file, asked)?;
+    } = found;
     let Resumed { gate, kept } = resumed;
     let mut device = Counted::new(Noted::new(JournalDevice {
         watched: Watched { file, length: kept },

@@ -5,34 +5,39 @@ ghost use Rattle.std.specs.Prelude.{◌-◌, ◌^◌, ◌<◌};
 
 mod announcing;
 mod auditing;
+mod checking;
 mod desk;
 mod ending;
 mod ends;
 mod files;
+mod following;
 mod keeping;
 mod limits;
 mod page;
 mod report;
 mod showing;
+mod standby;
 mod starts;
 mod state;
 mod streams;
+mod whatif;
 
 use announcing::Announcer;
 use auditing::{AuditFile, close_audited, leave_audit, open_audit};
+use checking::check;
 use clap::Error;
 use clap::error::ErrorKind as UsageFault;
 use desk::desk_told;
 use ending::{Ended, Place, tell, tell_in};
 use ends::{await_ends, connections_of};
 use files::{Content, Named, bytes_of, tell_apart};
+use following::follow_journal;
 use gx_answers::AccessGate;
-use gx_audit::{AuditAnswer, more_of_audit, told_of_audit};
 use gx_audit_bytes::AuditVersion;
 use gx_clock::UtcOffset;
 use gx_command_line::{
-    Asked, AuditFiles, BadCall, JournalFile, LONGEST_WORD, RunFiles, Serving, Shape, Wanted,
-    first_bad_word,
+    Asked, AuditFiles, BadCall, FollowAsked, JournalFile, LONGEST_WORD, RunFiles, Serving, Shape,
+    Standby, Wanted, first_bad_word,
 };
 use gx_core::Gate;
 use gx_devices::{Counted, WriteFault};
@@ -45,11 +50,12 @@ use gx_scripting::run_script;
 use gx_server::{Noted, ProgramFault, migrated_policy, open_gate, policy_for, told_of_policy};
 use gx_shared::{Kept, Served, serve, serve_journaled};
 use gx_units::{Moment, OutOfMemory};
-use keeping::{Day, JournalDevice, look_back, open_journal, take_up, tell_cut};
+use keeping::{Day, JournalDevice, look_back, open_file, open_journal, take_up, tell_cut};
 use limits::places_for;
 use page::{listen, open_page};
 use report::report_told;
 use showing::show_under;
+use standby::{TakenOver, take_over};
 use starts::{Start, audit_version};
 use state::state;
 use std::alloc::Global;
@@ -61,6 +67,7 @@ use std::thread::Threads;
 use std::time::{Clock, Duration};
 use std::{io, thread};
 use streams::{NULL, StandIns};
+use whatif::whatif;
 
 /// The moment of a connection's first packet.
 const FIRST_MOMENT: u64 = 1;
@@ -435,6 +442,64 @@ fn open_day<'a>(
     }
 }
 
+/// A day that goes on, since when it does, and the file of its audit.
+struct Opened<'a> {
+    start: Start,
+    day: Day,
+    audit: Option<AuditFile<'a>>,
+}
+
+/// The day of a journal that another server has kept, and the file of its audit. `None` where the standby is to end before it
+/// takes over.
+fn stand_by<'a, R: Wait + Clock>(
+    rt: &R,
+    host: &HostRuntime,
+    policy: &Policy,
+    serving: &Serving<'a>,
+    standby: Standby<'a>,
+    start: Start,
+    journal: JournalFile<'a>,
+    named: Named<'a>,
+    log: &Log,
+) -> Result<Option<Opened<'a>>, Ended<'a>> {
+    let file = open_file(host, journal.path, false)?;
+    tell_apart(host, named)?;
+    let audit = open_audit(host, named)?;
+    match take_over(
+        rt, host, policy, serving, standby, journal, file, start, log,
+    ) {
+        Ok(Some(TakenOver { start, day })) => Ok(Some(Opened { start, day, audit })),
+        Ok(None) => {
+            leave_audit(host, audit);
+            Ok(None)
+        }
+        Err(ended) => {
+            leave_audit(host, audit);
+            Err(ended)
+        }
+    }
+}
+
+/// The day of a journal, once it is this server's, and the file of its audit. `None` where a standby is to end before.
+fn open_kept<'a, R: Wait + Clock>(
+    rt: &R,
+    host: &HostRuntime,
+    policy: &Policy,
+    serving: &Serving<'a>,
+    start: Start,
+    journal: JournalFile<'a>,
+    named: Named<'a>,
+    log: &Log,
+) -> Result<Option<Opened<'a>>, Ended<'a>> {
+    if let Some(standby) = serving.standby {
+        return stand_by(
+            rt, host, policy, serving, standby, start, journal, named, log,
+        );
+    }
+    let (day, audit) = open_day(host, policy, journal, named, start.version)?;
+    Ok(Some(Opened { start, day, audit }))
+}
+
 /// Serves connections of the day that a journal holds, keeps its records, and writes the audit.
 fn serve_kept<'a, R>(
     rt: &R,
@@ -456,7 +521,10 @@ where
         + Sync
         + 'static,
 {
-    let (day, audit) = open_day(host, policy, journal, named, start.version)?;
+    let Some(opened) = open_kept(rt, host, policy, serving, start, journal, named, log)? else {
+        return Ok(());
+    };
+    let Opened { start, day, audit } = opened;
     let version = audit_version(start.version, day.version);
     match go_on(rt, host, serving, start, day, log) {
         Ok((left, ended)) => close_server(host, journal.path, left, ended, version, audit),
@@ -492,53 +560,6 @@ where
         Some(journal) => serve_kept(rt, host, &policy, &serving, start, journal, named, log),
         None => serve_under(rt, host, &policy, &serving, start, named, log),
     }
-}
-
-/// Puts a line behind an answer. The first line on standard error is that of a fault of the program: it stays empty.
-fn tell_behind(rt: &HostRuntime, line: &[u8]) {
-    let _ = eprintln!(rt; "");
-    let _ = rt.stderr().write_all(line);
-}
-
-/// Puts behind an answer what more there is to tell of it; nothing where there is no memory for it.
-fn tell_more_of(rt: &HostRuntime, policy: &Policy, audit: &[u8], told: &AuditAnswer) {
-    if audit.is_empty() {
-        tell_behind(rt, b"the file is empty: it has no header and no record\n");
-    }
-    if let Ok(Some(line)) = more_of_audit::<Gate>(rt.alloc(), policy, audit, told.answer) {
-        tell_behind(rt, line.as_slice());
-    }
-}
-
-/// Tells what an audit is: the status that says so.
-fn tell_audit<'a>(rt: &HostRuntime, policy: &Policy, audit: &[u8]) -> Result<ExitCode, Ended<'a>> {
-    let told = match told_of_audit::<Gate>(rt.alloc(), policy, audit) {
-        Ok(told) => told,
-        Err(fault) => return Err(Ended::of_writing(fault, Place::Output, None)),
-    };
-    match io::writer(rt).write_all(told.line.as_slice()) {
-        Ok(()) => {
-            tell_more_of(rt, policy, audit, &told);
-            Ok(ExitCode::from(told.status()))
-        }
-        Err(error) => Err(Ended::unwritten(Place::Output, error)),
-    }
-}
-
-/// Checks an audit under a policy: the status that says what it is.
-fn check_under<'a>(
-    rt: &HostRuntime,
-    policy: &Policy,
-    path: &'a str,
-) -> Result<ExitCode, Ended<'a>> {
-    let audit = bytes_of(rt, path, Content::Records)?;
-    tell_audit(rt, policy, audit.as_slice())
-}
-
-/// Checks an audit: the status that says what it is.
-fn check<'a>(rt: &HostRuntime, files: AuditFiles<'a>) -> Result<ExitCode, Ended<'a>> {
-    let policy = policy_of(rt, files.policy)?;
-    check_under(rt, &policy, files.audit)
 }
 
 /// Shows records of an audit: the status that says whether all were records.
@@ -582,10 +603,11 @@ fn run<'a>(rt: &HostRuntime, asked: Asked<'a>) -> Result<ExitCode, Ended<'a>> {
         Asked::Policy(file) => policy(rt, file)?,
         Asked::Migrate(file) => migrate(rt, file)?,
         // by `main`, which alone may start threads
-        Asked::Serve(_) | Asked::Desk(_) | Asked::Report(_, _) => {}
+        Asked::Serve(_) | Asked::Desk(_) | Asked::Report(_, _) | Asked::Follow(_, _) => {}
         Asked::Check(files) => return check(rt, files),
         Asked::Show(files, wanted, shape) => return show(rt, files, wanted, shape),
         Asked::State(files, asked) => return state(rt, files, asked),
+        Asked::WhatIf(files, asked) => return whatif(rt, files, asked),
     }
     Ok(ExitCode::SUCCESS)
 }
@@ -654,6 +676,19 @@ where
     }
 }
 
+/// Follows a journal, or tells why not: the status of either.
+fn follow_told<R: Wait + Clock>(
+    rt: &R,
+    host: &HostRuntime,
+    files: AuditFiles,
+    asked: FollowAsked,
+) -> ExitCode {
+    match follow_journal(rt, host, files, asked) {
+        Ok(status) => status,
+        Err(ended) => tell(host, ended),
+    }
+}
+
 /// Does what was asked, or tells why not: the status of either.
 fn done(rt: &HostRuntime, asked: Asked) -> ExitCode {
     match run(rt, asked) {
@@ -711,6 +746,7 @@ fn main(rt: HostRuntime) -> ExitCode {
     match asked_of(&rt, words.as_slice()) {
         Ok(Asked::Serve(serving)) => serve_told(&rt, &rt, serving),
         Ok(Asked::Desk(desk)) => desk_told(&rt, &rt, desk),
+        Ok(Asked::Follow(files, asked)) => follow_told(&rt, &rt, files, asked),
         Ok(Asked::Report(files, form)) => report_told(&rt, &rt, files, form),
         Ok(asked) => done(&rt, asked),
         Err(status) => status,

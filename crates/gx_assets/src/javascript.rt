@@ -52,6 +52,15 @@ function number(value) {
   return Number.isSafeInteger(value) ? grouped.format(value) : 'about ' + value.toPrecision(3);
 }
 
+const PARTS = 10000; // of a dollar, or of a price
+
+// A figure of a limit, in its unit.
+function amount(value, unit) {
+  if (unit === 'dollars/10000' && Number.isSafeInteger(value)) return '$' + grouped.format(value / PARTS);
+  if (unit === 'price/10000') return grouped.format((value * 100) / PARTS) + ' %';
+  return number(value);
+}
+
 // A moment without its fractions, or with three digits of them.
 const inSeconds = (moment) => moment.slice(0, 8);
 const inThousandths = (moment) => moment.slice(0, 12);
@@ -168,18 +177,22 @@ function fillAccount(view, account) {
 
 // What is used of each limit, by each account, and of a net limit in each stock and on each side.
 function uses() {
-  const limits = new Map(state.limits.map((row) => [row.rule, row.limit]));
+  const limits = new Map(state.limits.map((row) => [row.rule, row]));
   const rows = state.gross.map((row) => {
-    const limit = limits.get(row.rule) ?? (row.left === null ? null : row.used + row.left);
-    return { rule: row.rule, account: row.account, of: 'all', used: row.used, limit };
+    return { rule: row.rule, account: row.account, of: 'all', used: row.used, ...limitOf(limits, row.rule) };
   });
   for (const row of state.net) {
-    const limit = limits.get(row.rule) ?? null;
     for (const side of ['buys', 'sells']) {
-      rows.push({ rule: row.rule, account: row.account, of: row.stock + ' ' + side, used: row[side], limit });
+      const of = row.stock + ' ' + side;
+      rows.push({ rule: row.rule, account: row.account, of, used: row[side], ...limitOf(limits, row.rule) });
     }
   }
   return rows.filter((use) => use.used !== null && use.limit !== null).map(withShare);
+}
+
+function limitOf(limits, rule) {
+  const { limit = null, unit = null } = limits.get(rule) ?? {};
+  return { limit, unit };
 }
 
 function withShare(use) {
@@ -200,7 +213,7 @@ const shareText = (use) => (Number.isFinite(use.share) ? percent(use.share) : 'a
 // Figures that a number can't hold exactly are told by their share alone.
 function figures(use) {
   if (!Number.isSafeInteger(use.used) || !Number.isSafeInteger(use.limit)) return '';
-  return number(use.used) + ' of ' + number(use.limit);
+  return amount(use.used, use.unit) + ' of ' + amount(use.limit, use.unit);
 }
 
 function beginUse() {
@@ -254,7 +267,7 @@ function showLimits() {
   say(byId('nearest'), words ? words.filter(Boolean).join(' ') : 'nothing used');
   const changed = state.limits.filter((row) => row.limit !== null && row.limit !== row.file);
   show(byId('changed-section'), changed.length > 0);
-  const textsOf = (row) => [row.rule, number(row.limit), row.file === null ? DASH : number(row.file)];
+  const textsOf = (row) => [row.rule, amount(row.limit, row.unit), row.file === null ? DASH : amount(row.file, row.unit)];
   showTexts('changed', changed, (row) => row.rule, ['', 'number', 'number'], textsOf);
 }
 

@@ -8,7 +8,7 @@ use Rattle.gx_audit.specs.{declared.fault.AuditFault.AuditFault, Replaying.{Ends
 use Rattle.gx_audit_bytes.specs.{declared.version.AuditVersion.AuditVersion, Versions.version_of, Headers.front_of, Records.record_bytes, Reading.IsShown, Audits.{all_bytes, whole_audit, AreShown}}
 use Rattle.gx_audit_bytes.proofs.Joined.{no_bytes, more_bytes}
 
-whole_more : (version : AuditVersion) (policy : PolicyData) (records : List RecordData) (r : RecordData)
+pub whole_more : (version : AuditVersion) (policy : PolicyData) (records : List RecordData) (r : RecordData)
     → whole_audit version policy (records ++ r ∷ []) ≡ whole_audit version policy records ++ record_bytes version r
 whole_more version policy records r =
     ap (λ (bytes : List ℕ). front_of version policy ++ bytes) (more_bytes version records r)

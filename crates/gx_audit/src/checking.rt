@@ -58,11 +58,7 @@ pub(crate) fn records_start(
 
 /// Where the policy's header in this version ends, with which the bytes have to begin.
 #[tactic(auto, using(crate::proofs::Fronts::other_header))]
-pub(crate) fn header_end(
-    policy: &Policy,
-    version: AuditVersion,
-    bytes: &[u8],
-) -> Result<usize, AuditFault>
+pub fn header_end(policy: &Policy, version: AuditVersion, bytes: &[u8]) -> Result<usize, AuditFault>
     requires version { version_of bytes.now ≡ version }
     ensures within { IfOk result (λ end. end ≤ length bytes.now) }
     ensures headed { OnOk result (IsTrue (has_header version)) }
@@ -219,7 +215,7 @@ pub fn check_record<G: AccessGate>(
 
 /// Checks that these bytes are the gate's next record in this version, as [`check_record`] does, while the watcher looks on.
 #[tactic(auto, using(gx_audit_bytes::proofs::Rules::shown_names_rule))]
-pub(crate) fn check_watched<G: AccessGate, W: Watches<G>>(
+pub fn check_watched<G: AccessGate, W: Watches<G>>(
     gate: &mut G,
     watcher: &mut W,
     version: AuditVersion,
@@ -234,6 +230,7 @@ pub(crate) fn check_watched<G: AccessGate, W: Watches<G>>(
         ≡ length (G.seen gate.old).records + 1) }
     ensures saw { OnOk result
         (W.saw watcher.new (G.seen gate.new).policy (G.seen gate.new).records) }
+    ensures asked { W.asked watcher.new ≡ W.asked watcher.old }
     ensures fault { IfErr result (λ e.
         IsRecordFault version (G.seen gate.old).policy (G.seen gate.old).records bytes.now e) }
 {
@@ -275,6 +272,7 @@ fn follow_watched<G: AccessGate, W: Watches<G>>(
         ≡ length (G.seen gate.old).records + 1) }
     ensures saw { OnOk result
         (W.saw watcher.new (G.seen gate.new).policy (G.seen gate.new).records) }
+    ensures asked { W.asked watcher.new ≡ W.asked watcher.old }
     ensures fault { IfErr result (λ e.
         IsRecordFault version (G.seen gate.old).policy (G.seen gate.old).records bytes.now e) }
 {

@@ -18,7 +18,9 @@ mod resuming;
 mod telling;
 
 pub use beginning::{replay_first, replay_watched};
-pub use checking::{check_audit, check_record, is_of_other_policy, record_at};
+pub use checking::{
+    check_audit, check_record, check_watched, header_end, is_of_other_policy, record_at,
+};
 pub use day::{audit_of, header_of};
 pub use endings::{endings_of, order_ends_of};
 pub use explaining::more_of_audit;
@@ -26,5 +28,5 @@ pub use fault::AuditFault;
 pub use keeping::write_audit;
 pub use places::{count_of, count_until, moment_at};
 pub use replaying::replay;
-pub use resuming::{Resumed, resume};
+pub use resuming::{Resumed, is_new, resume};
 pub use telling::{AuditAnswer, told_of_audit, told_of_fault};

@@ -22,7 +22,7 @@ pub struct Resumed<G> {
 }
 
 /// Whether the bytes are a front of the policy's header in their version, but not all of it.
-fn is_new(policy: &Policy, file: &[u8]) -> bool
+pub fn is_new(policy: &Policy, file: &[u8]) -> bool
     ensures { IsTrue result → IsNew policy.now file.now }
 {
     file.len() < RECORD_SIZE && write_header_in(AuditVersion::of(file), policy).starts_with(file)

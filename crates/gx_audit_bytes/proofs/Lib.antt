@@ -6,3 +6,5 @@ pub mod ReadBack
 pub mod Counts
 pub mod HeaderParts
 pub mod Joined
+pub mod Payloads
+pub mod Standing

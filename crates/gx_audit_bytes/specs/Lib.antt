@@ -6,3 +6,4 @@ pub mod Records
 pub mod Headers
 pub mod Reading
 pub mod Audits
+pub mod Written

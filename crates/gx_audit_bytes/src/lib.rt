@@ -9,6 +9,7 @@ mod reading;
 mod records;
 mod version;
 mod writing;
+mod written;
 mod wrong;
 
 pub use day::AuditDay;

@@ -8,9 +8,9 @@ ghost use Rattle.gx_policy.specs.RuleNames.{rule_id};
 ghost use Rattle.gx_audit_bytes.specs.declared.version.AuditVersion.TheVariants as versions;
 ghost use Rattle.gx_audit_bytes.specs.{Records.record_bytes, Reading.{record_of, shows_rule, IsShown, content_in, step_in, verdict_in, rule_in, request_in, login_in, unreadable_in, message_size, step_shown, verdict_shown}};
 
-use crate::draft::{RECORD_SIZE, same_bytes, whole};
+use crate::draft::{RECORD_SIZE, whole};
 use crate::version::AuditVersion;
-use crate::writing::{write_content, write_record_in};
+use crate::written::is_written;
 use gx_desk::{Action, Command, Tag, WrittenName};
 use gx_history::record::{
     Asked, Fill, Login, Record, RecordData, Request, Step, Unreadable, Verdict,
@@ -38,19 +38,15 @@ pub fn read_record_2(bytes: &[u8; RECORD_SIZE]) -> Option<Record>
 }
 
 /// The record whose bytes these are in this version; None where they are no record's. Takes no memory.
-#[tactic(auto, unfolding(crate::specs::Reading::record_of))]
+#[tactic(auto, unfolding(crate::specs::Reading::record_of), using(crate::proofs::Standing::shown_so))]
 pub fn read_record_in(version: AuditVersion, bytes: &[u8; RECORD_SIZE]) -> Option<Record>
     ensures shown { result ≡ record_of version bytes.now }
     ensures bytes { IfSome result (λ r. record_bytes version r ≡ bytes.now) }
     ensures read_back { IfSome result (IsShown version) }
 {
     let content = content(bytes)?;
-    if !is_showable(&content) {
-        return None;
-    }
-    let shown = Record::new(content);
-    if same_bytes(&write_record_in(version, &shown), bytes) {
-        Some(shown)
+    if is_showable(&content) && is_written(version, &content, bytes) {
+        Some(Record::new(content))
     } else {
         None
     }

@@ -14,9 +14,9 @@ use gx_history::record::{Record, RecordData, Step, Verdict};
 use gx_policy::RuleName;
 use gx_units::RuleId;
 
-const NO_USER: [u8; 6] = *b"      ";
+pub(crate) const NO_USER: [u8; 6] = *b"      ";
 
-const NO_RULE: [u8; 8] = *b"        ";
+pub(crate) const NO_RULE: [u8; 8] = *b"        ";
 
 /// The record as an audit of version 1 shows it: each part at its place. Takes no memory.
 pub fn write_record(given: &Record) -> [u8; RECORD_SIZE]
@@ -89,7 +89,7 @@ fn record_draft(version: AuditVersion, content: &RecordData) -> Draft
     draft
 }
 
-fn mark(version: AuditVersion) -> [u8; 4]
+pub(crate) fn mark(version: AuditVersion) -> [u8; 4]
     ensures bytes { result ≡ 71 ∷ mark_of version }
     ensures len { length (mark_of version) ≡ 3 }
 {

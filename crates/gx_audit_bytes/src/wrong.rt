@@ -4,6 +4,7 @@ use crate::draft::RECORD_SIZE;
 use crate::reading::{content, has_no_lower_case, is_showable, message_size, step_shown};
 use crate::version::AuditVersion;
 use crate::writing::write_content;
+use crate::written::has_mark;
 use gx_history::record::{RecordData, Step, Verdict};
 
 /// The fields of a record, and where each ends.
@@ -44,14 +45,6 @@ fn unshown(content: &RecordData) -> &'static str {
         (Step::Asked(asked), _) if !has_no_lower_case(&asked.user.bytes) => "user",
         (Step::Asked(_), Verdict::Denied(_)) => "rule",
         (_, _) => "verdict",
-    }
-}
-
-fn has_mark(version: AuditVersion, bytes: &[u8]) -> bool {
-    match version {
-        AuditVersion::One => matches!(bytes, [b'G', b'X', b'A', b'1', ..]),
-        AuditVersion::Two => matches!(bytes, [b'G', b'X', b'A', b'2', ..]),
-        AuditVersion::Three(_) => matches!(bytes, [b'G', b'X', b'A', b'3', ..]),
     }
 }
 

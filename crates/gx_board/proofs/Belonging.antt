@@ -1,13 +1,13 @@
 -- Nothing of another's account is in a view.
-use Rattle.std.proofs.Common.{◌≡◌, Bool, true, false, ◌&&◌, List, [], ◌∷◌, ◌++◌, map, refl, sym, subst, if◌then◌else◌}
+use Rattle.std.proofs.Common.{◌≡◌, Bool, true, false, List, [], ◌∷◌, map, refl, sym, subst, if◌then◌else◌}
 use Rattle.std.specs.Prelude.{All, IsTrue, filter, flat_map, is_some}
 use Rattle.std.proofs.lemmas.{Bool.and_parts, List.Elements.{All-append, All-cons, All-map, All-nil, All-weaker}}
 use Rattle.gx_units.specs.declared.names.{AccountName.AccountName, RuleId.RuleId, UserName.UserName}
-use Rattle.gx_policy.specs.declared.policy.{Account.Account, FileRule.FileRule, PolicyData.PolicyData}
+use Rattle.gx_policy.specs.{Kinds.{is_gross, is_net}, declared.policy.{Account.Account, FileRule.FileRule, PolicyData.PolicyData}}
 use Rattle.gx_history.specs.declared.record.RecordData.{RecordData}
-use Rattle.gx_overview.specs.{Rules.{gross_row, net_row}, declared.{accounts.AccountRow.AccountRow, day.UserRow.UserRow, rules.{GrossRow.GrossRow, NetRow.NetRow}}}
+use Rattle.gx_overview.specs.{Rules.{gross_row, net_row}, declared.{day.UserRow.UserRow, rules.{GrossRow.GrossRow, NetRow.NetRow}}}
 use Rattle.circular_buffer.specs.Buffer.{keep_last}
-use Rattle.gx_board.specs.{Counting.{commands, denies}, Summaries.most_recent, declared.{uses.{GrossUse.GrossUse, NetUse.NetUse}, view.View.View}, Laws.{IsHis, ViewsAreHis}, Sight.{is_record_shown, is_shown, is_user_shown}, Views.{gross_use, gross_uses_of, is_gross, is_gross_shown, is_net, is_net_used, IsView, net_use, net_uses_by, net_uses_in, net_uses_of}}
+use Rattle.gx_board.specs.{Accounts.account_state, Counting.{commands, denies}, Summaries.most_recent, declared.{accounts.AccountState.AccountState, uses.{GrossUse.GrossUse, NetUse.NetUse}, view.View.View}, Laws.{IsHis, ViewsAreHis}, Sight.{is_record_shown, is_shown, is_user_shown}, Views.{gross_use, gross_uses_of, is_gross_shown, is_net_used, IsView, net_use, net_uses_by, net_uses_in, net_uses_of}}
 
 -- what a filter keeps passes its test
 passing : {X : Type 0} (p : X → Bool) (xs : List X) → All (λ x. IsTrue (p x)) (filter p xs)
@@ -34,6 +34,9 @@ all_tested P true ys all = all refl
 all_tested P false ys all = All-nil P
 
 module _ (policy : PolicyData) (records : List RecordData) (viewer : UserName) where
+  AccountIsHis : AccountState → Type 0
+  AccountIsHis state = IsTrue (is_shown policy records viewer state.account)
+
   GrossIsHis : GrossUse → Type 0
   GrossIsHis seen = IsTrue (is_shown policy records viewer seen.row.account)
 
@@ -63,9 +66,9 @@ module _ (policy : PolicyData) (records : List RecordData) (viewer : UserName) w
 
   -- a view has only such
   is_his : (v : View) → IsView policy records viewer v → IsHis policy records viewer v
-  unfolding GrossIsHis NetIsHis
+  unfolding AccountIsHis GrossIsHis NetIsHis
   is_his v view = record {
-    accounts = subst (All (λ (row : AccountRow). IsTrue (is_shown policy records viewer row.account))) (sym view.accounts) (passing (λ (row : AccountRow). is_shown policy records viewer row.account) _);
+    accounts = subst (All AccountIsHis) (sym view.accounts) (All-map AccountIsHis (account_state policy records) _ (passing (λ (a : Account). is_shown policy records viewer a.name) policy.accounts));
     gross = subst (All GrossIsHis) (sym view.gross) (all_given GrossIsHis (gross_uses_of policy records viewer) gross_of_rule policy.rules);
     net = subst (All NetIsHis) (sym view.net) (all_given NetIsHis (net_uses_of policy records viewer) net_of_rule policy.rules);
     denials = subst (All (λ (r : RecordData). IsTrue (is_record_shown policy records viewer r))) (sym view.denials) (passing (is_record_shown policy records viewer) (keep_last most_recent (filter denies records)));

@@ -1,10 +1,7 @@
 -- What one more record makes of the rows of rules.
-use Rattle.std.proofs.Common.{◌≡◌, ℕ, ◌+◌, Bool, true, false, List, [], ◌∷◌, ◌++◌, map, refl, sym, ap, ◌∙◌, if◌then◌else◌, arith}
-use Rattle.std.specs.Prelude.{count_by}
-use Rattle.gx_policy.specs.declared.rule_name.RuleName.{RuleName}
-use Rattle.gx_units.specs.declared.names.RuleId.{RuleId}
+use Rattle.std.proofs.Common.{◌≡◌, ℕ, false, List, [], ◌∷◌, map, refl}
 use Rattle.gx_history.specs.declared.record.{RecordData.RecordData, Step.Step, Verdict.Verdict}
-use Rattle.gx_board.specs.{declared.denied.DeniedRow.DeniedRow, Counting.{denies, is_denied_by, row_counted}}
+use Rattle.gx_board.specs.{declared.denied.DeniedRow.DeniedRow, Counting.{denies, row_counted}}
 
 by_verdict : (v : Verdict) (row : DeniedRow) (step : Step) (number moment : ℕ) → denies (record { number = number; moment = moment; step = step; verdict = v }) ≡ false
     → row_counted (record { number = number; moment = moment; step = step; verdict = v }) row ≡ row

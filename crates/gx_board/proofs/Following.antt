@@ -1,15 +1,15 @@
 -- What one more record makes of a summary.
-use Rattle.std.proofs.Common.{◌≡◌, ℕ, ◌+◌, ◌-◌, ◌≤◌, Bool, true, false, List, [], ◌∷◌, ◌++◌, length, map, drop, refl, sym, ap, ◌∙◌, subst, if◌then◌else◌, arith}
-use Rattle.std.specs.Prelude.{count_by, filter, fold, max, sum_by}
+use Rattle.std.proofs.Common.{◌≡◌, ℕ, ◌+◌, ◌-◌, Bool, true, false, List, [], ◌∷◌, ◌++◌, length, map, drop, refl, sym, ap, ◌∙◌, subst, if◌then◌else◌, arith}
+use Rattle.std.specs.Prelude.{count_by, filter, fold, max}
 use Rattle.std.proofs.lemmas.{List.{append_assoc, drop-append-le, drop-drop, length-append, length-drop, map-append}, List.Elements.{filter-append, filter_map-append}, List.Sums.{fold-append, sum_by-append}}
 use Rattle.std.proofs.Common.{append-nil}
-use Rattle.circular_buffer.specs.Buffer.{Buffer, buffer, keep_last}
+use Rattle.circular_buffer.specs.Buffer.{buffer, keep_last}
 use Rattle.gx_units.specs.declared.names.RuleId.{RuleId}
 use Rattle.gx_policy.specs.declared.policy.PolicyData.{PolicyData}
 use Rattle.gx_history.specs.declared.record.RecordData.{RecordData}
 use Rattle.gx_pass.specs.Views.{highest_line, line_in}
 use Rattle.gx_overview.specs.{Accounts.capped_count, Commands.{granted_command, granted_commands}}
-use Rattle.gx_board.specs.{declared.{counts.Counts.Counts, denied.DeniedRow.DeniedRow, summary.Summary.Summary}, Counting.{commands, counted, counts_of, denied_row, denied_rows, denies, fills, grants, is_denied_by, one_more, row_counted, rule_names}, Summaries.{Counted, Follows, IsCounted, IsSummary, Notes, most_recent, pushed, recent}}
+use Rattle.gx_board.specs.{declared.{summary.Summary.Summary}, Counting.{commands, counted, counts_of, denied_row, denies, fills, grants, is_denied_by, one_more, row_counted, rule_names}, Summaries.{Counted, Follows, IsCounted, Notes, most_recent, pushed, recent}}
 
 cap_more : (b : Bool) (n : ℕ) → capped_count (n + (if b then 1 else 0)) ≡ one_more b (capped_count n)
 cap_more true n = grind arith

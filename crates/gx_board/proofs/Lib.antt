@@ -2,3 +2,4 @@ mod Denying
 mod Following
 mod Belonging
 pub mod Catching
+mod Trading

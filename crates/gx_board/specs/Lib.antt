@@ -1,5 +1,6 @@
 pub mod Counting
 pub mod Summaries
 pub mod Sight
+pub mod Accounts
 pub mod Views
 pub mod Laws

@@ -1,5 +1,5 @@
 -- Whom what concerns: the accounts that are a viewer's.
-use Rattle.std.specs.{Prelude.{Bool, true, false, ◌||◌, List, Option, Some, None}, Option.option_map_or}
+use Rattle.std.specs.{Prelude.{Bool, true, false, ◌||◌, List, Option, Some}, Option.option_map_or}
 use Rattle.gx_units.specs.{Names.same_user, declared.names.{AccountName.AccountName, UserName.UserName}}
 use Rattle.gx_desk.specs.declared.Action.{Action}
 use Rattle.gx_policy.specs.{declared.policy.{PolicyData.PolicyData, Role.Role}, People.{account_of, covers, role_in}}

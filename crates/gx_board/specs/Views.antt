@@ -1,27 +1,11 @@
 -- What a viewer is shown of a day, at one moment.
-use Rattle.std.specs.{Prelude.{◌≡◌, ℕ, ℤ, pos, negsuc, nat_lt, Bool, true, false, ◌&&◌, ◌||◌, List, [], map, filter, flat_map, Option, Some, None, is_some, if◌then◌else◌}, Option.option_map_or}
+use Rattle.std.specs.{Prelude.{◌≡◌, ℤ, pos, negsuc, nat_lt, Bool, false, ◌&&◌, ◌||◌, List, [], map, filter, flat_map, Option, is_some, if◌then◌else◌}, Option.option_map_or}
 use Rattle.circular_buffer.specs.Buffer.{keep_last}
 use Rattle.gx_units.specs.declared.names.{AccountName.AccountName, RuleId.RuleId, UserName.UserName}
-use Rattle.gx_policy.specs.declared.{kinds.ExposureLimit.ExposureLimit, policy.{Account.Account, FileRule.FileRule, PolicyData.PolicyData, RuleKind.RuleKind, Stock.Stock, User.User}}
+use Rattle.gx_policy.specs.{Kinds.{is_gross, is_net}, declared.policy.{Account.Account, FileRule.FileRule, PolicyData.PolicyData}}
 use Rattle.gx_history.specs.declared.record.RecordData.{RecordData}
-use Rattle.gx_overview.specs.{Accounts.account_row, Rules.{day_row, gross_row, limit_row, net_row, user_row}, declared.{accounts.AccountRow.AccountRow, day.{DayRow.DayRow, UserRow.UserRow}, rules.{GrossRow.GrossRow, LimitRow.LimitRow, NetRow.NetRow}}}
-use Rattle.gx_board.specs.{declared.{counts.Counts.Counts, uses.{GrossUse.GrossUse, NetUse.NetUse}, view.View.View}, Counting.{commands, counts_of, denied_rows, denies}, Summaries.most_recent, Sight.{is_record_shown, is_shown, is_user_shown}}
-
--- the rows of accounts that are his
-abbrev pub account_rows : PolicyData → List RecordData → UserName → List AccountRow
-account_rows policy records viewer =
-    filter (λ (row : AccountRow). is_shown policy records viewer row.account) (map (account_row policy records) policy.accounts)
-
--- a rule on gross shares or on gross value
-abbrev pub is_gross : RuleKind → Bool
-is_gross (RuleKind.Exposure ExposureLimit.GrossShares limit count) = true
-is_gross (RuleKind.Exposure ExposureLimit.GrossValue limit count) = true
-is_gross other = false
-
--- a rule on net shares
-abbrev pub is_net : RuleKind → Bool
-is_net (RuleKind.Exposure ExposureLimit.NetShares limit count) = true
-is_net other = false
+use Rattle.gx_overview.specs.{Rules.{day_row, gross_row, limit_row, net_row, user_row}, declared.{day.{UserRow.UserRow}, rules.{GrossRow.GrossRow, NetRow.NetRow}}}
+use Rattle.gx_board.specs.{declared.{uses.{GrossUse.GrossUse, NetUse.NetUse}, view.View.View}, Accounts.account_states, Counting.{commands, counts_of, denied_rows, denies}, Summaries.most_recent, Sight.{is_record_shown, is_shown, is_user_shown}}
 
 -- an account that is his, for which the rule is
 abbrev pub is_gross_shown : PolicyData → List RecordData → UserName → GrossRow → Bool
@@ -83,7 +67,7 @@ user_rows policy records viewer = filter (λ (row : UserRow). is_user_shown poli
 pub record IsView (policy : PolicyData) (records : List RecordData) (viewer : UserName) (v : View) : Type 0 where
   pub day : v.day ≡ day_row records
   pub counts : v.counts ≡ counts_of records
-  pub accounts : v.accounts.items ≡ account_rows policy records viewer
+  pub accounts : v.accounts.items ≡ account_states policy records viewer
   pub limits : v.limits.items ≡ map (limit_row policy records) policy.rules
   pub gross : v.gross.items ≡ gross_uses policy records viewer
   pub net : v.net.items ≡ net_uses policy records viewer

@@ -1,31 +1,13 @@
 //! Whom what concerns: the accounts that are a viewer's.
 
-ghost use Rattle.std.specs.Prelude.{◌≡◌, option_copied};
-ghost use Rattle.gx_policy.specs.People.{account_of, user_in};
+ghost use Rattle.std.specs.Prelude.{◌≡◌};
 ghost use Rattle.gx_board.specs.Sight.{is_action_shown, is_record_shown, is_request_shown, is_shown, is_trader_shown, is_user_shown};
 
 use gx_desk::Action;
 use gx_history::record::{RecordData, Request, Step};
-use gx_policy::{Policy, Role, User};
+use gx_policy::Role;
 use gx_records::ShowsState;
 use gx_units::{AccountName, UserName};
-
-/// The user of this name.
-fn user_in<'a>(users: &'a [User], name: UserName) -> Option<&'a User>
-    ensures { option_copied result ≡ user_in users.now name }
-{
-    users.iter().find(|user| user.name == name)
-}
-
-/// The account that the user trades for, if he trades for one.
-fn account_of(policy: &Policy, user: UserName) -> Option<AccountName>
-    ensures { result ≡ account_of policy.now user }
-{
-    match user_in(policy.users(), user)?.role {
-        Role::Trader(account) => Some(account),
-        _ => None,
-    }
-}
 
 /// Whether the viewer is shown the account: to an officer those of his scope, to a reader those that he is entitled to now, to
 /// a trader none.
@@ -33,7 +15,7 @@ pub fn is_shown<G: ShowsState>(gate: &G, viewer: UserName, account: AccountName)
     ensures { result
         ≡ is_shown (G.seen gate.now).policy (G.seen gate.now).records viewer account }
 {
-    let Some(known) = user_in(gate.policy().users(), viewer) else {
+    let Some(known) = gate.policy().user(viewer) else {
         return false;
     };
     match &known.role {
@@ -48,7 +30,7 @@ fn is_trader_shown<G: ShowsState>(gate: &G, viewer: UserName, user: UserName) ->
     ensures { result
         ≡ is_trader_shown (G.seen gate.now).policy (G.seen gate.now).records viewer user }
 {
-    match account_of(gate.policy(), user) {
+    match gate.policy().account_of(user) {
         Some(account) => is_shown(gate, viewer, account),
         None => false,
     }

@@ -2,16 +2,16 @@
 
 ghost use Rattle.std.specs.Prelude.{◌≡◌, ◌++◌, flat_map, filter, map, IfOk, OnOk};
 ghost use Rattle.gx_overview.specs.Rules.{gross_row, net_row};
-ghost use Rattle.gx_board.specs.Views.{gross_use, gross_uses, gross_uses_of, is_above_zero, is_gross, is_gross_shown, is_net, is_net_used, is_used, net_use, net_uses, net_uses_by, net_uses_in, net_uses_of};
+ghost use Rattle.gx_board.specs.Views.{gross_use, gross_uses, gross_uses_of, is_above_zero, is_gross_shown, is_net_used, is_used, net_use, net_uses, net_uses_by, net_uses_in, net_uses_of};
 
 use crate::sight::is_shown;
 use gx_overview::rules::{GrossRow, NetRow, gross_rows, net_rows};
-use gx_policy::{Account, ExposureLimit, FileRule, RuleKind};
+use gx_policy::{Account, FileRule};
 use gx_records::ShowsState;
 use gx_units::{AccountName, OutOfMemory, RuleId, UserName};
 use std::alloc::Global;
 
-/// What an account has used of the limit of a gross rule.
+/// What an account has used of the limit of a gross rule: with all others in the rule's scope, where it counts them together.
 #[derive(Clone, Copy, PartialEq, Eq)]
 pub struct GrossUse {
     /// The name of the rule.
@@ -20,7 +20,8 @@ pub struct GrossUse {
     pub row: GrossRow,
 }
 
-/// What an account has used of the limit of a net rule, in one stock.
+/// What an account has used of the limit of a net rule, in one stock: with all others in the rule's scope, where it counts them
+/// together.
 #[derive(Clone, Copy, PartialEq, Eq)]
 pub struct NetUse {
     /// The name of the rule.
@@ -29,23 +30,6 @@ pub struct NetUse {
     pub account: AccountName,
     /// The stock, what is used on each of its sides, and what is left.
     pub row: NetRow,
-}
-
-/// Whether it is a rule on gross shares or on gross value.
-fn is_gross(kind: &RuleKind) -> bool
-    ensures { result ≡ is_gross kind.now }
-{
-    matches!(
-        kind,
-        RuleKind::Exposure(ExposureLimit::GrossShares | ExposureLimit::GrossValue, _, _)
-    )
-}
-
-/// Whether it is a rule on net shares.
-fn is_net(kind: &RuleKind) -> bool
-    ensures { result ≡ is_net kind.now }
-{
-    matches!(kind, RuleKind::Exposure(ExposureLimit::NetShares, _, _))
 }
 
 fn is_used(used: Option<i128>) -> bool
@@ -102,7 +86,7 @@ fn add_gross<G: ShowsState>(
     ensures { OnOk result (uses.new.items ≡ uses.old.items
         ++ gross_uses_of (G.seen gate.now).policy (G.seen gate.now).records viewer rule.now) }
 {
-    if !is_gross(&rule.kind) {
+    if !rule.kind.is_gross() {
         return Ok(());
     }
     let rows = gross_rows(alloc, gate, rule.name)?;
@@ -207,7 +191,7 @@ fn add_if_net<G: ShowsState>(
     ensures { OnOk result (uses.new.items ≡ uses.old.items
         ++ net_uses_of (G.seen gate.now).policy (G.seen gate.now).records viewer rule.now) }
 {
-    if !is_net(&rule.kind) {
+    if !rule.kind.is_net() {
         return Ok(());
     }
     add_net_of(uses, alloc, gate, viewer, rule, gate.policy().accounts())

@@ -1,25 +1,23 @@
 //! What a viewer is shown of a day, at one moment.
 
 ghost use Rattle.std.specs.Prelude.{◌≡◌, filter, IfOk};
-ghost use Rattle.gx_overview.specs.Commands.{granted_commands};
-ghost use Rattle.gx_board.specs.{Counting.{commands, denies}, Summaries.IsSummary, Sight.{is_record_shown, is_shown, is_user_shown}, Views.{account_rows, IsView, user_rows}};
+ghost use Rattle.gx_board.specs.{Counting.{commands, denies}, Summaries.IsSummary, Sight.{is_record_shown, is_user_shown}, Views.{IsView, user_rows}};
 
+use crate::accounts::{AccountState, account_states};
 use crate::counts::Counts;
 use crate::denied::DeniedRow;
-use crate::sight::{is_record_shown, is_shown, is_user_shown};
+use crate::sight::{is_record_shown, is_user_shown};
 use crate::summary::Summary;
 use crate::uses::{GrossUse, NetUse, gross_uses, net_uses};
 use circular_buffer::HeapCircularBuffer;
 use gx_history::record::RecordData;
-use gx_overview::accounts::{AccountRow, account_rows};
-use gx_overview::commands::GrantedCommand;
 use gx_overview::day::{DayRow, UserRow, day_row, user_rows};
 use gx_overview::rules::{LimitRow, limit_rows};
 use gx_records::{ShowsRecords, ShowsState};
 use gx_units::{OutOfMemory, UserName};
 use std::alloc::Global;
 
-/// What a viewer is shown of a day, at one moment: of accounts those that are his.
+/// What a viewer is shown of a day, at one moment: of accounts those that are his. What names no account is shown to all.
 #[derive(Drop)]
 pub struct View {
     /// How far the day is.
@@ -27,40 +25,22 @@ pub struct View {
     /// What its records say in numbers.
     pub counts: Counts,
     /// What stands of each account that is his.
-    pub accounts: Vec<AccountRow>,
+    pub accounts: Vec<AccountState>,
     /// What stands of each rule's limit.
     pub limits: Vec<LimitRow>,
-    /// What his accounts have used of the limits of gross rules.
+    /// What his accounts have used of the limits of gross rules, those that a rule counts together with all in its scope.
     pub gross: Vec<GrossUse>,
     /// What they have used of the limits of net rules, in each stock in which they have used some.
     pub net: Vec<NetUse>,
-    /// How often each rule denied a request.
+    /// How often each rule denied a request, of whatever account.
     pub denied: Vec<DeniedRow>,
-    /// Of the last denials those that concern what is his.
+    /// Of the last denials those of what the traders of his accounts asked for, and of commands that name an account that is his,
+    /// or none.
     pub denials: Vec<RecordData>,
-    /// Of the last commands those that concern what is his.
+    /// Of the last commands those that name an account that is his, or none.
     pub commands: Vec<RecordData>,
     /// Whether he and the traders of his accounts are logged in.
     pub users: Vec<UserRow>,
-}
-
-/// The rows of accounts that are his.
-fn accounts_shown<G: ShowsState>(
-    alloc: Global,
-    gate: &G,
-    viewer: UserName,
-    rows: &[AccountRow],
-) -> Result<Vec<AccountRow>, OutOfMemory>
-    ensures { IfOk result (λ shown. shown.items ≡ filter (λ row. is_shown
-        (G.seen gate.now).policy (G.seen gate.now).records viewer row.account) rows.now) }
-{
-    let mut shown = Vec::new(alloc);
-    for row in rows {
-        if is_shown(gate, viewer, row.account) {
-            shown.push(*row)?;
-        }
-    }
-    Ok(shown)
 }
 
 /// The rows of users whom he is shown.
@@ -101,20 +81,6 @@ fn records_shown<G: ShowsState>(
     Ok(shown)
 }
 
-fn accounts_of<G: ShowsState>(
-    alloc: Global,
-    gate: &G,
-    commands: &[GrantedCommand],
-    viewer: UserName,
-) -> Result<Vec<AccountRow>, OutOfMemory>
-    requires { commands.now ≡ granted_commands (G.seen gate.now).records }
-    ensures { IfOk result (λ shown. shown.items
-        ≡ account_rows (G.seen gate.now).policy (G.seen gate.now).records viewer) }
-{
-    let rows = account_rows(alloc, gate, commands)?;
-    accounts_shown(alloc, gate, viewer, rows.as_slice())
-}
-
 fn users_of<G: ShowsState>(
     alloc: Global,
     gate: &G,
@@ -142,7 +108,7 @@ pub fn view_of<G: ShowsRecords + ShowsState>(
     ensures view { IfOk result
         (IsView (G.seen gate.now).policy (G.seen gate.now).records viewer) }
 {
-    let accounts = accounts_of(alloc, gate, summary.commands.as_slice(), viewer)?;
+    let accounts = account_states(alloc, gate, summary.commands.as_slice(), viewer)?;
     let limits = limit_rows(alloc, gate, summary.commands.as_slice())?;
     let gross = gross_uses(alloc, gate, viewer)?;
     let net = net_uses(alloc, gate, viewer)?;

@@ -7,7 +7,8 @@ ghost use Rattle.gx_book.specs.{Books.{IsSound, best_in, empty_book, on_each_sid
 use crate::resting::{Resting, is_buy};
 use crate::sides::Sides;
 use gx_index::{get_mut_near, get_near, index_near};
-use gx_policy::Policy;
+use gx_policy::{Policy, Stock};
+use gx_slots::Slots;
 use gx_units::{OutOfMemory, Symbol};
 use indexmap::IndexMap;
 use std::alloc::Global;
@@ -18,6 +19,8 @@ use std::marker::Model;
 #[derive(Drop)]
 pub struct Book {
     by_stock: IndexMap<Symbol, Sides>,
+    /// Where each stock is looked for first.
+    slots: Slots<usize>,
 }
 
 impl Model for Book {
@@ -32,6 +35,18 @@ impl Model for Book {
     ghost invariant = { λ book. IsTrue (is_sound_book (book_of book.by_stock.entries)) };
 }
 
+/// Eight slots for each stock that a policy may have, so that few share one.
+const STOCK_SLOTS: usize = 8192;
+
+/// The place of each stock among these.
+fn slots_of(alloc: Global, stocks: &[Stock]) -> Result<Slots<usize>, OutOfMemory> {
+    let mut slots = Slots::new(alloc, STOCK_SLOTS, 0)?;
+    for (place, stock) in stocks.iter().enumerate() {
+        slots.put(stock.name, place);
+    }
+    Ok(slots)
+}
+
 impl Book {
     /// The policy's stocks, without an order.
     ///
@@ -43,16 +58,26 @@ impl Book {
     {
         // What this ensures: no two stocks have one name.
         let _ = policy.rules();
+        let slots = slots_of(alloc, policy.stocks())?;
         let mut by_stock = IndexMap::with_capacity(alloc, policy.stocks().len())?;
         for stock in policy.stocks() {
             by_stock.insert(stock.name, Sides::new(alloc))?;
         }
-        Ok(Book { by_stock })
+        Ok(Book { by_stock, slots })
     }
 
     /// Where the stock stands in the policy: tables in its order look there first. Nothing but time rests on it; it is 0
     /// for a stock that is not listed.
     pub fn near(&self, stock: Symbol) -> usize {
+        match self.slots.find(stock) {
+            Some(place) => place,
+            None => self.near_by_hash(stock),
+        }
+    }
+
+    /// The same of a stock that shares its slot with another.
+    #[inline(never)]
+    fn near_by_hash(&self, stock: Symbol) -> usize {
         self.by_stock.get_index_of(&stock).unwrap_or(0)
     }
 

@@ -6,7 +6,9 @@ use Rattle.gx_policy.specs.{declared.policy.{PolicyData.PolicyData, Role.Role}, 
 -- an officer who has the power to kill, and the account in his scope
 abbrev pub may_in_role : Option Role → AccountName → Bool
 may_in_role (Some (Role.Officer powers scope)) account = powers.kill && covers scope account
-may_in_role other account = false
+may_in_role (Some (Role.Trader own)) account = false
+may_in_role (Some (Role.Reader names)) account = false
+may_in_role None account = false
 
 -- and the account is one of the policy
 abbrev pub may_kill : PolicyData → UserName → AccountName → Bool

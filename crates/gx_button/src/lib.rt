@@ -11,5 +11,5 @@ mod steps;
 mod token;
 
 pub use permission::{has_power, may_kill};
-pub use steps::{Deed, Refusal, kill};
+pub use steps::{Decided, Deed, Refusal, kill};
 pub use token::Secret;

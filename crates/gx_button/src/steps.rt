@@ -1,15 +1,15 @@
 //! The steps of a kill from the page.
 
-ghost use Rattle.std.specs.Prelude.{◌≡◌, IfErr, IfOk, IfSome, IsSome, OnErr, OnOk, Some};
+ghost use Rattle.std.specs.Prelude.{◌≡◌, ◌+◌, IfErr, IfOk, IfSome, IsSome, OnErr, OnOk, Some};
 ghost use Rattle.gx_history.specs.declared.record.Request.TheVariants as requests;
 ghost use Rattle.gx_door.specs.Acts.{asked_on, IsLater};
-ghost use Rattle.gx_button.specs.Steps.{is_staff, kill_command, AsksAndLeaves, IsPermitted, IsRefusal, Makes, StepsOn};
+ghost use Rattle.gx_button.specs.Steps.{is_staff, kill_command, AsksAndLeaves, IsPermitted, IsRefusal, KillsOn, Makes, step_of, steps_of, StepsOn};
 
 use crate::permission::may_kill;
 use crate::token::{Secret, same_token};
 use gx_answers::{LoginAnswer, Outcome, StepFault};
 use gx_desk::{Action, Command, Tag};
-use gx_door::{Caller, Dial, Door};
+use gx_door::{Caller, Dial, Door, Ended, Turned};
 use gx_history::record::Request;
 use gx_http::{Credentials, KillForm};
 use gx_policy::Policy;
@@ -35,6 +35,15 @@ pub enum Refusal {
     NoPower,
 }
 
+/// A kill that was decided.
+#[derive(Clone, Copy)]
+pub struct Decided {
+    /// What its record says.
+    pub outcome: Outcome,
+    /// What it ended.
+    pub ended: Ended,
+}
+
 /// What was done on the page's line for a caller who may kill the account.
 #[derive(Clone, Copy)]
 pub enum Deed {
@@ -43,7 +52,7 @@ pub enum Deed {
     /// His login was denied: he is logged in elsewhere.
     Rejected(LoginRejection),
     /// He was logged in, and then his Kill and his Logout came to this.
-    Asked(Result<Outcome, StepFault>, Result<Outcome, StepFault>),
+    Asked(Result<Decided, StepFault>, Result<Outcome, StepFault>),
 }
 
 /// Whether the caller is an officer or a reader, with his password. No step is made.
@@ -94,8 +103,8 @@ fn kill_request(account: AccountName) -> Request
     })
 }
 
-/// The command of a caller who was logged in.
-#[tactic(auto, using(crate::proofs::Stepping::steps_on))]
+/// The command of a caller who was logged in. No matching step is made behind it: a kill leaves no order that waits.
+#[tactic(auto, using(crate::proofs::Stepping::kills_on))]
 fn ask<D: Door, R: Wait + Dial>(
     door: &D,
     rt: &R,
@@ -103,13 +112,25 @@ fn ask<D: Door, R: Wait + Dial>(
     who: &Credentials,
     account: AccountName,
     moment: Moment,
-) -> (D::Ticket, Result<Outcome, StepFault>)
+) -> (D::Ticket, Result<Decided, StepFault>)
     requires clock { R.shown moment }
     ensures later { IsLater D.policy (D.held pass) (D.held result.0) }
-    ensures step { StepsOn D.policy (D.held pass) (D.held result.0) (asked_on (D.held pass).line
+    ensures step { KillsOn D.policy (D.held pass) (D.held result.0) (asked_on (D.held pass).line
         who.now.user (kill_command TAG account) moment) result.1 }
+    ensures adds { D.added result.0 ≡ D.added pass + step_of result.1 }
 {
-    door.act(rt, pass, who.user, kill_request(account), moment)
+    let request = kill_request(account);
+    let (pass, turned) = door.turn(rt, pass, who.user, request, moment, 0);
+    match turned {
+        Ok(
+            Turned {
+                outcome,
+                ended,
+                matched: _,
+            },
+        ) => (pass, Ok(Decided { outcome, ended })),
+        Err(fault) => (pass, Err(fault)),
+    }
 }
 
 /// The logout of a caller who was logged in.
@@ -125,6 +146,7 @@ fn leave<D: Door, R: Wait + Dial>(
     ensures later { IsLater D.policy (D.held pass) (D.held result.0) }
     ensures step { StepsOn D.policy (D.held pass) (D.held result.0)
         (asked_on (D.held pass).line who.now.user requests.Logout moment) result.1 }
+    ensures adds { D.added result.0 ≡ D.added pass + step_of result.1 }
 {
     door.logout(rt, pass, who.user, moment)
 }
@@ -138,12 +160,13 @@ fn ask_and_leave<D: Door, R: Wait + Dial>(
     account: AccountName,
 ) -> (
     D::Ticket,
-    Result<Outcome, StepFault>,
+    Result<Decided, StepFault>,
     Result<Outcome, StepFault>,
 )
     ensures later { IsLater D.policy (D.held pass) (D.held result.0) }
     ensures steps { AsksAndLeaves D.policy (D.held pass) (D.held result.0) who.now
         (kill_command TAG account) result.1 result.2 }
+    ensures adds { D.added result.0 ≡ D.added pass + step_of result.1 + step_of result.2 }
 {
     let asked_at = rt.moment();
     let (asking, kill) = ask(door, rt, pass, who, account, asked_at);
@@ -163,6 +186,7 @@ fn kill_as<D: Door, R: Wait + Dial>(
     ensures later { IsLater D.policy (D.held pass) (D.held result.0) }
     ensures steps { Makes D.policy (D.held pass) (D.held result.0) who.now
         (kill_command TAG account) result.1 }
+    ensures adds { D.added result.0 ≡ D.added pass + steps_of result.1 }
 {
     let moment = rt.moment();
     let (pass, answer) = door.login(rt, pass, who.user, who.password, ANY_SESSION, 0, moment);
@@ -202,6 +226,7 @@ pub fn kill<D: Door, R: Wait + Dial>(
     ensures steps { IfOk result.1 (λ deed. IfSome caller (λ who.
         Makes D.policy (D.held pass) (D.held result.0) who
         (kill_command TAG form.now.account) deed)) }
+    ensures adds { IfOk result.1 (λ deed. D.added result.0 ≡ D.added pass + steps_of deed) }
 {
     match permitted(door, rt, policy, secret, caller, form) {
         Ok(who) => {

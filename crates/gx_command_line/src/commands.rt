@@ -69,10 +69,14 @@ enum Kind {
     Number,
     /// An option with an offset from UTC, which may begin with `-`, and the one that holds without it.
     Offset(&'static [&'static str]),
-    /// An option with nothing, which stands beside the option of this name.
+    /// An option with nothing, which stands beside the option, or one of the group, of this name.
     FlagBeside(&'static str),
-    /// An option with nothing, which stands in place of the option of this name.
-    FlagInPlaceOf(&'static str),
+    /// An option with a text, which stands beside the option of the first name, and not beside that of the second.
+    TextBeside(&'static str, &'static str),
+    /// An option with a text, of a group of which one alone may stand.
+    TextOf(&'static str),
+    /// An option with nothing, which stands in place of the options of these names.
+    FlagInPlaceOf(&'static [&'static str]),
     /// An option with a text, which stands in place of the option of this name.
     TextInPlaceOf(&'static str),
 }
@@ -161,6 +165,9 @@ pub(crate) const FORMAT: &str = "format";
 
 pub(crate) const CSV: &str = "csv";
 
+/// The group of the options that name the journal that a server keeps.
+const KEPT: &str = "kept";
+
 /// The name of the words of a command.
 pub(crate) const WORDS: &str = "words";
 
@@ -198,7 +205,7 @@ const SERVE: Subcommand = Subcommand {
         Argument {
             name: "until-input-ends",
             value: "",
-            kind: Kind::FlagInPlaceOf("connections"),
+            kind: Kind::FlagInPlaceOf(&["connections", "standby"]),
             help: "Take connections until standard input ends, and count none; without it standard input is not read",
         },
         Argument {
@@ -242,14 +249,27 @@ const SERVE: Subcommand = Subcommand {
         Argument {
             name: "journal",
             value: "FILE",
-            kind: Kind::Text,
+            kind: Kind::TextOf(KEPT),
             help: "Where to keep the day: each record is written before anything that comes of it is sent; \
                    a day that is there goes on",
         },
         Argument {
+            name: "standby",
+            value: "JOURNAL",
+            kind: Kind::TextOf(KEPT),
+            help: "Follow the journal of a server that runs, and take over once that has ended, however it did: \
+                   listen then, and go on with the day",
+        },
+        Argument {
+            name: "takeover-file",
+            value: "FILE",
+            kind: Kind::TextBeside("standby", "journal"),
+            help: "Take over only once there is such a file too, which is looked for as often as the journal is read",
+        },
+        Argument {
             name: "journal-sync",
             value: "",
-            kind: Kind::FlagBeside("journal"),
+            kind: Kind::FlagBeside(KEPT),
             help: "Force the journal to the disk too, before anything is sent",
         },
         Argument {
@@ -469,6 +489,103 @@ const REPORT: Subcommand = Subcommand {
     lines: Some(REPORT_TABLES),
 };
 
+/// The name of the option `--under`.
+pub(crate) const UNDER: &str = "under";
+
+/// What `gate whatif --help` says of the lines.
+const WHATIF_LINES: &str =
+    "The steps of the audit's day are judged again, one after the other, under the policy of --under; whether a login's
+password was right is taken from its record. The first line has how many verdicts change, and of how many records. Where
+some do, the first of these stands behind it with both verdicts; then there is a line for each heading with how many of
+them come under it: the rules that deny under one policy alone, and the accounts whose traders asked.
+With --json all of it is one object on a line.
+Nothing is told of an audit that is none of a legal day under --policy: its fault is, as by `gate check`, with status 4.";
+
+const WHATIF: Subcommand = Subcommand {
+    name: "whatif",
+    about: "Tells which verdicts of an audit's day change under another policy",
+    arguments: &[
+        Argument {
+            name: "audit",
+            value: "AUDIT",
+            kind: Kind::Word,
+            help: "The audit, or the journal of a server; its last record may be cut",
+        },
+        Argument {
+            name: UNDER,
+            value: "FILE",
+            kind: Kind::NeededText,
+            help: "The policy file under which the day is judged again",
+        },
+        Argument {
+            name: JSON,
+            value: "",
+            kind: Kind::Flag,
+            help: "Write one JSON object",
+        },
+        DAY_POLICY,
+    ],
+    lines: Some(WHATIF_LINES),
+};
+
+/// The name of the option `--every`.
+pub(crate) const EVERY: &str = "every";
+
+/// The name of the option `--warn`.
+pub(crate) const WARN: &str = "warn";
+
+/// The name of the option `--once`.
+pub(crate) const ONCE: &str = "once";
+
+/// What `gate follow --help` says of the lines.
+const FOLLOW_LINES: &str =
+    "Beside a running server, this reads what its journal has grown by, and makes each record again on a gate of its own. A
+journal that is not there yet is waited for; nothing is written to it, and it is not locked. Told is, a line each, what the
+server's own log tells of the records (see `gate serve --log`): logins and logouts, commands of officers, granted or denied,
+and how full the day is; and each share of --warn of the limit in force of a gross or net rule that is used for the first
+time in the day. With --json each line is a JSON object.
+It ends with status 0 once the day is closed and nothing more has come within the time of --every; with status 4 and what
+`gate check` says at the first record that is none of a legal day; with status 1 where the file has lost whole records, or its name.";
+
+const FOLLOW: Subcommand = Subcommand {
+    name: "follow",
+    about: "Follows the journal of a running server: checks each record as it comes, and tells what matters of it",
+    arguments: &[
+        Argument {
+            name: "audit",
+            value: "JOURNAL",
+            kind: Kind::Word,
+            help: "The journal of a server; it may not be there yet",
+        },
+        Argument {
+            name: EVERY,
+            value: "TIME",
+            kind: Kind::Text,
+            help: "How often it is looked at, as 1s, which holds without this, or 500ms",
+        },
+        Argument {
+            name: WARN,
+            value: "SHARES",
+            kind: Kind::Text,
+            help: "The shares of limits of which is warned, in hundredths; without this 75,90",
+        },
+        Argument {
+            name: JSON,
+            value: "",
+            kind: Kind::Flag,
+            help: "Write each line as a JSON object",
+        },
+        Argument {
+            name: ONCE,
+            value: "",
+            kind: Kind::Flag,
+            help: "End where the journal ends now",
+        },
+        DAY_POLICY,
+    ],
+    lines: Some(FOLLOW_LINES),
+};
+
 /// What `gate desk --help` says of the password and of the lines.
 const DESK_LINES: &str =
     "The password is the first line of --password-file, else the variable GATE_PASSWORD, else the first line of standard
@@ -556,7 +673,13 @@ fn build_argument<'a>(alloc: Global, asked: &Argument) -> Result<Arg<'a>, AllocE
         Kind::Number => Ok(number(made, asked, i64::MAX)),
         Kind::Offset(default) => Ok(offset(made.default_values(default), asked)),
         Kind::FlagBeside(other) => flag(made, asked).requires_arg(other),
-        Kind::FlagInPlaceOf(other) => flag(made, asked).conflicts_with(other),
+        Kind::TextBeside(other, against) => made
+            .long(asked.name)
+            .value_name(asked.value)
+            .requires_arg(other)?
+            .conflicts_with(against),
+        Kind::TextOf(group) => made.long(asked.name).value_name(asked.value).group(group),
+        Kind::FlagInPlaceOf(others) => flag(made, asked).conflicts_with_all(others),
         Kind::TextInPlaceOf(other) => made
             .long(asked.name)
             .value_name(asked.value)
@@ -636,7 +759,7 @@ fn with_subcommand<'a>(
 pub(crate) fn command_line<'a>(alloc: Global) -> Result<Command<'a>, AllocError> {
     let mut gate = program(alloc);
     for asked in &[
-        PIPE, SERVE, SCRIPT, POLICY, MIGRATE, CHECK, SHOW, STATE, REPORT, DESK,
+        PIPE, SERVE, SCRIPT, POLICY, MIGRATE, CHECK, SHOW, STATE, REPORT, WHATIF, FOLLOW, DESK,
     ] {
         gate = with_subcommand(alloc, gate, asked)?;
     }

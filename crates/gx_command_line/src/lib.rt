@@ -2,6 +2,7 @@
 #![tactic(auto)]
 
 mod commands;
+mod follow;
 mod refused;
 mod state;
 mod values;
@@ -9,9 +10,11 @@ mod words;
 
 use clap::{ArgMatches, Error};
 use commands::{
-    AT, AUDIT_VERSION, CSV, FORMAT, FROM, HTML, JSON, LOG, MIDNIGHT, ORDERS, THIRD, TO, UNTIL,
-    WORDS, command_line,
+    AT, AUDIT_VERSION, CSV, EVERY, FORMAT, FROM, HTML, JSON, LOG, MIDNIGHT, ONCE, ORDERS, THIRD,
+    TO, UNDER, UNTIL, WARN, WORDS, command_line,
 };
+use follow::follow_asked;
+pub use follow::{Every, FollowAsked, Shares};
 use gx_clock::{TimeOfDay, UtcOffset};
 use gx_text::Form;
 use refused::told_of;
@@ -69,6 +72,8 @@ pub struct Serving<'a> {
     pub midnight: UtcOffset,
     /// The journal of the day, if one is kept.
     pub journal: Option<JournalFile<'a>>,
+    /// How it follows that journal while another server keeps it, if it is to.
+    pub standby: Option<Standby<'a>>,
     /// How a log is written on standard error, if one is.
     pub log: Option<Form>,
 }
@@ -93,6 +98,13 @@ pub struct JournalFile<'a> {
     pub path: &'a str,
     /// Whether it is forced to the disk, so that it outlives the machine too.
     pub is_synced: bool,
+}
+
+/// When a server that stands by takes over: as soon as the journal is no other server's any more, and all of this is so.
+#[derive(Clone, Copy, Debug)]
+pub struct Standby<'a> {
+    /// There is this file, if one is named.
+    pub takeover_file: Option<&'a str>,
 }
 
 /// Which records of an audit are wanted.
@@ -151,6 +163,15 @@ pub struct Shape {
     pub has_words: bool,
 }
 
+/// Under which policy a day is judged again.
+#[derive(Clone, Copy, Debug)]
+pub struct OtherPolicy<'a> {
+    /// The policy file.
+    pub policy: &'a str,
+    /// Whether what changes is told as one JSON object.
+    pub is_json: bool,
+}
+
 /// What a terminal client is to do.
 #[derive(Clone, Copy, Debug)]
 pub struct Desk<'a> {
@@ -193,6 +214,10 @@ pub enum Asked<'a> {
     State(AuditFiles<'a>, StateAsked),
     /// `gate report`: to report an audit's day.
     Report(AuditFiles<'a>, PageForm),
+    /// `gate whatif`: to tell which verdicts of an audit's day change under another policy.
+    WhatIf(AuditFiles<'a>, OtherPolicy<'a>),
+    /// `gate follow`: to tell what the records of a journal tell as they come.
+    Follow(AuditFiles<'a>, FollowAsked<'a>),
     /// `gate desk`: to be a terminal of a gate.
     Desk(Desk<'a>),
 }
@@ -202,7 +227,7 @@ pub enum Asked<'a> {
 pub enum BadCall<'a> {
     /// What `clap` says: what is wrong with the words, the help or the version that they ask for, or that memory was refused.
     Words(Error),
-    /// What `--midnight`, `--until`, `--from`, `--to` or `--at` is given can't be read.
+    /// What `--midnight`, `--until`, `--from`, `--to`, `--at`, `--every` or `--warn` is given can't be read.
     Value(BadValue<'a>),
 }
 
@@ -240,6 +265,7 @@ fn server_options<'a>(given: &ArgMatches<'a>) -> Option<Serving<'a>> {
         login_within: given.get_one::<u16>("login-within")?,
         midnight: UtcOffset::parse(given.get_str(MIDNIGHT)?)?,
         journal: journal_file(given),
+        standby: standby_options(given),
         log: form_of_log(given),
     })
 }
@@ -278,8 +304,16 @@ fn form_of_log<'a>(given: &ArgMatches<'a>) -> Option<Form> {
 /// Where the journal is kept, if one is wanted.
 fn journal_file<'a>(given: &ArgMatches<'a>) -> Option<JournalFile<'a>> {
     Some(JournalFile {
-        path: given.get_str("journal")?,
+        path: given.get_str("journal").or(given.get_str("standby"))?,
         is_synced: given.get_flag("journal-sync"),
+    })
+}
+
+/// When a server takes over, if it is to stand by.
+fn standby_options<'a>(given: &ArgMatches<'a>) -> Option<Standby<'a>> {
+    let _journal = given.get_str("standby")?;
+    Some(Standby {
+        takeover_file: given.get_str("takeover-file"),
     })
 }
 
@@ -339,6 +373,20 @@ fn last_words<'a>(words: &'a [String], count: usize) -> &'a [String] {
     &words[words.len().saturating_sub(count)..]
 }
 
+/// To follow a journal.
+fn follow_options<'a>(given: &ArgMatches<'a>) -> Option<Asked<'a>> {
+    let asked = follow_asked(given, EVERY, WARN, JSON, ONCE)?;
+    Some(Asked::Follow(audit_files(given)?, asked))
+}
+
+/// Under which policy a day is judged again.
+fn other_policy<'a>(given: &ArgMatches<'a>) -> Option<OtherPolicy<'a>> {
+    Some(OtherPolicy {
+        policy: given.get_str(UNDER)?,
+        is_json: given.get_flag(JSON),
+    })
+}
+
 /// What a terminal client is to do. The words of its command stand behind all others of the call.
 fn desk_options<'a>(given: &ArgMatches<'a>, words: &'a [String]) -> Option<Desk<'a>> {
     let count = match given.get_strs(WORDS) {
@@ -370,6 +418,8 @@ fn asked_for<'a>(given: &ArgMatches<'a>, words: &'a [String]) -> Option<Asked<'a
         "show" => Some(show_options(given)?),
         "state" => Some(Asked::State(audit_files(given)?, state_asked(given, AT, ORDERS, JSON)?)),
         "report" => Some(Asked::Report(audit_files(given)?, form_of_page(given))),
+        "whatif" => Some(Asked::WhatIf(audit_files(given)?, other_policy(given)?)),
+        "follow" => Some(follow_options(given)?),
         "desk" => Some(Asked::Desk(desk_options(given, words)?)),
         _ => None,
     }
@@ -400,6 +450,18 @@ fn bad_place<'a>(given: &ArgMatches<'a>) -> Option<BadValue<'a>> {
     BadValue::of_at(given.get_str(AT)?)
 }
 
+/// The value of `--every` or `--warn`, where one is given that can't be read.
+fn bad_follow<'a>(given: &ArgMatches<'a>) -> Option<BadValue<'a>> {
+    let (_name, given) = given.subcommand()?;
+    if let Some(bad) = given
+        .get_str(EVERY)
+        .and_then(|text| BadValue::of_every(text))
+    {
+        return Some(bad);
+    }
+    BadValue::of_shares(given.get_str(WARN)?)
+}
+
 /// The words of a call, as the command line has them. The error is `clap`'s: what is wrong with the words, the help or the
 /// version that they ask for, or that memory was refused. Of a long word it shows a front alone.
 fn matches_of<'a>(alloc: Global, words: &'a [String]) -> Result<ArgMatches<'a>, Error> {
@@ -419,6 +481,7 @@ pub fn read<'a>(alloc: Global, words: &'a [String]) -> Result<Option<Asked<'a>>,
     match bad_midnight(&given)
         .or(bad_times(&given))
         .or(bad_place(&given))
+        .or(bad_follow(&given))
     {
         Some(bad) => Err(BadCall::Value(bad)),
         None => Ok(asked_for(&given, words)),

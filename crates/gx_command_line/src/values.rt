@@ -3,6 +3,7 @@
 ghost use Rattle.std.specs.Prelude.{◌≡◌, ◌↔◌, IsSome, IfSome, None};
 ghost use Rattle.gx_clock.specs.{Offsets.offset_of, Times.time_of};
 
+use crate::follow::{Every, Shares};
 use crate::state::Behind;
 use gx_clock::{TimeOfDay, UtcOffset};
 use std::fmt;
@@ -23,6 +24,10 @@ pub enum ReadOption {
     To,
     /// `--at <PLACE>`.
     At,
+    /// `--every <TIME>`.
+    Every,
+    /// `--warn <SHARES>`.
+    Warn,
 }
 
 impl ReadOption {
@@ -34,6 +39,8 @@ impl ReadOption {
             ReadOption::From => "--from <TIME>",
             ReadOption::To => "--to <TIME>",
             ReadOption::At => "--at <PLACE>",
+            ReadOption::Every => "--every <TIME>",
+            ReadOption::Warn => "--warn <SHARES>",
         }
     }
 
@@ -44,6 +51,8 @@ impl ReadOption {
             ReadOption::At => {
                 "it is neither a record's number nor a time of day, HH:MM or HH:MM:SS"
             }
+            ReadOption::Every => "it is not a time from 1ms to 3600s, as 1s or 500ms",
+            ReadOption::Warn => "it is not numbers from 1 to 100 with commas between them",
             _ => "it is not a time of day, HH:MM or HH:MM:SS",
         }
     }
@@ -93,6 +102,34 @@ impl<'a> BadValue<'a> {
             Some(_) => None,
             None => Some(BadValue {
                 option: ReadOption::At,
+                text,
+            }),
+        }
+    }
+}
+
+impl<'a> BadValue<'a> {
+    /// The value of `--every`, if it is no time.
+    pub fn of_every(text: &'a str) -> Option<BadValue<'a>>
+        ensures text { IfSome result (λ bad. bad.text ≡ text.entry) }
+    {
+        match Every::parse(text) {
+            Some(_) => None,
+            None => Some(BadValue {
+                option: ReadOption::Every,
+                text,
+            }),
+        }
+    }
+
+    /// The value of `--warn`, if it is no list of shares.
+    pub fn of_shares(text: &'a str) -> Option<BadValue<'a>>
+        ensures text { IfSome result (λ bad. bad.text ≡ text.entry) }
+    {
+        match Shares::parse(text) {
+            Some(_) => None,
+            None => Some(BadValue {
+                option: ReadOption::Warn,
                 text,
             }),
         }

@@ -13,7 +13,7 @@ use Rattle.gx_rules.specs.Settings.{limit_in}
 use Rattle.gx_ledger.specs.{declared.{asks.Asks.Asks, sums.{NetSums.NetSums, Sums.Sums}}, Standing.{GivesGross, GivesNet, counted_with, gross_sums_of, net_sums_of}, Tallies.{asks_of, count_of}}
 use Rattle.gx_keepers.specs.declared.keepers.Keepers.{Keepers}
 use Rattle.gx_slab.specs.Slabs.{of_account}
-use Rattle.gx_records.specs.State.{gross_of, gross_of_rule, gross_used, limit_in_force, net_of, net_of_rule, net_used}
+use Rattle.gx_records.specs.State.{gross_of, gross_of_rule, gross_used, limit_in_force, net_of, net_of_rule, net_used, of_user}
 use Rattle.gx_core.specs.{Kept.IsKept, Used.{AreNetSmall, AreSmall, gross_in, net_in}}
 
 pub live_is_known : (policy : PolicyData) (history : List RecordData) (k : Keepers) → IsKept policy history k → k.orders.live ≡ live policy history
@@ -22,6 +22,10 @@ live_is_known policy history k kept = ap (λ (orders : OrdersData). orders.live)
 pub orders_of_account_are_known : (policy : PolicyData) (history : List RecordData) (k : Keepers) (account : AccountName) → IsKept policy history k
     → of_account account k.orders.live ≡ of_account account (live policy history)
 orders_of_account_are_known policy history k account kept = ap (of_account account) (live_is_known policy history k kept)
+
+pub count_is_known : (policy : PolicyData) (history : List RecordData) (k : Keepers) (user : UserName) → IsKept policy history k
+    → length (of_user user k.orders.live) ≡ length (of_user user (live policy history))
+count_is_known policy history k user kept = ap (λ (orders : List LiveOrder). length (of_user user orders)) (live_is_known policy history k kept)
 
 pub order_is_known : (policy : PolicyData) (history : List RecordData) (k : Keepers) (number : ℕ) → IsKept policy history k
     → live_numbered k.orders.live number ≡ live_numbered (live policy history) number

@@ -10,7 +10,6 @@ ghost use Rattle.gx_core.specs.Known.{accounts_held, change_asked, has_concerned
 use crate::gate::Gate;
 use gx_desk::{Action, WrittenName};
 use gx_history::record::{Asked, Request};
-use gx_keepers::listed::{account_named, stock_named};
 use gx_people::people::People;
 use gx_people::power::Power;
 use gx_policy::Account;
@@ -58,15 +57,13 @@ impl Gate {
         let rules = &self.keepers.rules;
         let people = &self.keepers.people;
         match *action {
-            Action::Kill(account) | Action::Lift(account) => {
-                account_named(policy, account).is_some()
-            }
+            Action::Kill(account) | Action::Lift(account) => { policy.account(account).is_some() }
             Action::SetLimit(rule, _) => rules.limit(rule).is_some(),
             Action::Restrict(rule, stock) | Action::Unrestrict(rule, stock) => {
-                rules.has_list(rule) && stock_named(policy, stock).is_some()
+                rules.has_list(rule) && policy.stock(stock).is_some()
             }
             Action::Grant(reader, account) | Action::Revoke(reader, account) => {
-                people.reader_named(reader).is_some() && account_named(policy, account).is_some()
+                people.reader_named(reader).is_some() && policy.account(account).is_some()
             }
             Action::CloseDay => true,
         }

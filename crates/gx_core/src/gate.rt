@@ -83,7 +83,8 @@ impl AccessGate for Gate {
 
     fn step(&mut self, a: Asked) -> Result<Outcome, StepFault> {
         let asker = self.near_asker(&a);
-        let known = self.facts_of(&a, asker);
+        let mut known = self.facts_of(&a, asker);
+        self.put_named(&a, &mut known);
         let near = self.near_named(asker, &known);
         let outcome = self.judge(&a, near, &known);
         let entry = record_of(&a, outcome);
@@ -101,8 +102,8 @@ impl AccessGate for Gate {
             },
             &a,
         )?;
-        let record = Record::new(entry);
-        self.history.push_reserved(record);
+        self.history
+            .push_reserved(Record::new(record_of(&a, outcome)));
         Ok(outcome)
     }
 

@@ -1,12 +1,12 @@
 //! A request judged on what the gate keeps of its records.
 
-ghost use Rattle.std.specs.Prelude.{◌≡◌, ◌≤◌, ◌<◌, is_some, length, IsTrue, Some};
+ghost use Rattle.std.specs.Prelude.{◌≡◌, ◌≤◌, ◌<◌, is_some, length, IsTrue, None, Some};
 ghost use Rattle.gx_history.specs.declared.record.Step.TheVariants as steps;
 ghost use Rattle.gx_history.specs.{Asking.{changes, facts, fits_role, has_power, is_on_line, knows_user, lists_its_stock}, InForce.{is_killed, line_of}, Showing.{answers, is_askable, is_showable}, Verdicts.{facts_now, moment_of, next, verdict}};
-ghost use Rattle.gx_policy.specs.People.{account_named, account_of, role_in};
+ghost use Rattle.gx_policy.specs.People.{account_of, role_in};
 ghost use Rattle.gx_people.specs.Entitled.{holds_in_role};
 ghost use Rattle.gx_answers.specs.{Gates.left_by, Steps.{next_of, verdict_of}, Told.stream_of};
-ghost use Rattle.gx_core.specs.Known.{accounts_held, change_asked, has_used, is_available_after, names_known, order_asked, power_held, role_asking};
+ghost use Rattle.gx_core.specs.Known.{accounts_held, change_asked, has_used, is_available_after, names_known, order_asked, power_held, role_asking, with_named};
 
 use crate::gate::Gate;
 use gx_answers::{AccessGate, Outcome};
@@ -16,7 +16,7 @@ use gx_history::facts::Facts;
 use gx_history::live_order::LiveOrder;
 use gx_history::record::{Asked, Request, Verdict};
 use gx_index::Near;
-use gx_keepers::listed::{account_named, fits_firm};
+use gx_keepers::listed::fits_firm;
 use gx_orders::request_tokens::{named_token, new_token};
 use gx_people::power::Power;
 use gx_units::{AccountName, Moment, UserName};
@@ -111,6 +111,7 @@ impl Gate {
     }
 
     /// The live order that a Replace or a Cancel names.
+    #[inline(always)]
     #[tactic(auto, using(crate::proofs::Judged::named_is_known))]
     fn order_named(&self, a: &Asked) -> Option<LiveOrder>
         ensures { result ≡ order_asked self.now a.now }
@@ -125,13 +126,14 @@ impl Gate {
         a.handed.max(self.last_moment())
     }
 
-    /// What the rules ask of the records, for a request at the moment of its record. Its names are looked for at these
-    /// places first.
+    /// What the rules ask of the records, for a request at the moment of its record, but for the order that it names. Its
+    /// names are looked for at these places first.
     #[tactic(auto, unfolding(gx_history::specs::Asking::facts))]
     pub(crate) fn facts_of(&self, a: &Asked, near: Near) -> Facts
-        ensures told { result ≡ facts_now self.now.policy self.now.records a.now }
+        ensures told { with_named (order_asked self.now a.now) result
+            ≡ facts_now self.now.policy self.now.records a.now }
+        ensures none { result.named ≡ None }
         ensures account { result.account ≡ account_of self.now.policy a.now.user }
-        ensures named { result.named ≡ order_asked self.now a.now }
         ensures moment { result.moment ≡ moment_of self.now.records (steps.Asked a.now) }
     {
         let account = self.account_of(a.user, near.user);
@@ -144,7 +146,7 @@ impl Gate {
             is_on_this_line: is_on_line(on, a.line),
             role_fits: self.fits_role(a, account),
             token_is_used: self.token_is_used(a),
-            named: self.order_named(a),
+            named: None,
             day_is_closed: self.is_closed(),
             account_is_killed: account.is_some_and(|name| self.is_killed_near(name, near.account)),
             firm_fits: fits_firm(&self.policy, account, near.account, &a.request),
@@ -155,6 +157,22 @@ impl Gate {
             would_change: command.would_change,
             account,
             moment: self.moment_of(a),
+        }
+    }
+
+    /// Puts the order that the request names to the facts, which have none. One that is returned with them would be copied
+    /// from place to place on the way.
+    pub(crate) fn put_named(&self, a: &Asked, known: &mut Facts)
+        requires told { with_named (order_asked self.now a.now) known.old
+            ≡ facts_now self.now.policy self.now.records a.now }
+        requires none { known.old.named ≡ None }
+        ensures told { known.new ≡ facts_now self.now.policy self.now.records a.now }
+        ensures named { known.new.named ≡ order_asked self.now a.now }
+        ensures account { known.new.account ≡ known.old.account }
+        ensures moment { known.new.moment ≡ known.old.moment }
+    {
+        if let Some(order) = self.order_named(a) {
+            known.named = Some(order);
         }
     }
 

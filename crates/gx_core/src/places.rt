@@ -14,6 +14,9 @@ use gx_policy::Policy;
 use gx_units::OutOfMemory;
 use std::alloc::Global;
 
+/// So many records have room from the first on: a list that grows moves all that it holds.
+const FIRST_RECORDS: usize = 16_384;
+
 /// The most places that are ever kept for the records of Kills and Logouts: one for each account, and one for each user.
 fn most_record_places(policy: &Policy) -> usize
     ensures most { result ≡ most_record_places policy.now }
@@ -22,13 +25,13 @@ fn most_record_places(policy: &Policy) -> usize
     policy.accounts().len() + policy.users().len()
 }
 
-/// No record yet, and the places that are kept at the beginning of a day.
+/// No record yet, and the places that are kept at the beginning of a day: those of the first records among them.
 pub(crate) fn first_history(alloc: Global, policy: &Policy) -> Result<History, OutOfMemory>
     ensures records { IfOk result (λ history. history.records ≡ []) }
     ensures enough { IfOk result (λ history. most_record_places policy.now ≤ history.spare) }
 {
     let mut history = History::new(alloc);
-    history.reserve(most_record_places(policy))?;
+    history.reserve(most_record_places(policy).max(FIRST_RECORDS))?;
     Ok(history)
 }
 

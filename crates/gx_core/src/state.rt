@@ -77,6 +77,11 @@ impl ShowsState for Gate {
         self.keepers.orders.live_of(account)
     }
 
+    #[tactic(auto, using(crate::proofs::Standing::count_is_known))]
+    fn live_count_of(&self, user: UserName) -> usize {
+        self.keepers.orders.count_of(user, 0)
+    }
+
     #[tactic(auto, using(crate::proofs::Standing::order_is_known))]
     fn live_order(&self, number: u64) -> Option<LiveOrder> {
         self.keepers.orders.numbered(number)

@@ -1,10 +1,10 @@
 //! Who asks to log in.
 
-ghost use Rattle.std.specs.Prelude.{◌≡◌, option_copied};
-ghost use Rattle.gx_policy.specs.People.{is_officer, role_in, user_in};
+ghost use Rattle.std.specs.Prelude.{◌≡◌};
+ghost use Rattle.gx_policy.specs.People.{is_officer, role_in};
 ghost use Rattle.gx_door.specs.Callers.{caller_of};
 
-use gx_policy::{Policy, Role, User};
+use gx_policy::{Policy, Role};
 use gx_units::{Password, UserName};
 
 /// Who asks to log in, by the policy.
@@ -18,18 +18,11 @@ pub enum Caller {
     Stranger,
 }
 
-/// The user of this name.
-fn user_in<'a>(users: &'a [User], name: UserName) -> Option<&'a User>
-    ensures { option_copied result ≡ user_in users.now name }
-{
-    users.iter().find(|user| user.name == name)
-}
-
 /// Whether the policy has an officer of this name. Commands are granted to officers alone.
 pub fn is_officer(policy: &Policy, user: UserName) -> bool
     ensures { result ≡ is_officer (role_in policy.now.users user) }
 {
-    match user_in(policy.users(), user) {
+    match policy.user(user) {
         Some(user) => matches!(user.role, Role::Officer(..)),
         None => false,
     }
@@ -40,7 +33,7 @@ impl Caller {
     pub fn of(policy: &Policy, user: UserName, password: Password) -> Caller
         ensures { result ≡ caller_of policy.now user password }
     {
-        let Some(user) = user_in(policy.users(), user.folded()) else {
+        let Some(user) = policy.user(user.folded()) else {
             return Caller::Stranger;
         };
         if user.password != password.folded() {

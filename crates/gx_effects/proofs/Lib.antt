@@ -20,6 +20,7 @@ pub mod Sides
 pub mod World
 pub mod Killed
 pub mod KilledAccounts
+pub mod TheirTraders
 pub mod FairFills
 pub mod Ordered
 pub mod PriceTime

@@ -8,12 +8,12 @@ use Rattle.gx_history.specs.{declared.{live_order.LiveOrder.LiveOrder, «record�
 use Rattle.gx_history_laws.proofs.{Granting.asked_is_judged, NextOrders.rested_next, Numbers.{all_weaker, number_left}}
 use Rattle.gx_effects.proofs.{Apart.AreApart, Known.{first_waiting, live_apart, number_found}, Live.{each_turned, live_next}, Matches.may_match, Orderly.{IsOrderly, legal_is_orderly}, Priority.{IsParted, IsRanking, lower, no_lower, placed_parted}}
 
--- an order that goes on has its number and its terms, and waits as before unless it is put to rest
+-- an order that goes on has its number, its terms, its account and its user, and waits as before unless it is put to rest
 abbrev pub IsSame : Bool → LiveOrder → LiveOrder → Type 0
-IsSame rests o x = (x.number ≡ o.number) × (x.terms ≡ o.terms) × (rests ≡ false → x.waits ≡ o.waits) × (x.account ≡ o.account)
+IsSame rests o x = (x.number ≡ o.number) × (x.terms ≡ o.terms) × (rests ≡ false → x.waits ≡ o.waits) × (x.account ≡ o.account) × (x.user ≡ o.user)
 
 it_is : (rests : Bool) (o x : LiveOrder) → o ≡ x → IsSame rests o x
-it_is rests o x e = (ap (λ (y : LiveOrder). y.number) (sym e), ap (λ (y : LiveOrder). y.terms) (sym e), λ h. ap (λ (y : LiveOrder). y.waits) (sym e), ap (λ (y : LiveOrder). y.account) (sym e))
+it_is rests o x e = (ap (λ (y : LiveOrder). y.number) (sym e), ap (λ (y : LiveOrder). y.terms) (sym e), λ h. ap (λ (y : LiveOrder). y.waits) (sym e), ap (λ (y : LiveOrder). y.account) (sym e), ap (λ (y : LiveOrder). y.user) (sym e))
 
 some_is : {X : Type 0} (x y : X) → Some x ≡ Some y → x ≡ y
 some_is x y e = cc
@@ -42,17 +42,17 @@ puts_to_rest other = false
 pub becomes_same : (turn : Turn) (o x : LiveOrder) → becomes turn o ≡ Some x → IsSame (puts_to_rest turn) o x
 becomes_same Keeps o x h = it_is false o x (some_is o x h)
 becomes_same (Adds new) o x h = it_is false o x (some_is o x h)
-becomes_same (Sizes number size) o x h = open_or_not (o.number == number) o (record o { total = size }) x (refl, refl, λ k. refl, refl) h
+becomes_same (Sizes number size) o x h = open_or_not (o.number == number) o (record o { total = size }) x (refl, refl, λ k. refl, refl, refl) h
 becomes_same (Replaces number new) o x h = gone_or_not (o.number == number) o x h
 becomes_same (EndsAll action) o x h = gone_or_not (ends_account o.account action) o x h
-becomes_same (Fills f) o x h = open_or_not (o.number == f.taker || o.number == f.maker) o (record o { done = o.done + f.shares }) x (refl, refl, λ k. refl, refl) h
+becomes_same (Fills f) o x h = open_or_not (o.number == f.taker || o.number == f.maker) o (record o { done = o.done + f.shares }) x (refl, refl, λ k. refl, refl, refl) h
 becomes_same (Rests number) o x h = at (number == o.number) h
   where
     never : {X : Type 0} → true ≡ false → X
     never e = cc
 
     at : (b : Bool) → Some (cond b (record o { waits = false }) o) ≡ Some x → IsSame true o x
-    at true k = let e : record o { waits = false } ≡ x = some_is (record o { waits = false }) x k in (ap (λ (y : LiveOrder). y.number) (sym e), ap (λ (y : LiveOrder). y.terms) (sym e), λ l. never l, ap (λ (y : LiveOrder). y.account) (sym e))
+    at true k = let e : record o { waits = false } ≡ x = some_is (record o { waits = false }) x k in (ap (λ (y : LiveOrder). y.number) (sym e), ap (λ (y : LiveOrder). y.terms) (sym e), λ l. never l, ap (λ (y : LiveOrder). y.account) (sym e), ap (λ (y : LiveOrder). y.user) (sym e))
     at false k = it_is true o x (some_is o x k)
 becomes_same (Ends number) o x h = gone_or_not (number == o.number) o x h
 

@@ -5,6 +5,14 @@ use Rattle.gx_policy.specs.{declared.policy.PolicyData.PolicyData, Lists.IsInOrd
 use Rattle.gx_history.specs.{declared.{live_order.LiveOrder.LiveOrder, «record».{Asked.Asked, Fill.Fill, RecordData.RecordData, Step.Step, Verdict.Verdict}}, Executions.executions, InForce.is_killed, Live.{IsAtRest, by_time, has_price, waiting, ahead, is_there, side, live_numbered, live, live_under, open_now}, LiveOrders.shares_open, Matched.{AreUncrossed, HasNoOrders, IsFair}, Matching.matching, Orders.{order_under, orders}, Requests.is_order, Settling.{settled, AddsMatches, FillsNoneOf}, Verdicts.{Follows, IsLegal, next}}
 use Rattle.gx_effects.specs.Lifts.{EndsKill}
 
+-- the order is for the account that its user trades for
+abbrev pub IsOfItsTrader : PolicyData → LiveOrder → Type 0
+IsOfItsTrader policy o = account_of policy o.user ≡ Some o.account
+
+-- in a legal history each live order is
+abbrev pub LiveOrdersAreOfTheirTraders : Type 0
+LiveOrdersAreOfTheirTraders = (policy : PolicyData) (history : List RecordData) → IsLegal policy history → AllByRecursion (IsOfItsTrader policy) (live policy history)
+
 -- in a legal history no live order is of a killed account
 abbrev pub KilledAreNotLive : Type 0
 KilledAreNotLive = (policy : PolicyData) (history : List RecordData)

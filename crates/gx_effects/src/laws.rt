@@ -1,6 +1,6 @@
 //! Laws of what a record changes and of what matching comes to, each as what a function without a body ensures.
 
-ghost use Rattle.gx_effects.specs.{Kinds.{CancelsLeaveFewer, ClosesLeaveNone, DenialsTellWhoAsked, EntersComeLast, ExpiriesEndOne, FillsTakeFromTwo, GrantsChangeOneSight, KillsLeaveTheOthers, LiftsBringNoneBack, LoginsPutOn, LogoutsPutOff, MatchesKeepInForce, ReplacesComeLast, RestsMoveOne, RestrictsChangeOneRule, RevokesChangeOneSight, SetLimitsChangeOneRule, UnrestrictsChangeOneRule}, Laws.{FillsAreFair, IdleWhereNoneWaits, KilledAreNotFilled, KilledAreNotLive, KilledHaveNoOrders, KilledPlaceNoOrders, KillsEndByLifts, LiveOrdersAreFound, LiveOrdersAreTheOne, NeverCrossed, NothingWhereNoneWaits, RestingAlone, RestingByPrice, RestingByTime, RestingWhole, SettledByMatches, SettledLeavesNone, SettledStepByStep, SettledWhereIdle, TotalsAreOpenAndDone}};
+ghost use Rattle.gx_effects.specs.{Kinds.{CancelsLeaveFewer, ClosesLeaveNone, DenialsTellWhoAsked, EntersComeLast, ExpiriesEndOne, FillsTakeFromTwo, GrantsChangeOneSight, KillsLeaveTheOthers, LiftsBringNoneBack, LoginsPutOn, LogoutsPutOff, MatchesKeepInForce, ReplacesComeLast, RestsMoveOne, RestrictsChangeOneRule, RevokesChangeOneSight, SetLimitsChangeOneRule, UnrestrictsChangeOneRule}, Laws.{FillsAreFair, IdleWhereNoneWaits, KilledAreNotFilled, KilledAreNotLive, KilledHaveNoOrders, KilledPlaceNoOrders, KillsEndByLifts, LiveOrdersAreFound, LiveOrdersAreOfTheirTraders, LiveOrdersAreTheOne, NeverCrossed, NothingWhereNoneWaits, RestingAlone, RestingByPrice, RestingByTime, RestingWhole, SettledByMatches, SettledLeavesNone, SettledStepByStep, SettledWhereIdle, TotalsAreOpenAndDone}};
 ghost use Rattle.gx_history.specs.{MayMove.MovesAreAllowed, World.{LiveGoesOn, SidesGoOn, WaitingGoesOn, WorldGoesOn, WorldsAreRuns}};
 
 /// What one more record makes of the live orders.
@@ -26,6 +26,11 @@ pub fn the_world_goes_on()
 /// the names in a command are known.
 pub fn moves_are_allowed()
     ensures { MovesAreAllowed }
+{}
+
+/// In a legal day each live order is for the account that its user trades for.
+pub fn live_orders_are_of_their_traders()
+    ensures { LiveOrdersAreOfTheirTraders }
 {}
 
 /// A denial tells at most who asked, and changes nothing else in the world, whatever the records before it.

@@ -15,6 +15,10 @@ pub struct Both<A, B> {
 }
 
 impl<G: AccessGate, A: Watches<G>, B: Watches<G>> Watches<G> for Both<A, B> {
+    ghost Asked = { A.Asked × B.Asked };
+
+    ghost asked = { λ both. (A.asked both.first, B.asked both.second) };
+
     ghost saw = { λ both policy records.
         A.saw both.first policy records × B.saw both.second policy records };
 

@@ -130,6 +130,8 @@ impl<G: ShowsState> Watches<G> for Commands {
     ghost use Rattle.gx_endings.specs.Commands.{command_rows};
     ghost use Rattle.std.specs.Prelude.{[], ◌∷◌, ◌++◌};
 
+    ghost asked = { λ _. tt };
+
     ghost saw = { λ watcher policy records. watcher.list.items ≡ command_rows policy records };
 
     ghost expects = { λ watcher policy records next.

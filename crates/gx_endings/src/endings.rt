@@ -104,6 +104,8 @@ impl<G: ShowsState> Watches<G> for Endings {
     ghost use Rattle.gx_endings.specs.Endings.{endings};
     ghost use Rattle.std.specs.Prelude.{[], ◌∷◌, ◌++◌};
 
+    ghost asked = { λ _. tt };
+
     ghost saw = { λ watcher policy records. watcher.list.items ≡ endings policy records };
 
     ghost expects = { λ watcher policy records next.

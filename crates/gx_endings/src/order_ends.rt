@@ -80,6 +80,8 @@ impl<G: ShowsState> Watches<G> for OrderEnds {
     ghost use Rattle.gx_endings.specs.Endings.{order_ends};
     ghost use Rattle.std.specs.Prelude.{[], ◌∷◌, ◌++◌};
 
+    ghost asked = { λ _. tt };
+
     ghost saw = { λ watcher policy records. watcher.list.items ≡ order_ends policy records };
 
     ghost expects = { λ watcher policy records next.

@@ -15,7 +15,7 @@ pub use cell::{Beside, CELLS, Cell, EndedOrders, NAMES, cells_of};
 pub use csv_lines::{csv_line, csv_names};
 pub use json_lines::json_line;
 pub use laws::csv_lines_are_read_back;
-pub use reasons::{Reason, reason_of, reject_of, rule_in};
+pub use reasons::{Reason, reason_of, reject_of};
 pub use row::{Row, RowKind, RowVerdict};
 pub use row_making::row_of;
 pub use row_reading::record_of;

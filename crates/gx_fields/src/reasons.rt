@@ -1,14 +1,12 @@
 //! Why a request was denied, in words.
 
-ghost use Rattle.std.specs.Prelude.{◌≡◌, option_copied};
+ghost use Rattle.std.specs.Prelude.{◌≡◌};
 ghost use Rattle.gx_history.specs.Reasons.{reject_reason};
-ghost use Rattle.gx_policy.specs.People.{rule_in};
 ghost use Rattle.gx_policy.specs.declared.rule_name.RuleName.TheVariants as names;
 ghost use Rattle.gx_fields.specs.Reasons.{built_in_words, reason_of, reason_words};
 
 use gx_ouch::RejectReason;
-use gx_policy::{FileRule, KindName, Policy, RuleName};
-use gx_units::RuleId;
+use gx_policy::{KindName, Policy, RuleName};
 
 /// Why a request was denied.
 #[derive(Clone, Copy, PartialEq, Eq)]
@@ -19,19 +17,12 @@ pub enum Reason {
     OfKind(KindName),
 }
 
-/// The rule of this name.
-pub fn rule_in<'a>(rules: &'a [FileRule], name: RuleId) -> Option<&'a FileRule>
-    ensures { option_copied result ≡ rule_in rules.now name }
-{
-    rules.iter().find(|rule| rule.name == name)
-}
-
 /// Why the rule forbids; `None` where it is none of the policy's.
 pub fn reason_of(policy: &Policy, rule: RuleName) -> Option<Reason>
     ensures { result ≡ reason_of policy.now rule }
 {
     match rule {
-        RuleName::File(name) => Some(Reason::OfKind(rule_in(policy.rules(), name)?.kind.name())),
+        RuleName::File(name) => Some(Reason::OfKind(policy.rule(name)?.kind.name())),
         _ => Some(Reason::BuiltIn(rule)),
     }
 }
@@ -99,7 +90,7 @@ pub fn reject_of(policy: &Policy, rule: RuleName) -> Option<RejectReason>
         RuleName::P10 => Some(RejectReason::NotAllowedInCross),
         RuleName::P11 => Some(RejectReason::Other),
         RuleName::P12 => Some(RejectReason::Other),
-        RuleName::File(name) => Some(rule_in(policy.rules(), name)?.kind.name().reject_reason()),
+        RuleName::File(name) => Some(policy.rule(name)?.kind.name().reject_reason()),
         _ => None,
     }
 }

@@ -1,5 +1,5 @@
 -- Among accounts of different names, one that has the name is the only one.
-use Rattle.std.proofs.{Common.{◌≡◌, ◌∙◌, ◌+◌, ◌<◌, ℕ, zero, suc, Bool, true, false, cond, not, ◌&&◌, ◌||◌, nat_lt, List, [], ◌∷◌, length, Option, Some, None, is_some, unwrap_or, slice_get, position, refl, sym, ap, true≢false, arith, lt-ltb, if◌then◌else◌}, lemmas.Option.slice_get_within}
+use Rattle.std.proofs.{Common.{◌≡◌, ◌∙◌, ◌+◌, ℕ, zero, suc, Bool, true, false, cond, not, ◌||◌, nat_lt, List, [], ◌∷◌, length, Some, None, is_some, unwrap_or, slice_get, position, refl, sym, ap, true≢false, arith, lt-ltb}, lemmas.Option.slice_get_within}
 use Rattle.std.specs.List.{find, list_any, position_or_len}
 use Rattle.gx_units.specs.{Names.same_account, declared.names.AccountName.AccountName}
 use Rattle.gx_policy.specs.declared.policy.Account.{Account}

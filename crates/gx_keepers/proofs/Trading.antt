@@ -1,13 +1,13 @@
 -- Whoever enters an order trades: there is no account for him to kill.
-use Rattle.std.proofs.{Common.{◌≡◌, ℕ, ◌+◌, ◌≤◌, arith, true, false, Bool, List, length, refl, ◌∙◌, ap, sym, cond, if◌then◌else◌}, Math.Path.subst}
+use Rattle.std.proofs.{Common.{◌≡◌, ◌+◌, arith, true, false, Bool, List, length, refl, ◌∙◌, ap, sym, if◌then◌else◌}, Math.Path.subst}
 use Rattle.std.specs.{Prelude.{Option, Some, None, option_and_then}, Option.option_map_or}
-use Rattle.gx_units.specs.declared.names.{AccountName.AccountName, UserName.UserName}
+use Rattle.gx_units.specs.declared.names.{AccountName.AccountName}
 use Rattle.gx_policy.specs.{declared.policy.{PolicyData.PolicyData, Role.Role, User.User}, People.{account_of, account_of_role, is_officer, role_in, user_in}}
 use Rattle.gx_history.specs.{declared.{live_order.LiveOrder.LiveOrder, moves.Move.Move, «record».{Asked.Asked, RecordData.RecordData, Request.Request, Step.Step, Verdict.Verdict}}, Live.live_under, Turns.new_order, World.{Does, World, move_asked, move_by, world}}
 use Rattle.gx_effects.proofs.Doing.{may_do}
 use Rattle.gx_people.proofs.Keeping.{officers_stay}
 use Rattle.gx_streams.specs.Streams.{AllStreams, is_told}
-use Rattle.gx_keepers.specs.{declared.keepers.Keepers.Keepers, Keepers.{AreInForce, HasEnough, HasPlaces, Takes, count_of, kills_of}}
+use Rattle.gx_keepers.specs.{declared.keepers.Keepers.Keepers, Keepers.{HasEnough, HasPlaces, Takes, count_of, kills_of}}
 use Rattle.gx_keepers.proofs.{Keepings.known_told, Matches.trader_told}
 
 no_officer : (role : Option Role) (account : AccountName) → option_and_then account_of_role role ≡ Some account → is_officer role ≡ false

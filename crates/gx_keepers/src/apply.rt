@@ -97,7 +97,7 @@ fn apply_cancel(keepers: &mut Keepers, next: NextRecord<'_>, cut: &LiveOrder, si
     ensures room { KeepRoom keepers.old.streams keepers.new.streams }
 {
     let fewer = cut_from(cut, size);
-    keepers.orders.cut(cut.number, size);
+    keepers.orders.cut(cut.number, next.near.user, size);
     leave(
         &mut keepers.book,
         cut,
@@ -132,7 +132,7 @@ fn apply_replace(
     ensures room { KeepRoom keepers.old.streams keepers.new.streams }
 {
     keepers.orders.enter(*new, next.near)?;
-    keepers.orders.end(old.number);
+    keepers.orders.end(old.number, next.near.user);
     take_out(&mut keepers.book, old, next.near.stock);
     keepers.ledger.close(old, next.near);
     keepers

@@ -5,7 +5,7 @@ ghost use Rattle.gx_history.specs.declared.moves.Move.TheVariants as moves;
 ghost use Rattle.gx_history.specs.Streams.{lift_code};
 ghost use Rattle.gx_keepers.specs.{Ends.{code_by, owed_by_close, owed_by_day_ends, owed_by_next, told_by_next, told_of_close, told_of_day_end, trades, HaveOwedPlaces}, Keepers.{AreAfter, AreBefore, IsNext, IsPlaced, KeepRoom}, Settings.grows};
 
-use crate::ends::{end_orders, tell_of_ends};
+use crate::ends::{end_orders, near_ended, tell_of_ends};
 use crate::keepers::Keepers;
 use crate::next_record::NextRecord;
 use crate::reports::{answer, day_end, tell};
@@ -13,6 +13,7 @@ use crate::settings::set;
 use gx_day::day::Day;
 use gx_desk::{Action, AnswerCode, Command};
 use gx_history::report::Report;
+use gx_index::Near;
 use gx_orders::orders::Orders;
 use gx_policy::{Policy, Role, User};
 use gx_streams::streams::Streams;
@@ -58,11 +59,12 @@ fn tell_of_close(streams: &mut Streams, policy: &Policy, action: &Action, moment
     }
 }
 
-/// Tells of a granted command: the users of the orders that it ends, then each trader of the end of
-/// the day, if it closes it, and last the officer, with this code.
+/// Tells of a granted command: the users of the orders that it ends, who are looked for at this place first, then each
+/// trader of the end of the day, if it closes it, and last the officer, with this code.
 fn tell_of_command(
     streams: &mut Streams,
     orders: &Orders,
+    near: Near,
     next: NextRecord<'_>,
     officer: UserName,
     c: &Command,
@@ -74,7 +76,7 @@ fn tell_of_command(
         ≡ told_by_next next.entry officer c.now code orders.now.live streams.old }
 {
     let moment = next.left.moment;
-    tell_of_ends(streams, orders, &c.action, moment);
+    tell_of_ends(streams, orders, &c.action, near, moment);
     tell_of_close(streams, next.policy, &c.action, moment);
     let answered = answer(next.left, c, code);
     tell(streams, officer, next.near.user, moment, Some(answered));
@@ -133,9 +135,11 @@ pub fn apply_command(
     )?;
     keepers.day.apply(next.moves, next.left.moment);
     let code = granted_code(&keepers.day, &c.action);
+    let near = near_ended(&keepers.people, &keepers.orders, &c.action);
     tell_of_command(
         &mut keepers.streams,
         &keepers.orders,
+        near,
         next,
         officer,
         c,
@@ -146,6 +150,7 @@ pub fn apply_command(
         &mut keepers.orders,
         &mut keepers.book,
         &c.action,
+        near,
     );
     Ok(())
 }

@@ -15,6 +15,7 @@ use gx_index::Near;
 use gx_ledger::ledger::Ledger;
 use gx_market::standing::take_out;
 use gx_orders::orders::Orders;
+use gx_people::people::People;
 use gx_slab::live::LiveOrders;
 use gx_streams::streams::Streams;
 use gx_units::Moment;
@@ -32,15 +33,28 @@ fn ended_by<'a>(orders: &'a Orders, action: &Action) -> Option<LiveOrders<'a>>
     }
 }
 
-/// Tells the user of each of these orders that it has ended.
-fn tell_each(streams: &mut Streams, ending: LiveOrders<'_>, moment: Moment)
+/// Where the names of the orders that the command ends are looked for first: those of the first one. Nothing but time
+/// rests on these places.
+pub fn near_ended(people: &People, orders: &Orders, action: &Action) -> Near {
+    match *action {
+        Action::Kill(account) => match orders.live_of(account).next() {
+            Some(order) => people.near(order.user),
+            None => Near::FIRST,
+        },
+        _ => Near::FIRST,
+    }
+}
+
+/// Tells the user of each of these orders that it has ended. Here and below, the names of each order are looked for at
+/// these places first.
+fn tell_each(streams: &mut Streams, ending: LiveOrders<'_>, near: Near, moment: Moment)
     requires { HaveOwedPlaces (map (owed_by_end moment) ending) streams.old }
     ensures { streams.new ≡ with_all_owed (map (owed_by_end moment) ending.entry) streams.old }
 {
     for order in ending {
         streams.append_reserved(
             order.user,
-            0,
+            near.user,
             Report {
                 timestamp: moment,
                 message: ended(order),
@@ -50,21 +64,27 @@ fn tell_each(streams: &mut Streams, ending: LiveOrders<'_>, moment: Moment)
 }
 
 /// Tells each user, by number, of his live orders that the command ends.
-pub fn tell_of_ends(streams: &mut Streams, orders: &Orders, action: &Action, moment: Moment)
+pub fn tell_of_ends(
+    streams: &mut Streams,
+    orders: &Orders,
+    action: &Action,
+    near: Near,
+    moment: Moment,
+)
     requires { HaveOwedPlaces (owed_by_ends action.now moment orders.now.live) streams.old }
     ensures { streams.new ≡ told_of_ends action.now moment orders.now.live streams.old }
 {
     if let Some(ending) = ended_by(orders, action) {
-        tell_each(streams, ending, moment);
+        tell_each(streams, ending, near, moment);
     }
 }
 
 /// Takes note that each of these orders ends.
-fn close_each(ledger: &mut Ledger, ending: LiveOrders<'_>)
+fn close_each(ledger: &mut Ledger, ending: LiveOrders<'_>, near: Near)
     ensures { ClosesAll ending.entry ledger.old ledger.new }
 {
     for order in ending {
-        ledger.close(order, Near::FIRST);
+        ledger.close(order, near);
     }
 }
 
@@ -79,7 +99,13 @@ fn take_each_out(book: &mut Book, ending: LiveOrders<'_>)
 
 /// Ends the live orders that the command is for: they leave the book, and are counted no more. It
 /// takes no memory. A Kill goes through its account's orders alone.
-pub fn end_orders(ledger: &mut Ledger, orders: &mut Orders, book: &mut Book, action: &Action)
+pub fn end_orders(
+    ledger: &mut Ledger,
+    orders: &mut Orders,
+    book: &mut Book,
+    action: &Action,
+    near: Near,
+)
     requires { IsLiveBook orders.old.live book.old }
     ensures closed { ClosesAll (ended_orders action.now orders.old.live) ledger.old ledger.new }
     ensures left { orders.new ≡ with_live (live_left action.now orders.old.live) orders.old }
@@ -87,12 +113,12 @@ pub fn end_orders(ledger: &mut Ledger, orders: &mut Orders, book: &mut Book, act
 {
     match *action {
         Action::Kill(account) => {
-            close_each(ledger, orders.live_of(account));
+            close_each(ledger, orders.live_of(account), near);
             take_each_out(book, orders.live_of(account));
-            orders.end_account(account);
+            orders.end_account(account, near.user);
         }
         Action::CloseDay => {
-            close_each(ledger, orders.live());
+            close_each(ledger, orders.live(), near);
             orders.end_all();
             book.remove_all();
         }

@@ -1,53 +1,29 @@
-//! What the policy says of accounts and stocks.
+//! What the policy says of accounts, each looked for at a place first.
 
-ghost use Rattle.std.specs.Prelude.{◌≡◌, find, position, IsTrue};
-ghost use Rattle.gx_units.specs.Names.{same_account, same_stock};
+ghost use Rattle.std.specs.Prelude.{◌≡◌, position, IsTrue};
+ghost use Rattle.gx_units.specs.Names.{same_account};
 ghost use Rattle.gx_history.specs.{Asking.fits_firm, Orders.firm_of};
-ghost use Rattle.gx_policy.specs.People.{account_named, stock_named};
+ghost use Rattle.gx_policy.specs.People.{account_named};
 ghost use Rattle.gx_ledger.specs.Tables.{accounts_differ};
 ghost use Rattle.gx_keepers.specs.Matching.{place_of};
 
 use gx_history::record::Request;
-use gx_policy::{Account, Policy, Stock};
-use gx_units::{AccountName, Firm, Symbol};
+use gx_policy::{Account, Policy};
+use gx_units::{AccountName, Firm};
 
 const BLANK_FIRM: Firm = Firm { bytes: *b"    " };
 
-fn find_account(accounts: &[Account], name: AccountName) -> Option<Account>
-    ensures { result ≡ find (λ a. same_account a.name name) accounts.now }
-{
-    accounts.iter().copied().find(|a| a.name == name)
-}
-
-fn find_stock(stocks: &[Stock], name: Symbol) -> Option<Stock>
-    ensures { result ≡ find (λ s. same_stock s.name name) stocks.now }
-{
-    stocks.iter().copied().find(|s| s.name == name)
-}
-
-/// The account of this name.
-pub fn account_named(policy: &Policy, name: AccountName) -> Option<Account>
+/// The account of this name. It is looked for at this place first.
+fn account_near(policy: &Policy, near: usize, name: AccountName) -> Option<Account>
     ensures { result ≡ account_named policy.now name }
 {
-    find_account(policy.accounts(), name)
-}
-
-/// The account of this name among accounts of which no two have one name. It is looked for at this place first.
-fn find_near(accounts: &[Account], near: usize, name: AccountName) -> Option<Account>
-    requires { IsTrue (accounts_differ accounts.now) }
-    ensures { result ≡ find (λ a. same_account a.name name) accounts.now }
-{
+    // What this ensures: no two accounts have one name.
+    let _ = policy.rules();
+    let accounts = policy.accounts();
     match accounts.get(near) {
         Some(there) if there.name == name => Some(*there),
-        _ => find_account(accounts, name),
+        _ => policy.account(name),
     }
-}
-
-/// The stock of this name.
-pub fn stock_named(policy: &Policy, name: Symbol) -> Option<Stock>
-    ensures { result ≡ stock_named policy.now name }
-{
-    find_stock(policy.stocks(), name)
 }
 
 fn find_place(accounts: &[Account], name: AccountName) -> Option<usize>
@@ -85,9 +61,7 @@ pub fn place_of(policy: &Policy, name: AccountName, near: usize) -> usize
 pub fn firm_of(policy: &Policy, account: AccountName, near: usize, asked_for: Firm) -> Firm
     ensures { result ≡ firm_of policy.now account asked_for }
 {
-    // What this ensures: no two accounts have one name.
-    let _ = policy.rules();
-    match find_near(policy.accounts(), near, account) {
+    match account_near(policy, near, account) {
         Some(found) => found.firm,
         None => asked_for,
     }

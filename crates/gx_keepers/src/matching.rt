@@ -84,8 +84,8 @@ fn apply_fill(keepers: &mut Keepers, next: NextRecord<'_>, f: Fill) -> Result<()
         near_taker.user,
         near_maker.user,
     )?;
-    keepers.orders.fill(f.taker, f.shares);
-    keepers.orders.fill(f.maker, f.shares);
+    keepers.orders.fill(f.taker, near_taker.user, f.shares);
+    keepers.orders.fill(f.maker, near_maker.user, f.shares);
     let left = maker.open().saturating_sub(f.shares);
     leave(&mut keepers.book, &maker, near_maker.stock, left);
     keepers
@@ -123,7 +123,7 @@ fn end_order(keepers: &mut Keepers, next: NextRecord<'_>, order: &LiveOrder)
     ensures after { AreAfter next.entry keepers.new }
     ensures kept_after { KeepPlacesAfter next.entry keepers.new }
 {
-    keepers.orders.end(order.number);
+    keepers.orders.end(order.number, next.near.user);
     keepers.ledger.close(order, next.near);
     let message = canceled(order, order.open(), CancelReason::ImmediateOrCancel);
     tell(

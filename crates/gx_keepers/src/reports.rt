@@ -1,8 +1,7 @@
 //! What users are told: the messages of OUCH, from orders, fills and denials, and the answers to
 //! officers.
 
-ghost use Rattle.std.specs.Prelude.{◌≡◌, ◌<◌, [], ◌∷◌, option_copied, find, option_to_list, IfSome};
-ghost use Rattle.gx_units.specs.Names.{same_rule};
+ghost use Rattle.std.specs.Prelude.{◌≡◌, ◌<◌, [], ◌∷◌, option_to_list, IfSome};
 ghost use Rattle.gx_history.specs.{Reasons.{denial_code, reject_reason}, Streams.{canceled_of, rejected, replaced_of, reports_of_denial}, World.accepted_of};
 ghost use Rattle.gx_streams.specs.{Kept.places_in, Telling.owed_for};
 ghost use Rattle.gx_keepers.specs.{Keepers.with_told, Ends.{answer_message, day_end_message}};
@@ -16,20 +15,14 @@ use gx_ouch::{
     Accepted, CancelReason, Canceled, EventCode, OrderTerms, Outbound, RejectReason, Rejected,
     Replaced,
 };
-use gx_policy::{FileRule, Policy, RuleName};
+use gx_policy::{Policy, RuleName};
 use gx_streams::streams::Streams;
 use gx_units::{Moment, RuleId, UserName};
-
-fn find_rule<'a>(rules: &'a [FileRule], name: RuleId) -> Option<&'a FileRule>
-    ensures { option_copied result ≡ find (λ r. same_rule r.name name) rules.now }
-{
-    rules.iter().find(|r| r.name == name)
-}
 
 fn reason_of_rule(policy: &Policy, name: RuleId) -> Option<RejectReason>
     ensures { result ≡ reject_reason policy.now (RuleName.File name) }
 {
-    match find_rule(policy.rules(), name) {
+    match policy.rule(name) {
         Some(rule) => Some(rule.kind.name().reject_reason()),
         None => None,
     }

@@ -3,10 +3,10 @@ use Rattle.std.proofs.{Common.{◌≡◌, ℕ, ◌+◌, ◌-◌, ◌≤◌, suc,
 use Rattle.std.specs.{Prelude.{Option, Some, None, option_map}, List.{list_any, position_or_len}, Cmp.Lexicographic.nat_list_eq_equiv}
 use Rattle.circular_buffer.specs.Buffer.{buffer}
 use Rattle.gx_units.specs.{Money.value, Names.{same_account, same_stock}, declared.names.{AccountName.AccountName, Symbol.Symbol}}
-use Rattle.gx_history.specs.{declared.live_order.LiveOrder.LiveOrder, Book.{is_buy, is_on}, LiveOrders.shares_open}
+use Rattle.gx_history.specs.{declared.live_order.LiveOrder.LiveOrder, Book.{is_buy, is_on}}
 use Rattle.gx_policy.specs.{declared.policy.{Count.Count, FileRule.FileRule, PolicyData.PolicyData, Scope.Scope, Stock.Stock}, Lists.are_distinct, People.covers}
 use Rattle.gx_history_laws.proofs.{Granting.{left_false, right_false}, Names.same_account_flip}
-use Rattle.gx_ledger.specs.{Changes.Change, declared.{group.{Entered.Entered, Group.Group}, change.ChangeKind.ChangeKind, sides.StockSums.StockSums, sums.Sums.Sums, asks.Asks.Asks}, Accounts.account_place, Keeping.{Kept, kept_noted, noted}, Running.{changed_group, changed_side, changed_sums, counted_singly, entered_as, noted_enters, noted_moments, noted_sides, pushed}, StandsFor.{Total, group_of, members_of, ring, sides_of, tally_of}, Tallies.{asks_of, changed_in, count_of, place_in, seats_for, tally_after, tells_reference}}
+use Rattle.gx_ledger.specs.{Changes.Change, declared.{group.{Entered.Entered, Group.Group}, change.ChangeKind.ChangeKind, sides.StockSums.StockSums, sums.Sums.Sums, asks.Asks.Asks}, Accounts.account_place, Keeping.{Kept, kept_noted, noted}, Running.{changed_group, changed_sums, counted_singly, entered_as, noted_enters, noted_moments, noted_sides, pushed}, StandsFor.{Total, group_of, members_of, ring, sides_of, tally_of}, Tallies.{asks_of, changed_in, count_of, place_in, seats_for, tally_after, tells_reference}}
 
 -- the change is of an order on this side of the stock
 abbrev pub changes_side : Change → Symbol → Bool → Bool
@@ -14,7 +14,7 @@ changes_side change stock buys = same_stock change.order.terms.stock stock && is
 
 -- what counts on each side of each stock, once an order of the accounts has changed
 abbrev pub sides_after : Change → (Symbol → Bool → Sums) → Symbol → Bool → Sums
-sides_after change sides stock buys = cond (changes_side change stock buys) (changed_side change.order change.kind (sides stock buys)) (sides stock buys)
+sides_after change sides stock buys = cond (changes_side change stock buys) (changed_sums counted_singly change.order change.kind (sides stock buys)) (sides stock buys)
 
 -- the moments, once an order changed so
 abbrev pub more_moments : ChangeKind → List ℕ → List ℕ
@@ -73,8 +73,8 @@ sides_changed change sides (s ∷ stocks) = λ i. (s.name, by (same_stock change
     sells = sides s.name false
 
     by : (b c : Bool)
-        → cond {A = StockSums} b (cond c (record { buys = changed_side change.order change.kind buys; sells = sells }) (record { buys = buys; sells = changed_side change.order change.kind sells })) (record { buys = buys; sells = sells })
-        ≡ record { buys = cond (b && c) (changed_side change.order change.kind buys) buys; sells = cond (b && not c) (changed_side change.order change.kind sells) sells }
+        → cond {A = StockSums} b (cond c (record { buys = changed_sums counted_singly change.order change.kind buys; sells = sells }) (record { buys = buys; sells = changed_sums counted_singly change.order change.kind sells })) (record { buys = buys; sells = sells })
+        ≡ record { buys = cond (b && c) (changed_sums counted_singly change.order change.kind buys) buys; sells = cond (b && not c) (changed_sums counted_singly change.order change.kind sells) sells }
     by true true = refl
     by true false = refl
     by false c = refl

@@ -43,23 +43,21 @@ pushed x ring = buffer (keep_last ring.capacity (ring.items ++ x ∷ [])) ring.c
 -- the moments, with that of an order that comes
 abbrev pub noted_moments : ChangeKind → Buffer ℕ → Buffer ℕ
 noted_moments (ChangeKind.Accepted moment replacement) moments = pushed moment moments
-noted_moments other moments = moments
+noted_moments (ChangeKind.Left shares) moments = moments
+noted_moments (ChangeKind.Filled shares price) moments = moments
 
 -- the Enters, with one that comes
 abbrev pub noted_enters : LiveOrder → ChangeKind → Buffer Entered → Buffer Entered
 noted_enters o (ChangeKind.Accepted moment replacement) enters = if replacement then enters else pushed (entered_as o) enters
-noted_enters o other enters = enters
+noted_enters o (ChangeKind.Left shares) enters = enters
+noted_enters o (ChangeKind.Filled shares price) enters = enters
 
--- the sums of a side of a stock, once an order there has changed so
-abbrev pub changed_side : LiveOrder → ChangeKind → Sums → Sums
-changed_side o kind s = changed_sums counted_singly o kind s
-
--- the sums of a stock, once an order in it has changed
+-- the sums of a stock, once an order in it has changed: those of its side count shares singly
 abbrev pub changed_sides : Change → StockSums → StockSums
 changed_sides change s =
     if is_buy change.order.terms.side
-    then record { buys = changed_side change.order change.kind s.buys; sells = s.sells }
-    else record { buys = s.buys; sells = changed_side change.order change.kind s.sells }
+    then record { buys = changed_sums counted_singly change.order change.kind s.buys; sells = s.sells }
+    else record { buys = s.buys; sells = changed_sums counted_singly change.order change.kind s.sells }
 
 -- the sums of each stock then
 abbrev pub noted_sides : Change → List (Symbol × StockSums) → List (Symbol × StockSums)

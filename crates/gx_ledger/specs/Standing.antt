@@ -18,13 +18,22 @@ counted_with policy account rule =
 abbrev pub gross_sums_of : Asks → Positions → (AccountName → Bool) → Option Sums
 gross_sums_of Asks.Shares held among = Some (shares_among held among)
 gross_sums_of Asks.Value held among = Some (value_among held among)
-gross_sums_of other held among = None
+gross_sums_of Asks.Sides held among = None
+gross_sums_of (Asks.Recent rate) held among = None
+gross_sums_of (Asks.Alike repeat) held among = None
+gross_sums_of Asks.Reference held among = None
+gross_sums_of Asks.Nothing held among = None
 
 -- what these accounts executed on the side of the stock, less what they did on the other, and what they have open there, for
 -- a rule that looks at sides
 abbrev pub net_sums_of : Asks → Positions → StockSide → (AccountName → Bool) → Option NetSums
 net_sums_of Asks.Sides held side among = Some (record { done = net_done held.executions among side; live = side_live held.live among side })
-net_sums_of other held side among = None
+net_sums_of Asks.Shares held side among = None
+net_sums_of Asks.Value held side among = None
+net_sums_of (Asks.Recent rate) held side among = None
+net_sums_of (Asks.Alike repeat) held side among = None
+net_sums_of Asks.Reference held side among = None
+net_sums_of Asks.Nothing held side among = None
 
 -- Over all live orders and fills that the ledger stands for, this is what the accounts have that the gross rule at this
 -- place in the file counts together with this one.
@@ -45,7 +54,10 @@ group_with t account place = if is_some place && covers t.scope account then gro
 abbrev pub gross_in_group : Group → Option Sums
 gross_in_group (Group.Shares sums) = Some sums
 gross_in_group (Group.Value sums) = Some sums
-gross_in_group other = None
+gross_in_group (Group.Sides sides) = None
+gross_in_group (Group.Recent window moments) = None
+gross_in_group (Group.Enters enters) = None
+gross_in_group Group.Nothing = None
 
 abbrev pub tally_gross : Tally → AccountName → Option ℕ → Option Sums
 tally_gross t account place = option_and_then gross_in_group (group_with t account place)
@@ -53,7 +65,11 @@ tally_gross t account place = option_and_then gross_in_group (group_with t accou
 -- what a group has on the side of the stock, where it looks at sides
 abbrev pub net_in_group : StockSide → Group → Option NetSums
 net_in_group side (Group.Sides sides) = Some (net_sums_in sides side)
-net_in_group side other = None
+net_in_group side (Group.Shares sums) = None
+net_in_group side (Group.Value sums) = None
+net_in_group side (Group.Recent window moments) = None
+net_in_group side (Group.Enters enters) = None
+net_in_group side Group.Nothing = None
 
 abbrev pub tally_net : Tally → AccountName → Option ℕ → StockSide → Option NetSums
 tally_net t account place side = option_and_then (net_in_group side) (group_with t account place)

@@ -29,7 +29,11 @@ count_of (RuleKind.Order kind limit) = None
 -- a rule asks for the last price where its kind does
 abbrev pub tells_reference : RuleKind → Bool
 tells_reference (RuleKind.Order kind limit) = true
-tells_reference other = false
+tells_reference (RuleKind.Listed kind stocks) = false
+tells_reference (RuleKind.Plain kind) = false
+tells_reference (RuleKind.Exposure kind limit count) = false
+tells_reference (RuleKind.Rate rate count) = false
+tells_reference (RuleKind.Repeat repeat count) = false
 
 -- a group before any order: a rate looks back on as many moments as its limit, a repeat on as many Enters as its span
 abbrev pub new_group : Asks → List Stock → Group

@@ -92,6 +92,7 @@ fn count_down(cells: &mut Vec<u8>, gone: &Entered)
 }
 
 /// Whether fewer than so many of the Enters that are counted fall into the cell of this one, as far as the cells tell.
+#[inline(always)]
 fn are_fewer(cells: &[u8], asked: &Entered, limit: u64) -> bool
     ensures { IsTrue result → (enters : List Entered) → AreCounted cells.now enters
         → count_by (are_alike asked.now) enters < limit }
@@ -104,6 +105,7 @@ fn are_fewer(cells: &[u8], asked: &Entered, limit: u64) -> bool
 }
 
 /// How many of the Enters are such as this one.
+#[inline(never)]
 fn alike_in_ring(enters: &HeapCircularBuffer<Entered>, asked: &Entered) -> u64
     ensures { result ≡ count_by (are_alike asked.now) enters.now.items }
 {
@@ -140,6 +142,7 @@ impl Enters {
 
     /// Whether the Enters that are such as this one come to the limit. The ring is looked at only where so many are in one
     /// cell.
+    #[inline(always)]
     pub fn are_alike(&self, asked: &Entered, limit: u64) -> bool
         ensures { result ≡ nat_le limit (count_alike self.now.items asked.now) }
     {

@@ -36,8 +36,13 @@ pub enum Group {
     Value(Sums),
     /// The shares on each side of each stock.
     Sides(Sides),
-    /// The window of a rate in nanoseconds, and the moments of the last granted Enters and Replaces, as many as its limit.
-    Recent(u64, Moments),
+    /// The recent orders of a rate.
+    Recent {
+        /// How far the rate looks back, in nanoseconds.
+        window: u64,
+        /// The moments of the last granted Enters and Replaces, as many as its limit.
+        moments: Moments,
+    },
     /// The last granted Enters, as many as the span of a repeat.
     Enters(Enters),
     /// None.
@@ -94,7 +99,10 @@ impl Group {
             Asks::Sides => Ok(Group::Sides(Sides::of(alloc, stocks)?)),
             Asks::Recent(rate) => {
                 let moments = Moments::with_room(alloc, rate.limit as usize)?;
-                Ok(Group::Recent(rate.window, moments))
+                Ok(Group::Recent {
+                    window: rate.window,
+                    moments,
+                })
             }
             Asks::Alike(repeat) => {
                 let enters = Enters::with_room(alloc, repeat.span as usize)?;
@@ -112,7 +120,7 @@ impl Group {
             Group::Shares(sums) => *sums = sums.of_shares_after(change),
             Group::Value(sums) => *sums = sums.of_value_after(change),
             Group::Sides(sides) => sides.note(change, near),
-            Group::Recent(_, moments) => note_moment(moments, change),
+            Group::Recent { moments, .. } => note_moment(moments, change),
             Group::Enters(enters) => note_enter(enters, change),
             Group::Nothing => {}
         }

@@ -28,7 +28,7 @@ pub struct Ledger {
     accounts: IndexSet<AccountName>,
     prices: IndexMap<Symbol, u32>,
     tallies: Vec<Tally>,
-    /// For each account, by its place, the tallies that count its orders.
+    /// For each account, by its place, where its orders are counted.
     counting: Vec<TallyPlaces>,
 }
 
@@ -128,7 +128,12 @@ impl Ledger {
         let accounts = names_of(alloc, policy.accounts())?;
         let tallies = first_tallies(alloc, rules, &accounts, policy.accounts(), policy.stocks())?;
         let prices = first_prices(alloc, policy.stocks())?;
-        let counting = counting_by_account(alloc, tallies.as_slice(), policy.accounts())?;
+        let counting = counting_by_account(
+            alloc,
+            &accounts,
+            tallies.as_slice(),
+            policy.accounts(),
+        )?;
         Ok(Ledger {
             accounts,
             prices,
@@ -253,7 +258,7 @@ impl Ledger {
             return note_in_all(&mut self.tallies, change, near);
         };
         let counting = self.counting[place].as_slice();
-        note_in(&mut self.tallies, counting, change, place, near);
+        note_in(&mut self.tallies, counting, change, near);
     }
 
     fn set_price(&mut self, stock: Symbol, near: usize, price: u32)

@@ -1,10 +1,11 @@
 //! The tables of a ledger.
 
 ghost use Rattle.std.specs.Prelude.{◌≡◌, map, None, Some, IfOk, IsTrue};
-ghost use Rattle.gx_ledger.specs.{Counts.{noted_in, tally_inside}, Accounts.account_names, Keeping.{noted, priced, reference_prices}, Tables.{accounts_differ, names_differ}, Tallies.{changed_at, new_tally}};
+ghost use Rattle.gx_ledger.specs.{Counts.{noted_in, tally_with}, Accounts.account_names, Keeping.{noted, priced, reference_prices}, Tables.{accounts_differ, names_differ}, Tallies.{changed_at, new_tally}};
 
 use crate::change::Change;
 use crate::tally::Tally;
+use crate::tally_places::CountedAt;
 use gx_index::get_mut_near;
 use gx_policy::{Account, FileRule, Stock};
 use gx_units::{AccountName, OutOfMemory, Symbol};
@@ -30,31 +31,24 @@ pub fn note_in_all(tallies: &mut [Tally], change: &Change<'_>, near: usize)
     }
 }
 
-/// Tells the tally at this place, if there is one, of a change of an order of an account in its
-/// scope that has this place in the policy.
+/// Tells the tally at this place, if there is one, of a change of an order of an account in its scope, whose group stands
+/// at that place.
 #[inline(always)]
-fn note_one(tallies: &mut [Tally], index: usize, change: &Change<'_>, place: usize, near: usize)
-    ensures { tallies.new ≡ changed_at index (tally_inside change.now (Some place)) tallies.old }
+fn note_one(tallies: &mut [Tally], index: usize, group: usize, change: &Change<'_>, near: usize)
+    ensures { tallies.new ≡ changed_at index (tally_with change.now group) tallies.old }
 {
     if index < tallies.len() {
-        tallies[index].note_inside(change, Some(place), near);
+        tallies[index].note_with(change, group, near);
     }
 }
 
-/// Tells the tallies at these places of a change of an order of an account in their scopes that
-/// has this place in the policy.
+/// Tells the tallies at these places of a change of an order of an account in their scopes, which is counted there.
 #[inline(always)]
-pub fn note_in(
-    tallies: &mut [Tally],
-    indexes: &[usize],
-    change: &Change<'_>,
-    place: usize,
-    near: usize,
-)
-    ensures { tallies.new ≡ noted_in change.now (Some place) tallies.old indexes.now }
+pub fn note_in(tallies: &mut [Tally], places: &[CountedAt], change: &Change<'_>, near: usize)
+    ensures { tallies.new ≡ noted_in change.now tallies.old places.now }
 {
-    for index in indexes {
-        note_one(tallies, *index, change, place, near);
+    for place in places {
+        note_one(tallies, place.tally, place.group, change, near);
     }
 }
 

@@ -3,7 +3,7 @@
 ghost use Rattle.std.specs.{Prelude.{◌≡◌, nat_le, option_and_then, option_copied, pos, IfOk, IsTrue}, Option.option_map_or};
 ghost use Rattle.gx_history.specs.Figures.{gross_shares_in, gross_value_in, net_shares_in};
 ghost use Rattle.gx_ledger.specs.declared.group.Group.TheVariants as groups;
-ghost use Rattle.gx_ledger.specs.{Counts.{counts, tally_inside}, Accounts.account_names, Running.count_alike, Tables.names_differ, Tallies.{figures_of_group, group_asked, group_in, net_sums_in, new_tally, seat_of, tally_after, tally_figures, tells_reference}, Standing.{gross_in_group, group_with, net_in_group, tally_gross, tally_net}};
+ghost use Rattle.gx_ledger.specs.{Counts.{counts, group_place, tally_inside, tally_with}, Accounts.account_names, Running.count_alike, Tables.names_differ, Tallies.{figures_of_group, group_asked, group_in, net_sums_in, new_tally, seat_of, tally_after, tally_figures, tells_reference}, Standing.{gross_in_group, group_with, net_in_group, tally_gross, tally_net}};
 
 use crate::asks::{Asks, count_of};
 use crate::change::Change;
@@ -67,6 +67,7 @@ fn net_sums_in(sides: &Sides, side: StockSide, near: usize) -> NetSums
 }
 
 /// Whether the Enters that are such as the one asked for come to the limit.
+#[inline(always)]
 fn are_alike(enters: &Enters, asked: Option<Entered>, limit: u64) -> bool
     ensures { result ≡ nat_le limit (option_map_or (count_alike enters.now.items) asked 0) }
 {
@@ -166,6 +167,21 @@ impl Tally {
         if let Some(place) = place_in(self.count, place) {
             self.groups.note(place, change, near);
         }
+    }
+
+    /// The same of an account in scope whose group stands at this place.
+    #[inline(always)]
+    pub fn note_with(&mut self, change: &Change<'_>, group: usize, near: usize)
+        ensures { self.new ≡ tally_with change.now group self.old }
+    {
+        self.groups.note(group, change, near);
+    }
+
+    /// The place of the group of an account in scope, which has this place in the policy; 0 where the rule counts nothing.
+    pub fn group_place(&self, own: Option<usize>) -> usize
+        ensures { result ≡ group_place self.now own }
+    {
+        place_in(self.count, own).unwrap_or(0)
     }
 
     /// Whether the rule counts the orders of the account.
@@ -299,7 +315,7 @@ impl Tally {
         ensures { result ≡ nat_le limit (tally_figures wanted.now self.now).recent }
     {
         match self.group_asked(wanted) {
-            Some(Group::Recent(window, moments)) => {
+            Some(Group::Recent { window, moments }) => {
                 moments.are_recent(*window, wanted.moment, limit)
             }
             _ => limit == 0,

@@ -25,7 +25,7 @@ const POLL: u64 = 5;
 const QUIET: u32 = 200;
 
 /// each so many milliseconds.
-const REST: u64 = 20;
+const REST: u64 = 50;
 
 /// What the system answers where descriptors or memory are wanting: ENOMEM, ENFILE, EMFILE, ENOBUFS.
 const WANTS: [i32; 4] = [12, 23, 24, 105];

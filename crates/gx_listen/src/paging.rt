@@ -8,7 +8,7 @@ use gx_button::Secret;
 use gx_door::{Door, Issuer};
 use gx_lobby::{Lobby, Stop};
 use gx_lookout::{Board, Lookout};
-use gx_page::{Means, PageServer, serve_page};
+use gx_page::{PageServer, serve_page};
 use gx_policy::Policy;
 use std::alloc::Global;
 use std::net::TcpListener;
@@ -28,28 +28,13 @@ pub struct PagePort {
 
 /// The page that is served, what it looks at the gate and makes kills with, and where browsers come in.
 #[derive(Drop)]
-pub(crate) struct Paging<'x, D: Door, L: Lookout> {
-    server: PageServer<'x, D, L>,
-    means: Means<D, L>,
+pub(crate) struct Paging<'x, T: Drop, D: Door<Ticket = T>, L: Lookout<Pass = T>> {
+    server: PageServer<'x, T, D, L>,
+    board: Board<L>,
     listener: TcpListener,
 }
 
-/// What the page looks at the gate with, and makes kills with: two lines of the day.
-fn means_of<T: Drop, L: Lookout<Pass = T>, D: Door<Ticket = T>, I: Issuer<D>, R: Wait>(
-    rt: &R,
-    alloc: Global,
-    policy: &Policy,
-    issuer: &mut I,
-) -> Result<Means<D, L>, ServeFault>
-    requires policy { policy.now ≡ L.policy }
-{
-    let pass = issuer.issue(rt)?;
-    let watching = issuer.issue(rt)?;
-    let board = Board::new(alloc, policy, watching)?;
-    Ok(Means { pass, board })
-}
-
-/// The page of this gate, whose kills are made at this door, if it is to be served somewhere.
+/// The page of this gate, whose kills are made at this door, if it is to be served somewhere. It has a line of the day.
 pub(crate) fn open_page<
     'x,
     T: Drop,
@@ -66,14 +51,15 @@ pub(crate) fn open_page<
     lobby: &'x Lobby,
     issuer: &mut I,
     page: Option<PagePort>,
-) -> Result<Option<Paging<'x, D, L>>, ServeFault>
+) -> Result<Option<Paging<'x, T, D, L>>, ServeFault>
     requires policies { L.policy ≡ D.policy }
+    requires held { L.held ≡ D.held }
     requires policy { policy.now ≡ D.policy }
 {
     let Some(page) = page else {
         return Ok(None);
     };
-    let means = means_of(rt, alloc, policy, issuer)?;
+    let board = Board::new(alloc, policy, issuer.issue(rt)?)?;
     let PagePort {
         listener,
         secret,
@@ -82,7 +68,7 @@ pub(crate) fn open_page<
     let server = PageServer::new(door, gate, policy, secret, is_journaled, lobby);
     Ok(Some(Paging {
         server,
-        means,
+        board,
         listener,
     }))
 }
@@ -93,14 +79,14 @@ pub(crate) trait Aside {
     fn go_on<R: Wait + Clock>(self, rt: &R, alloc: Global, lobby: &Lobby, closing: &Stop);
 }
 
-impl<D: Door, L: Lookout> Aside for Paging<'_, D, L> {
+impl<T: Drop, D: Door<Ticket = T>, L: Lookout<Pass = T>> Aside for Paging<'_, T, D, L> {
     fn go_on<R: Wait + Clock>(self, rt: &R, alloc: Global, lobby: &Lobby, closing: &Stop) {
         let Paging {
             server,
-            means,
+            board,
             listener,
         } = self;
         let rt = &Dated::new(rt, alloc, lobby);
-        serve_page(rt, alloc, &server, means, &listener, closing);
+        serve_page(rt, alloc, &server, board, &listener, closing);
     }
 }

@@ -28,10 +28,10 @@ use std::thread::Threads;
 use std::time::{Clock, Duration};
 
 /// After so many milliseconds a watcher looks after those who have not logged in.
-const LOOK: u64 = 50;
+const LOOK: u64 = 100;
 
 /// After so many looks it tells what went wrong.
-const TURNS: u64 = 20;
+const TURNS: u64 = 10;
 
 /// A peer, and the place that he has.
 #[derive(Drop)]
@@ -416,6 +416,7 @@ pub fn serve_door<
 ) -> Result<(T, Ending), Unserved>
     requires known { IfSome log (λ l. l.events.known ≡ known_of D.policy []) }
     requires policies { L.policy ≡ D.policy }
+    requires held { L.held ≡ D.held }
     requires policy { policy.now ≡ D.policy }
 {
     let mut issuer = issuer;

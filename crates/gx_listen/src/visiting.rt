@@ -119,6 +119,7 @@ where
         &hall.lobby.bell,
         chime,
         &hall.lobby.stop,
+        &hall.lobby.answers,
         link,
         opening,
         Counted::new(stream),

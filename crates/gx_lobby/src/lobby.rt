@@ -1,9 +1,11 @@
 //! What the threads of a server share beside its gate.
 
+use crate::answer_times::AnswerTimes;
 use crate::attempts::Attempts;
 use crate::begun::Begun;
 use crate::bell::Bell;
 use crate::chime::Chimes;
+use crate::journal_tally::JournalTally;
 use crate::newcomers::Newcomers;
 use crate::places::Places;
 use crate::stop::Stop;
@@ -33,6 +35,10 @@ pub struct Lobby {
     pub attempts: Attempts,
     /// What went wrong at the door.
     pub tally: Tally,
+    /// How long it takes until users are told of steps.
+    pub answers: AnswerTimes,
+    /// How much was written to the journal.
+    pub journal: JournalTally,
     /// Whether the server has begun to take connections.
     pub begun: Begun,
     /// Whether the server is to end.
@@ -60,6 +66,8 @@ impl Lobby {
             newcomers: Newcomers::new(alloc, login_within),
             attempts: Attempts::new(alloc),
             tally: Tally::new(),
+            answers: AnswerTimes::new(),
+            journal: JournalTally::new(),
             begun: Begun::new(),
             stop: Stop::new(),
             log,

@@ -3,7 +3,7 @@
 ghost use Rattle.std.specs.Prelude.{◌≡◌, IfOk};
 ghost use Rattle.gx_pass.specs.Views.{mine};
 ghost use Rattle.gx_door.specs.Acts.{IsLater};
-ghost use Rattle.gx_board.specs.Views.{IsView};
+ghost use Rattle.gx_board.specs.{Summaries.IsBehind, Views.IsView};
 
 use crate::lookout::Lookout;
 use gx_board::{Summary, View};
@@ -48,6 +48,23 @@ impl<L: Lookout> Board<L> {
     {
         let summary = Summary::new(alloc, policy)?;
         Ok(Board { pass, summary })
+    }
+
+    /// The pass, to make steps with at the gate's door, and the summary that goes on with it.
+    pub fn into_parts(self) -> (L::Pass, Summary)
+        ensures held { L.held result.0 ≡ self }
+        ensures behind { IsBehind L.policy self.front result.1 }
+    {
+        let Board { pass, summary } = self;
+        (pass, summary)
+    }
+
+    /// A board again, of the pass, which has met what it had met before, and what was added since.
+    pub fn from_parts(pass: L::Pass, summary: Summary) -> Board<L>
+        requires behind { IsBehind L.policy (L.held pass).front summary }
+        ensures held { result ≡ L.held pass }
+    {
+        Board { pass, summary }
     }
 
     /// What the viewer is shown of all records that the gate has once the last of them is followed: at least of those that the

@@ -1,9 +1,9 @@
 -- The live orders, and what becomes of them.
-use Rattle.std.specs.{Prelude.{IsTrue, ℕ, ◌+◌, ◌<◌, ◌≤◌, Bool, false, ◌&&◌, not, List, [], ◌∷◌, map, if◌then◌else◌}, List.{filter, list_any, AllByRecursion}}
+use Rattle.std.specs.{Prelude.{IsTrue, ℕ, ◌+◌, ◌<◌, ◌≤◌, Bool, ◌&&◌, not, List, [], ◌∷◌, map, if◌then◌else◌}, List.{filter, list_any, AllByRecursion}}
 use Rattle.gx_units.specs.{Names.{same_user, same_token}, declared.names.{Token.Token, UserName.UserName}}
 use Rattle.gx_history.specs.{LiveOrders.{key, token_of}, declared.live_order.{LiveOrder.LiveOrder, UserToken.UserToken}}
 use Rattle.gx_policy.specs.Lists.{are_distinct}
-pub use Rattle.gx_slab.specs.Slabs.{is_open, has_number, live_numbered, first_waiting, open_ones, of_account, of_others}
+pub use Rattle.gx_slab.specs.Slabs.{at_rest, is_open, has_number, live_numbered, first_waiting, open_ones, of_account, of_others}
 
 -- the live orders by number, and the used tokens in the order of their first use
 pub record OrdersData : Type 0 where
@@ -29,10 +29,6 @@ changed change number live = map (λ (o : LiveOrder). if has_number number o the
 -- all but the order of this number, in their places
 abbrev pub without : ℕ → List LiveOrder → List LiveOrder
 without number live = filter (λ (o : LiveOrder). not (has_number number o)) live
-
--- the order stands in the book
-abbrev pub at_rest : LiveOrder → LiveOrder
-at_rest o = record o { waits = false }
 
 -- the order with more shares executed
 abbrev pub filled : ℕ → LiveOrder → LiveOrder

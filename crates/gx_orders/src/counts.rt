@@ -51,11 +51,11 @@ pub(crate) fn count_one_more(
     Ok(())
 }
 
-/// Counts one order less of the user, where any is counted. It takes no memory.
-pub(crate) fn count_one_less(counts: &mut IndexMap<UserName, usize>, user: UserName)
+/// Counts one order less of the user, where any is counted; he is looked for at this place first. It takes no memory.
+pub(crate) fn count_one_less(counts: &mut IndexMap<UserName, usize>, near: usize, user: UserName)
     ensures { CountsOneLess user counts.old.entries counts.new.entries }
 {
-    let Some(count) = counts.get_mut(&user) else {
+    let Some(count) = get_mut_near(counts, near, user) else {
         return;
     };
     *count = count.saturating_sub(1);

@@ -10,10 +10,12 @@ use gx_slab::table::Table;
 use gx_units::{AccountName, UserName};
 use indexmap::IndexMap;
 
-/// Ends the order of this number, where it is one of the account, and counts it no more.
+/// Ends the order of this number, where it is one of the account, and counts it no more. Its user is looked for at this
+/// place first, as those are below.
 fn end_one(
     table: &mut Table,
     counts: &mut IndexMap<UserName, usize>,
+    near: usize,
     account: AccountName,
     number: u64,
 )
@@ -29,13 +31,14 @@ fn end_one(
         ..*order
     };
     table.write(ended);
-    count_one_less(counts, ended.user);
+    count_one_less(counts, near, ended.user);
 }
 
 /// Ends the orders of the account, whose numbers these are, and counts them no more. It looks at no other.
 pub(crate) fn end_each(
     table: &mut Table,
     counts: &mut IndexMap<UserName, usize>,
+    near: usize,
     account: AccountName,
     numbers: &[u64],
 )
@@ -45,6 +48,6 @@ pub(crate) fn end_each(
     ensures ended { table.new ≡ of_others account table.old }
 {
     for i in 0..numbers.len() {
-        end_one(table, counts, account, numbers[i]);
+        end_one(table, counts, near, account, numbers[i]);
     }
 }

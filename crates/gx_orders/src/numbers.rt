@@ -13,6 +13,9 @@ use indexmap::IndexMap;
 use std::alloc::Global;
 use std::marker::Model;
 
+/// A list that grows has room for more than so many further numbers then.
+const FEWEST: usize = 31;
+
 /// Takes out the numbers of orders that have ended.
 fn sweep(items: &mut Vec<u64>, account: AccountName, table: &Table)
     ensures { items.new.items ≡ filter (is_live_of account table.now) items.old.items }
@@ -39,7 +42,7 @@ fn make_room(
         return Ok(());
     }
     sweep(items, order.account, table);
-    items.reserve(items.len() + 1)?;
+    items.reserve(items.len().max(FEWEST) + 1)?;
     Ok(())
 }
 

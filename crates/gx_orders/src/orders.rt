@@ -20,6 +20,9 @@ use indexmap::IndexMap;
 use std::alloc::Global;
 use std::marker::Model;
 
+/// So many tokens have room from the first on: a table that grows puts all that it holds anew.
+const FIRST_TOKENS: usize = 16_384;
+
 /// The live orders by number, and the tokens that are used. Contracts see the list of the orders and the list of the
 /// tokens. Only `enter` and `deny` take memory.
 #[derive(Drop)]
@@ -49,16 +52,19 @@ impl Orders {
     ///
     /// # Errors
     ///
-    /// `OutOfMemory` where there is no memory for the names of the users and the accounts.
+    /// `OutOfMemory` where there is no memory for the names of the users and the accounts, and for the first orders and
+    /// their tokens.
     pub fn new(alloc: Global, policy: &Policy) -> Result<Orders, OutOfMemory>
         ensures live { IfOk result (λ orders. orders.live ≡ []) }
         ensures used { IfOk result (λ orders. orders.used ≡ []) }
     {
         let counts = no_counts(alloc, policy.users())?;
         let lists = no_lists(alloc, policy.accounts())?;
+        let tokens = IndexMap::with_capacity_and_hasher(alloc, FIRST_TOKENS, Seed::of(policy))?;
+        let table = Table::new(alloc)?;
         Ok(Orders {
-            table: Table::new(alloc),
-            tokens: IndexMap::with_hasher(alloc, Seed::of(policy)),
+            table,
+            tokens,
             counts,
             lists,
         })
@@ -182,17 +188,12 @@ impl Orders {
         ensures live { self.new.live ≡ changed at_rest number self.old.live }
         ensures used { self.new.used ≡ self.old.used }
     {
-        if let Some(order) = self.table.get(number) {
-            let rested = LiveOrder {
-                waits: false,
-                ..*order
-            };
-            self.table.write(rested);
-        }
+        self.table.rest(number);
     }
 
-    /// Writes the order with this size, and so many shares executed.
-    fn resize(&mut self, order: LiveOrder, total: u32, done: u32)
+    /// Writes the order with this size, and so many shares executed. Here and below, the order's user is looked for at
+    /// this place of the policy's users first.
+    fn resize(&mut self, order: LiveOrder, near: usize, total: u32, done: u32)
         requires there { live_numbered self.old.live order.number ≡ Some order }
         requires sound { AreSound self.old }
         ensures live { self.new.live ≡ resized_at order.number total done self.old.live }
@@ -206,42 +207,43 @@ impl Orders {
         if done < total {
             return;
         }
-        count_one_less(&mut self.counts, order.user);
+        count_one_less(&mut self.counts, near, order.user);
     }
 
     /// So many shares of the order of this number are executed; it is gone where none is open then. It takes no memory.
-    pub fn fill(&mut self, number: u64, shares: u32)
+    pub fn fill(&mut self, number: u64, near: usize, shares: u32)
         requires { IfSome (live_numbered self.old.live number) (HasOpen shares) }
         ensures live { self.new.live ≡ filled_at number shares self.old.live }
         ensures used { self.new.used ≡ self.old.used }
     {
         if let Some(order) = self.numbered(number) {
-            self.resize(order, order.total, order.done + shares);
+            self.resize(order, near, order.total, order.done + shares);
         }
     }
 
     /// Sets the size of the order of this number, in shares; it is gone where none is open then. It takes no memory.
-    pub fn cut(&mut self, number: u64, total: u32)
+    pub fn cut(&mut self, number: u64, near: usize, total: u32)
         ensures live { self.new.live ≡ cut_at number total self.old.live }
         ensures used { self.new.used ≡ self.old.used }
     {
         if let Some(order) = self.numbered(number) {
-            self.resize(order, total, order.done);
+            self.resize(order, near, total, order.done);
         }
     }
 
     /// The order of this number has ended. Nothing changes where none has the number. It takes no memory.
-    pub fn end(&mut self, number: u64)
+    pub fn end(&mut self, number: u64, near: usize)
         ensures live { self.new.live ≡ without number self.old.live }
         ensures used { self.new.used ≡ self.old.used }
     {
         if let Some(order) = self.numbered(number) {
-            self.resize(order, order.done, order.done);
+            self.resize(order, near, order.done, order.done);
         }
     }
 
-    /// All orders of the account have ended. It looks at no other, and takes no memory.
-    pub fn end_account(&mut self, account: AccountName)
+    /// All orders of the account have ended. It looks at no other, and takes no memory. Each order's user is looked for at
+    /// this place first.
+    pub fn end_account(&mut self, account: AccountName, near: usize)
         ensures live { self.new.live ≡ of_others account self.old.live }
         ensures used { self.new.used ≡ self.old.used }
     {
@@ -249,6 +251,7 @@ impl Orders {
             end_each(
                 &mut self.table,
                 &mut self.counts,
+                near,
                 account,
                 numbers.as_slice(),
             );

@@ -1,7 +1,7 @@
 //! What the used tokens are hashed by.
 
 ghost use Rattle.std.specs.Prelude.{◌≡◌, ◌+◌, ◌≤◌, length};
-ghost use Rattle.gx_orders.specs.Seeds.{folded, first_word, last_word, short_word, word_at};
+ghost use Rattle.gx_orders.specs.Seeds.{few_bytes, folded, first_word, half_at, last_word, short_word, word_at};
 
 use gx_policy::Policy;
 use std::hash::{BuildHasher, DefaultHasher, Hasher};
@@ -68,13 +68,32 @@ fn word_at(bytes: &[u8], at: usize) -> u64
     ])
 }
 
-/// Fewer than eight bytes.
-fn short_word(bytes: &[u8]) -> u64
-    ensures { result ≡ short_word bytes.now }
+/// The four bytes from this place on.
+fn half_at(bytes: &[u8], at: usize) -> u32
+    requires { at + 4 ≤ length bytes.now }
+    ensures { result ≡ half_at bytes.now at }
+{
+    u32::from_le_bytes([bytes[at], bytes[at + 1], bytes[at + 2], bytes[at + 3]])
+}
+
+/// Fewer than four bytes.
+fn few_bytes(bytes: &[u8]) -> u64
+    ensures { result ≡ few_bytes bytes.now }
 {
     bytes
         .iter()
         .fold(0, |word, byte| word << 8 | u64::from(*byte))
+}
+
+/// Fewer than eight bytes: of four and more the first four and the last four, which may overlap.
+fn short_word(bytes: &[u8]) -> u64
+    ensures { result ≡ short_word bytes.now }
+{
+    if bytes.len() < 4 {
+        few_bytes(bytes)
+    } else {
+        u64::from(half_at(bytes, 0)) << 32 | u64::from(half_at(bytes, bytes.len() - 4))
+    }
 }
 
 /// The first eight bytes, or all of fewer.

@@ -1,11 +1,11 @@
 -- What a pass over the live orders counts.
-use Rattle.std.proofs.{Common.{◌≡◌, ℕ, ◌+◌, arith, Bool, true, false, not, cond, ◌&&◌, List, [], ◌∷◌, ◌++◌, map, length, take, drop, refl, ap, sym, ◌∙◌, append_assoc, sum_by}, lemmas.List.{append-nil, length-append, length-map, Elements.filter-append, Sums.sum_by-append}}
-use Rattle.std.specs.{Prelude.{Option, Some, None, fold, unwrap_or}, Map.lookup, List.filter}
+use Rattle.std.proofs.{Common.{◌≡◌, ℕ, ◌+◌, arith, Bool, true, false, not, cond, ◌&&◌, List, [], ◌∷◌, ◌++◌, map, length, refl, ap, sym, ◌∙◌, append_assoc, sum_by}, lemmas.List.{append-nil, length-append, Elements.filter-append, Sums.sum_by-append}}
+use Rattle.std.specs.{Prelude.{Option, Some, fold, unwrap_or}, Map.lookup, List.filter}
 use Rattle.gx_units.specs.{Names.same_account, declared.names.AccountName.AccountName}
 use Rattle.gx_ouch.specs.declared.outbound.OrderTerms.{OrderTerms}
 use Rattle.gx_policy.specs.declared.policy.{Account.Account, PolicyData.PolicyData}
 use Rattle.gx_history.specs.{declared.{live_order.LiveOrder.LiveOrder, «record».RecordData.RecordData}, Book.is_buy, Figures.open_of_chosen, Live.live, LiveOrders.shares_open}
-use Rattle.gx_overview.specs.{declared.{accounts.{AccountRow.AccountRow, LiveSums.LiveSums}, commands.GrantedCommand.GrantedCommand}, Accounts.{account_row, capped, capped_count, entries_with, is_of, live_sums, no_orders, row_of, sums_in, with_order}, Commands.granted_commands}
+use Rattle.gx_overview.specs.{declared.accounts.{LiveSums.LiveSums}, Accounts.{account_row, capped, capped_count, entries_with, is_of, live_sums, no_orders, row_of, sums_in, with_order}}
 use Rattle.gx_history_laws.proofs.Names.{account_is}
 use Rattle.gx_overview.proofs.{Keeping.inserted, Passing.map_same}
 
@@ -107,11 +107,9 @@ unfolding open_of_chosen
 none_live account = refl
 
 -- all rows
-pub rows_stand : (policy : PolicyData) (records : List RecordData) (commands : List GrantedCommand) → commands ≡ granted_commands records
-    → map (row_of policy records commands (fold entries_with [] (live policy records))) policy.accounts ≡ map (account_row policy records) policy.accounts
-rows_stand policy records commands are = map_same (row_of policy records commands (fold entries_with [] (live policy records))) (account_row policy records) each policy.accounts
+pub rows_stand : (policy : PolicyData) (records : List RecordData)
+    → map (row_of policy records (fold entries_with [] (live policy records))) policy.accounts ≡ map (account_row policy records) policy.accounts
+rows_stand policy records = map_same (row_of policy records (fold entries_with [] (live policy records))) (account_row policy records) each policy.accounts
   where
-    each : (a : Account) → row_of policy records commands (fold entries_with [] (live policy records)) a ≡ account_row policy records a
-    each a =
-        (λ i. record (row_of policy records commands (fold entries_with [] (live policy records)) a) { live = counted_from a.name [] [] (live policy records) (none_live a.name) i })
-        ∙ (λ i. record (row_of policy records (are i) [] a) { live = live_sums (live policy records) a.name })
+    each : (a : Account) → row_of policy records (fold entries_with [] (live policy records)) a ≡ account_row policy records a
+    each a = λ i. record (row_of policy records (fold entries_with [] (live policy records)) a) { live = counted_from a.name [] [] (live policy records) (none_live a.name) i }

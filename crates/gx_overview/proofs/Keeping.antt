@@ -1,6 +1,6 @@
 -- What is found of an account, once something is put under an account.
 use Rattle.std.proofs.Common.{◌≡◌, Bool, true, false, cond, List, [], ◌∷◌, refl, ap, sym, ◌∙◌, true≢false}
-use Rattle.std.specs.{Prelude.{Option, Some, None}, Map.lookup}
+use Rattle.std.specs.{Prelude.{Some}, Map.lookup}
 use Rattle.indexmap.specs.IndexMap.{insert_entry}
 use Rattle.gx_units.specs.{Names.same_account, declared.names.AccountName.AccountName}
 use Rattle.gx_history_laws.proofs.Names.{account_is}

@@ -5,7 +5,7 @@ use Rattle.gx_units.specs.{Names.same_account, declared.names.AccountName.Accoun
 use Rattle.gx_ouch.specs.declared.outbound.OrderTerms.{OrderTerms}
 use Rattle.gx_policy.specs.declared.policy.{Account.Account, PolicyData.PolicyData}
 use Rattle.gx_history.specs.{declared.{live_order.LiveOrder.LiveOrder, «record».RecordData.RecordData}, Book.{is_buy, is_on}, Figures.open_of_chosen, InForce.is_killed, Live.live, LiveOrders.shares_open}
-use Rattle.gx_overview.specs.{declared.{accounts.{AccountRow.AccountRow, LiveSums.LiveSums}, commands.{GrantedCommand.GrantedCommand, Subject.Subject}}, Commands.{last_about, last_of}}
+use Rattle.gx_overview.specs.{declared.{accounts.{AccountRow.AccountRow, KillState.KillState, LiveSums.LiveSums}, commands.{GrantedCommand.GrantedCommand, Subject.Subject}}, Commands.{last_about, last_of}}
 
 -- the number, or the greatest of 64 or of 128 bits where it is past that, which no day comes near
 abbrev pub capped_count : ℕ → ℕ
@@ -36,15 +36,16 @@ lift_since None lift = None
 lift_since (Some kill) None = None
 lift_since (Some kill) (Some lift) = if nat_lt kill.number lift.number then Some lift else None
 
+-- whether the account is killed, by which Kill, and which Lift came since
+abbrev pub kill_state : PolicyData → List RecordData → AccountName → KillState
+kill_state policy records account =
+    let killed = is_killed policy records account in
+    let kill = if killed then last_about records (Subject.KillOf account) else None in
+    record { is_killed = killed; kill = kill; lift = lift_since kill (last_about records (Subject.LiftOf account)) }
+
 -- what stands of the account
 abbrev pub account_row : PolicyData → List RecordData → Account → AccountRow
-account_row policy records a = record {
-  account = a.name;
-  is_killed = is_killed policy records a.name;
-  kill = if is_killed policy records a.name then last_about records (Subject.KillOf a.name) else None;
-  lift = lift_since (if is_killed policy records a.name then last_about records (Subject.KillOf a.name) else None) (last_about records (Subject.LiftOf a.name));
-  live = live_sums (live policy records) a.name;
-}
+account_row policy records a = record { account = a.name; killed = kill_state policy records a.name; live = live_sums (live policy records) a.name }
 
 -- before any live order
 abbrev pub no_orders : LiveSums
@@ -66,12 +67,6 @@ sums_in entries account = unwrap_or (lookup (same_account account) entries) no_o
 abbrev pub entries_with : List (AccountName × LiveSums) → LiveOrder → List (AccountName × LiveSums)
 entries_with entries o = insert_entry same_account entries o.account (with_order o (sums_in entries o.account))
 
--- what stands of the account, by the commands and the sums of its live orders
-abbrev pub row_of : PolicyData → List RecordData → List GrantedCommand → List (AccountName × LiveSums) → Account → AccountRow
-row_of policy records commands entries a = record {
-  account = a.name;
-  is_killed = is_killed policy records a.name;
-  kill = kill_of (is_killed policy records a.name) commands a.name;
-  lift = lift_since (kill_of (is_killed policy records a.name) commands a.name) (last_of commands (Subject.LiftOf a.name));
-  live = sums_in entries a.name;
-}
+-- what stands of the account, by the sums of its live orders
+abbrev pub row_of : PolicyData → List RecordData → List (AccountName × LiveSums) → Account → AccountRow
+row_of policy records entries a = record { account = a.name; killed = kill_state policy records a.name; live = sums_in entries a.name }

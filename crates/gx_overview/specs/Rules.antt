@@ -1,15 +1,16 @@
 -- What stands of the policy's rules, and of the day.
-use Rattle.gx_policy.specs.{Kinds.limit_of, declared.policy.{Account.Account, FileRule.FileRule, PolicyData.PolicyData, Stock.Stock, User.User}}
+use Rattle.gx_policy.specs.{Kinds.{kind_name, limit_of}, declared.policy.{Account.Account, FileRule.FileRule, PolicyData.PolicyData, Stock.Stock, User.User}}
 use Rattle.std.specs.Prelude.{ℕ, ℤ, pos, negsuc, ◌+◌, ◌-◌, true, false, List, Option, None, option_map, option_and_then, length, if◌then◌else◌}
 use Rattle.gx_units.specs.declared.names.{AccountName.AccountName, RuleId.RuleId}
 use Rattle.gx_history.specs.{declared.record.RecordData.RecordData, Asking.{has_stock, rule_in_force}, InForce.{is_closed, line_of}, Verdicts.{day_limit, last_moment}}
 use Rattle.gx_records.specs.State.{gross_used, limit_in_force, net_used}
 use Rattle.gx_overview.specs.{declared.{day.{DayRow.DayRow, UserRow.UserRow}, rules.{GrossRow.GrossRow, LimitRow.LimitRow, ListingRow.ListingRow, NetRow.NetRow}, commands.Subject.Subject}, Commands.last_about}
 
--- the rule's limit: that in force, that of the file, and the Set Limit that changed it last
+-- the rule's limit: of what it is one, that in force, that of the file, and the Set Limit that changed it last
 abbrev pub limit_row : PolicyData → List RecordData → FileRule → LimitRow
 limit_row policy records rule = record {
   rule = rule.name;
+  kind = kind_name rule.kind;
   limit = limit_in_force policy records rule.name;
   file = limit_of rule.kind;
   set = last_about records (Subject.LimitOf rule.name);

@@ -1,7 +1,7 @@
 //! What stands of each account: whether it is killed, and by which command; its live orders.
 
 ghost use Rattle.std.specs.Prelude.{◌≡◌, fold, map, IfOk, OnOk};
-ghost use Rattle.gx_overview.specs.{Accounts.{account_row, entries_with, kill_of, lift_since, row_of, sums_in, with_order}, Commands.granted_commands};
+ghost use Rattle.gx_overview.specs.{Accounts.{account_row, entries_with, kill_of, kill_state, lift_since, row_of, sums_in, with_order}, Commands.granted_commands};
 
 use crate::commands::{GrantedCommand, Subject, last_about};
 use gx_history::live_order::LiveOrder;
@@ -25,11 +25,9 @@ pub struct LiveSums {
     pub sells: u128,
 }
 
-/// What stands of an account.
+/// Whether an account is killed, and by which commands.
 #[derive(Clone, Copy, PartialEq, Eq)]
-pub struct AccountRow {
-    /// The name of the account.
-    pub account: AccountName,
+pub struct KillState {
     /// An officer has killed it, and not enough officers have lifted it since.
     pub is_killed: bool,
     /// Where it is killed, the last Kill of it that was granted.
@@ -37,6 +35,15 @@ pub struct AccountRow {
     /// Where an officer has lifted it since that Kill, the last Lift of it that was granted: another officer's is asked for
     /// too.
     pub lift: Option<GrantedCommand>,
+}
+
+/// What stands of an account.
+#[derive(Clone, Copy, PartialEq, Eq)]
+pub struct AccountRow {
+    /// The name of the account.
+    pub account: AccountName,
+    /// Whether it is killed.
+    pub killed: KillState,
     /// What it has open.
     pub live: LiveSums,
 }
@@ -133,6 +140,26 @@ fn lift_since(kill: Option<GrantedCommand>, lift: Option<GrantedCommand>) -> Opt
     }
 }
 
+/// Whether the account is killed, and by which of the commands, which are all that were granted in the day
+/// ([`crate::commands::granted_commands`] of its records).
+pub fn kill_state<G: ShowsState>(
+    gate: &G,
+    commands: &[GrantedCommand],
+    account: AccountName,
+) -> KillState
+    requires commands { commands.now ≡ granted_commands (G.seen gate.now).records }
+    ensures state { result
+        ≡ kill_state (G.seen gate.now).policy (G.seen gate.now).records account }
+{
+    let is_killed = gate.is_killed(account);
+    let kill = kill_of(is_killed, commands, account);
+    KillState {
+        is_killed,
+        kill,
+        lift: lift_since(kill, last_about(commands, Subject::LiftOf(account))),
+    }
+}
+
 /// The row of the account, by the commands and the sums of its live orders.
 fn row_of<G: ShowsState>(
     gate: &G,
@@ -140,17 +167,14 @@ fn row_of<G: ShowsState>(
     table: &IndexMap<AccountName, LiveSums>,
     account: &Account,
 ) -> AccountRow
+    requires { commands.now ≡ granted_commands (G.seen gate.now).records }
     ensures { result ≡ row_of (G.seen gate.now).policy (G.seen gate.now).records
-        commands.now table.now.entries account.now }
+        table.now.entries account.now }
 {
     let name = account.name;
-    let is_killed = gate.is_killed(name);
-    let kill = kill_of(is_killed, commands, name);
     AccountRow {
         account: name,
-        is_killed,
-        kill,
-        lift: lift_since(kill, last_about(commands, Subject::LiftOf(name))),
+        killed: kill_state(gate, commands, name),
         live: sums_in(table, name),
     }
 }
@@ -162,8 +186,9 @@ fn rows_of<G: ShowsState>(
     table: &IndexMap<AccountName, LiveSums>,
     accounts: &[Account],
 ) -> Result<Vec<AccountRow>, OutOfMemory>
+    requires { commands.now ≡ granted_commands (G.seen gate.now).records }
     ensures { IfOk result (λ rows. rows.items ≡ map
-        (row_of (G.seen gate.now).policy (G.seen gate.now).records commands.now table.now.entries)
+        (row_of (G.seen gate.now).policy (G.seen gate.now).records table.now.entries)
         accounts.now) }
 {
     let mut rows = Vec::new(alloc);

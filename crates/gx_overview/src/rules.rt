@@ -6,7 +6,7 @@ ghost use Rattle.gx_overview.specs.{Commands.granted_commands, Rules.{gross_row,
 
 use crate::commands::{GrantedCommand, Subject, last_about};
 use gx_history::facts::StockSide;
-use gx_policy::{Account, FileRule, Stock};
+use gx_policy::{Account, FileRule, KindName, Stock};
 use gx_records::ShowsState;
 use gx_units::{AccountName, OutOfMemory, RuleId, Symbol};
 use std::alloc::Global;
@@ -17,6 +17,8 @@ use std::alloc::Global;
 pub struct LimitRow {
     /// The name of the rule.
     pub rule: RuleId,
+    /// What it limits.
+    pub kind: KindName,
     /// The limit in force; None where the rule has none that Set Limit may change.
     pub limit: Option<u64>,
     /// That of the policy file.
@@ -70,6 +72,7 @@ fn limit_row<G: ShowsState>(gate: &G, commands: &[GrantedCommand], rule: &FileRu
 {
     LimitRow {
         rule: rule.name,
+        kind: rule.kind.name(),
         limit: gate.limit(rule.name),
         file: rule.kind.limit(),
         set: last_about(commands, Subject::LimitOf(rule.name)),

@@ -29,7 +29,7 @@ abbrev pub notice_of_deed : Deed → Notice
 notice_of_deed (Deed.Refused fault) = Notice.Refused
 notice_of_deed (Deed.Rejected LoginRejection.NotAuthorized) = Notice.Elsewhere
 notice_of_deed (Deed.Rejected LoginRejection.SessionNotAvailable) = Notice.Elsewhere
-notice_of_deed (Deed.Asked (Ok outcome) logout) = notice_of_verdict outcome.verdict
+notice_of_deed (Deed.Asked (Ok decided) logout) = notice_of_verdict decided.outcome.verdict
 notice_of_deed (Deed.Asked (Err fault) logout) = Notice.Refused
 
 abbrev pub notice_of_kill : Result Deed Refusal → Notice

@@ -3,12 +3,13 @@ use Rattle.std.specs.Prelude.{◌≡◌, ℕ, Bool, true, false, nat_eq, List, O
 use Rattle.gx_units.specs.{Spelling.folded_user, declared.names.UserName.UserName}
 use Rattle.gx_policy.specs.declared.policy.PolicyData.{PolicyData}
 use Rattle.gx_history.specs.{declared.record.RecordData.RecordData, Verdicts.IsLegal}
-use Rattle.gx_desk.specs.declared.Tag.{Tag}
-use Rattle.gx_pass.specs.declared.view.Holds.{Holds}
+use Rattle.gx_desk.specs.declared.{Action.Action, Tag.Tag}
+use Rattle.gx_pass.specs.{declared.view.Holds.Holds, Views.mine}
 use Rattle.gx_overview.specs.{Rules.day_row, declared.day.DayRow.DayRow}
 use Rattle.gx_board.specs.{declared.view.View.View, Views.IsView}
 use Rattle.gx_http.specs.declared.{credentials.Credentials.Credentials, forms.KillForm.KillForm, request.{Asked.Asked, Request.Request}}
 use Rattle.gx_button.specs.{declared.steps.{Deed.Deed, Refusal.Refusal}, Steps.{is_staff, kill_command, IsPermitted, IsRefusal, Makes}}
+use Rattle.gx_serve.specs.{declared.announcing.EndedOrders.EndedOrders, Announcements.announced_by}
 use Rattle.gx_page.specs.declared.reply.{Health.Health, Reply.Reply}
 
 -- the officer or the reader who asks, if it is one with his password
@@ -37,6 +38,20 @@ abbrev pub IsKill : PolicyData → List ℕ → Holds → Holds → Option Crede
 IsKill policy secret was is caller form (Ok deed) = IsDone policy secret was is caller form deed
 IsKill policy secret was is caller form (Err why) = IsRefusal policy secret caller form why × (is ≡ was)
 
+-- what is announced of a kill: what it ended, where it was granted
+abbrev pub ended_of : Option Credentials → KillForm → Result Deed Refusal → Option EndedOrders
+ended_of None form done = None
+ended_of (Some who) form (Err why) = None
+ended_of (Some who) form (Ok (Deed.Refused fault)) = None
+ended_of (Some who) form (Ok (Deed.Rejected reason)) = None
+ended_of (Some who) form (Ok (Deed.Asked (Err fault) logout)) = None
+ended_of (Some who) form (Ok (Deed.Asked (Ok d) logout)) = announced_by (folded_user who.user) d.outcome d.ended (Action.Kill form.account)
+
+-- what was done for a kill, and what was announced of it
+pub record IsKillTold (policy : PolicyData) (secret : List ℕ) (was is : Holds) (caller : Option Credentials) (form : KillForm) (done : Result Deed Refusal) (announced : Option EndedOrders) : Type 0 where
+  pub kill : IsKill policy secret was is caller form done
+  pub tells : announced ≡ ended_of caller form done
+
 -- this is asked for, and its user is known
 abbrev pub IsAskedFor : PolicyData → Request → Asked → Type 0
 IsAskedFor policy q asked = (q.asked ≡ asked) × IsTrue (is_some (viewer_of policy q.caller))
@@ -63,18 +78,22 @@ pub record IsStranger (policy : PolicyData) (q : Request) : Type 0 where
   pub unknown : viewer_of policy q.caller ≡ None
 
 -- it asks for a kill
-pub record IsKillOf (policy : PolicyData) (secret : List ℕ) (was is : Holds) (q : Request) (done : Result Deed Refusal) : Type 0 where
+pub record IsKillOf (policy : PolicyData) (secret : List ℕ) (was is : Holds) (q : Request) (done : Result Deed Refusal) (announced : Option EndedOrders) : Type 0 where
   pub form : KillForm
   pub asked : q.asked ≡ Asked.Kill form
-  pub kill : IsKill policy secret was is q.caller form done
+  pub kill : IsKillTold policy secret was is q.caller form done announced
 
--- what becomes of a request at the gate's door, which has these records then; of the page's pass, which was and is so
-abbrev pub IsReply : PolicyData → List ℕ → Holds → Holds → List RecordData → Request → Reply → Type 0
-IsReply policy secret was is records q Reply.Page = IsAskedFor policy q Asked.Page × (is ≡ was)
-IsReply policy secret was is records q Reply.Script = IsAskedFor policy q Asked.Script × (is ≡ was)
-IsReply policy secret was is records q Reply.Style = IsAskedFor policy q Asked.Style × (is ≡ was)
-IsReply policy secret was is records q (Reply.State user v) = IsShownTo policy records q Asked.State user v × (is ≡ was)
-IsReply policy secret was is records q (Reply.Metrics user v) = IsShownTo policy records q Asked.Metrics user v × (is ≡ was)
-IsReply policy secret was is records q (Reply.Health health) = (q.asked ≡ Asked.Health) × (IsLegal policy records × (health ≡ health_of (day_row records))) × (is ≡ was)
-IsReply policy secret was is records q Reply.Stranger = IsStranger policy q × (is ≡ was)
-IsReply policy secret was is records q (Reply.Kill done) = IsKillOf policy secret was is q done
+-- none of what the pass has met since is its own: no step was made for the request
+abbrev pub MakesNone : Holds → Holds → Type 0
+MakesNone was is = mine is ≡ mine was
+
+-- what becomes of a request at the gate's door, of a pass that was and is so: what is shown is of all that it has met
+abbrev pub IsReply : PolicyData → List ℕ → Holds → Holds → Request → Reply → Type 0
+IsReply policy secret was is q Reply.Page = IsAskedFor policy q Asked.Page × (is ≡ was)
+IsReply policy secret was is q Reply.Script = IsAskedFor policy q Asked.Script × (is ≡ was)
+IsReply policy secret was is q Reply.Style = IsAskedFor policy q Asked.Style × (is ≡ was)
+IsReply policy secret was is q (Reply.State user v) = IsShownTo policy is.front q Asked.State user v × MakesNone was is
+IsReply policy secret was is q (Reply.Metrics user v) = IsShownTo policy is.front q Asked.Metrics user v × MakesNone was is
+IsReply policy secret was is q (Reply.Health health) = (q.asked ≡ Asked.Health) × (IsLegal policy is.front × (health ≡ health_of (day_row is.front))) × MakesNone was is
+IsReply policy secret was is q Reply.Stranger = IsStranger policy q × (is ≡ was)
+IsReply policy secret was is q (Reply.Kill done announced) = IsKillOf policy secret was is q done announced

@@ -5,13 +5,15 @@ ghost use mathlib.Core.List.{IsPrefix};
 ghost use Rattle.gx_page.specs.Answers.{is_stranger, IsAnswer, IsTold};
 
 use crate::notice::Notice;
-use crate::reply::{Means, Reply, reply_to};
-use crate::response::{About, notice_response, response};
+use crate::reply::{Reply, reply_to};
+use crate::response::{notice_response, response};
 use gx_button::{Refusal, Secret};
 use gx_door::{Dial, Door};
 use gx_http::Request;
-use gx_lookout::Lookout;
+use gx_lookout::{Board, Lookout};
 use gx_policy::Policy;
+use gx_serve::Announces;
+use gx_status::ServerFigures;
 use gx_units::OutOfMemory;
 use std::alloc::Global;
 use std::sync::Wait;
@@ -31,7 +33,7 @@ fn is_stranger(reply: &Reply) -> bool
 {
     matches!(
         reply,
-        Reply::Stranger | Reply::Kill(Err(Refusal::Unauthorized))
+        Reply::Stranger | Reply::Kill(Err(Refusal::Unauthorized), _)
     )
 }
 
@@ -41,7 +43,7 @@ fn told(
     is_kept: bool,
     policy: &Policy,
     secret: &Secret,
-    about: About,
+    about: ServerFigures,
     reply: &Reply,
 ) -> Result<Vec<u8>, OutOfMemory>
     ensures { IfOk result (λ text. IsTold is_kept
@@ -55,39 +57,45 @@ fn told(
 }
 
 /// Answers a request, once what was done so far is kept: what the answer tells of the gate is kept then, too. A kill makes steps
-/// on the line of the page's pass; nothing else makes any.
+/// on the line of the board's pass; nothing else makes any.
 ///
 /// # Errors
 ///
 /// `OutOfMemory` where memory was refused for the answer.
-pub(crate) fn answer_to<D: Door, L: Lookout, R: Wait + Dial>(
+pub(crate) fn answer_to<
+    T: Drop,
+    D: Door<Ticket = T>,
+    L: Lookout<Pass = T>,
+    R: Wait + Dial + Announces,
+>(
     rt: &R,
     alloc: Global,
     door: &D,
     gate: &L,
     policy: &Policy,
     secret: &Secret,
-    about: About,
-    means: Means<D, L>,
+    about: ServerFigures,
+    board: Board<L>,
     request: &Request,
-) -> (Means<D, L>, Result<Answer, OutOfMemory>)
+) -> (Board<L>, Result<Answer, OutOfMemory>)
     requires policies { L.policy ≡ D.policy }
+    requires held { L.held ≡ D.held }
     requires policy { policy.now ≡ D.policy }
-    ensures later { IsPrefix means.board.front result.0.board.front }
-    ensures answer { IfOk result.1 (IsAnswer D.policy secret.now.bytes about (D.held means.pass)
-        (D.held result.0.pass) result.0.board.front request.now) }
+    ensures later { IsPrefix board.front result.0.front }
+    ensures answer { IfOk result.1
+        (IsAnswer D.policy secret.now.bytes about board result.0 request.now) }
 {
-    let (means, reply) = reply_to(rt, alloc, door, gate, policy, secret, means, request);
+    let (board, reply) = reply_to(rt, alloc, door, gate, policy, secret, board, request);
     let reply = match reply {
         Ok(reply) => reply,
-        Err(refused) => return (means, Err(refused)),
+        Err(refused) => return (board, Err(refused)),
     };
     let is_kept = door.keep(rt);
     match told(alloc, is_kept, policy, secret, about, &reply) {
         Ok(text) => {
             let is_stranger = is_stranger(&reply);
-            (means, Ok(Answer { text, is_stranger }))
+            (board, Ok(Answer { text, is_stranger }))
         }
-        Err(refused) => (means, Err(refused)),
+        Err(refused) => (board, Err(refused)),
     }
 }

@@ -20,6 +20,5 @@ mod viewer;
 mod visit;
 
 pub use notice::Notice;
-pub use reply::{Health, Means, Reply};
-pub use response::About;
+pub use reply::{Health, Reply};
 pub use serving::{PageServer, serve_page};

@@ -77,7 +77,7 @@ impl Notice {
             Deed::Refused(_) => Notice::Refused,
             Deed::Rejected(LoginRejection::NotAuthorized)
             | Deed::Rejected(LoginRejection::SessionNotAvailable) => Notice::Elsewhere,
-            Deed::Asked(Ok(outcome), _) => Notice::of_verdict(&outcome.verdict),
+            Deed::Asked(Ok(decided), _) => Notice::of_verdict(&decided.outcome.verdict),
             Deed::Asked(Err(_), _) => Notice::Refused,
         }
     }

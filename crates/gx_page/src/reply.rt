@@ -3,16 +3,19 @@
 ghost use Rattle.std.specs.Prelude.{◌≡◌, Err, IfOk, MatchResult, Ok, OnErr};
 ghost use Rattle.gx_page.specs.declared.reply.Reply.TheVariants as replies;
 ghost use mathlib.Core.List.{IsPrefix};
-ghost use Rattle.gx_page.specs.Replies.{health_of, IsKill, IsReply, IsSeen};
+ghost use Rattle.gx_pass.specs.Views.{mine};
+ghost use Rattle.gx_page.specs.Replies.{ended_of, health_of, IsKillTold, IsReply, IsSeen};
 
 use crate::viewer::viewer;
 use gx_board::View;
 use gx_button::{Deed, Refusal, Secret, kill};
+use gx_desk::Action;
 use gx_door::{Dial, Door};
 use gx_http::{Asked, Credentials, KillForm, Request};
 use gx_lookout::{Board, Lookout};
 use gx_overview::day::DayRow;
 use gx_policy::Policy;
+use gx_serve::{Announced, Announces, EndedOrders, announce, announced_by};
 use gx_units::{OutOfMemory, UserName};
 use std::alloc::Global;
 use std::sync::Wait;
@@ -48,8 +51,8 @@ pub enum Reply {
     Health(Health),
     /// It asks for what is an officer's or a reader's, and has not the name and the password of one.
     Stranger,
-    /// A kill was asked for: what was done, or why nothing was.
-    Kill(Result<Deed, Refusal>),
+    /// A kill was asked for: what was done, or why nothing was, and that it was announced what it ended.
+    Kill(Result<Deed, Refusal>, Announced),
 }
 
 impl Health {
@@ -76,6 +79,7 @@ fn see<L: Lookout, R: Wait>(
     user: UserName,
 ) -> (Board<L>, Result<View, OutOfMemory>)
     ensures later { IsPrefix board.front result.0.front }
+    ensures own { mine result.0 ≡ mine board }
     ensures seen { IfOk result.1 (IsSeen L.policy result.0.front user) }
 {
     board.view(rt, gate, alloc, user)
@@ -114,76 +118,97 @@ fn told_metrics(user: UserName, seen: Result<View, OutOfMemory>) -> Result<Reply
     }
 }
 
-/// What lets steps be made for the page, and its view of the gate: a pass of the door, and what follows the gate's records.
-#[derive(Drop)]
-pub struct Means<D: Door, L: Lookout> {
-    /// Kills are made on its line.
-    pub pass: D::Ticket,
-    /// What is shown is taken from it.
-    pub board: Board<L>,
+/// What is to be announced of a kill: what it ended, where it was granted.
+fn ended_of(
+    caller: Option<Credentials>,
+    form: &KillForm,
+    done: &Result<Deed, Refusal>,
+) -> Option<EndedOrders>
+    ensures { result ≡ ended_of caller form.now done.now }
+{
+    match (caller, done) {
+        (Some(who), Ok(Deed::Asked(Ok(decided), _))) => {
+            let action = Action::Kill(form.account);
+            announced_by(who.user, &decided.outcome, decided.ended, &action)
+        }
+        _ => None,
+    }
 }
 
-/// What is done for a kill that the caller asks for, or why nothing is.
-fn kill_for<D: Door, R: Wait + Dial>(
+/// What is done for a kill that the caller asks for, or why nothing is. What it ended is announced.
+fn kill_for<T: Drop, D: Door<Ticket = T>, L: Lookout<Pass = T>, R: Wait + Dial + Announces>(
     rt: &R,
     door: &D,
     policy: &Policy,
     secret: &Secret,
-    pass: D::Ticket,
+    board: Board<L>,
     caller: Option<Credentials>,
     form: &KillForm,
-) -> (D::Ticket, Result<Deed, Refusal>)
+) -> (Board<L>, Result<Deed, Refusal>, Announced)
+    requires policies { L.policy ≡ D.policy }
+    requires held { L.held ≡ D.held }
     requires policy { policy.now ≡ D.policy }
-    ensures { IsKill D.policy secret.now.bytes (D.held pass) (D.held result.0)
-        caller form.now result.1 }
+    ensures kill { IsKillTold D.policy secret.now.bytes board result.0
+        caller form.now result.1 result.2 }
+    ensures later { IsPrefix board.front result.0.front }
 {
-    kill(door, rt, policy, secret, pass, caller, form)
+    let (pass, summary) = board.into_parts();
+    let (pass, done) = kill(door, rt, policy, secret, pass, caller, form);
+    let announced = announce(rt, ended_of(caller, form, &done));
+    (Board::from_parts(pass, summary), done, announced)
 }
 
-/// What becomes of a request. A kill makes steps on the line of the page's pass; nothing else makes any.
+/// What becomes of a request. A kill makes steps on the line of the board's pass; nothing else makes any. What is shown is of
+/// all that the pass had met, and so of each kill that was made with it.
 ///
 /// # Errors
 ///
 /// `OutOfMemory` where memory was refused. No step was made then.
-pub(crate) fn reply_to<D: Door, L: Lookout, R: Wait + Dial>(
+pub(crate) fn reply_to<
+    T: Drop,
+    D: Door<Ticket = T>,
+    L: Lookout<Pass = T>,
+    R: Wait + Dial + Announces,
+>(
     rt: &R,
     alloc: Global,
     door: &D,
     gate: &L,
     policy: &Policy,
     secret: &Secret,
-    means: Means<D, L>,
+    board: Board<L>,
     request: &Request,
-) -> (Means<D, L>, Result<Reply, OutOfMemory>)
+) -> (Board<L>, Result<Reply, OutOfMemory>)
     requires policies { L.policy ≡ D.policy }
+    requires held { L.held ≡ D.held }
     requires policy { policy.now ≡ D.policy }
-    ensures reply { IfOk result.1 (IsReply D.policy secret.now.bytes (D.held means.pass)
-        (D.held result.0.pass) result.0.board.front request.now) }
-    ensures refused { OnErr result.1 (D.held result.0.pass ≡ D.held means.pass) }
-    ensures later { IsPrefix means.board.front result.0.board.front }
+    ensures reply { IfOk result.1
+        (IsReply D.policy secret.now.bytes board result.0 request.now) }
+    ensures refused { OnErr result.1 (mine result.0 ≡ mine board) }
+    ensures later { IsPrefix board.front result.0.front }
 {
-    let Means { pass, board } = means;
     let user = viewer(rt, door, request.caller);
     match (request.asked, user) {
         (Asked::Kill(form), _) => {
-            let (pass, done) = kill_for(rt, door, policy, secret, pass, request.caller, &form);
-            (Means { pass, board }, Ok(Reply::Kill(done)))
+            let caller = request.caller;
+            let (board, done, announced) = kill_for(rt, door, policy, secret, board, caller, &form);
+            (board, Ok(Reply::Kill(done, announced)))
         }
         (Asked::Health, _) => {
             let (board, seen) = see(rt, alloc, gate, board, NOBODY);
-            (Means { pass, board }, told_health(seen))
+            (board, told_health(seen))
         }
         (Asked::State, Some(user)) => {
             let (board, seen) = see(rt, alloc, gate, board, user);
-            (Means { pass, board }, told_state(user, seen))
+            (board, told_state(user, seen))
         }
         (Asked::Metrics, Some(user)) => {
             let (board, seen) = see(rt, alloc, gate, board, user);
-            (Means { pass, board }, told_metrics(user, seen))
+            (board, told_metrics(user, seen))
         }
-        (Asked::Page, Some(_)) => (Means { pass, board }, Ok(Reply::Page)),
-        (Asked::Script, Some(_)) => (Means { pass, board }, Ok(Reply::Script)),
-        (Asked::Style, Some(_)) => (Means { pass, board }, Ok(Reply::Style)),
-        (_, None) => (Means { pass, board }, Ok(Reply::Stranger)),
+        (Asked::Page, Some(_)) => (board, Ok(Reply::Page)),
+        (Asked::Script, Some(_)) => (board, Ok(Reply::Script)),
+        (Asked::Style, Some(_)) => (board, Ok(Reply::Style)),
+        (_, None) => (board, Ok(Reply::Stranger)),
     }
 }

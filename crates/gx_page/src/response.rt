@@ -14,18 +14,9 @@ use gx_board::View;
 use gx_button::{Secret, has_power};
 use gx_http::{Content, Status, write_response};
 use gx_policy::Policy;
-use gx_status::{Viewer, append_figures, append_page, append_server_figures};
+use gx_status::{ServerFigures, Viewer, append_figures, append_page, append_server_figures};
 use gx_units::{OutOfMemory, UserName};
 use std::alloc::Global;
-
-/// What a page is told of its server.
-#[derive(Clone, Copy)]
-pub struct About {
-    /// Whether it has a journal.
-    pub is_journaled: bool,
-    /// How many connections it serves.
-    pub connections: u16,
-}
 
 /// A response with this body.
 fn respond(
@@ -49,7 +40,7 @@ pub(crate) fn notice_response(alloc: Global, notice: Notice) -> Result<Vec<u8>, 
 }
 
 /// What a page is told of this user and of its server.
-fn viewer_told(policy: &Policy, secret: &Secret, about: About, user: UserName) -> Viewer
+fn viewer_told(policy: &Policy, secret: &Secret, about: ServerFigures, user: UserName) -> Viewer
     ensures { result ≡ viewer_told policy.now secret.now.bytes about user }
 {
     let token = secret.token(user);
@@ -58,8 +49,7 @@ fn viewer_told(policy: &Policy, secret: &Secret, about: About, user: UserName) -
         user,
         may_kill: has_power(policy, user),
         token: bytes,
-        is_journaled: about.is_journaled,
-        connections: about.connections,
+        server: about,
     }
 }
 
@@ -74,13 +64,17 @@ fn state_response(alloc: Global, view: &View, viewer: &Viewer) -> Result<Vec<u8>
 }
 
 /// The figures of what he is shown, and of the server, as a response.
-fn metrics_response(alloc: Global, view: &View, about: About) -> Result<Vec<u8>, OutOfMemory>
+fn metrics_response(
+    alloc: Global,
+    view: &View,
+    about: ServerFigures,
+) -> Result<Vec<u8>, OutOfMemory>
     ensures { IfOk result (λ text. text.items
         ≡ response_bytes statuses.Done contents.Metrics (figures_told view.now about)) }
 {
     let mut body = Vec::new(alloc);
     append_figures(&mut body, view)?;
-    append_server_figures(&mut body, about.is_journaled, about.connections)?;
+    append_server_figures(&mut body, &about)?;
     respond(alloc, Status::Done, Content::Metrics, body.as_slice())
 }
 
@@ -93,7 +87,7 @@ pub(crate) fn response(
     alloc: Global,
     policy: &Policy,
     secret: &Secret,
-    about: About,
+    about: ServerFigures,
     reply: &Reply,
 ) -> Result<Vec<u8>, OutOfMemory>
     ensures { IfOk result (λ text. IsResponse
@@ -109,6 +103,6 @@ pub(crate) fn response(
         Reply::Metrics(_, view) => metrics_response(alloc, view, about),
         Reply::Health(health) => notice_response(alloc, Notice::of_health(*health)),
         Reply::Stranger => notice_response(alloc, Notice::Stranger),
-        Reply::Kill(done) => notice_response(alloc, Notice::of_kill(done)),
+        Reply::Kill(done, _) => notice_response(alloc, Notice::of_kill(done)),
     }
 }

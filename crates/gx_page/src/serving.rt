@@ -4,14 +4,14 @@ ghost use Rattle.std.specs.Prelude.{◌≡◌};
 
 use crate::answer::{Answer, answer_to};
 use crate::guest::Guest;
-use crate::reply::Means;
-use crate::response::About;
 use gx_button::Secret;
 use gx_door::{Dial, Door};
 use gx_http::{Asked, Request};
 use gx_lobby::{Lobby, Stop};
-use gx_lookout::Lookout;
+use gx_lookout::{Board, Lookout};
 use gx_policy::Policy;
+use gx_serve::Announces;
+use gx_status::ServerFigures;
 use gx_units::OutOfMemory;
 use std::alloc::Global;
 use std::net::TcpListener;
@@ -21,6 +21,9 @@ use std::time::{Clock, Duration};
 
 /// So many connections are served at once.
 const AT_ONCE: usize = 32;
+
+/// So many are taken at a look, so that whoever connects over and over keeps nobody from the processor.
+const AT_A_LOOK: usize = 4;
 
 /// So many milliseconds lie at least between two answers, so that whoever asks all the time keeps nobody from the gate.
 const BETWEEN: u64 = 20;
@@ -33,7 +36,7 @@ const PAUSE: u64 = 2;
 
 /// What the page is served from. It stays the same for a run.
 #[derive(Drop)]
-pub struct PageServer<'x, D: Door, L: Lookout> {
+pub struct PageServer<'x, T: Drop, D: Door<Ticket = T>, L: Lookout<Pass = T>> {
     door: &'x D,
     gate: &'x L,
     policy: &'x Policy,
@@ -41,10 +44,11 @@ pub struct PageServer<'x, D: Door, L: Lookout> {
     is_journaled: bool,
     lobby: &'x Lobby,
     ghost policies: { L.policy ≡ D.policy },
+    ghost held: { L.held ≡ D.held },
     ghost same: { policy.now ≡ D.policy },
 }
 
-impl<'x, D: Door, L: Lookout> PageServer<'x, D, L> {
+impl<'x, T: Drop, D: Door<Ticket = T>, L: Lookout<Pass = T>> PageServer<'x, T, D, L> {
     /// A page of this gate, whose kills are made at this door: both judge by this policy. Its tokens are made of the secret.
     pub fn new(
         door: &'x D,
@@ -53,8 +57,9 @@ impl<'x, D: Door, L: Lookout> PageServer<'x, D, L> {
         secret: Secret,
         is_journaled: bool,
         lobby: &'x Lobby,
-    ) -> PageServer<'x, D, L>
+    ) -> PageServer<'x, T, D, L>
         requires policies { L.policy ≡ D.policy }
+        requires held { L.held ≡ D.held }
         requires policy { policy.now ≡ D.policy }
     {
         PageServer {
@@ -110,9 +115,9 @@ impl Guests {
         true
     }
 
-    /// Takes those who come, as many as may be served at once.
+    /// Takes those who come, a few at a look.
     fn take_all(&mut self, alloc: Global, listener: &TcpListener, now: Duration) {
-        for _ in 0..AT_ONCE {
+        for _ in 0..AT_A_LOOK {
             if !self.take(alloc, listener, now) {
                 return;
             }
@@ -147,10 +152,10 @@ impl Guests {
     }
 
     /// Gives the guest at this place his answer.
-    fn give<D: Door, L: Lookout, R: Wait + Clock>(
+    fn give<R: Wait + Clock>(
         &mut self,
         rt: &R,
-        server: &PageServer<'_, D, L>,
+        lobby: &Lobby,
         place: usize,
         request: &Request,
         answer: Result<Answer, OutOfMemory>,
@@ -162,7 +167,7 @@ impl Guests {
         };
         match answer {
             Ok(Answer { text, is_stranger }) => {
-                let is_late = is_stranger && is_one_too_many(rt, server.lobby, guest, request);
+                let is_late = is_stranger && is_one_too_many(rt, lobby, guest, request);
                 guest.answer(Ok(text), is_late, now);
             }
             Err(refused) => guest.answer(Err(refused), false, now),
@@ -184,35 +189,38 @@ fn is_one_too_many<R: Wait + Clock>(
 }
 
 /// Wakes those whom a kill concerns.
-fn tell_others<D: Door, L: Lookout, R: Wait>(
-    rt: &R,
-    server: &PageServer<'_, D, L>,
-    request: &Request,
-) {
+fn tell_others<R: Wait>(rt: &R, lobby: &Lobby, request: &Request) {
     if let Asked::Kill(_) = request.asked {
-        server.lobby.bell.ring(rt);
+        lobby.bell.ring(rt);
     }
 }
 
 /// Answers the first who is to be answered, unless somebody was just before.
-fn answer_next<D: Door, L: Lookout, R: Wait + Clock + Dial>(
+fn answer_next<
+    T: Drop,
+    D: Door<Ticket = T>,
+    L: Lookout<Pass = T>,
+    R: Wait + Clock + Dial + Announces,
+>(
     rt: &R,
     alloc: Global,
-    server: &PageServer<'_, D, L>,
-    means: Means<D, L>,
+    server: &PageServer<'_, T, D, L>,
+    board: Board<L>,
     guests: &mut Guests,
-) -> Means<D, L> {
+) -> Board<L> {
     if !guests.may_answer(time(rt)) {
-        return means;
+        return board;
     }
     let Some((place, request)) = guests.next() else {
-        return means;
+        return board;
     };
-    let about = About {
+    let about = ServerFigures {
         is_journaled: server.is_journaled,
         connections: server.lobby.places.count(rt),
+        journal: server.lobby.journal.counts(),
+        answers: server.lobby.answers.counts(),
     };
-    let (means, answer) = answer_to(
+    let (board, answer) = answer_to(
         rt,
         alloc,
         server.door,
@@ -220,12 +228,12 @@ fn answer_next<D: Door, L: Lookout, R: Wait + Clock + Dial>(
         server.policy,
         &server.secret,
         about,
-        means,
+        board,
         &request,
     );
-    tell_others(rt, server, &request);
-    guests.give(rt, server, place, &request, answer);
-    means
+    tell_others(rt, server.lobby, &request);
+    guests.give(rt, server.lobby, place, &request, answer);
+    board
 }
 
 /// Rests where nothing has come of a look.
@@ -239,18 +247,23 @@ fn rest<R: Clock>(rt: &R, guests: &Guests, moved: bool) {
 /// Serves the page on this listener until the end is asked for, 32 connections at once, each with five seconds for its request
 /// and five for its answer. No connection is waited for, and no lock is held while anything is read from one or written to one;
 /// what is waited for are the gate's lock and, where there is a journal, that what was done is kept.
-pub fn serve_page<D: Door, L: Lookout, R: Wait + Clock + Dial>(
+pub fn serve_page<
+    T: Drop,
+    D: Door<Ticket = T>,
+    L: Lookout<Pass = T>,
+    R: Wait + Clock + Dial + Announces,
+>(
     rt: &R,
     alloc: Global,
-    server: &PageServer<'_, D, L>,
-    means: Means<D, L>,
+    server: &PageServer<'_, T, D, L>,
+    board: Board<L>,
     listener: &TcpListener,
     closing: &Stop,
 ) {
     if listener.set_nonblocking(true).is_err() {
         return;
     }
-    let mut means = means;
+    let mut board = board;
     let mut guests = Guests {
         all: Vec::new(alloc),
         answered: Duration::ZERO,
@@ -262,7 +275,7 @@ pub fn serve_page<D: Door, L: Lookout, R: Wait + Clock + Dial>(
         let now = time(rt);
         guests.take_all(alloc, listener, now);
         let moved = guests.go_on(alloc, now);
-        means = answer_next(rt, alloc, server, means, &mut guests);
+        board = answer_next(rt, alloc, server, board, &mut guests);
         rest(rt, &guests, moved);
     }
 }

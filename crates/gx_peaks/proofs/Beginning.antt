@@ -36,7 +36,7 @@ total_none policy (Net among side) =
     ap (λ (p : Positions). above_zero (net_done p.executions among side +ℤ pos (side_live p.live among side))) (days_begin_empty policy)
     ∙ (λ i. above_zero ((pos (none_done (on_side among side) i) -ℤ pos (none_done (on_side among (other_side side)) i)) +ℤ pos (none_open (on_side among side) i)))
 
-amount_none : (policy : PolicyData) (f : Figure) → is_counted policy f ≡ true → amount policy f [] ≡ 0
+pub amount_none : (policy : PolicyData) (f : Figure) → is_counted policy f ≡ true → amount policy f [] ≡ 0
 amount_none policy f counted = let sort = has_sort policy f counted in amount_is policy f sort.0 sort.1 [] ∙ total_none policy sort.0
 
 front_of_none : (n : ℕ) → take {A = RecordData} n [] ≡ []

@@ -10,7 +10,7 @@ use Rattle.gx_peaks.specs.{declared.{figure.Figure.Figure, table.{HeldPeak.HeldP
 use Rattle.gx_peaks.proofs.{Newest.account_is_known, Quiet.{counts_gain, counts_order, no_rise}, Rising.{still_is, whole}, Sameness.{counts_it, counts_its_gain}, Settings.limit_is_kept, Sorts.{Sort, amount_is, has_sort, sort_of}}
 
 -- the account of a sell that is filled is one of the policy
-gainer_is_known : (policy : PolicyData) (earlier : List RecordData) (account : AccountName) → is_sound policy ≡ true → IsLegal policy earlier → (v : Verdict) → gains_by (live policy earlier) v ≡ Some account
+pub gainer_is_known : (policy : PolicyData) (earlier : List RecordData) (account : AccountName) → is_sound policy ≡ true → IsLegal policy earlier → (v : Verdict) → gains_by (live policy earlier) v ≡ Some account
     → is_some (account_named policy account) ≡ true
 gainer_is_known policy earlier account sound legal Verdict.Granted h = cc
 gainer_is_known policy earlier account sound legal (Verdict.Denied rule) h = cc

@@ -1,14 +1,11 @@
 //! Whether there is a rule for a figure.
 
-ghost use Rattle.std.specs.Prelude.{◌≡◌, ◌&&◌, find, is_some, option_copied};
-ghost use Rattle.gx_units.specs.Names.{same_account};
-ghost use Rattle.gx_policy.specs.People.{account_named, covers};
+ghost use Rattle.std.specs.Prelude.{◌≡◌};
 ghost use Rattle.gx_peaks.specs.Figures.{counts, fits, is_counted};
 
 use crate::figure::Figure;
-use crate::key::find_rule;
 use gx_history::facts::StockSide;
-use gx_policy::{Account, ExposureLimit, FileRule, Policy, RuleKind};
+use gx_policy::{ExposureLimit, FileRule, Policy, RuleKind};
 use gx_units::AccountName;
 
 /// Whether a rule of this kind counts figures on a side of a stock, or on none.
@@ -31,26 +28,13 @@ pub fn counts(rule: &FileRule, account: AccountName, side: Option<StockSide>) ->
     rule.scope.covers(account) && fits(&rule.kind, side)
 }
 
-fn find_account(accounts: &[Account], name: AccountName) -> Option<&Account>
-    ensures { option_copied result ≡ find (λ a. same_account a.name name) accounts.now }
-{
-    accounts.iter().find(|account| account.name == name)
-}
-
-/// Whether the policy has this account.
-fn is_known(policy: &Policy, account: AccountName) -> bool
-    ensures { result ≡ is_some (account_named policy.now account) }
-{
-    find_account(policy.accounts(), account).is_some()
-}
-
 /// Whether there is such a rule for the account.
 #[tactic(auto, using(crate::proofs::Sorts::counted_is))]
 pub fn is_counted(policy: &Policy, figure: Figure) -> bool
     ensures { result ≡ is_counted policy.now figure }
 {
-    let Some(rule) = find_rule(policy.rules(), figure.rule) else {
+    let Some(rule) = policy.rule(figure.rule) else {
         return false;
     };
-    is_known(policy, figure.account) && counts(rule, figure.account, figure.side)
+    policy.account(figure.account).is_some() && counts(rule, figure.account, figure.side)
 }

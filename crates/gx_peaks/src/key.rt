@@ -1,12 +1,11 @@
 //! Under which key the peak of a figure is kept.
 
-ghost use Rattle.std.specs.Prelude.{◌≡◌, option_copied};
-ghost use Rattle.gx_policy.specs.People.{rule_in};
+ghost use Rattle.std.specs.Prelude.{◌≡◌};
 ghost use Rattle.gx_peaks.specs.Keys.{account_bytes, key_of, stock_bytes, whose};
 
 use crate::figure::Figure;
 use gx_history::facts::StockSide;
-use gx_policy::{Count, FileRule, Policy, RuleKind};
+use gx_policy::{Count, Policy, RuleKind};
 use gx_units::{AccountName, RuleId};
 use std::hash::{Hash, Hasher};
 
@@ -66,18 +65,11 @@ fn whose(kind: &RuleKind, account: AccountName) -> Option<AccountName>
     }
 }
 
-/// The rule of this name.
-pub fn find_rule(rules: &[FileRule], name: RuleId) -> Option<&FileRule>
-    ensures { option_copied result ≡ rule_in rules.now name }
-{
-    rules.iter().find(|rule| rule.name == name)
-}
-
 /// The key of the figure's peak.
 pub fn key_of(policy: &Policy, figure: Figure) -> PeakKey
     ensures { result ≡ key_of policy.now figure }
 {
-    let whose = match find_rule(policy.rules(), figure.rule) {
+    let whose = match policy.rule(figure.rule) {
         Some(rule) => whose(&rule.kind, figure.account),
         None => None,
     };

@@ -3,7 +3,7 @@
 //! while the day's records are made again, and asks the gate only where a figure can have risen.
 #![tactic(auto)]
 
-mod counting;
+pub mod counting;
 pub mod figure;
 pub mod key;
 pub mod laws;
@@ -11,7 +11,7 @@ mod limits;
 pub mod peak;
 pub mod peaks;
 pub mod table;
-mod touched;
+pub mod touched;
 mod watching;
 
 pub use figure::Figure;

@@ -4,7 +4,6 @@ ghost use Rattle.gx_policy.specs.Kinds.{limit_of};
 ghost use Rattle.std.specs.Prelude.{◌≡◌, []};
 ghost use Rattle.gx_records.specs.State.{limit_in_force};
 
-use crate::key::find_rule;
 use gx_policy::Policy;
 use gx_units::RuleId;
 
@@ -13,7 +12,7 @@ use gx_units::RuleId;
 pub fn file_limit(policy: &Policy, name: RuleId) -> Option<u64>
     ensures { result ≡ limit_in_force policy.now [] name }
 {
-    match find_rule(policy.rules(), name) {
+    match policy.rule(name) {
         Some(rule) => rule.kind.limit(),
         None => None,
     }

@@ -11,6 +11,8 @@ use gx_units::OutOfMemory;
 impl<G: ShowsState> Watches<G> for Peaks {
     ghost use Rattle.gx_peaks.specs.Noting.{AreOver, IsExpecting};
 
+    ghost asked = { λ _. tt };
+
     ghost saw = { λ peaks policy records. AreOver policy records peaks };
 
     ghost expects = { λ peaks policy records next. IsExpecting policy records next peaks };

@@ -11,6 +11,7 @@ use crate::power::Power;
 use gx_desk::WrittenName;
 use gx_index::{Near, get_near};
 use gx_policy::{Account, Policy, Role};
+use gx_slots::Slots;
 use gx_units::{AccountName, OutOfMemory, Password, UserName};
 use indexmap::IndexMap;
 use std::alloc::Global;
@@ -30,6 +31,8 @@ enum Change {
 #[derive(Drop)]
 pub struct People {
     by_name: IndexMap<UserName, Person>,
+    /// Where each name is looked for first.
+    slots: Slots<Near>,
 }
 
 impl Model for People {
@@ -51,6 +54,25 @@ fn near_account(accounts: &[Account], role: &Role) -> usize {
     }
 }
 
+/// So many users have a slot of their own: four for each that a policy may have.
+const USER_SLOTS: usize = 1024;
+
+/// Where each user, and the account that he trades for, stand in the policy.
+fn slots_of(alloc: Global, policy: &Policy) -> Result<Slots<Near>, OutOfMemory> {
+    let mut slots = Slots::new(alloc, USER_SLOTS, Near::FIRST)?;
+    for (place, user) in policy.users().iter().enumerate() {
+        slots.put(
+            user.name,
+            Near {
+                user: place,
+                account: near_account(policy.accounts(), &user.role),
+                ..Near::FIRST
+            },
+        );
+    }
+    Ok(slots)
+}
+
 impl People {
     /// The people as the policy says, before any command. Takes memory for a copy of what it keeps, and for each reader
     /// for as many accounts as a policy may have.
@@ -59,6 +81,7 @@ impl People {
     {
         // What this ensures: no two users have one name.
         let _ = policy.rules();
+        let slots = slots_of(alloc, policy)?;
         let mut by_name = IndexMap::with_capacity(alloc, policy.users().len())?;
         for user in policy.users() {
             let standing = Standing::of(alloc, &user.role)?;
@@ -69,7 +92,7 @@ impl People {
             };
             by_name.insert(user.name, person)?;
         }
-        Ok(People { by_name })
+        Ok(People { by_name, slots })
     }
 
     #[tactic(auto, using(crate::proofs::Table::role_found))]
@@ -90,6 +113,15 @@ impl People {
     /// Where the user, and the account that he trades for, stand in the policy: tables in its order
     /// look there first. Nothing but time rests on it; it is 0 for what is not known.
     pub fn near(&self, user: UserName) -> Near {
+        match self.slots.find(user) {
+            Some(near) => near,
+            None => self.near_by_hash(user),
+        }
+    }
+
+    /// The same of a user who shares his slot with another.
+    #[inline(never)]
+    fn near_by_hash(&self, user: UserName) -> Near {
         match self.by_name.get_full(&user) {
             Some((place, _, person)) => Near {
                 user: place,

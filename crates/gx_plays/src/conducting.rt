@@ -49,6 +49,7 @@ where
         &house.lobby.bell,
         &chime,
         &house.lobby.stop,
+        &house.lobby.answers,
         &link,
         opening,
         Counted::new(WireReader::new(house.rt, wire)),

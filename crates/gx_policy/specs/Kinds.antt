@@ -1,5 +1,5 @@
 -- The kinds of rules that a policy file may have: each kind's word, its letter and how its denials are told.
-use Rattle.std.specs.Prelude.{ℕ, List, [], ◌∷◌, codes, Option, Some, None}
+use Rattle.std.specs.Prelude.{ℕ, Bool, true, false, List, [], ◌∷◌, codes, Option, Some, None}
 use Rattle.gx_units.specs.declared.names.Symbol.{Symbol}
 use Rattle.gx_ouch.specs.declared.letters.RejectReason.{RejectReason}
 use Rattle.gx_policy.specs.declared.{kinds.{KindName.KindName, ExposureLimit.ExposureLimit, ListKind.ListKind, OrderLimit.OrderLimit, PlainKind.PlainKind}, policy.RuleKind.RuleKind}
@@ -48,6 +48,28 @@ with_stocks change (RuleKind.Order kind limit) = RuleKind.Order kind limit
 with_stocks change (RuleKind.Exposure kind limit count) = RuleKind.Exposure kind limit count
 with_stocks change (RuleKind.Rate rate count) = RuleKind.Rate rate count
 with_stocks change (RuleKind.Repeat repeat count) = RuleKind.Repeat repeat count
+
+-- a limit of gross shares or of gross value
+abbrev pub is_gross : RuleKind → Bool
+is_gross (RuleKind.Exposure ExposureLimit.GrossShares limit count) = true
+is_gross (RuleKind.Exposure ExposureLimit.GrossValue limit count) = true
+is_gross (RuleKind.Exposure ExposureLimit.NetShares limit count) = false
+is_gross (RuleKind.Listed kind stocks) = false
+is_gross (RuleKind.Plain kind) = false
+is_gross (RuleKind.Order kind limit) = false
+is_gross (RuleKind.Rate rate count) = false
+is_gross (RuleKind.Repeat repeat count) = false
+
+-- a limit of net shares
+abbrev pub is_net : RuleKind → Bool
+is_net (RuleKind.Exposure ExposureLimit.NetShares limit count) = true
+is_net (RuleKind.Exposure ExposureLimit.GrossShares limit count) = false
+is_net (RuleKind.Exposure ExposureLimit.GrossValue limit count) = false
+is_net (RuleKind.Listed kind stocks) = false
+is_net (RuleKind.Plain kind) = false
+is_net (RuleKind.Order kind limit) = false
+is_net (RuleKind.Rate rate count) = false
+is_net (RuleKind.Repeat repeat count) = false
 
 -- the words of a rule's key `kind` in a policy file of version 1
 abbrev pub first_kind_words : List (List ℕ × KindName)

@@ -1,5 +1,5 @@
 -- What the policy says of users, accounts and stocks.
-use Rattle.std.specs.{Prelude.{Bool, true, false, ◌&&◌, List, Option, Some, None, option_and_then, option_map}, List.{find, list_any, list_all}}
+use Rattle.std.specs.{Prelude.{Bool, true, false, List, Option, Some, None, option_and_then, option_map}, List.{find, list_any, list_all}}
 use Rattle.gx_units.specs.{Names.{same_account, same_stock, same_user, same_rule}, declared.names.{AccountName.AccountName, UserName.UserName, Symbol.Symbol, RuleId.RuleId}}
 use Rattle.gx_policy.specs.declared.policy.{PolicyData.PolicyData, Account.Account, Stock.Stock, User.User, Role.Role, Scope.Scope, FileRule.FileRule}
 

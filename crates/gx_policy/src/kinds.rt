@@ -1,7 +1,7 @@
 //! The kinds of rules that a policy file may have, each with its word, its letter and how its denials are told.
 
 ghost use Rattle.std.specs.Prelude.{◌≡◌, [], unwrap_or};
-ghost use Rattle.gx_policy.specs.Kinds.{kind_letter, kind_meaning, kind_name, kind_reason, limit_of, stocks_of};
+ghost use Rattle.gx_policy.specs.Kinds.{is_gross, is_net, kind_letter, kind_meaning, kind_name, kind_reason, limit_of, stocks_of};
 
 use crate::policy::RuleKind;
 use gx_ouch::RejectReason;
@@ -133,6 +133,23 @@ impl RuleKind {
             RuleKind::Listed(_, stocks) => stocks.as_slice(),
             _ => &[],
         }
+    }
+
+    /// Whether it is a rule on gross shares or on gross value.
+    pub fn is_gross(&self) -> bool
+        ensures { result ≡ is_gross self.now }
+    {
+        matches!(
+            self,
+            RuleKind::Exposure(ExposureLimit::GrossShares | ExposureLimit::GrossValue, _, _)
+        )
+    }
+
+    /// Whether it is a rule on net shares.
+    pub fn is_net(&self) -> bool
+        ensures { result ≡ is_net self.now }
+    {
+        matches!(self, RuleKind::Exposure(ExposureLimit::NetShares, _, _))
     }
 }
 

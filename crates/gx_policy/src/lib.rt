@@ -3,6 +3,7 @@
 
 mod copies;
 mod kinds;
+mod people;
 mod policy;
 mod rule_name;
 

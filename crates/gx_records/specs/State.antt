@@ -1,9 +1,13 @@
--- How much of the limits of the policy's rules is used after these records.
+-- Whose orders are live, and how much of the limits of the policy's rules is used, after these records.
 use Rattle.gx_policy.specs.{Kinds.limit_of, declared.{kinds.ExposureLimit.ExposureLimit, policy.{Count.Count, FileRule.FileRule, PolicyData.PolicyData, RuleKind.RuleKind}}, People.{account_named, covers, rule_in}}
-use Rattle.std.specs.Prelude.{ℕ, ℤ, pos, ◌+ℤ◌, Bool, ◌&&◌, List, Option, Some, None, is_some, option_and_then, if◌then◌else◌}
-use Rattle.gx_units.specs.declared.names.{AccountName.AccountName, RuleId.RuleId}
-use Rattle.gx_history.specs.{declared.{facts.StockSide.StockSide, «record».RecordData.RecordData}, Asking.rule_in_force, Executions.executions, Figures.{counts_account, net_done, side_live}, Live.live}
+use Rattle.std.specs.{Prelude.{ℕ, ℤ, pos, ◌+ℤ◌, Bool, ◌&&◌, List, Option, Some, None, is_some, option_and_then, if◌then◌else◌}, List.filter}
+use Rattle.gx_units.specs.{Names.same_user, declared.names.{AccountName.AccountName, RuleId.RuleId, UserName.UserName}}
+use Rattle.gx_history.specs.{declared.{facts.StockSide.StockSide, live_order.LiveOrder.LiveOrder, «record».RecordData.RecordData}, Asking.rule_in_force, Executions.executions, Figures.{counts_account, net_done, side_live}, Live.live}
 use Rattle.gx_exposure.specs.Exposure.{gross_shares, gross_value}
+
+-- the user's orders, in their places
+abbrev pub of_user : UserName → List LiveOrder → List LiveOrder
+of_user user live = filter (λ (o : LiveOrder). same_user o.user user) live
 
 -- the limit of the rule of this name, if it has one that Set Limit may change
 abbrev pub limit_in_force : PolicyData → List RecordData → RuleId → Option ℕ
@@ -17,14 +21,25 @@ is_for policy account rule = is_some (account_named policy account) && covers ru
 abbrev pub gross_of : PolicyData → List RecordData → (Count → AccountName → Bool) → RuleKind → Option ℕ
 gross_of policy records among (RuleKind.Exposure ExposureLimit.GrossShares limit count) = Some (gross_shares policy records (among count))
 gross_of policy records among (RuleKind.Exposure ExposureLimit.GrossValue limit count) = Some (gross_value policy records (among count))
-gross_of policy records among other = None
+gross_of policy records among (RuleKind.Exposure ExposureLimit.NetShares limit count) = None
+gross_of policy records among (RuleKind.Listed kind stocks) = None
+gross_of policy records among (RuleKind.Plain kind) = None
+gross_of policy records among (RuleKind.Order kind limit) = None
+gross_of policy records among (RuleKind.Rate rate count) = None
+gross_of policy records among (RuleKind.Repeat repeat count) = None
 
 -- what a net rule counts of these accounts on a side of a stock: what they executed there, less what they did on the other
 -- side, and what they have open there
 abbrev pub net_of : PolicyData → List RecordData → (Count → AccountName → Bool) → StockSide → RuleKind → Option ℤ
 net_of policy records among side (RuleKind.Exposure ExposureLimit.NetShares limit count) =
     Some (net_done (executions policy records) (among count) side +ℤ pos (side_live (live policy records) (among count) side))
-net_of policy records among side other = None
+net_of policy records among side (RuleKind.Exposure ExposureLimit.GrossShares limit count) = None
+net_of policy records among side (RuleKind.Exposure ExposureLimit.GrossValue limit count) = None
+net_of policy records among side (RuleKind.Listed kind stocks) = None
+net_of policy records among side (RuleKind.Plain kind) = None
+net_of policy records among side (RuleKind.Order kind limit) = None
+net_of policy records among side (RuleKind.Rate rate count) = None
+net_of policy records among side (RuleKind.Repeat repeat count) = None
 
 -- the accounts whose orders a rule counts together with those of this one
 abbrev pub counted_with : FileRule → AccountName → Count → AccountName → Bool

@@ -1,8 +1,8 @@
 //! What stands after a gate's records.
 
-ghost use Rattle.std.specs.Prelude.{◌≡◌};
+ghost use Rattle.std.specs.Prelude.{◌≡◌, length};
 ghost use Rattle.gx_history.specs.{Asking.{has_stock, rule_in_force}, InForce.{is_closed, is_entitled}, Live.{live, live_numbered}, Verdicts.last_moment};
-ghost use Rattle.gx_records.specs.State.{gross_used, limit_in_force, net_used};
+ghost use Rattle.gx_records.specs.State.{gross_used, limit_in_force, net_used, of_user};
 ghost use Rattle.gx_slab.specs.Slabs.{of_account};
 
 use gx_answers::AccessGate;
@@ -24,6 +24,11 @@ pub trait ShowsState: AccessGate {
     fn live_orders_of(&self, account: AccountName) -> LiveOrders<'_>
         ensures { result ≡ of_account account
             (live (Self.seen self.now).policy (Self.seen self.now).records) };
+
+    /// How many live orders the user has. It looks at none of them.
+    fn live_count_of(&self, user: UserName) -> usize
+        ensures { result ≡ length (of_user user
+            (live (Self.seen self.now).policy (Self.seen self.now).records)) };
 
     /// The live order of this number.
     fn live_order(&self, number: u64) -> Option<LiveOrder>

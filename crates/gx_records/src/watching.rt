@@ -8,11 +8,17 @@ use gx_history::record::RecordData;
 use gx_units::OutOfMemory;
 
 /// Looks on while the records of a day are made again, one after the other: at the gate in front of each record, and at the
-/// gate behind it. What it keeps is told by `saw`, a relation with the policy and the records so far.
+/// gate behind it. What it keeps is told by `saw`, a relation with the policy and the records so far; `asked` is what it was
+/// asked for, which no record changes.
 pub trait Watches<G: AccessGate> {
     ghost use Rattle.std.specs.Prelude.{List};
     ghost use Rattle.gx_policy.specs.declared.policy.PolicyData.{PolicyData};
     ghost use Rattle.gx_history.specs.declared.record.RecordData.{RecordData};
+
+    // What it was asked for.
+    ghost Asked: { Type 0 } = { Unit {0} };
+
+    ghost asked: { Self → Self.Asked };
 
     // It has looked on at all of these records.
     ghost saw: { Self → PolicyData → List RecordData → Type 0 };
@@ -28,7 +34,8 @@ pub trait Watches<G: AccessGate> {
     fn before(&mut self, gate: &G, next: &RecordData) -> Result<(), OutOfMemory>
         requires saw { saw self.old (G.seen gate.now).policy (G.seen gate.now).records }
         ensures expects { OnOk result
-            (expects self.new (G.seen gate.now).policy (G.seen gate.now).records next.now) };
+            (expects self.new (G.seen gate.now).policy (G.seen gate.now).records next.now) }
+        ensures asked { asked self.new ≡ asked self.old };
 
     /// Looks at the gate behind that record, its last.
     ///
@@ -41,7 +48,8 @@ pub trait Watches<G: AccessGate> {
         requires expects { expects self.old (G.seen gate.now).policy
             (earlier_of (G.seen gate.now).records) left.now }
         ensures saw { OnOk result
-            (saw self.new (G.seen gate.now).policy (G.seen gate.now).records) };
+            (saw self.new (G.seen gate.now).policy (G.seen gate.now).records) }
+        ensures asked { asked self.new ≡ asked self.old };
 }
 
 /// Looks at nothing.
@@ -49,6 +57,8 @@ pub trait Watches<G: AccessGate> {
 pub struct NoWatch;
 
 impl<G: AccessGate> Watches<G> for NoWatch {
+    ghost asked = { λ _. tt };
+
     ghost saw = { λ _ _ _. Unit {0} };
 
     ghost expects = { λ _ _ _ _. Unit {0} };

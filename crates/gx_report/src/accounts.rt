@@ -19,7 +19,7 @@ fn total_of(requests: OrderRequests) -> u64 {
 }
 
 fn killed_cell(row: &AccountRow) -> Cell {
-    if row.is_killed {
+    if row.killed.is_killed {
         Cell::Name(name_of(b"KILLED"))
     } else {
         Cell::Empty

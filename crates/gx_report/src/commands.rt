@@ -43,7 +43,7 @@ fn names_of(action: &Action) -> [Cell; 2] {
 
 /// Whether the rule's limit is a value, or a part of the reference price: ten-thousandths.
 fn counts_ten_thousandths(policy: &Policy, name: RuleId) -> bool {
-    match policy.rules().iter().find(|rule| rule.name == name) {
+    match policy.rule(name) {
         Some(rule) => matches!(
             rule.kind,
             RuleKind::Order(OrderLimit::Value | OrderLimit::Collar, _)

@@ -185,6 +185,8 @@ impl Samples {
 impl<G: ShowsState> Watches<G> for Samples {
     ghost use Rattle.gx_report.specs.Samples.{AreTaken};
 
+    ghost asked = { λ _. tt };
+
     ghost saw = { λ samples policy records. AreTaken policy samples records };
 
     ghost expects = { λ samples policy records next. AreTaken policy samples records };

@@ -52,6 +52,21 @@ fn set_of(alloc: Global, stocks: &[Symbol]) -> Result<IndexSet<Symbol>, OutOfMem
     Ok(set)
 }
 
+/// A set of so many stocks and fewer is walked: that costs less than to look one up by its hash.
+const FEW_STOCKS: usize = 8;
+
+/// Whether the stock is in the set.
+fn is_among(stocks: &IndexSet<Symbol>, stock: Symbol) -> bool
+    ensures { result ≡ lists_stock stocks.now.keys stock }
+{
+    let listed = stocks.as_slice();
+    if listed.len() <= FEW_STOCKS {
+        listed.iter().any(|one| *one == stock)
+    } else {
+        stocks.contains(&stock)
+    }
+}
+
 impl BookRule {
     /// The rule of the policy file. `OutOfMemory` where memory was refused.
     pub fn new(alloc: Global, rule: &FileRule) -> Result<BookRule, OutOfMemory>
@@ -103,7 +118,7 @@ impl BookRule {
         ensures { result ≡ option_map_or (λ stocks. lists_stock stocks stock)
             (stocks_of (kind_of self.now)) false }
     {
-        self.has_list() && self.stocks.contains(&stock)
+        self.has_list() && is_among(&self.stocks, stock)
     }
 
     /// Puts the stock on the rule's list, if it has one.
@@ -141,7 +156,7 @@ impl BookRule {
         ensures { result ≡ kind_forbids (kind_of self.now) (F.told figures.now place) w.now }
     {
         match &self.kind {
-            RuleKind::Listed(_, _) => self.stocks.contains(&w.stock),
+            RuleKind::Listed(_, _) => is_among(&self.stocks, w.stock),
             RuleKind::Plain(PlainKind::NoShort) => matches!(w.side, b'T' | b'E'),
             RuleKind::Plain(PlainKind::NoIso) => w.intermarket_sweep == b'Y',
             RuleKind::Plain(PlainKind::OddLot) => w.shares % 100 != 0,

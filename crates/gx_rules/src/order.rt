@@ -16,7 +16,13 @@ use gx_policy::{BUILT_IN, RuleName};
 /// How many built-in rules stand before those of the file.
 const RULES_BEFORE: usize = 21;
 
-/// Those of them that can forbid a Cancel.
+/// Those of them that can forbid a Login.
+const RULES_OF_LOGIN: [RuleName; 4] = [RuleName::L1, RuleName::L2, RuleName::L3, RuleName::G2];
+
+/// Those that can forbid a Logout or a command.
+const RULES_OF_ALL: [RuleName; 2] = [RuleName::G1, RuleName::G2];
+
+/// Those that can forbid a Cancel.
 const RULES_OF_CANCEL: [RuleName; 4] = [RuleName::G1, RuleName::G2, RuleName::I2, RuleName::I3];
 
 fn first_of(names: &[RuleName], facts: &Facts, request: &Request) -> Option<RuleName>
@@ -133,7 +139,10 @@ pub fn first_before(facts: &Facts, request: &Request) -> Option<RuleName>
         Request::Enter(m) => first_of_enter(facts, m),
         Request::Replace(m) => first_of_replace(facts, m),
         Request::Cancel(_) => first_of(&RULES_OF_CANCEL, facts, request),
-        _ => first_of(&BUILT_IN[..RULES_BEFORE], facts, request),
+        Request::Login(_) => first_of(&RULES_OF_LOGIN, facts, request),
+        Request::Logout => first_of(&RULES_OF_ALL, facts, request),
+        Request::Command(_) => first_of(&RULES_OF_ALL, facts, request),
+        Request::Unreadable(_) => first_of(&BUILT_IN[..RULES_BEFORE], facts, request),
     }
 }
 

@@ -330,7 +330,7 @@ fn raw_form(words: &mut Words) -> Result<ScriptStep, Wrong>
 fn is(word: &[u8], name: &[u8]) -> bool
     ensures { result ≡ bytes_eq word.now name.now }
 {
-    word == name
+    word.len() == name.len() && word == name
 }
 
 /// The form that the word names, of the words behind it: a command's, where no other has this name.

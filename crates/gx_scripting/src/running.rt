@@ -10,11 +10,10 @@ use crate::script_fault::LineFault;
 use gx_answers::{AccessGate, StepFault, asked, count_of};
 use gx_history::record::{Asked, Request};
 use gx_script::{
-    ScriptLine, ScriptStep, Wanted, Wrong, append, append_idle, append_outcome, append_refused,
-    report_lines,
+    ScriptLine, ScriptStep, Wanted, Wrong, append_idle, append_outcome, append_refused,
+    append_reports,
 };
 use gx_units::{OutOfMemory, SessionName, UserName};
-use std::alloc::Global;
 
 /// A blank session name means the day's session.
 const BLANK_SESSION: SessionName = SessionName {
@@ -128,19 +127,19 @@ fn settle_lines<G: AccessGate>(
     }
 }
 
-/// The lines of the user's stream.
-fn stream_lines<G: AccessGate>(
-    alloc: Global,
+/// Puts the lines of the user's stream at the end of the text.
+fn append_stream<G: AccessGate>(
     gate: &G,
     user: UserName,
-) -> Result<Vec<u8>, OutOfMemory>
-    ensures { IfOk result (λ text. text.items
-        ≡ report_lines user 1 (stream (G.seen gate.now).policy (G.seen gate.now).records user)) }
+    text: &mut Vec<u8>,
+) -> Result<(), OutOfMemory>
+    ensures { OnOk result (text.new.items ≡ text.old.items
+        ++ report_lines user 1 (stream (G.seen gate.now).policy (G.seen gate.now).records user)) }
 {
     let pulled = gate.reports(user, 1, u64::MAX)?;
     let reports = pulled.reports.as_slice();
     let _within = count_of(reports);
-    report_lines(alloc, user, reports)
+    append_reports(text, user, reports)
 }
 
 /// Puts the lines of the user's stream into the text. The user has to be one of the policy.
@@ -155,8 +154,7 @@ fn add_stream<G: AccessGate>(gate: &G, user: UserName, text: &mut Vec<u8>) -> Re
     if !gate.knows(user) {
         return Err(LineFault::Bad(Wrong::new(2, Wanted::KnownUser)));
     }
-    let lines = stream_lines(*text.allocator(), gate, user)?;
-    append(text, lines.as_slice())?;
+    append_stream(gate, user, text)?;
     Ok(())
 }
 

@@ -105,13 +105,13 @@ pub is_said : (policy : PolicyData) (finished : Finished) (before after : Option
 is_said policy finished before after (inl w) = record { text = []; said = inl refl; written = w }
 is_said policy finished before after (inr (reason, w)) = record { text = control_bytes (Control.Answer (LoginAnswer.Rejected reason)); said = inr (inl (reason, refl)); written = w }
 
-pub is_greeted : (user : UserName) (answer : LoginAnswer) (greeted : Greeted) (before after : Option (List ℕ)) → Appends before after (control_bytes (Control.Answer answer)) → Speech.Begins user answer greeted → Speech.IsGreeted before after greeted
-is_greeted user (LoginAnswer.Accepted session next) (Greeted.On m) before after w b = (session, subst (λ n. Appends before after (control_bytes (Control.Answer (LoginAnswer.Accepted session n)))) (sym (ap (λ k. k.next) b)) w)
-is_greeted user (LoginAnswer.Accepted session next) (Greeted.Over finished) before after w b = absurd b
-is_greeted user (LoginAnswer.Accepted session next) Greeted.Cut before after w b = absurd b
-is_greeted user (LoginAnswer.Rejected reason) (Greeted.On m) before after w b = absurd b
-is_greeted user (LoginAnswer.Rejected reason) (Greeted.Over finished) before after w b = inr (reason, w)
-is_greeted user (LoginAnswer.Rejected reason) Greeted.Cut before after w b = absurd b
+pub is_greeted : (user : UserName) (login : ℕ) (answer : LoginAnswer) (greeted : Greeted) (before after : Option (List ℕ)) → Appends before after (control_bytes (Control.Answer answer)) → Speech.Begins user login answer greeted → Speech.IsGreeted before after greeted
+is_greeted user login (LoginAnswer.Accepted session next) (Greeted.On m) before after w b = (session, subst (λ n. Appends before after (control_bytes (Control.Answer (LoginAnswer.Accepted session n)))) (sym (ap (λ k. k.next) b)) w)
+is_greeted user login (LoginAnswer.Accepted session next) (Greeted.Over finished) before after w b = absurd b
+is_greeted user login (LoginAnswer.Accepted session next) Greeted.Cut before after w b = absurd b
+is_greeted user login (LoginAnswer.Rejected reason) (Greeted.On m) before after w b = absurd b
+is_greeted user login (LoginAnswer.Rejected reason) (Greeted.Over finished) before after w b = inr (reason, w)
+is_greeted user login (LoginAnswer.Rejected reason) Greeted.Cut before after w b = absurd b
 
 blank_user : UserName
 blank_user = record { bytes = codes "      " }

@@ -9,3 +9,4 @@ pub mod Seeking
 pub mod Speech
 pub mod Takings
 pub mod Tellings
+pub mod Timings

@@ -4,21 +4,23 @@ use Rattle.gx_units.specs.declared.names.UserName.{UserName}
 use Rattle.gx_answers.specs.declared.{outcome.LoginAnswer.LoginAnswer, pulled.Pulled.Pulled}
 use Rattle.gx_lobby.specs.Watches.{watch_of, WatchData}
 
--- the user whose reports are sent, and the number of the next
+-- the user whose reports are sent, when he asked to log in, and the number of the next
 pub record Mark : Type 0 where
   pub user : UserName
+  pub login : ℕ
   pub next : ℕ
 
-abbrev pub mark : UserName → ℕ → Mark
-mark user next = record { user = user; next = next }
+abbrev pub mark : UserName → ℕ → ℕ → Mark
+mark user login next = record { user = user; login = login; next = next }
 
--- the answer to a user's login
+-- the answer to a user's login, and when he asked for it
 pub record Given : Type 0 where
   pub user : UserName
+  pub login : ℕ
   pub answer : LoginAnswer
 
-abbrev pub given : UserName → LoginAnswer → Given
-given user answer = record { user = user; answer = answer }
+abbrev pub given : UserName → ℕ → LoginAnswer → Given
+given user login answer = record { user = user; login = login; answer = answer }
 
 -- reports that were pulled, and how many records there were before
 pub record FetchedData : Type 0 where
@@ -30,7 +32,7 @@ fetched pulled count = record { pulled = pulled; count = count }
 
 -- once they were sent, the next report is the one behind them
 abbrev pub mark_sent : Mark → FetchedData → Mark
-mark_sent m f = mark m.user f.pulled.next
+mark_sent m f = mark m.user m.login f.pulled.next
 
 -- and as many records were seen as there were; where all were pulled that one pull may give, there may be more
 abbrev pub watch_sent : FetchedData → WatchData

@@ -24,10 +24,10 @@ Ticks false policy user moment session was session' is = WasTold policy user hap
 
 -- what the writer does before the login is answered: he sends the answer that is left; else the time is told, and there is
 -- nothing, for good once the session is over
-abbrev pub WasGreeted : Option LoginAnswer → PolicyData → UserName → ℕ → SessionData → Holds → SessionData → Holds → Option (Result Given Finished) → Type 0
-WasGreeted (Some answer) policy user moment session was session' is greeting =
-    ((session' ≡ session) × (is ≡ was)) × (greeting ≡ Some (Ok (given user answer)))
-WasGreeted None policy user moment session was session' is greeting =
+abbrev pub WasGreeted : Option LoginAnswer → PolicyData → UserName → ℕ → ℕ → SessionData → Holds → SessionData → Holds → Option (Result Given Finished) → Type 0
+WasGreeted (Some answer) policy user login moment session was session' is greeting =
+    ((session' ≡ session) × (is ≡ was)) × (greeting ≡ Some (Ok (given user login answer)))
+WasGreeted None policy user login moment session was session' is greeting =
     Ticks (is_over session.phase) policy user moment session was session' is × IsQuiet (is_over session'.phase) greeting
 
 -- the session is over, and nothing is left to be sent

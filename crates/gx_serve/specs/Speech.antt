@@ -119,14 +119,14 @@ IsGreeted before after (Greeted.Over finished) =
     Appends before after [] ⊎ ((reason : LoginRejection) × Appends before after (control_bytes (Control.Answer (LoginAnswer.Rejected reason))))
 IsGreeted before after Greeted.Cut = (answer : LoginAnswer) × IsFront before after (control_bytes (Control.Answer answer))
 
--- what comes of a login that a user was answered so
-abbrev pub Begins : UserName → LoginAnswer → Greeted → Type 0
-Begins user (LoginAnswer.Accepted session next) (Greeted.On m) = m ≡ mark user next
-Begins user (LoginAnswer.Accepted session next) (Greeted.Over finished) = ⊥
-Begins user (LoginAnswer.Accepted session next) Greeted.Cut = ⊥
-Begins user (LoginAnswer.Rejected reason) (Greeted.On m) = ⊥
-Begins user (LoginAnswer.Rejected reason) (Greeted.Over finished) = Unit {0}
-Begins user (LoginAnswer.Rejected reason) Greeted.Cut = ⊥
+-- what comes of a login that a user asked for then and was answered so
+abbrev pub Begins : UserName → ℕ → LoginAnswer → Greeted → Type 0
+Begins user login (LoginAnswer.Accepted session next) (Greeted.On m) = m ≡ mark user login next
+Begins user login (LoginAnswer.Accepted session next) (Greeted.Over finished) = ⊥
+Begins user login (LoginAnswer.Accepted session next) Greeted.Cut = ⊥
+Begins user login (LoginAnswer.Rejected reason) (Greeted.On m) = ⊥
+Begins user login (LoginAnswer.Rejected reason) (Greeted.Over finished) = Unit {0}
+Begins user login (LoginAnswer.Rejected reason) Greeted.Cut = ⊥
 
 -- the fact, where a user is on
 abbrev pub IfOn : Greeted → Type 0 → Type 0

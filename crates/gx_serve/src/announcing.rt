@@ -3,7 +3,7 @@
 ghost use Rattle.std.specs.Prelude.{◌≡◌};
 ghost use Rattle.gx_units.specs.Spelling.{folded_user};
 ghost use Rattle.gx_history.specs.Requests.{is_granted};
-ghost use Rattle.gx_serve.specs.Announcements.{announced_of, ended_by};
+ghost use Rattle.gx_serve.specs.Announcements.{announced_by, announced_of, ended_by};
 
 use gx_answers::Outcome;
 use gx_desk::Action;
@@ -58,7 +58,7 @@ impl Model for Announced {
 }
 
 /// Announces what a command ended, if there is anything to announce.
-pub(crate) fn announce<R: Announces>(rt: &R, orders: Option<EndedOrders>) -> Announced
+pub fn announce<R: Announces>(rt: &R, orders: Option<EndedOrders>) -> Announced
     ensures { result ≡ orders }
 {
     if let Some(orders) = &orders {
@@ -85,6 +85,28 @@ fn is_granted(verdict: &Verdict) -> bool
     matches!(verdict, Verdict::Granted)
 }
 
+/// What is to be announced of a command of this user, which was decided so and ended so much.
+pub fn announced_by(
+    user: UserName,
+    outcome: &Outcome,
+    ended: Ended,
+    action: &Action,
+) -> Option<EndedOrders>
+    ensures { result ≡ announced_by (folded_user user) outcome.now ended action.now }
+{
+    if !is_granted(&outcome.verdict) {
+        return None;
+    }
+    let by = ended_by(action)?;
+    Some(EndedOrders {
+        officer: user.folded(),
+        by,
+        number: outcome.number,
+        moment: outcome.moment,
+        ended,
+    })
+}
+
 /// What is to be announced of a user's request, which was decided so and ended so much.
 pub(crate) fn announced_of(
     user: UserName,
@@ -94,18 +116,8 @@ pub(crate) fn announced_of(
 ) -> Option<EndedOrders>
     ensures { result ≡ announced_of (folded_user user) request.now outcome.now ended }
 {
-    let Request::Command(command) = request else {
-        return None;
-    };
-    if !is_granted(&outcome.verdict) {
-        return None;
+    match request {
+        Request::Command(command) => announced_by(user, outcome, ended, &command.action),
+        _ => None,
     }
-    let by = ended_by(&command.action)?;
-    Some(EndedOrders {
-        officer: user.folded(),
-        by,
-        number: outcome.number,
-        moment: outcome.moment,
-        ended,
-    })
 }

@@ -7,7 +7,7 @@ use crate::seat::{Break, BrokenOff};
 use crate::writing::write_on;
 use gx_devices::Counted;
 use gx_door::{Dial, Door};
-use gx_lobby::{Bell, Bells, Chime, Stop};
+use gx_lobby::{AnswerTimes, Bell, Bells, Chime, Stop};
 use gx_reception::Opening;
 use std::alloc::Global;
 use std::io::{Read, Write};
@@ -57,12 +57,13 @@ fn speak<'x, D: Door, O: Write + Drop, H: HangUp, R: Wait + Clock + Dial>(
     door: &D,
     stop: &Stop,
     chime: &Chime,
+    times: &AnswerTimes,
     link: &Link<D::Ticket>,
     writer: O,
     line: &'x H,
 ) -> HungUp<'x, H> {
     let mut writer = Counted::new(writer);
-    let finished = write_on(rt, alloc, door, stop, chime, link, &mut writer);
+    let finished = write_on(rt, alloc, door, stop, chime, times, link, &mut writer);
     if finished.is_some() {
         line.finish();
         link.linger(rt);
@@ -90,22 +91,21 @@ impl Listening {
 }
 
 /// Reads to the end.
-fn listen<'x, D: Door, I: Read + Drop, R: Wait + Clock + Dial + Announces>(
+fn listen<D: Door, I: Read + Drop, R: Wait + Clock + Dial + Announces>(
     rt: &R,
     door: &D,
-    bell: &'x Bell,
-    chime: &'x Chime,
+    bells: Bells<'_>,
     link: &Link<D::Ticket>,
     opening: Opening,
     reader: Counted<I>,
 ) -> Heard {
     let mut reader = reader;
-    let bells = Bells::new(chime, bell);
     read_on(rt, door, &bells, link, opening, &mut reader)
 }
 
 /// Runs the reader and the writer of a connection that begins with a login, each in a thread of its own, until both have
-/// ended and the line was hung up. The writer is woken by its chime. What commands ended the runtime announces.
+/// ended and the line was hung up. The writer is woken by its chime, and counts how long its user's reports took. What commands
+/// ended the runtime announces.
 pub fn converse<
     'x,
     T: Drop + Send,
@@ -121,20 +121,21 @@ pub fn converse<
     bell: &'x Bell,
     chime: &'x Chime,
     stop: &'x Stop,
+    times: &'x AnswerTimes,
     link: &'x Link<T>,
     opening: Opening,
     reader: Counted<I>,
     writer: O,
     line: &'x H,
 ) -> (HungUp<'x, H>, Listening) {
+    let bells = Bells::new(chime, bell);
     thread::scope(thread::scope_env(), rt, |scope| {
-        let Ok(listening) = (&*scope).spawn(move || listen(
-            rt, door, bell, chime, link, opening, reader,
-        )) else {
+        let Ok(listening) = (&*scope).spawn(move || listen(rt, door, bells, link, opening, reader))
+        else {
             let told = link.break_off(rt, door, Break::Fault);
             return (HungUp::new(line), Listening::Unheard(told));
         };
-        let hung_up = speak(rt, alloc, door, stop, chime, link, writer, line);
+        let hung_up = speak(rt, alloc, door, stop, chime, times, link, writer, line);
         (hung_up, Listening::Heard(listening.join(rt)))
     })
 }

@@ -18,9 +18,10 @@ mod matching;
 mod reading;
 mod receiving;
 mod seat;
+mod timing;
 mod writing;
 
-pub use announcing::{Announced, Announces, EndedBy, EndedOrders};
+pub use announcing::{Announced, Announces, EndedBy, EndedOrders, announce, announced_by};
 pub use conduct::Exclusion;
 pub use connection::{HangUp, Listening, converse};
 pub use keeping::keep_on;

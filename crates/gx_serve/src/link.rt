@@ -1,13 +1,13 @@
 //! A connection's lock.
 
 ghost use Rattle.std.specs.Prelude.{◌≡◌};
-ghost use Rattle.gx_serve.specs.{Breaks.break_of, Takings.IsTakenIn, Marks.mark_sent, Speech.IsDue};
+ghost use Rattle.gx_serve.specs.{Breaks.break_of, Takings.IsTakenIn, Marks.mark_sent, Speech.IsDue, Timings.AreTimes};
 
 use crate::seat::outgoing::{Answered, Bookmark, Due, Fetched, Finished};
 use crate::seat::taking::Taken;
 use crate::seat::{Break, BrokenOff, Ended, Seat};
 use gx_door::{Caller, Dial, Door};
-use gx_lobby::{Chime, Stop};
+use gx_lobby::{AnswersNoted, Chime, Stop};
 use gx_soup::ClientPacket;
 use std::sync::{Condvar, Mutex, MutexGuard, Wait};
 use std::thread;
@@ -174,15 +174,17 @@ impl<T: Drop> Link<T> {
         self.seat.lock(rt).break_off(rt, door, cause, rt.moment())
     }
 
-    /// These reports were sent: tells the session so, and goes on behind them. Answers so many nanoseconds that the writer
-    /// may rest then, unless he is woken; 0 where there may be more to send.
+    /// These reports were sent, and it was counted how long they took: tells the session so, and goes on behind them. Answers
+    /// so many nanoseconds that the writer may rest then, unless he is woken; 0 where there may be more to send.
     pub fn sent<D: Door<Ticket = T>, R: Wait + Clock + Dial>(
         &self,
         rt: &R,
         door: &D,
+        _noted: AnswersNoted,
         fetched: Fetched,
         bookmark: &mut Bookmark,
     ) -> u64
+        requires noted { AreTimes R.shown bookmark.old.login fetched.pulled.reports _noted }
         ensures { bookmark.new ≡ mark_sent bookmark.old fetched }
     {
         let is_all = fetched.is_all();

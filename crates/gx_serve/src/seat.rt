@@ -134,6 +134,8 @@ pub struct Seat<T: Drop> {
     session: Session,
     /// Who asked to be logged in, as he wrote his name; blank before.
     user: UserName,
+    /// When he asked for it; before, when the session began.
+    login: Moment,
     /// Taken out for each call of the gate.
     pass: Option<T>,
     outbox: Outbox,
@@ -162,6 +164,7 @@ impl<T: Drop> Seat<T> {
         Seat {
             session: Session::new(moment),
             user: UserName { bytes: *b"      " },
+            login: moment,
             pass: Some(pass),
             outbox: Outbox::new(),
             deaf: false,
@@ -208,6 +211,7 @@ impl<T: Drop> Seat<T> {
         ensures settled { OnOk result (IsTrue self.new.is_settled
             → matching_of (gate_met D.policy (met D.held self.new.pass)) ≡ None) }
         ensures user { self.new.user ≡ self.old.user }
+        ensures login { self.new.login ≡ self.old.login }
         ensures session { self.new.session ≡ self.old.session }
         ensures outbox { self.new.outbox ≡ self.old.outbox }
         ensures watch { self.new.watch ≡ self.old.watch }
@@ -235,6 +239,7 @@ impl<T: Drop> Seat<T> {
         ensures out { WasLoggedOut D.policy self.old.user moment
             (met D.held self.old.pass) (met D.held self.new.pass) }
         ensures user { self.new.user ≡ self.old.user }
+        ensures login { self.new.login ≡ self.old.login }
         ensures session { self.new.session ≡ self.old.session }
         ensures outbox { self.new.outbox ≡ self.old.outbox }
         ensures watch { self.new.watch ≡ self.old.watch }
@@ -259,6 +264,7 @@ impl<T: Drop> Seat<T> {
             self.old.session (met D.held self.old.pass)
             self.new.session (met D.held self.new.pass) }
         ensures user { self.new.user ≡ self.old.user }
+        ensures login { self.new.login ≡ self.old.login }
         ensures outbox { self.new.outbox ≡ self.old.outbox }
         ensures watch { self.new.watch ≡ self.old.watch }
     {
@@ -285,6 +291,7 @@ impl<T: Drop> Seat<T> {
             self.old.session (met D.held self.old.pass)
             self.new.session (met D.held self.new.pass) }
         ensures user { self.new.user ≡ self.old.user }
+        ensures login { self.new.login ≡ self.old.login }
         ensures outbox { self.new.outbox ≡ self.old.outbox }
         ensures watch { self.new.watch ≡ self.old.watch }
     {
@@ -326,6 +333,7 @@ impl<T: Drop> Seat<T> {
             self.old.session (met D.held self.old.pass)
             self.new.session (met D.held self.new.pass) }
         ensures user { self.new.user ≡ self.old.user }
+        ensures login { self.new.login ≡ self.old.login }
         ensures outbox { self.new.outbox ≡ left_after self.old.outbox
             (turn self.old.session (happening event.entry) moment).reply.send }
         ensures watch { self.new.watch ≡ self.old.watch }
@@ -415,6 +423,7 @@ impl<T: Drop> Seat<T> {
             self.old.session (met D.held self.old.pass) self.old.outbox
             self.new.session (met D.held self.new.pass) self.new.outbox }
         ensures user { self.new.user ≡ login.now.user }
+        ensures login { self.new.login ≡ moment }
     {
         let Some(pass) = self.pass.take() else {
             unreachable!()
@@ -430,6 +439,7 @@ impl<T: Drop> Seat<T> {
         );
         self.pass = Some(pass);
         self.user = login.user;
+        self.login = moment;
         match answer {
             Ok(answer) => {
                 self.tell(rt, door, Event::Answered(answer), moment);

@@ -3,15 +3,16 @@
 ghost use Rattle.gx_devices.specs.{Blaming.IsBlamed, Devices.IsFront};
 ghost use Rattle.std.specs.{Prelude.{◌≡◌, ◌-◌, ◌^◌, ◌<◌, is_some, IfErr, OnOk, OnErr}, Io.KnownBytes.Appends};
 ghost use Rattle.gx_session.specs.{Sending.control_bytes};
-ghost use Rattle.gx_serve.specs.{Speech.{due_text, is_last, next_after, IfOn, IsGreeted, WasSaid, WasSpoken}, Tellings.told_of, Breaks.break_of};
+ghost use Rattle.gx_serve.specs.{Speech.{due_text, is_last, next_after, IfOn, IsGreeted, WasSaid, WasSpoken}, Tellings.told_of, Timings.AreTimes, Breaks.break_of};
 
 use crate::link::Link;
 use crate::seat::Break;
-use crate::seat::outgoing::{Bookmark, Due, Finished, Greeted};
+use crate::seat::outgoing::{Bookmark, Due, Fetched, Finished, Greeted};
+use crate::timing::times_of;
 use gx_answers::{LoginAnswer, StepFault};
 use gx_devices::{Counted, WriteFault};
 use gx_door::{Dial, Door};
-use gx_lobby::{Chime, Stop};
+use gx_lobby::{AnswerTimes, AnswersNoted, Chime, Stop};
 use gx_session::{Control, send_control, send_pulled};
 use std::alloc::Global;
 use std::io::Write;
@@ -115,12 +116,26 @@ pub(crate) fn send_answer<D: Door, O: Write, R: Wait>(
     }
 }
 
-/// Goes on behind what was sent: the session is told of reports, and the writer rests behind the last of them until he is
-/// woken. Answers that nothing is sent any more, if so.
+/// Counts how long it took until these reports were sent.
+fn note_times<R: Dial>(
+    rt: &R,
+    times: &AnswerTimes,
+    fetched: &Fetched,
+    bookmark: &Bookmark,
+) -> AnswersNoted
+    ensures { AreTimes R.shown bookmark.now.login fetched.now.pulled.reports result }
+{
+    let reports = fetched.pulled().reports.as_slice();
+    times.add(times_of(reports, bookmark.login(), rt.moment()))
+}
+
+/// Goes on behind what was sent: of reports it is counted how long they took, and the session is told of them, and the writer
+/// rests behind the last of them until he is woken. Answers that nothing is sent any more, if so.
 fn go_on<D: Door, R: Wait + Clock + Dial>(
     rt: &R,
     door: &D,
     chime: &Chime,
+    times: &AnswerTimes,
     link: &Link<D::Ticket>,
     due: Due,
     bookmark: &mut Bookmark,
@@ -131,7 +146,8 @@ fn go_on<D: Door, R: Wait + Clock + Dial>(
 {
     match due {
         Due::Reports(fetched) => {
-            let rest = link.sent(rt, door, fetched, bookmark);
+            let noted = note_times(rt, times, &fetched, bookmark);
+            let rest = link.sent(rt, door, noted, fetched, bookmark);
             if rest > 0 {
                 chime.hear(rt, Duration::from_nanos(rest));
             }
@@ -180,6 +196,7 @@ fn write_reports<D: Door, O: Write, R: Wait + Clock + Dial>(
     door: &D,
     stop: &Stop,
     chime: &Chime,
+    times: &AnswerTimes,
     link: &Link<D::Ticket>,
     bookmark: Bookmark,
     writer: &mut Counted<O>,
@@ -195,7 +212,7 @@ fn write_reports<D: Door, O: Write, R: Wait + Clock + Dial>(
             link.break_off(rt, door, cause);
             return None;
         }
-        if let Some(finished) = go_on(rt, door, chime, link, due, &mut bookmark) {
+        if let Some(finished) = go_on(rt, door, chime, times, link, due, &mut bookmark) {
             return Some(finished);
         }
     }
@@ -205,14 +222,15 @@ fn write_reports<D: Door, O: Write, R: Wait + Clock + Dial>(
 /// Writes the answer to a connection's login, and then, where it was accepted, its user's reports from the
 /// number that the answer names on, each once and in order, heartbeats between them, until the
 /// session is over or the writer fails. The answer and the reports are sent once the door keeps all that was done; where
-/// it can't, nothing more is sent, and the server is asked to end. Answers that the session is over and all was written, if
-/// so.
+/// it can't, nothing more is sent, and the server is asked to end. How long reports took until they were sent is counted there.
+/// Answers that the session is over and all was written, if so.
 pub fn write_on<D: Door, O: Write, R: Wait + Clock + Dial>(
     rt: &R,
     alloc: Global,
     door: &D,
     stop: &Stop,
     chime: &Chime,
+    times: &AnswerTimes,
     link: &Link<D::Ticket>,
     writer: &mut Counted<O>,
 ) -> Option<Finished>
@@ -222,7 +240,7 @@ pub fn write_on<D: Door, O: Write, R: Wait + Clock + Dial>(
 {
     match write_answer(rt, alloc, door, stop, chime, link, writer) {
         Greeted::On(bookmark) => write_reports(
-            rt, alloc, door, stop, chime, link, bookmark, writer,
+            rt, alloc, door, stop, chime, times, link, bookmark, writer,
         ),
         Greeted::Over(finished) => Some(finished),
         Greeted::Cut => None,

@@ -18,7 +18,7 @@ use gx_devices::WriteFault;
 use gx_journal::{Journal, JournalName, Journaled};
 use gx_leaving::log_out_at_last;
 use gx_listen::{DayLog, Ending, PagePort, serve_door};
-use gx_lobby::Lobby;
+use gx_lobby::{Lobby, Tallied};
 use gx_pass::{Blank, GateName, PassFault};
 use gx_policy::Policy;
 use gx_records::{ShowsRecords, ShowsState};
@@ -67,8 +67,27 @@ pub fn close_kept<G: ShowsState, N: GateName, J: JournalName, W: Write + Drop>(
     (kept, met, total)
 }
 
-/// Serves at a gate whose records are kept on this device, on which there are so many of those that the pass has met.
-/// Gives a pass too, which has met all that was done, how many records that are, and how the server ended.
+/// What is left of a day whose journal's writes were counted.
+fn untallied<G, W>(kept: Kept<G, Tallied<'_, W>>) -> Kept<G, W>
+    ensures gate { result.gate ≡ kept.entry.gate }
+    ensures fault { result.fault ≡ kept.entry.fault }
+    ensures device { result.device ≡ kept.entry.device.device }
+{
+    let Kept {
+        gate,
+        fault,
+        device,
+    } = kept;
+    Kept {
+        gate,
+        fault,
+        device: device.into_inner(),
+    }
+}
+
+/// Serves at a gate whose records are kept on this device, on which there are so many of those that the pass has met. What is
+/// written on it is counted in the lobby. Gives a pass too, which has met all that was done, how many records that are, and how
+/// the server ended.
 fn serve_kept<
     G: ShowsRecords + ShowsState + Send,
     N: GateName + Send + Sync,
@@ -107,7 +126,8 @@ fn serve_kept<
     ensures kept { result.0.fault ≡ None → IsGrown J.begun (W.contents result.0.device)
         (journal_bytes J.version (drop J.count (G.seen result.0.gate).records)) }
 {
-    let door: Journaled<'_, SharedGate<G, N>, W, J> = Journaled::new(
+    let device = Tallied::new(device, &lobby.journal);
+    let door: Journaled<'_, SharedGate<G, N>, Tallied<'_, W>, J> = Journaled::new(
         alloc, version, &shared, pass, count, device,
     );
     let entrance = Entrance::new(&shared, permits);
@@ -130,7 +150,7 @@ fn serve_kept<
     };
     let journal = door.into_journal();
     let (kept, met, total) = close_kept(shared, journal);
-    (kept, met, total, ended)
+    (untallied(kept), met, total, ended)
 }
 
 fn serve_named<
@@ -202,7 +222,8 @@ fn serve_named<
 
 /// Serves connections on a gate that has records, as [`serve`](crate::serve) does, and keeps its records on this device in
 /// this version, on which there are the first `count` of them: each is written before anything that comes of it is sent. Whoever is
-/// logged in by the records is logged out before. Gives what is left of the day, and how the server ended.
+/// logged in by the records is logged out before. What is written on the device is counted in the lobby. Gives what is left of
+/// the day, and how the server ended.
 ///
 /// After a fault of the device nothing more is sent, and the server ends.
 ///

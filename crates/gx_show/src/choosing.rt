@@ -7,7 +7,7 @@ use crate::choice::{Choice, OrderLife};
 use crate::commands::{action_of, acts_on, is_on_rule, lists};
 use crate::known_order::OrderTest;
 use crate::known_orders::KnownOrders;
-use crate::making::{account_of, asked_in, made, speaks_of};
+use crate::making::{asked_in, made, speaks_of};
 use gx_history::record::{Asked, Record, RecordData, Request, Verdict};
 use gx_policy::Policy;
 use gx_units::{AccountName, OutOfMemory, RuleId, Symbol, UserName};
@@ -17,7 +17,7 @@ use std::alloc::Global;
 fn trades_for(policy: &Policy, account: AccountName, user: UserName) -> bool
     ensures { result ≡ trades_for policy.now account user }
 {
-    match account_of(policy, user) {
+    match policy.account_of(user) {
         Some(own) => own == account,
         None => false,
     }

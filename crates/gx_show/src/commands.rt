@@ -5,7 +5,6 @@ ghost use Rattle.gx_history.specs.Requests.{action_of};
 ghost use Rattle.gx_show.specs.Choosing.{acts_on, is_on_rule, lists, rule_covers};
 
 use gx_desk::Action;
-use gx_fields::rule_in;
 use gx_history::record::Request;
 use gx_policy::Policy;
 use gx_units::{AccountName, RuleId, Symbol};
@@ -24,7 +23,7 @@ pub(crate) fn action_of(request: &Request) -> Option<Action>
 fn rule_covers(policy: &Policy, account: AccountName, name: RuleId) -> bool
     ensures { result ≡ rule_covers policy.now account name }
 {
-    match rule_in(policy.rules(), name) {
+    match policy.rule(name) {
         Some(rule) => rule.scope.covers(account),
         None => false,
     }

@@ -1,32 +1,14 @@
 //! Which order a record makes, and which it speaks of.
 
-ghost use Rattle.std.specs.Prelude.{◌≡◌, option_copied};
-ghost use Rattle.gx_policy.specs.People.{account_of, user_in};
+ghost use Rattle.std.specs.Prelude.{◌≡◌};
 ghost use Rattle.gx_show.specs.{Choosing.{is_matched, is_such, named, speaks_of}, Known.{made, made_by}, Testing.passes};
 ghost use Rattle.gx_history.specs.Requests.{asked, granted, named_token};
 
 use crate::known_order::{KnownOrder, OrderTest};
 use crate::known_orders::KnownOrders;
 use gx_history::record::{Asked, RecordData, Request, Step, Verdict};
-use gx_policy::{Policy, Role, User};
-use gx_units::{AccountName, Token, UserName};
-
-/// The user of this name.
-pub(crate) fn user_in<'a>(users: &'a [User], name: UserName) -> Option<&'a User>
-    ensures { option_copied result ≡ user_in users.now name }
-{
-    users.iter().find(|user| user.name == name)
-}
-
-/// The account that the user trades for, if he is a trader.
-pub(crate) fn account_of(policy: &Policy, user: UserName) -> Option<AccountName>
-    ensures { result ≡ account_of policy.now user }
-{
-    match &user_in(policy.users(), user)?.role {
-        Role::Trader(account) => Some(*account),
-        _ => None,
-    }
-}
+use gx_policy::Policy;
+use gx_units::Token;
 
 /// What was asked, where the record is of a request.
 pub(crate) fn asked_in(shown: &RecordData) -> Option<Asked>
@@ -62,7 +44,7 @@ fn made_by(policy: &Policy, known: &KnownOrders, number: u64, asked: &Asked) -> 
 {
     match asked.request {
         Request::Enter(m) => {
-            let account = account_of(policy, asked.user)?;
+            let account = policy.account_of(asked.user)?;
             Some(KnownOrder {
                 number,
                 user: asked.user,

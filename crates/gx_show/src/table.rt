@@ -5,7 +5,7 @@ ghost use Rattle.csv.specs.Writing.{default_writer, row_text};
 ghost use Rattle.gx_fields.specs.Cells.{cell_text};
 ghost use Rattle.gx_show.specs.Rows.{account_asked, beside_of, denied_by, shown_cells};
 
-use crate::making::{account_of, asked_in};
+use crate::making::asked_in;
 use gx_fields::{
     Beside, CELLS, Cell, EndedOrders, cells_of, csv_line, json_line, reason_of, reject_of, row_of,
 };
@@ -18,7 +18,7 @@ use std::alloc::Global;
 fn account_asked(policy: &Policy, shown: &RecordData) -> Option<AccountName>
     ensures { result ≡ account_asked policy.now shown.now }
 {
-    account_of(policy, asked_in(shown)?.user)
+    policy.account_of(asked_in(shown)?.user)
 }
 
 /// The rule that denied the request, if it was denied.

@@ -1,9 +1,9 @@
 -- An order is written in the place of the one of its number.
 use Rattle.std.proofs.{Common.{◌≡◌, ◌<◌, ◌-◌, ℕ, zero, suc, ◌+◌, Bool, true, false, cond, List, [], ◌∷◌, map, length, set, refl, ◌∙◌, sym, ap, arith, ◌==◌, if◌then◌else◌}, lemmas.{Bool.{eqb-true, eqb-false}, List.Quantifiers.position-Some, Option.{slice_get_within, slice_get-get_or}}}
-use Rattle.std.specs.{Prelude.{Some, None, slice_get, ◌&&◌, get_or}, List.position}
+use Rattle.std.specs.{Prelude.{Option, Some, None, slice_get, ◌&&◌, get_or}, List.position, Option.option_map_or}
 use Rattle.gx_history.specs.declared.live_order.LiveOrder.{LiveOrder}
-use Rattle.gx_slab.proofs.{Finding.{alone, both_true, found_nowhere, not_true, some_is}, Putting.{fresh_apart, is_set, others_stay}}
-use Rattle.gx_slab.specs.Slabs.{IsPlaced, has_number, is_open, open_ones, stands_for, written}
+use Rattle.gx_slab.proofs.{Finding.{alone, both_true, found_at, found_nowhere, not_true, some_is}, Putting.{fresh_apart, is_set, others_stay}}
+use Rattle.gx_slab.specs.Slabs.{IsPlaced, at_rest, has_number, is_open, live_numbered, open_ones, stands_for, written}
 
 -- the order in the place of the one of its number
 abbrev in_place : LiveOrder → LiveOrder → LiveOrder
@@ -115,3 +115,28 @@ is_written places rows o i placed found =
           shown = shown_written rows o p i at parts.0 parts.1 (λ k q e l h. alone places rows o.number i p placed at is k q e (joined (is_open q) (has_number o.number q) l h));
           counted = counts (is_open o) (length (open_ones rows)) (length (open_ones (set rows i o))) (count_written rows o p i at parts.0);
         }
+
+-- the live order at the place of its number, once it waits no more
+pub record IsRested (places : List ℕ) (rows : List LiveOrder) (number : ℕ) (r : LiveOrder) (i : ℕ) : Type 0 where
+  pub placed : IsPlaced places (set rows i (at_rest r))
+  pub shown : open_ones (set rows i (at_rest r)) ≡ option_map_or (λ (o : LiveOrder). written (at_rest o) (open_ones rows)) (live_numbered (open_ones rows) number) (open_ones rows)
+  pub counted : length (open_ones rows) ≡ length (open_ones (set rows i (at_rest r)))
+
+pub is_rested : (places : List ℕ) (rows : List LiveOrder) (number : ℕ) (r : LiveOrder) (i : ℕ) → IsPlaced places rows → position (stands_for number) rows ≡ Some i → r ≡ get_or rows i r
+    → IsRested places rows number r i
+is_rested places rows number r i placed found at =
+    let there = position-Some (stands_for number) rows i r found in
+    let parts = both_true (is_open r) (has_number number r) (ap (stands_for number) at ∙ there.1) in
+    let w = is_written places rows (at_rest r) i placed (ap (λ (n : ℕ). position (stands_for n) rows) (eqb-true r.number number parts.1) ∙ found) in
+    record {
+      placed = w.placed;
+      shown =
+          w.shown
+          ∙ ap (λ (o : Option LiveOrder). option_map_or (λ (p : LiveOrder). written (at_rest p) (open_ones rows)) o (open_ones rows)) (ap (λ (p : LiveOrder). Some p) at ∙ sym (slice_get-get_or rows i r there.0) ∙ found_at rows number i found);
+      counted = sym (ap (λ (b : Bool). if b then length (open_ones rows) else length (open_ones rows) - 1) parts.0) ∙ w.counted;
+    }
+
+pub none_rested : (rows : List LiveOrder) (number : ℕ) → position (stands_for number) rows ≡ None
+    → open_ones rows ≡ option_map_or (λ (o : LiveOrder). written (at_rest o) (open_ones rows)) (live_numbered (open_ones rows) number) (open_ones rows)
+none_rested rows number none =
+    ap (λ (o : Option LiveOrder). option_map_or (λ (p : LiveOrder). written (at_rest p) (open_ones rows)) o (open_ones rows)) (sym (found_nowhere rows number none))

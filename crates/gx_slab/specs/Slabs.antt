@@ -1,5 +1,5 @@
 -- Orders in the places that they were put in, seen as those that are live.
-use Rattle.std.specs.{Prelude.{ℕ, ◌≡◌, ◌+◌, ◌*◌, ◌<◌, ◌≤◌, Bool, true, ◌&&◌, ◌==◌, nat_lt, List, length, map, Option, Some, if◌then◌else◌, slice_get}, List.{filter, filter_map, find, position_or_len}}
+use Rattle.std.specs.{Prelude.{ℕ, ◌≡◌, ◌+◌, ◌*◌, ◌<◌, ◌≤◌, Bool, true, false, ◌&&◌, ◌==◌, nat_lt, List, length, map, Option, Some, if◌then◌else◌, slice_get}, List.{filter, filter_map, find, position_or_len}}
 use Rattle.gx_units.specs.{Names.same_account, declared.names.AccountName.AccountName}
 use Rattle.gx_history.specs.declared.live_order.LiveOrder.{LiveOrder}
 pub use Rattle.gx_history.specs.Live.{live_numbered, of_others}
@@ -35,6 +35,10 @@ first_waiting live = find (λ (o : LiveOrder). o.waits) live
 -- the live orders with this one in the place of the one of its number, if that lives; it is gone where nothing of it is open
 abbrev pub written : LiveOrder → List LiveOrder → List LiveOrder
 written o live = open_ones (map (λ (x : LiveOrder). if has_number o.number x then o else x) live)
+
+-- the order stands in the book: it waits no more
+abbrev pub at_rest : LiveOrder → LiveOrder
+at_rest o = record o { waits = false }
 
 -- a row has the live order of this number
 abbrev pub stands_for : ℕ → LiveOrder → Bool

@@ -50,6 +50,9 @@ pub(crate) fn order_of<'a>(
     }
 }
 
+/// So many places are made at once: one for a number, and those of the numbers behind it.
+const AT_ONCE: usize = 64;
+
 /// Makes room for the place of this number.
 pub(crate) fn make_room(places: &mut Vec<usize>, number: u64) -> Result<(), OutOfMemory>
     ensures ok { OnOk result (HasRoom number places.old.items places.new.items) }
@@ -59,7 +62,7 @@ pub(crate) fn make_room(places: &mut Vec<usize>, number: u64) -> Result<(), OutO
     if at < places.len() {
         return Ok(());
     }
-    let Some(room) = at.checked_add(1) else {
+    let Some(room) = at.checked_add(AT_ONCE) else {
         return Err(OutOfMemory);
     };
     places.resize(room, 0)?;
@@ -77,6 +80,7 @@ fn note_all(places: &mut Vec<usize>, rows: &[LiveOrder])
 }
 
 /// Takes out the orders that have ended.
+#[inline(never)]
 fn sweep(places: &mut Vec<usize>, rows: &mut Vec<LiveOrder>)
     requires { IsPlaced places.old.items rows.old.items }
     ensures left { rows.new.items ≡ open_ones rows.old.items }

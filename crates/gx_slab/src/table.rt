@@ -1,7 +1,8 @@
 //! The table.
 
-ghost use Rattle.std.specs.Prelude.{◌≡◌, ◌<◌, ◌^◌, [], ◌∷◌, ◌++◌, length, None, option_copied, IsTrue, OnOk, OnErr};
-ghost use Rattle.gx_slab.specs.Slabs.{first_waiting, is_open, live_numbered, numbered_of, order_of, written};
+ghost use Rattle.std.specs.Option.{option_map_or};
+ghost use Rattle.std.specs.Prelude.{◌≡◌, ◌<◌, ◌^◌, [], ◌∷◌, ◌++◌, length, None, option_copied, IsTrue, IfOk, OnOk, OnErr};
+ghost use Rattle.gx_slab.specs.Slabs.{at_rest, first_waiting, is_open, live_numbered, numbered_of, order_of, written};
 
 use crate::live::LiveOrders;
 use crate::places::{make_room, order_of, place_of, thin_out};
@@ -10,6 +11,9 @@ use gx_history::live_order::LiveOrder;
 use gx_units::{AccountName, OutOfMemory};
 use std::alloc::Global;
 use std::marker::Model;
+
+/// So many orders have room from the first on: a list that grows moves all that it holds.
+const FIRST_ORDERS: usize = 16_384;
 
 /// Orders in rows, in the order in which they were put: found by number, and changed where they stand. Contracts see the
 /// list of those that are live. Rows of orders that have ended are taken out once they are more than the live ones (and
@@ -39,16 +43,22 @@ impl Model for Table {
 }
 
 impl Table {
-    /// No order. It takes no memory.
-    pub fn new(alloc: Global) -> Table
-        ensures { result ≡ [] }
+    /// No order.
+    ///
+    /// # Errors
+    ///
+    /// `OutOfMemory` where there is no memory for the first orders.
+    pub fn new(alloc: Global) -> Result<Table, OutOfMemory>
+        ensures { IfOk result (λ table. table ≡ []) }
     {
-        Table {
-            places: Vec::new(alloc),
-            rows: Vec::new(alloc),
+        let places = Vec::with_capacity(alloc, FIRST_ORDERS)?;
+        let rows = Vec::with_capacity(alloc, FIRST_ORDERS)?;
+        Ok(Table {
+            places,
+            rows,
             live: 0,
             first: 0,
-        }
+        })
     }
 
     /// How many orders are live. It looks at none.
@@ -118,6 +128,7 @@ impl Table {
 
     /// Writes the order in the place of the one of its number, if that is live; it is gone where nothing of it is open.
     /// It takes no memory.
+    #[inline(always)]
     pub fn write(&mut self, order: LiveOrder)
         ensures { self.new ≡ written order self.old }
     {
@@ -128,6 +139,18 @@ impl Table {
         self.rows[place] = order;
         self.live = count_once_written(&order, self.live);
         self.first = thin_out(&mut self.places, &mut self.rows, self.live, from);
+    }
+
+    /// The live order of this number waits no more. Nothing changes where none has the number. It takes no memory.
+    pub fn rest(&mut self, number: u64)
+        ensures { self.new ≡ option_map_or (λ o. written (at_rest o) self.old)
+            (live_numbered self.old number) self.old }
+    {
+        let Some(place) = place_of(&self.places, &self.rows, number) else {
+            return;
+        };
+        self.rows[place].waits = false;
+        self.first = first_place(&self.rows, self.first);
     }
 
     /// All orders have ended. It takes no memory.

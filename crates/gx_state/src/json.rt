@@ -5,6 +5,11 @@ ghost use Rattle.gx_overview.specs.Commands.{granted_commands};
 
 use crate::numbers::append_integer;
 use gx_history::live_order::LiveOrder;
+use gx_json::{
+    append_bool_member, append_command_member, append_count_member, append_first_key,
+    append_first_name, append_first_number, append_integer_member, append_key, append_name_member,
+    append_number_member, append_sum_member, append_time_member, append_user,
+};
 use gx_overview::accounts::{AccountRow, account_rows};
 use gx_overview::commands::{GrantedCommand, granted_commands};
 use gx_overview::day::{DayRow, UserRow, day_row, lines_left, user_rows};
@@ -15,10 +20,8 @@ use gx_overview::rules::{
 use gx_policy::{Account, ExposureLimit, FileRule, RuleKind};
 use gx_records::{ShowsRecords, ShowsState};
 use gx_slab::live::LiveOrders;
-use gx_text::{
-    Decimals, append, append_json_name, append_json_string, append_moment, append_number,
-};
-use gx_units::{AccountName, Moment, OutOfMemory};
+use gx_text::{append, append_json_string};
+use gx_units::{AccountName, OutOfMemory};
 use std::alloc::Global;
 
 /// Puts a comma in front of each item but the first.
@@ -29,80 +32,18 @@ fn append_comma(text: &mut Vec<u8>, place: usize) -> Result<(), OutOfMemory> {
     Ok(())
 }
 
-fn append_time(text: &mut Vec<u8>, moment: Moment) -> Result<(), OutOfMemory> {
-    append(text, b"\"")?;
-    append_moment(text, moment, Decimals::Nine)?;
-    append(text, b"\"")
-}
-
-fn append_bool(text: &mut Vec<u8>, value: bool) -> Result<(), OutOfMemory> {
-    append(text, if value { b"true" } else { b"false" })
-}
-
-/// A limit, or `null`.
-fn append_limit(text: &mut Vec<u8>, limit: Option<u64>) -> Result<(), OutOfMemory> {
-    match limit {
-        Some(limit) => append_number(text, limit),
-        None => append(text, b"null"),
-    }
-}
-
-/// A sum, or `null`.
-fn append_sum(text: &mut Vec<u8>, sum: Option<u128>) -> Result<(), OutOfMemory> {
-    match sum {
-        Some(sum) => append_integer(text, sum),
-        None => append(text, b"null"),
-    }
-}
-
-/// A sum that may be below 0, or `null`.
-fn append_difference(text: &mut Vec<u8>, sum: Option<i128>) -> Result<(), OutOfMemory> {
-    match sum {
-        Some(sum) => append_integer(text, sum),
-        None => append(text, b"null"),
-    }
-}
-
-/// A command, or `null`.
-fn append_command(text: &mut Vec<u8>, command: Option<&GrantedCommand>) -> Result<(), OutOfMemory> {
-    let Some(command) = command else {
-        return append(text, b"null");
-    };
-    append(text, b"{\"officer\":")?;
-    append_json_name(text, &command.officer.bytes)?;
-    append(text, b",\"at\":")?;
-    append_time(text, command.moment)?;
-    append(text, b",\"record\":")?;
-    append_number(text, command.number)?;
-    append(text, b"}")
-}
-
 fn append_day(
     text: &mut Vec<u8>,
     session: &[u8],
     day: &DayRow,
     lines: u16,
 ) -> Result<(), OutOfMemory> {
-    append(text, b"{\"session\":")?;
-    append_json_name(text, session)?;
-    append(text, b",\"record\":")?;
-    append_number(text, day.records)?;
-    append(text, b",\"records_left\":")?;
-    append_number(text, day.left)?;
-    append(text, b",\"lines_left\":")?;
-    append_number(text, u64::from(lines))?;
-    append(text, b",\"at\":")?;
-    append_time(text, day.moment)?;
-    append(text, b",\"closed\":")?;
-    append_bool(text, day.is_closed)
-}
-
-fn append_user(text: &mut Vec<u8>, row: &UserRow) -> Result<(), OutOfMemory> {
-    append(text, b"{\"user\":")?;
-    append_json_name(text, &row.user.bytes)?;
-    append(text, b",\"line\":")?;
-    append_limit(text, row.line.map(|line| u64::from(line)))?;
-    append(text, b"}")
+    append_first_name(text, b"session", session)?;
+    append_number_member(text, b"record", day.records)?;
+    append_number_member(text, b"records_left", day.left)?;
+    append_number_member(text, b"lines_left", u64::from(lines))?;
+    append_time_member(text, b"at", day.moment)?;
+    append_bool_member(text, b"closed", day.is_closed)
 }
 
 fn append_users(text: &mut Vec<u8>, rows: &[UserRow]) -> Result<(), OutOfMemory> {
@@ -115,18 +56,18 @@ fn append_users(text: &mut Vec<u8>, rows: &[UserRow]) -> Result<(), OutOfMemory>
 
 /// What was executed on a side: shares, and their value.
 fn append_executed(text: &mut Vec<u8>, done: &Executed) -> Result<(), OutOfMemory> {
-    append(text, b"{\"shares\":")?;
+    append_first_key(text, b"shares")?;
     append_integer(text, done.shares)?;
-    append(text, b",\"value\":")?;
+    append_key(text, b"value")?;
     append_integer(text, done.value)?;
     append(text, b"}")
 }
 
 /// What an account has executed on both sides.
 fn append_done(text: &mut Vec<u8>, row: &ExecutedRow) -> Result<(), OutOfMemory> {
-    append(text, b",\"bought\":")?;
+    append_key(text, b"bought")?;
     append_executed(text, &row.bought)?;
-    append(text, b",\"sold\":")?;
+    append_key(text, b"sold")?;
     append_executed(text, &row.sold)
 }
 
@@ -135,19 +76,14 @@ fn append_account(
     row: &AccountRow,
     executed: Option<&ExecutedRow>,
 ) -> Result<(), OutOfMemory> {
-    append(text, b"{\"account\":")?;
-    append_json_name(text, &row.account.bytes)?;
-    append(text, b",\"killed\":")?;
-    append_bool(text, row.is_killed)?;
-    append(text, b",\"kill\":")?;
-    append_command(text, row.kill.as_ref())?;
-    append(text, b",\"lift\":")?;
-    append_command(text, row.lift.as_ref())?;
-    append(text, b",\"live\":")?;
-    append_number(text, row.live.orders)?;
-    append(text, b",\"open_buys\":")?;
+    append_first_name(text, b"account", &row.account.bytes)?;
+    append_bool_member(text, b"killed", row.killed.is_killed)?;
+    append_command_member(text, b"kill", row.killed.kill)?;
+    append_command_member(text, b"lift", row.killed.lift)?;
+    append_number_member(text, b"live", row.live.orders)?;
+    append_key(text, b"open_buys")?;
     append_integer(text, row.live.buys)?;
-    append(text, b",\"open_sells\":")?;
+    append_key(text, b"open_sells")?;
     append_integer(text, row.live.sells)?;
     if let Some(executed) = executed {
         append_done(text, executed)?;
@@ -168,12 +104,9 @@ fn append_accounts(
 }
 
 fn append_used(text: &mut Vec<u8>, row: &GrossRow) -> Result<(), OutOfMemory> {
-    append(text, b"{\"account\":")?;
-    append_json_name(text, &row.account.bytes)?;
-    append(text, b",\"used\":")?;
-    append_sum(text, row.used)?;
-    append(text, b",\"left\":")?;
-    append_sum(text, row.left)?;
+    append_first_name(text, b"account", &row.account.bytes)?;
+    append_sum_member(text, b"used", row.used)?;
+    append_sum_member(text, b"left", row.left)?;
     append(text, b"}")
 }
 
@@ -191,18 +124,12 @@ fn append_net_row(
     account: AccountName,
     row: &NetRow,
 ) -> Result<(), OutOfMemory> {
-    append(text, b"{\"account\":")?;
-    append_json_name(text, &account.bytes)?;
-    append(text, b",\"stock\":")?;
-    append_json_name(text, &row.stock.bytes)?;
-    append(text, b",\"buys\":")?;
-    append_difference(text, row.buys)?;
-    append(text, b",\"sells\":")?;
-    append_difference(text, row.sells)?;
-    append(text, b",\"buys_left\":")?;
-    append_sum(text, row.buys_left)?;
-    append(text, b",\"sells_left\":")?;
-    append_sum(text, row.sells_left)?;
+    append_first_name(text, b"account", &account.bytes)?;
+    append_name_member(text, b"stock", &row.stock.bytes)?;
+    append_integer_member(text, b"buys", row.buys)?;
+    append_integer_member(text, b"sells", row.sells)?;
+    append_sum_member(text, b"buys_left", row.buys_left)?;
+    append_sum_member(text, b"sells_left", row.sells_left)?;
     append(text, b"}")
 }
 
@@ -236,12 +163,9 @@ fn append_net<G: ShowsState>(
 }
 
 fn append_listing(text: &mut Vec<u8>, row: &ListingRow) -> Result<(), OutOfMemory> {
-    append(text, b"{\"stock\":")?;
-    append_json_name(text, &row.stock.bytes)?;
-    append(text, b",\"listed\":")?;
-    append_bool(text, row.is_listed)?;
-    append(text, b",\"put\":")?;
-    append_command(text, row.put.as_ref())?;
+    append_first_name(text, b"stock", &row.stock.bytes)?;
+    append_bool_member(text, b"listed", row.is_listed)?;
+    append_command_member(text, b"put", row.put)?;
     append(text, b"}")
 }
 
@@ -282,14 +206,10 @@ fn append_standing<G: ShowsState>(
 
 /// The limit of a rule: that in force, that of the file, and who set it last.
 fn append_limits(text: &mut Vec<u8>, row: &LimitRow) -> Result<(), OutOfMemory> {
-    append(text, b"{\"rule\":")?;
-    append_json_name(text, &row.rule.bytes)?;
-    append(text, b",\"limit\":")?;
-    append_limit(text, row.limit)?;
-    append(text, b",\"file\":")?;
-    append_limit(text, row.file)?;
-    append(text, b",\"set\":")?;
-    append_command(text, row.set.as_ref())
+    append_first_name(text, b"rule", &row.rule.bytes)?;
+    append_count_member(text, b"limit", row.limit)?;
+    append_count_member(text, b"file", row.file)?;
+    append_command_member(text, b"set", row.set)
 }
 
 fn append_rules<G: ShowsState>(
@@ -334,26 +254,17 @@ fn append_all_rules<G: ShowsState>(
 }
 
 fn append_order(text: &mut Vec<u8>, order: &LiveOrder) -> Result<(), OutOfMemory> {
-    append(text, b"{\"order\":")?;
-    append_number(text, order.number)?;
-    append(text, b",\"account\":")?;
-    append_json_name(text, &order.account.bytes)?;
-    append(text, b",\"user\":")?;
-    append_json_name(text, &order.user.bytes)?;
-    append(text, b",\"token\":")?;
-    append_json_name(text, &order.token.bytes)?;
-    append(text, b",\"side\":")?;
+    append_first_number(text, b"order", order.number)?;
+    append_name_member(text, b"account", &order.account.bytes)?;
+    append_name_member(text, b"user", &order.user.bytes)?;
+    append_name_member(text, b"token", &order.token.bytes)?;
+    append_key(text, b"side")?;
     append_json_string(text, &[order.terms.side])?;
-    append(text, b",\"open\":")?;
-    append_number(text, u64::from(order.open()))?;
-    append(text, b",\"total\":")?;
-    append_number(text, u64::from(order.total))?;
-    append(text, b",\"stock\":")?;
-    append_json_name(text, &order.terms.stock.bytes)?;
-    append(text, b",\"price\":")?;
-    append_number(text, u64::from(order.terms.price))?;
-    append(text, b",\"waits\":")?;
-    append_bool(text, order.waits)?;
+    append_number_member(text, b"open", u64::from(order.open()))?;
+    append_number_member(text, b"total", u64::from(order.total))?;
+    append_name_member(text, b"stock", &order.terms.stock.bytes)?;
+    append_number_member(text, b"price", u64::from(order.terms.price))?;
+    append_bool_member(text, b"waits", order.waits)?;
     append(text, b"}")
 }
 

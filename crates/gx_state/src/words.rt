@@ -92,14 +92,14 @@ fn append_account(
     if let Some(executed) = executed {
         append_done(text, executed)?;
     }
-    if row.is_killed {
+    if row.killed.is_killed {
         append(text, b"  KILLED")?;
     }
-    if let Some(kill) = &row.kill {
+    if let Some(kill) = &row.killed.kill {
         append(text, b" by ")?;
         append_command(text, kill)?;
     }
-    if let Some(lift) = &row.lift {
+    if let Some(lift) = &row.killed.lift {
         append(text, b"  lifted by ")?;
         append_command(text, lift)?;
     }

@@ -1,4 +1,4 @@
-pub mod Parts
+pub mod Listings
 pub mod Rows
 pub mod States
 pub mod Metrics

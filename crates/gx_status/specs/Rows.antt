@@ -1,23 +1,37 @@
 -- Each row of a view as a JSON object.
-use Rattle.std.specs.Prelude.{ℕ, List, ◌++◌, Option, Some, None, codes, decimal}
+use Rattle.std.specs.Prelude.{ℕ, List, ◌++◌, codes, decimal}
 use Rattle.gx_text.specs.Shown.{json_name}
-use Rattle.gx_units.specs.declared.names.UserName.{UserName}
 use Rattle.gx_desk.specs.declared.Action.{Action}
-use Rattle.gx_policy.specs.{RuleNames.rule_id, declared.rule_name.RuleName.RuleName}
-use Rattle.gx_history.specs.declared.record.{Asked.Asked, RecordData.RecordData, Request.Request, Step.Step, Verdict.Verdict}
-use Rattle.gx_overview.specs.declared.{accounts.AccountRow.AccountRow, day.UserRow.UserRow, rules.LimitRow.LimitRow}
-use Rattle.gx_board.specs.declared.{denied.DeniedRow.DeniedRow, uses.{GrossUse.GrossUse, NetUse.NetUse}}
-use Rattle.gx_status.specs.Parts.{bool_text, command_text, first_member, integer_or_null, member, number_or_null, time_text}
+use Rattle.gx_policy.specs.{RuleNames.rule_id, declared.{kinds.{ExposureLimit.ExposureLimit, KindName.KindName, OrderLimit.OrderLimit}}}
+use Rattle.gx_history.specs.declared.record.{RecordData.RecordData, Request.Request, Step.Step, Verdict.Verdict}
+use Rattle.gx_overview.specs.declared.rules.LimitRow.{LimitRow}
+use Rattle.gx_board.specs.declared.{accounts.AccountState.AccountState, denied.DeniedRow.DeniedRow, uses.{GrossUse.GrossUse, NetUse.NetUse}}
+use Rattle.gx_json.specs.{Parts.{bool_text, first_member, integer_or_null, member, number_or_null, time_text}, Rows.command_text}
 
 -- an account: whether it is killed, by whom and when, who has lifted it since, and what it has live
-abbrev pub account_json : AccountRow → List ℕ
+abbrev pub account_json : AccountState → List ℕ
 account_json row =
-    first_member (codes "account") (json_name row.account.bytes) ++ member (codes "killed") (bool_text row.is_killed) ++ member (codes "kill") (command_text row.kill)
-    ++ member (codes "lift") (command_text row.lift) ++ member (codes "live") (decimal row.live.orders) ++ codes "}"
+    first_member (codes "account") (json_name row.account.bytes) ++ member (codes "killed") (bool_text row.killed.is_killed) ++ member (codes "kill") (command_text row.killed.kill)
+    ++ member (codes "lift") (command_text row.killed.lift) ++ member (codes "live") (decimal row.orders) ++ codes "}"
 
--- a rule's limit: that in force, and that of the file
+-- what the limit of a rule of this kind is counted in; null where it has none that an officer sets
+abbrev pub unit_text : KindName → List ℕ
+unit_text (KindName.Listed kind) = codes "null"
+unit_text (KindName.Plain kind) = codes "null"
+unit_text (KindName.Order OrderLimit.Shares) = codes "\"shares\""
+unit_text (KindName.Order OrderLimit.Value) = codes "\"dollars/10000\""
+unit_text (KindName.Order OrderLimit.Collar) = codes "\"price/10000\""
+unit_text (KindName.Exposure ExposureLimit.GrossShares) = codes "\"shares\""
+unit_text (KindName.Exposure ExposureLimit.GrossValue) = codes "\"dollars/10000\""
+unit_text (KindName.Exposure ExposureLimit.NetShares) = codes "\"shares\""
+unit_text KindName.Rate = codes "null"
+unit_text KindName.Repeat = codes "null"
+
+-- a rule's limit: its unit, that in force, and that of the file
 abbrev pub limit_json : LimitRow → List ℕ
-limit_json row = first_member (codes "rule") (json_name row.rule.bytes) ++ member (codes "limit") (number_or_null row.limit) ++ member (codes "file") (number_or_null row.file) ++ codes "}"
+limit_json row =
+    first_member (codes "rule") (json_name row.rule.bytes) ++ member (codes "unit") (unit_text row.kind) ++ member (codes "limit") (number_or_null row.limit)
+    ++ member (codes "file") (number_or_null row.file) ++ codes "}"
 
 -- what an account has used of the limit of a gross rule
 abbrev pub gross_json : GrossUse → List ℕ
@@ -34,10 +48,6 @@ net_json seen =
 -- how often a rule denied a request
 abbrev pub denied_json : DeniedRow → List ℕ
 denied_json row = first_member (codes "rule") (json_name row.rule.bytes) ++ member (codes "count") (decimal row.count) ++ codes "}"
-
--- a user, and the line that he is logged in on
-abbrev pub user_json : UserRow → List ℕ
-user_json row = first_member (codes "user") (json_name row.user.bytes) ++ member (codes "line") (number_or_null row.line) ++ codes "}"
 
 -- what was asked for, in a word
 abbrev pub action_word : Action → List ℕ

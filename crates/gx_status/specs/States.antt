@@ -2,7 +2,8 @@
 use Rattle.std.specs.Prelude.{ℕ, List, ◌++◌, ◌-◌, codes, decimal}
 use Rattle.gx_board.specs.declared.{counts.Counts.Counts, view.View.View}
 use Rattle.gx_overview.specs.declared.day.DayRow.{DayRow}
-use Rattle.gx_status.specs.{Parts.{array_text, bool_text, first_member, member, time_text}, Rows.{account_json, denied_json, gross_json, limit_json, net_json, record_json, user_json}}
+use Rattle.gx_json.specs.{Parts.{bool_text, first_member, member, time_text}, Rows.user_json}
+use Rattle.gx_status.specs.{Listings.array_text, Rows.{account_json, denied_json, gross_json, limit_json, net_json, record_json}}
 
 -- how far the day is, and how many records are left
 unfoldable pub day_numbers : DayRow → List ℕ

@@ -1,7 +1,7 @@
 //! Rows as a JSON array.
 
 ghost use Rattle.std.specs.Prelude.{◌≡◌, ◌++◌, ◌∷◌, codes, flat_map, OnOk};
-ghost use Rattle.gx_status.specs.Parts.{array_text, rows_text};
+ghost use Rattle.gx_status.specs.Listings.{array_text, rows_text};
 
 use gx_text::append;
 use gx_units::OutOfMemory;

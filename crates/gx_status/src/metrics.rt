@@ -1,18 +1,18 @@
 //! A view as a Prometheus server reads it: the text format, version 0.0.4.
 
 ghost use Rattle.std.specs.Prelude.{◌≡◌, ◌++◌, flat_map, OnOk};
-ghost use Rattle.gx_status.specs.Metrics.{connections_figure, denied_family, denied_figure, denied_sample, family, figure, fills_figure, granted_figure, killed_family, killed_figure, killed_sample, journaled_figure, left_family, left_figure, left_sample, lines_left_figure, live_family, live_figure, live_sample, records_figure, records_left_figure, sample, sample_of, sample_under, server_figures, used_family, used_figure, used_sample, view_figures};
+ghost use Rattle.gx_status.specs.Metrics.{denied_family, denied_figure, denied_sample, family, figure, fills_figure, granted_figure, killed_family, killed_figure, killed_sample, left_family, left_figure, left_sample, lines_left_figure, live_family, live_figure, live_sample, records_figure, records_left_figure, sample, sample_of, sample_under, used_family, used_figure, used_sample, view_figures};
 
-use gx_board::{Counts, DeniedRow, GrossUse, View};
-use gx_overview::accounts::AccountRow;
+use crate::limits::{append_all_limits, append_all_net};
+use gx_board::{AccountState, Counts, DeniedRow, GrossUse, View};
 use gx_overview::day::DayRow;
-use gx_text::{append, append_json_name, append_number};
+use gx_text::{append, append_json_name};
 use gx_units::OutOfMemory;
 use itoa::Buffer;
 
-/// What a figure is: its name, what it says, and whether it is a counter or a gauge.
+/// What a figure is: its name, what it says, and whether it is a counter, a gauge or a histogram.
 #[tactic(auto, unfolding(crate::specs::Metrics::family))]
-fn append_family(
+pub(crate) fn append_family(
     text: &mut Vec<u8>,
     name: &[u8],
     help: &[u8],
@@ -32,14 +32,48 @@ fn append_family(
     append(text, b"\n")
 }
 
-/// A sample without labels.
+/// A sample without labels whose value may be larger.
 #[tactic(auto, unfolding(crate::specs::Metrics::sample))]
+pub(crate) fn append_large_sample(
+    text: &mut Vec<u8>,
+    name: &[u8],
+    value: u128,
+) -> Result<(), OutOfMemory>
+    ensures { OnOk result (text.new.items ≡ text.old.items ++ sample name.now value) }
+{
+    let mut digits = Buffer::new();
+    append(text, name)?;
+    append(text, b" ")?;
+    append(text, digits.format(value).as_bytes())?;
+    append(text, b"\n")
+}
+
+/// A sample without labels.
 fn append_sample(text: &mut Vec<u8>, name: &[u8], value: u64) -> Result<(), OutOfMemory>
     ensures { OnOk result (text.new.items ≡ text.old.items ++ sample name.now value) }
 {
+    append_large_sample(text, name, u128::from(value))
+}
+
+/// A sample of an account, of a rule or of a bucket, whose value may be larger.
+pub(crate) fn append_large_sample_of(
+    text: &mut Vec<u8>,
+    name: &[u8],
+    label: &[u8],
+    labelled: &[u8],
+    value: u128,
+) -> Result<(), OutOfMemory>
+    ensures { OnOk result (text.new.items
+        ≡ text.old.items ++ sample_of name.now label.now labelled.now value) }
+{
+    let mut digits = Buffer::new();
     append(text, name)?;
-    append(text, b" ")?;
-    append_number(text, value)?;
+    append(text, b"{")?;
+    append(text, label)?;
+    append(text, b"=")?;
+    append_json_name(text, labelled)?;
+    append(text, b"} ")?;
+    append(text, digits.format(value).as_bytes())?;
     append(text, b"\n")
 }
 
@@ -54,14 +88,7 @@ fn append_sample_of(
     ensures { OnOk result (text.new.items
         ≡ text.old.items ++ sample_of name.now label.now labelled.now value) }
 {
-    append(text, name)?;
-    append(text, b"{")?;
-    append(text, label)?;
-    append(text, b"=")?;
-    append_json_name(text, labelled)?;
-    append(text, b"} ")?;
-    append_number(text, value)?;
-    append(text, b"\n")
+    append_large_sample_of(text, name, label, labelled, u128::from(value))
 }
 
 #[tactic(auto, unfolding(crate::specs::Metrics::denied_sample))]
@@ -78,7 +105,7 @@ fn append_denied_sample(text: &mut Vec<u8>, row: &DeniedRow) -> Result<(), OutOf
 }
 
 #[tactic(auto, unfolding(crate::specs::Metrics::live_sample))]
-fn append_live_sample(text: &mut Vec<u8>, row: &AccountRow) -> Result<(), OutOfMemory>
+fn append_live_sample(text: &mut Vec<u8>, row: &AccountState) -> Result<(), OutOfMemory>
     ensures { OnOk result (text.new.items ≡ text.old.items ++ live_sample row.now) }
 {
     append_sample_of(
@@ -86,7 +113,7 @@ fn append_live_sample(text: &mut Vec<u8>, row: &AccountRow) -> Result<(), OutOfM
         b"boskurige_live_orders",
         b"account",
         &row.account.bytes,
-        row.live.orders,
+        row.orders,
     )
 }
 
@@ -102,7 +129,7 @@ fn append_denied(text: &mut Vec<u8>, rows: &[DeniedRow]) -> Result<(), OutOfMemo
 }
 
 /// How many orders each account has live.
-fn append_live(text: &mut Vec<u8>, rows: &[AccountRow]) -> Result<(), OutOfMemory>
+fn append_live(text: &mut Vec<u8>, rows: &[AccountState]) -> Result<(), OutOfMemory>
     ensures { OnOk result (text.new.items ≡ text.old.items ++ flat_map live_sample rows.now) }
 {
     for row in rows {
@@ -112,10 +139,10 @@ fn append_live(text: &mut Vec<u8>, rows: &[AccountRow]) -> Result<(), OutOfMemor
 }
 
 #[tactic(auto, unfolding(crate::specs::Metrics::killed_sample))]
-fn append_killed_sample(text: &mut Vec<u8>, row: &AccountRow) -> Result<(), OutOfMemory>
+fn append_killed_sample(text: &mut Vec<u8>, row: &AccountState) -> Result<(), OutOfMemory>
     ensures { OnOk result (text.new.items ≡ text.old.items ++ killed_sample row.now) }
 {
-    let killed = if row.is_killed { 1 } else { 0 };
+    let killed = if row.killed.is_killed { 1 } else { 0 };
     append_sample_of(
         text,
         b"boskurige_account_killed",
@@ -126,7 +153,7 @@ fn append_killed_sample(text: &mut Vec<u8>, row: &AccountRow) -> Result<(), OutO
 }
 
 /// Which accounts are killed.
-fn append_killed(text: &mut Vec<u8>, rows: &[AccountRow]) -> Result<(), OutOfMemory>
+fn append_killed(text: &mut Vec<u8>, rows: &[AccountState]) -> Result<(), OutOfMemory>
     ensures { OnOk result (text.new.items ≡ text.old.items ++ flat_map killed_sample rows.now) }
 {
     for row in rows {
@@ -159,7 +186,7 @@ fn append_sample_under(
 }
 
 /// A figure of one sample.
-fn append_figure(
+pub(crate) fn append_figure(
     text: &mut Vec<u8>,
     name: &[u8],
     help: &[u8],
@@ -269,7 +296,7 @@ fn append_live_family(text: &mut Vec<u8>) -> Result<(), OutOfMemory>
     )
 }
 
-fn append_all_live(text: &mut Vec<u8>, rows: &[AccountRow]) -> Result<(), OutOfMemory>
+fn append_all_live(text: &mut Vec<u8>, rows: &[AccountState]) -> Result<(), OutOfMemory>
     ensures { OnOk result (text.new.items ≡ text.old.items ++ live_figure rows.now) }
 {
     append_live_family(text)?;
@@ -288,7 +315,7 @@ fn append_killed_family(text: &mut Vec<u8>) -> Result<(), OutOfMemory>
     )
 }
 
-fn append_all_killed(text: &mut Vec<u8>, rows: &[AccountRow]) -> Result<(), OutOfMemory>
+fn append_all_killed(text: &mut Vec<u8>, rows: &[AccountState]) -> Result<(), OutOfMemory>
     ensures { OnOk result (text.new.items ≡ text.old.items ++ killed_figure rows.now) }
 {
     append_killed_family(text)?;
@@ -395,49 +422,8 @@ pub fn append_figures(text: &mut Vec<u8>, view: &View) -> Result<(), OutOfMemory
     append_all_denied(text, view.denied.as_slice())?;
     append_all_live(text, view.accounts.as_slice())?;
     append_all_killed(text, view.accounts.as_slice())?;
+    append_all_limits(text, view.limits.as_slice())?;
     append_all_used(text, view.gross.as_slice())?;
-    append_all_left(text, view.gross.as_slice())
-}
-
-#[tactic(auto, unfolding(crate::specs::Metrics::connections_figure))]
-fn append_connections(text: &mut Vec<u8>, connections: u16) -> Result<(), OutOfMemory>
-    ensures { OnOk result (text.new.items ≡ text.old.items ++ connections_figure connections) }
-{
-    append_figure(
-        text,
-        b"boskurige_connections",
-        b"Connections that are served.",
-        b"gauge",
-        u64::from(connections),
-    )
-}
-
-#[tactic(auto, unfolding(crate::specs::Metrics::journaled_figure))]
-fn append_journaled(text: &mut Vec<u8>, is_journaled: bool) -> Result<(), OutOfMemory>
-    ensures { OnOk result (text.new.items ≡ text.old.items ++ journaled_figure is_journaled) }
-{
-    append_figure(
-        text,
-        b"boskurige_journaled",
-        b"1 where each record is kept before it is told.",
-        b"gauge",
-        if is_journaled { 1 } else { 0 },
-    )
-}
-
-/// Puts the figures of a server at the end of the text: how many connections it serves, and whether it has a journal.
-///
-/// # Errors
-///
-/// `OutOfMemory` where memory was refused; then a part of them may stand at the end of the text.
-pub fn append_server_figures(
-    text: &mut Vec<u8>,
-    is_journaled: bool,
-    connections: u16,
-) -> Result<(), OutOfMemory>
-    ensures { OnOk result
-        (text.new.items ≡ text.old.items ++ server_figures is_journaled connections) }
-{
-    append_connections(text, connections)?;
-    append_journaled(text, is_journaled)
+    append_all_left(text, view.gross.as_slice())?;
+    append_all_net(text, view.net.as_slice())
 }

@@ -2,33 +2,50 @@
 
 ghost use Rattle.std.specs.Prelude.{◌≡◌, ◌++◌, OnOk};
 ghost use Rattle.gx_history.specs.declared.record.Step.TheVariants as steps;
-ghost use Rattle.gx_status.specs.Rows.{account_json, action_word, asked_json, denied_by, denied_json, first_members, gross_json, last_member, limit_json, named_by, named_by_action, net_json, record_json, request_word, user_json};
+ghost use Rattle.gx_json.specs.Rows.{user_json};
+ghost use Rattle.gx_status.specs.Rows.{account_json, action_word, asked_json, denied_by, denied_json, first_members, gross_json, last_member, limit_json, named_by, named_by_action, net_json, record_json, request_word, unit_text};
 
 use crate::listing::Row;
-use crate::parts::{
-    append_bool_member, append_command_member, append_count_member, append_first_name,
-    append_first_number, append_integer_member, append_key, append_name_member,
-    append_number_member, append_sum_member, append_time_member,
-};
-use gx_board::{DeniedRow, GrossUse, NetUse};
+use gx_board::{AccountState, DeniedRow, GrossUse, NetUse};
 use gx_desk::Action;
 use gx_history::record::{Asked, RecordData, Request, Step, Verdict};
-use gx_overview::accounts::AccountRow;
+use gx_json::{
+    append_bool_member, append_command_member, append_count_member, append_first_name,
+    append_first_number, append_integer_member, append_key, append_name_member,
+    append_number_member, append_sum_member, append_time_member, append_user,
+};
 use gx_overview::day::UserRow;
 use gx_overview::rules::LimitRow;
+use gx_policy::{ExposureLimit, KindName, OrderLimit};
 use gx_text::{append, append_json_name};
 use gx_units::OutOfMemory;
 
-impl Row for AccountRow {
+impl Row for AccountState {
     ghost json = { account_json };
 
     fn append_json(&self, text: &mut Vec<u8>) -> Result<(), OutOfMemory> {
         append_first_name(text, b"account", &self.account.bytes)?;
-        append_bool_member(text, b"killed", self.is_killed)?;
-        append_command_member(text, b"kill", self.kill)?;
-        append_command_member(text, b"lift", self.lift)?;
-        append_number_member(text, b"live", self.live.orders)?;
+        append_bool_member(text, b"killed", self.killed.is_killed)?;
+        append_command_member(text, b"kill", self.killed.kill)?;
+        append_command_member(text, b"lift", self.killed.lift)?;
+        append_number_member(text, b"live", self.orders)?;
         append(text, b"}")
+    }
+}
+
+/// What the limit of a rule of this kind is counted in.
+fn unit_text(kind: KindName) -> &'static [u8]
+    ensures { result.now ≡ unit_text kind }
+{
+    match kind {
+        KindName::Order(OrderLimit::Shares)
+        | KindName::Exposure(ExposureLimit::GrossShares)
+        | KindName::Exposure(ExposureLimit::NetShares) => b"\"shares\"",
+        KindName::Order(OrderLimit::Value) | KindName::Exposure(ExposureLimit::GrossValue) => {
+            b"\"dollars/10000\""
+        }
+        KindName::Order(OrderLimit::Collar) => b"\"price/10000\"",
+        KindName::Listed(_) | KindName::Plain(_) | KindName::Rate | KindName::Repeat => b"null",
     }
 }
 
@@ -37,6 +54,8 @@ impl Row for LimitRow {
 
     fn append_json(&self, text: &mut Vec<u8>) -> Result<(), OutOfMemory> {
         append_first_name(text, b"rule", &self.rule.bytes)?;
+        append_key(text, b"unit")?;
+        append(text, unit_text(self.kind))?;
         append_count_member(text, b"limit", self.limit)?;
         append_count_member(text, b"file", self.file)?;
         append(text, b"}")
@@ -82,9 +101,7 @@ impl Row for UserRow {
     ghost json = { user_json };
 
     fn append_json(&self, text: &mut Vec<u8>) -> Result<(), OutOfMemory> {
-        append_first_name(text, b"user", &self.user.bytes)?;
-        append_count_member(text, b"line", self.line.map(|line| u64::from(line)))?;
-        append(text, b"}")
+        append_user(text, self)
     }
 }
 

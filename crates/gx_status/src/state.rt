@@ -1,13 +1,14 @@
 //! A view as one JSON object.
 
 ghost use Rattle.std.specs.Prelude.{◌≡◌, ◌++◌, OnOk};
-ghost use Rattle.gx_status.specs.{Parts.{array_text, member}, States.{count_members, day_end, day_numbers, denial_members, lines_member, people_members, standing_members, use_members, view_members}};
+ghost use Rattle.gx_json.specs.Parts.{member};
+ghost use Rattle.gx_status.specs.{Listings.array_text, States.{count_members, day_end, day_numbers, denial_members, lines_member, people_members, standing_members, use_members, view_members}};
 
 use crate::listing::{Row, append_array};
-use crate::parts::{
+use gx_board::{Counts, View};
+use gx_json::{
     append_bool_member, append_first_number, append_key, append_number_member, append_time_member,
 };
-use gx_board::{Counts, View};
 use gx_overview::day::DayRow;
 use gx_units::OutOfMemory;
 

@@ -3,9 +3,10 @@
 ghost use Rattle.std.specs.Prelude.{◌≡◌, ◌++◌, OnOk};
 ghost use Rattle.gx_status.specs.Viewers.{journal_word, page_text, server_members, viewer_members};
 
-use crate::parts::{append_bool_member, append_name_member, append_number_member};
+use crate::server::ServerFigures;
 use crate::state::append_view;
 use gx_board::View;
+use gx_json::{append_bool_member, append_name_member, append_number_member};
 use gx_text::append;
 use gx_units::{OutOfMemory, UserName};
 
@@ -18,10 +19,8 @@ pub struct Viewer {
     pub may_kill: bool,
     /// What his page gives back with what it asks for.
     pub token: [u8; 32],
-    /// Whether the server has a journal.
-    pub is_journaled: bool,
-    /// How many connections it serves.
-    pub connections: u16,
+    /// What the server says of itself.
+    pub server: ServerFigures,
 }
 
 /// Whether there is a journal, in a word.
@@ -41,11 +40,11 @@ fn append_viewer(text: &mut Vec<u8>, viewer: &Viewer) -> Result<(), OutOfMemory>
 }
 
 #[tactic(auto, unfolding(crate::specs::Viewers::server_members))]
-fn append_server(text: &mut Vec<u8>, viewer: &Viewer) -> Result<(), OutOfMemory>
-    ensures { OnOk result (text.new.items ≡ text.old.items ++ server_members viewer.now) }
+fn append_server(text: &mut Vec<u8>, server: &ServerFigures) -> Result<(), OutOfMemory>
+    ensures { OnOk result (text.new.items ≡ text.old.items ++ server_members server.now) }
 {
-    append_name_member(text, b"journal", journal_word(viewer.is_journaled))?;
-    append_number_member(text, b"connections", u64::from(viewer.connections))
+    append_name_member(text, b"journal", journal_word(server.is_journaled))?;
+    append_number_member(text, b"connections", u64::from(server.connections))
 }
 
 /// Puts a view at the end of the text as a JSON object, with what the page is told of its user and of its server behind it.
@@ -58,6 +57,6 @@ pub fn append_page(text: &mut Vec<u8>, view: &View, viewer: &Viewer) -> Result<(
 {
     append_view(text, view)?;
     append_viewer(text, viewer)?;
-    append_server(text, viewer)?;
+    append_server(text, &viewer.server)?;
     append(text, b"}")
 }

@@ -15,3 +15,4 @@ pub mod Owing
 pub mod OnlyKnown
 pub mod Finding
 pub mod Sending
+mod Within

@@ -1,8 +1,8 @@
 -- What a reader is told, from the spans of fills in which one mask was in force.
-use Rattle.std.specs.{Prelude.{◌≡◌, ◌≤◌, ℕ, Bool, Some, if◌then◌else◌, ◌+◌, ◌*◌, ◌-◌, List, [], ◌∷◌, ◌++◌, length, take, drop}, List.{AllByRecursion, flat_map}}
+use Rattle.std.specs.{Map.values_of, Prelude.{IsTrue, ◌≡◌, ◌≤◌, ℕ, Bool, Some, if◌then◌else◌, ◌+◌, ◌*◌, ◌-◌, List, [], ◌∷◌, ◌++◌, length, take, drop}, List.{AllByRecursion, flat_map}}
 use Rattle.gx_units.specs.{Names.same_user, declared.names.UserName.UserName}
 use Rattle.gx_policy.specs.{declared.policy.{User.User, PolicyData.PolicyData}, People.is_reader}
-use Rattle.gx_history.specs.declared.report.Report.{Report}
+use Rattle.gx_history.specs.{Masks.has_account, declared.report.Report.{Report}}
 use Rattle.gx_streams.specs.{declared.{fill.ToldFill.ToldFill, span.Span.Span}, Fills.{copies_of, copies_of_all}}
 
 -- a reader's spans, and how many reports he has
@@ -71,3 +71,16 @@ is_named user r = same_user user r.user
 -- each reader stands under his name
 abbrev pub AreNamed : List (UserName × ReaderSpans) → Type 0
 AreNamed entries = AllByRecursion (λ (e : UserName × ReaderSpans). e.1.user ≡ e.0) entries
+
+-- the other mask has each account of the mask
+abbrev pub IsWithin : ℕ → ℕ → Type 0
+IsWithin other mask = (place : ℕ) → IsTrue (has_account mask place) → IsTrue (has_account other place)
+
+-- it has each account that a reader is told of now
+abbrev pub AreWithin : ℕ → List ReaderSpans → Type 0
+AreWithin other readers = AllByRecursion (λ (r : ReaderSpans). IsWithin other r.current.mask) readers
+
+-- the readers under their names, and a mask that has all their accounts
+pub record AreHeld (read : ℕ) (entries : List (UserName × ReaderSpans)) : Type 0 where
+  pub named : AreNamed entries
+  pub within : AreWithin read (values_of entries)

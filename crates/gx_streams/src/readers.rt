@@ -16,18 +16,20 @@ use std::marker::Model;
 #[derive(Drop)]
 pub(crate) struct Readers {
     by_name: IndexMap<UserName, Reader>,
+    /// No reader has an account that is not in this mask.
+    read: u64,
 }
 
 impl Model for Readers {
     ghost use Rattle.std.specs.Prelude.{List};
     ghost use Rattle.std.specs.Map.{values_of};
-    ghost use Rattle.gx_streams.specs.Spans.{AreNamed, ReaderSpans};
+    ghost use Rattle.gx_streams.specs.Spans.{AreHeld, ReaderSpans};
 
     ghost Value = { List ReaderSpans };
 
     ghost view = { λ r. values_of r.by_name.entries };
 
-    ghost invariant = { λ r. AreNamed r.by_name.entries };
+    ghost invariant = { λ r. AreHeld r.read r.by_name.entries };
 }
 
 fn is_reader(user: &User) -> bool
@@ -50,7 +52,7 @@ impl Readers {
             }
             by_name.insert(user.name, Reader::new(alloc, user.name))?;
         }
-        Ok(Readers { by_name })
+        Ok(Readers { by_name, read: 0 })
     }
 
     /// The reader of this name.
@@ -76,11 +78,14 @@ impl Readers {
         Some((*user, reader.current().mask))
     }
 
-    /// Counts the copies of one more fill for each reader.
+    /// Counts the copies of one more fill for each reader. It looks at none where no reader has an account of it.
     pub(crate) fn note(&mut self, fill: &ToldFill)
         requires { AllByRecursion (λ r. r.count + 2 < 2 ^ 64) self.old }
         ensures { self.new ≡ map (counted fill.now) self.old }
     {
+        if fill.count(self.read) == 0 {
+            return;
+        }
         for place in 0..self.by_name.len() {
             self.by_name[place].note(fill);
         }
@@ -98,6 +103,7 @@ impl Readers {
             ≡ at_first (is_named user) (entitled_from mask fill) self.old) }
         ensures err { OnErr result (self.new ≡ self.old) }
     {
+        self.read |= mask;
         let Some(reader) = self.by_name.get_mut(&user) else {
             return Ok(());
         };

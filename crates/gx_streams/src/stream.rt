@@ -1,6 +1,6 @@
 //! What is kept of one user's reports.
 
-ghost use Rattle.std.specs.Prelude.{◌≡◌, ◌+◌, ◌<◌, ◌≤◌, vec_capacity, vec_len, IsOk, OnOk, OnErr};
+ghost use Rattle.std.specs.Prelude.{◌≡◌, ◌+◌, ◌<◌, ◌≤◌, vec_capacity, vec_len, IfOk, IsOk, OnOk, OnErr};
 ghost use Rattle.gx_streams.specs.Kept.{nothing_kept, with_kept_last, with_last, with_places, without_last};
 
 use crate::entry::Entry;
@@ -46,14 +46,14 @@ fn make_room(entries: &mut Vec<Entry>, more: usize) -> Result<(), OutOfMemory>
 }
 
 impl Stream {
-    /// Nothing, and no place kept. Takes no memory.
-    pub(crate) fn new(alloc: Global) -> Stream
-        ensures { result ≡ nothing_kept }
+    /// Nothing, and no place kept, with room for so many entries.
+    pub(crate) fn new(alloc: Global, room: usize) -> Result<Stream, OutOfMemory>
+        ensures { IfOk result (λ stream. stream ≡ nothing_kept) }
     {
-        Stream {
-            entries: Vec::new(alloc),
+        Ok(Stream {
+            entries: Vec::with_capacity(alloc, room)?,
             spare: 0,
-        }
+        })
     }
 
     /// Puts the entry last, in a place of its own: those that are kept stay kept.

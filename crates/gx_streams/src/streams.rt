@@ -21,6 +21,9 @@ use std::marker::Model;
 /// No span has more fills.
 const SPAN_LIMIT: usize = 1024;
 
+/// So many fills have room from the first on: a list that grows moves all that it holds.
+const FIRST_FILLS: usize = 4096;
+
 /// How many reports a user has, and where he stands among the policy's users: a call that looks
 /// for him at this place first finds him there. The place that was asked for, if he is none of them.
 #[derive(Clone, Copy)]
@@ -133,11 +136,14 @@ impl Streams {
     pub fn new(alloc: Global, policy: &Policy) -> Result<Streams, OutOfMemory>
         ensures { IfOk result (λ streams. streams ≡ empty_streams policy.now) }
     {
+        let fills = Vec::with_capacity(alloc, FIRST_FILLS)?;
+        let told = Told::new(alloc, policy)?;
+        let readers = Readers::new(alloc, policy)?;
         Ok(Streams {
             alloc,
-            fills: Vec::new(alloc),
-            told: Told::new(alloc, policy)?,
-            readers: Readers::new(alloc, policy)?,
+            fills,
+            told,
+            readers,
         })
     }
 

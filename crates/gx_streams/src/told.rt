@@ -12,6 +12,9 @@ use indexmap::IndexMap;
 use std::alloc::Global;
 use std::marker::Model;
 
+/// So many entries have room from the first on, as many for each user: a list that grows moves all that it holds.
+const FIRST_ENTRIES: usize = 16_384;
+
 /// What is kept of what each user of the policy was told, in order, and places kept for more.
 #[derive(Drop)]
 pub(crate) struct Told {
@@ -46,8 +49,10 @@ impl Told {
         // What this ensures: no two users have one name.
         let _ = policy.rules();
         let mut by_user = IndexMap::with_capacity(alloc, policy.users().len())?;
+        let room = FIRST_ENTRIES / policy.users().len().max(1);
         for user in policy.users() {
-            by_user.insert(user.name, Stream::new(alloc))?;
+            let stream = Stream::new(alloc, room)?;
+            by_user.insert(user.name, stream)?;
         }
         Ok(Told { by_user })
     }

@@ -33,6 +33,8 @@ pub struct Finished {
 pub struct Bookmark {
     user: UserName,
     next: u64,
+    /// When he asked to log in.
+    login: Moment,
 }
 
 impl Model for Bookmark {
@@ -40,7 +42,16 @@ impl Model for Bookmark {
 
     ghost Value = { Mark };
 
-    ghost view = { λ b. mark b.user b.next };
+    ghost view = { λ b. mark b.user b.login b.next };
+}
+
+impl Bookmark {
+    /// When the user asked to log in: reports of steps before are told again.
+    pub fn login(&self) -> Moment
+        ensures { result ≡ self.now.login }
+    {
+        self.login
+    }
 }
 
 /// The answer to a login, and whose it is. A seat alone gives one.
@@ -48,6 +59,8 @@ impl Model for Bookmark {
 pub struct Answered {
     user: UserName,
     answer: LoginAnswer,
+    /// When he asked for it.
+    login: Moment,
 }
 
 impl Model for Answered {
@@ -55,7 +68,7 @@ impl Model for Answered {
 
     ghost Value = { Given };
 
-    ghost view = { λ a. given a.user a.answer };
+    ghost view = { λ a. given a.user a.login a.answer };
 }
 
 impl Answered {
@@ -68,12 +81,13 @@ impl Answered {
 
     /// What becomes of the login, once the answer was sent.
     pub fn sent(self) -> Greeted
-        ensures { Begins self.user self.answer result }
+        ensures { Begins self.user self.login self.answer result }
     {
         match self.answer {
             LoginAnswer::Accepted { session: _, next } => Greeted::On(Bookmark {
                 user: self.user,
                 next,
+                login: self.login,
             }),
             LoginAnswer::Rejected(_) => Greeted::Over(Finished { _seen: () }),
         }
@@ -215,7 +229,8 @@ impl<T: Drop> Seat<T> {
         moment: Moment,
     ) -> Option<Result<Answered, Finished>>
         requires clock { R.shown moment }
-        ensures greeted { WasGreeted self.old.outbox.answer D.policy self.old.user moment
+        ensures greeted { WasGreeted self.old.outbox.answer
+            D.policy self.old.user self.old.login moment
             self.old.session (met D.held self.old.pass)
             self.new.session (met D.held self.new.pass) result }
         ensures taken { self.new.outbox.answer ≡ None }
@@ -225,6 +240,7 @@ impl<T: Drop> Seat<T> {
             Some(answer) => Some(Ok(Answered {
                 user: self.user,
                 answer,
+                login: self.login,
             })),
             None => {
                 if self.session.is_over() {

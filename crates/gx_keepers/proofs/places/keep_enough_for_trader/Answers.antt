@@ -4,7 +4,6 @@ use Rattle.gx_orders.specs.LiveOrders.{is_of_user}
 use Rattle.gx_positions.proofs.Small.{few_pass}
 use Rattle.gx_streams.specs.{Kept.{places_in, with_places}, Streams.{AllStreams, is_told}, Telling.shown}
 use Rattle.gx_streams.proofs.{Places.users_stay, Telling.places_not_shown}
-use Rattle.gx_keepers.specs.Keepers.{count_of}
 use Rattle.gx_keepers.proofs.Keepings.{as_many_places, more_places}
 use Rattle.gx_keepers.proofs.places.keep_enough_for_trader.Goals as goal
 

@@ -1,6 +1,6 @@
-use Rattle.std.proofs.Common.{◌≡◌, Some, take}
+use Rattle.std.proofs.Common.{◌≡◌, take}
 use Rattle.gx_ledger.specs.Counts.{noted_in}
 use Rattle.gx_ledger.proofs.tables.note_in.Given as goal
 
-abbrev pub invariant-loop-index : goal.invariant-loop-index
-invariant-loop-index l = l.tallies ≡ noted_in l.change (Some l.place) l.initial.tallies (take l.index-index l.indexes)
+abbrev pub invariant-loop-place : goal.invariant-loop-place
+invariant-loop-place l = l.tallies ≡ noted_in l.change l.initial.tallies (take l.place-index l.places)

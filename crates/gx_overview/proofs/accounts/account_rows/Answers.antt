@@ -1,6 +1,5 @@
-use Rattle.std.proofs.Common.{◌∙◌, ap}
-use Rattle.std.specs.Prelude.{List, [], fold, map}
-use Rattle.gx_policy.specs.declared.policy.PolicyData.{PolicyData}
+use Rattle.std.proofs.Common.{◌∙◌}
+use Rattle.std.specs.Prelude.{fold, map}
 use Rattle.gx_overview.specs.Accounts.{entries_with, row_of}
 use Rattle.gx_overview.proofs.Counting.{rows_stand}
 use Rattle.gx_overview.proofs.accounts.account_rows.Goals as goal
@@ -12,7 +11,7 @@ returns g c =
     record {
       rows =
           c.in_ok-rows.ensures
-          ∙ (λ i. map (row_of policy records c.args.commands.now (c.in_ok-note_live.ensures.noted i)) (c.accounts.ensures i))
-          ∙ (λ i. map (row_of policy records c.args.commands.now (fold entries_with (c.new-table.ensures.empty i) (c.live_orders.ensures i))) (c.policy.ensures i).accounts)
-          ∙ rows_stand policy records c.args.commands.now c.requires.commands;
+          ∙ (λ i. map (row_of policy records (c.in_ok-note_live.ensures.noted i)) (c.accounts.ensures i))
+          ∙ (λ i. map (row_of policy records (fold entries_with (c.new-table.ensures.empty i) (c.live_orders.ensures i))) (c.policy.ensures i).accounts)
+          ∙ rows_stand policy records;
     }

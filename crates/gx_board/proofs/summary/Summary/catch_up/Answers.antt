@@ -1,4 +1,4 @@
-use Rattle.std.proofs.Common.{◌≡◌, ℕ, ◌+◌, ◌<◌, ◌^◌, List, length, take, drop, min, ap, sym, ◌∙◌, subst, arith}
+use Rattle.std.proofs.Common.{List, length, take, drop, ap, ◌∙◌, subst, arith}
 use Rattle.std.proofs.lemmas.Bool.{eqb-true, eqb-false}
 use Rattle.gx_history.specs.declared.record.RecordData.{RecordData}
 use Rattle.gx_board.specs.Summaries.{Follows}

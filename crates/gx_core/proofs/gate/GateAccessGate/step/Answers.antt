@@ -24,8 +24,8 @@ pub returns-clause-effect : goal.returns-clause-effect
 returns-clause-effect c =
     ap (world c.self.inside.policy)
     (c.push_reserved.ensures.records
-    ∙ ap (λ (records : List RecordData). records ++ c.new-record.result ∷ []) c.keep_for.ensures.records
-    ∙ ap (λ (r : RecordData). c.self.inside.history.records ++ r ∷ []) (c.new-record.ensures ∙ c.record_of-entry.ensures))
+    ∙ ap (λ (records : List RecordData). records ++ c.new.result ∷ []) c.keep_for.ensures.records
+    ∙ ap (λ (r : RecordData). c.self.inside.history.records ++ r ∷ []) (c.new.ensures ∙ c.record_of.ensures))
     ∙ world_next c.self.inside.policy c.self.inside.history.records (Step.Asked c.args.a) (left_by c.args.a c.judge-outcome.result) c.self.invariant.kept.legal
     (ap (λ (g : GateData). next_of g c.args.a) c.self.view_is ∙ c.judge-outcome.ensures.next)
     ∙ ap (λ (g : GateData). moved_by g (left_by c.args.a c.judge-outcome.result)) c.self.view_is
@@ -44,8 +44,8 @@ returns-clause-lifted_by c =
     (sym
     (ap (λ (records : List RecordData). is_killed c.self.inside.policy records account)
     (c.push_reserved.ensures.records
-    ∙ ap (λ (records : List RecordData). records ++ c.new-record.result ∷ []) c.keep_for.ensures.records
-    ∙ ap (λ (r : RecordData). c.self.inside.history.records ++ r ∷ []) (c.new-record.ensures ∙ c.record_of-entry.ensures)))
+    ∙ ap (λ (records : List RecordData). records ++ c.new.result ∷ []) c.keep_for.ensures.records
+    ∙ ap (λ (r : RecordData). c.self.inside.history.records ++ r ∷ []) (c.new.ensures ∙ c.record_of.ensures)))
     ∙ lifted))
 
 pub carry_on-requires : goal.carry_on-requires
@@ -66,8 +66,8 @@ invariant_of-self-2 c =
     subst (λ (records : List RecordData). IsWhole c.self.inside.policy records c.push_reserved.new.self.spare c.carry_on.new.keepers)
     (sym
     (c.push_reserved.ensures.records
-    ∙ ap (λ (records : List RecordData). records ++ c.new-record.result ∷ []) c.keep_for.ensures.records
-    ∙ ap (λ (r : RecordData). c.self.inside.history.records ++ r ∷ []) (c.new-record.ensures ∙ c.record_of-entry.ensures)))
+    ∙ ap (λ (records : List RecordData). records ++ c.new.result ∷ []) c.keep_for.ensures.records
+    ∙ ap (λ (r : RecordData). c.self.inside.history.records ++ r ∷ []) (c.new.ensures ∙ c.record_of.ensures)))
     (keep_asked c.self.inside.policy c.self.inside.history.records c.args.a (left_by c.args.a c.judge-outcome.result) c.self.inside.history.spare c.keep_for.new.history.spare c.push_reserved.new.self.spare c.self.inside.keepers c.carry_on.new.keepers c.self.invariant (ap (λ (g : GateData). next_of g c.args.a) c.self.view_is ∙ c.judge-outcome.ensures.next) (record { more = c.keep_for.ensures.more; own = c.in_ok-keep_for.ensures.own; room = c.in_ok-keep_for.ensures.room }) c.push_reserved.ensures.spare
     (subst (λ (records : List RecordData). AreCarried c.self.inside.policy records c.carry_on.new.keepers)
     (ap (λ (records : List RecordData). records ++ c.record_of-entry.result ∷ []) c.keep_for.ensures.records

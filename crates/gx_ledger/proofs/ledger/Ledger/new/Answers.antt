@@ -29,8 +29,13 @@ returns c =
     } in
     record { stands = subst (λ k. StandsFor policy k nothing) (sym new_is) (opened_stands policy c.rules-rules.ensures.sound) }
 
+pub counting_by_account-requires : goal.counting_by_account-requires
+counting_by_account-requires c = c.in_ok-accounts.ensures ∙ ap account_names (c.accounts.ensures ∙ sym c.accounts-4.ensures)
+
 pub invariant_of-result : goal.invariant_of-result
 invariant_of-result c =
     c.in_ok-counting.ensures
-    ∙ (λ i. map (counting (c.as_slice.ensures.value i)) (account_names ((c.accounts-4.ensures ∙ sym c.accounts.ensures) i)))
-    ∙ ap (map (counting c.in_ok-tallies.tallies.items)) (sym c.in_ok-accounts.ensures)
+    ∙ (λ i. map (counting (names_are i) (c.as_slice.ensures.value i)) (names_are i))
+  where
+    names_are : account_names c.accounts-4.result.now ≡ c.in_ok-accounts.accounts.keys
+    names_are = ap account_names (c.accounts-4.ensures ∙ sym c.accounts.ensures) ∙ sym c.in_ok-accounts.ensures

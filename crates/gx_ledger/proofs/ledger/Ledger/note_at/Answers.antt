@@ -21,7 +21,7 @@ invariant_of-self-2 c =
     let his = his_list kept.accounts.keys kept.tallies.items kept.counting.items x place c.self.invariant at in
     still_counted kept.accounts.keys kept.tallies.items (with_items kept.tallies c.note_in.new.tallies).items kept.counting.items c.args.change.now (Some place) c.self.invariant
     (written
-    ∙ told_his c.args.change.now place kept.tallies.items c.as_slice-counting.result.now _ c.note_in.new.tallies c.note_in.ensures c.deref_mut-2.ensures.value
+    ∙ told_his c.args.change.now place kept.accounts.keys kept.tallies.items c.as_slice-counting.result.now _ c.note_in.new.tallies c.note_in.ensures c.deref_mut-2.ensures.value at
     (c.as_slice-counting.ensures ∙ c.index.ensures ∙ item_is kept.counting.items place _ c.index.result.now his))
 
 pub returns : goal.returns
@@ -34,6 +34,6 @@ returns c =
     let his = his_list kept.accounts.keys kept.tallies.items kept.counting.items x place c.self.invariant at in
     kept_told c.args.change.now (the_view kept) (Some place) (with_items kept.tallies c.note_in.new.tallies).items at
     (written
-    ∙ told_his c.args.change.now place kept.tallies.items c.as_slice-counting.result.now _ c.note_in.new.tallies c.note_in.ensures c.deref_mut-2.ensures.value
+    ∙ told_his c.args.change.now place kept.accounts.keys kept.tallies.items c.as_slice-counting.result.now _ c.note_in.new.tallies c.note_in.ensures c.deref_mut-2.ensures.value at
     (c.as_slice-counting.ensures ∙ c.index.ensures ∙ item_is kept.counting.items place _ c.index.result.now his))
     ∙ ap (kept_noted c.args.change.now) c.self.view_is

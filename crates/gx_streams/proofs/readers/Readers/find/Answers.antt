@@ -5,4 +5,4 @@ use Rattle.gx_streams.proofs.Named.{found}
 use Rattle.gx_streams.proofs.readers.Readers.find.Goals as goal
 
 pub returns : goal.returns
-returns c = c.get.ensures.value ∙ sym (found c.self.inside.by_name.entries c.args.user c.self.invariant) ∙ ap (find (is_named c.args.user)) c.self.view_is
+returns c = c.get.ensures.value ∙ sym (found c.self.inside.by_name.entries c.args.user c.self.invariant.named) ∙ ap (find (is_named c.args.user)) c.self.view_is

@@ -1,10 +1,10 @@
-use Rattle.std.proofs.Common.{◌≡◌, true, List, ◌∙◌, ap, sym, subst}
+use Rattle.std.proofs.Common.{◌≡◌, true, List, take, ◌∙◌, ap, sym, subst}
 use Rattle.std.specs.Map.{values_of}
 use Rattle.gx_units.specs.Names.{same_user}
 use Rattle.gx_policy.specs.{Lists.are_distinct, declared.policy.User.User}
 use Rattle.gx_history_laws.proofs.Names.{users_differ}
-use Rattle.gx_streams.specs.Spans.{AreNamed}
-use Rattle.gx_streams.proofs.Named.{reader_next}
+use Rattle.gx_streams.specs.Spans.{AreNamed, AreWithin}
+use Rattle.gx_streams.proofs.{Named.{reader_next}, Within.within_first}
 use Rattle.gx_streams.proofs.readers.Readers.new.Goals as goal
 
 -- one more reader
@@ -23,4 +23,12 @@ loop-user-preserved c =
       named = subst AreNamed (sym c.in_ok-insert.ensures.entries) more.1;
       users = before.users;
       sound = before.sound;
+    }
+
+pub invariant_of-result : goal.invariant_of-result
+invariant_of-result c =
+    let before = c.loop-user.invariant in
+    record {
+      named = before.named;
+      within = subst (AreWithin 0) (sym before.are) (within_first (take c.loop-user.user-index c.users-user-items.result.now));
     }

@@ -15,7 +15,7 @@ loop-user-preserved c =
     ap (are_distinct (λ (a b : User). same_user a.name b.name)) before.1 ∙ users_differ c.args.policy.now before.2
     in (
       ap lists_of c.in_ok-insert.ensures.entries
-          ∙ known_next c.loop-user.by_user.entries c.new.result users c.loop-user.user-index c.user-item.result differ before.0 c.loop-user-test.true c.user-item.is c.new.ensures,
+          ∙ known_next c.loop-user.by_user.entries c.in_ok-stream.stream users c.loop-user.user-index c.user-item.result differ before.0 c.loop-user-test.true c.user-item.is c.in_ok-stream.ensures,
       before.1,
       before.2,
     )

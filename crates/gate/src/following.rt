@@ -1,0 +1,358 @@
+//! `gate follow`: a journal that grows, checked and told as its records come.
+
+ghost use Rattle.std.specs.Prelude.{◌≤◌, IfOk, length};
+
+use crate::ending::{Ended, Place};
+use crate::files::{Content, file_named, identity_of, look_before};
+use crate::policy_of;
+use gx_audit::{AuditFault, told_of_fault};
+use gx_audit_bytes::RECORD_SIZE;
+use gx_command_line::{AuditFiles, FollowAsked};
+use gx_core::Gate;
+use gx_devices::Counted;
+use gx_policy::Policy;
+use gx_records::ShowsState;
+use gx_text::{Form, append};
+use gx_units::OutOfMemory;
+use gx_watch::Watch;
+use std::alloc::Global;
+use std::fs::File;
+use std::io::{Error, ErrorKind, Read, Seek, SeekFrom, Write};
+use std::process::ExitCode;
+use std::sync::Wait;
+use std::time::{Clock, Duration};
+use std::{io, thread};
+
+/// So many bytes of a journal are read at a time.
+const PIECE: usize = 65_536;
+
+/// What is told of a journal that has become shorter than what was read of its whole records.
+const SHORTER: &str = "another program has made the file shorter: it has lost whole records";
+
+/// What is told of a journal in whose place another file stands, or none.
+const MOVED: &str = "another file has its name, or none";
+
+/// Why a journal is followed no further.
+#[derive(Drop)]
+enum Stop<'a> {
+    /// Its bytes are none of a legal day.
+    Fault(AuditFault),
+    /// The program gives up.
+    Ended(Ended<'a>),
+}
+
+impl<'a> From<OutOfMemory> for Stop<'a> {
+    fn from(refused: OutOfMemory) -> Stop<'a> {
+        Stop::Ended(refused.into())
+    }
+}
+
+/// The file of the journal, open to be read; `None` where there is none of its name.
+fn open_file<'a>(host: &HostRuntime, path: &'a str) -> Result<Option<File>, Ended<'a>> {
+    look_before(host, path, Content::Records)?;
+    match File::open(host, path) {
+        Ok(file) => Ok(Some(file)),
+        Err(error) if error.kind() == ErrorKind::NotFound => Ok(None),
+        Err(error) => Err(Ended::unread(path, error)),
+    }
+}
+
+/// Waits for so long as is asked for between two looks.
+fn pause<R: Wait + Clock>(rt: &R, asked: FollowAsked) {
+    thread::sleep(rt, Duration::from_millis(asked.every.milliseconds));
+}
+
+/// The file of the journal, for which is waited unless it is read once.
+fn await_file<'a, R: Wait + Clock>(
+    rt: &R,
+    host: &HostRuntime,
+    path: &'a str,
+    asked: FollowAsked,
+) -> Result<File, Ended<'a>> {
+    for _ in rt.forever() {
+        if let Some(file) = open_file(host, path)? {
+            return Ok(file);
+        }
+        if asked.is_once {
+            break;
+        }
+        pause(rt, asked);
+    }
+    let gone = Error::new(ErrorKind::NotFound, "there is no such file");
+    Err(Ended::unread(path, gone))
+}
+
+/// Whether the file still has its name, and so many bytes.
+fn look_at_file<'a>(
+    host: &HostRuntime,
+    path: &'a str,
+    file: &File,
+    whole: u64,
+) -> Result<(), Ended<'a>> {
+    let found = match file.metadata() {
+        Ok(found) => found,
+        Err(error) => return Err(Ended::unread(path, error)),
+    };
+    if identity_of(&found) != file_named(host, path) {
+        let moved = Error::new(ErrorKind::InvalidData, MOVED);
+        return Err(Ended::unread(path, moved));
+    }
+    if found.len() < whole {
+        let shorter = Error::new(ErrorKind::InvalidData, SHORTER);
+        return Err(Ended::unread(path, shorter));
+    }
+    Ok(())
+}
+
+/// Reads once, from this place of the file on: how many bytes came.
+fn read_from<'a>(
+    path: &'a str,
+    file: &mut File,
+    place: u64,
+    room: &mut [u8],
+) -> Result<usize, Ended<'a>>
+    ensures few { IfOk result (λ n. n ≤ length room.new) }
+{
+    if let Err(error) = file.seek(SeekFrom::Start(place)) {
+        return Err(Ended::unread(path, error));
+    }
+    match Counted::new(file).read(room) {
+        Ok(count) => Ok(count),
+        Err(error) => Err(Ended::unread(path, error)),
+    }
+}
+
+/// Takes a record, and puts what is told of it at the end of the text.
+fn take_record(
+    alloc: Global,
+    watch: &mut Watch<Gate>,
+    bytes: &[u8],
+    text: &mut Vec<u8>,
+) -> Result<(), AuditFault> {
+    if !watch.has_room(bytes.len()) {
+        return Err(AuditFault::OutOfMemory);
+    }
+    watch.take(bytes)?;
+    let Ok(told) = watch.tell(alloc) else {
+        return Err(AuditFault::OutOfMemory);
+    };
+    match append(text, told.as_slice()) {
+        Ok(()) => Ok(()),
+        Err(_) => Err(AuditFault::OutOfMemory),
+    }
+}
+
+/// Takes these records, one after the other, and puts what is told of them at the end of the text.
+fn take_records(
+    alloc: Global,
+    watch: &mut Watch<Gate>,
+    bytes: &[u8],
+    text: &mut Vec<u8>,
+) -> Result<(), AuditFault> {
+    for record in bytes.chunks(RECORD_SIZE) {
+        take_record(alloc, watch, record, text)?;
+    }
+    Ok(())
+}
+
+/// Writes the text on standard output.
+fn print<'a>(host: &HostRuntime, text: &[u8]) -> Result<(), Ended<'a>> {
+    if text.is_empty() {
+        return Ok(());
+    }
+    match io::writer(host).write_all(text) {
+        Ok(()) => Ok(()),
+        Err(error) => Err(Ended::unwritten(Place::Output, error)),
+    }
+}
+
+/// Takes these records, and tells what is told of them.
+fn tell_records<'a>(
+    host: &HostRuntime,
+    watch: &mut Watch<Gate>,
+    bytes: &[u8],
+) -> Result<(), Stop<'a>> {
+    let mut text = Vec::new(host.alloc());
+    let taken = take_records(host.alloc(), watch, bytes, &mut text);
+    if let Err(ended) = print(host, text.as_slice()) {
+        return Err(Stop::Ended(ended));
+    }
+    match taken {
+        Ok(()) => Ok(()),
+        Err(AuditFault::OutOfMemory) => Err(OutOfMemory.into()),
+        Err(fault) => Err(Stop::Fault(fault)),
+    }
+}
+
+/// Reads a piece of the journal behind the records that were taken: how many bytes are those of whole records. A server that is
+/// started anew cuts off a part of one, and writes other bytes there.
+fn read_piece<'a>(
+    host: &HostRuntime,
+    path: &'a str,
+    file: &mut File,
+    whole: u64,
+    room: &mut [u8],
+) -> Result<usize, Ended<'a>>
+    ensures few { IfOk result (λ n. n ≤ length room.new) }
+{
+    look_at_file(host, path, file, whole)?;
+    let count = read_from(path, file, whole, room)?;
+    Ok(count - count % RECORD_SIZE)
+}
+
+/// Takes a piece of the journal: whether there was one.
+fn take_piece<'a>(
+    host: &HostRuntime,
+    path: &'a str,
+    file: &mut File,
+    watch: &mut Watch<Gate>,
+    room: &mut [u8],
+) -> Result<bool, Stop<'a>> {
+    let count = match read_piece(host, path, file, watch.whole(), room) {
+        Ok(count) => count,
+        Err(ended) => return Err(Stop::Ended(ended)),
+    };
+    tell_records(host, watch, &room[..count])?;
+    Ok(count > 0)
+}
+
+/// Takes all that the journal has: whether there was anything.
+fn take_all<'a>(
+    host: &HostRuntime,
+    path: &'a str,
+    file: &mut File,
+    watch: &mut Watch<Gate>,
+    room: &mut [u8],
+) -> Result<bool, Stop<'a>> {
+    let mut has_come = false;
+    for _ in 0..u64::MAX {
+        if !take_piece(host, path, file, watch, room)? {
+            break;
+        }
+        has_come = true;
+    }
+    Ok(has_come)
+}
+
+/// Follows the journal until its day is closed and nothing more comes.
+fn follow_file<'a, R: Wait + Clock>(
+    rt: &R,
+    host: &HostRuntime,
+    path: &'a str,
+    asked: FollowAsked,
+    file: &mut File,
+    watch: &mut Watch<Gate>,
+) -> Result<(), Stop<'a>> {
+    let mut room = Vec::new(host.alloc());
+    if room.resize(PIECE, 0u8).is_err() {
+        return Err(OutOfMemory.into());
+    }
+    for _ in rt.forever() {
+        let has_come = take_all(host, path, file, watch, room.as_mut_slice())?;
+        if asked.is_once || !has_come && watch.gate().is_day_closed() {
+            break;
+        }
+        pause(rt, asked);
+    }
+    Ok(())
+}
+
+/// Puts what is wrong with the journal at the end of the text.
+fn append_fault(text: &mut Vec<u8>, line: &[u8], is_json: bool) -> Result<(), OutOfMemory> {
+    if !is_json {
+        return append(text, line);
+    }
+    let words = &line[..line.len().saturating_sub(1)];
+    append(text, b"{\"event\":\"not_legal\",\"reason\":\"")?;
+    append(text, words)?;
+    append(text, b"\"}\n")
+}
+
+/// Tells what is wrong with the journal, as its check does: the status that says so.
+fn tell_fault<'a>(
+    host: &HostRuntime,
+    fault: AuditFault,
+    is_json: bool,
+) -> Result<ExitCode, Ended<'a>> {
+    let told = match told_of_fault(host.alloc(), fault) {
+        Ok(told) => told,
+        Err(fault) => return Err(Ended::of_writing(fault, Place::Output, None)),
+    };
+    let mut text = Vec::new(host.alloc());
+    append_fault(&mut text, told.line.as_slice(), is_json)?;
+    print(host, text.as_slice())?;
+    Ok(ExitCode::from(told.status()))
+}
+
+/// What is wrong with the journal, if anything is, or why the program gave up.
+fn fault_of<'a>(ended: Result<(), Stop<'a>>) -> Result<Option<AuditFault>, Ended<'a>> {
+    match ended {
+        Ok(()) => Ok(None),
+        Err(Stop::Fault(fault)) => Ok(Some(fault)),
+        Err(Stop::Ended(ended)) => Err(ended),
+    }
+}
+
+/// How the journal's end is told: the status that says what it is.
+fn tell_end<'a>(
+    host: &HostRuntime,
+    ended: Result<(), Stop<'a>>,
+    left: &[u8],
+    is_json: bool,
+) -> Result<ExitCode, Ended<'a>> {
+    let fault = fault_of(ended)?;
+    print(host, left)?;
+    let Some(fault) = fault else {
+        return Ok(ExitCode::SUCCESS);
+    };
+    tell_fault(host, fault, is_json)
+}
+
+/// How the lines are written.
+fn form_of(asked: FollowAsked) -> Form {
+    if asked.is_json {
+        Form::Json
+    } else {
+        Form::Text
+    }
+}
+
+/// What follows the journal under this policy.
+fn open_watch<'a>(
+    host: &HostRuntime,
+    policy: &Policy,
+    asked: FollowAsked,
+) -> Result<Watch<Gate>, Ended<'a>> {
+    let Ok(shares) = asked.shares.list(host.alloc()) else {
+        return Err(OutOfMemory.into());
+    };
+    Ok(Watch::open(host.alloc(), policy, form_of(asked), shares.as_slice())?)
+}
+
+/// Follows the journal under its policy: the status that says what it is.
+fn follow_under<'a, R: Wait + Clock>(
+    rt: &R,
+    host: &HostRuntime,
+    policy: &Policy,
+    path: &'a str,
+    asked: FollowAsked,
+) -> Result<ExitCode, Ended<'a>> {
+    let mut file = await_file(rt, host, path, asked)?;
+    let mut watch = open_watch(host, policy, asked)?;
+    let ended = follow_file(rt, host, path, asked, &mut file, &mut watch);
+    match watch.close(host.alloc()) {
+        Ok(left) => tell_end(host, ended, left.as_slice(), asked.is_json),
+        Err(refused) => Err(refused.into()),
+    }
+}
+
+/// Follows a journal, and tells what its records tell: the status that says what it is, or why the program gave up.
+pub(crate) fn follow_journal<'a, R: Wait + Clock>(
+    rt: &R,
+    host: &HostRuntime,
+    files: AuditFiles<'a>,
+    asked: FollowAsked<'a>,
+) -> Result<ExitCode, Ended<'a>> {
+    let policy = policy_of(host, files.policy)?;
+    follow_under(rt, host, &policy, files.audit, asked)
+}

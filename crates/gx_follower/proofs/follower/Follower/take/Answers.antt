@@ -1,0 +1,5 @@
+use Rattle.gx_follower.proofs.Standing.{are_whole}
+use Rattle.gx_follower.proofs.follower.Follower.take.Goals as goal
+
+pub returns-in-Ok-clause-whole : goal.returns-in-Ok-clause-whole
+returns-in-Ok-clause-whole g c = are_whole c.take_all.new.reading (g.G.AccessGate.seen c.take_all.new.gate) c.in-Ok.ensures.settled

@@ -1,0 +1,10 @@
+pub mod Plenty
+pub mod Firsts
+pub mod Entries
+pub mod Putting
+pub mod Limits
+pub mod Covering
+pub mod Carrying
+pub mod Places
+pub mod Beginning
+pub mod Exact

@@ -1,0 +1,5 @@
+pub mod Warnings
+pub mod Marks
+pub mod Moving
+pub mod Noting
+pub mod Keeping

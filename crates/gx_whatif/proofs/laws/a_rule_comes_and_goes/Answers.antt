@@ -1,0 +1,5 @@
+use Rattle.gx_whatif.proofs.Worked.{a_rule_comes, a_rule_goes}
+use Rattle.gx_whatif.proofs.laws.a_rule_comes_and_goes.Goals as goal
+
+pub returns : goal.returns
+returns c = record { comes = a_rule_comes; goes = a_rule_goes }

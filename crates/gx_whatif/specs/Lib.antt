@@ -1,0 +1,9 @@
+pub mod Redone
+pub mod Differing
+pub mod Headings
+pub mod Counting
+pub mod Answering
+pub mod Following
+pub mod Telling
+pub mod Rows
+pub mod Laws

@@ -1,0 +1,56 @@
+-- Days on the sample policy under others, worked by hand.
+use Rattle.std.specs.Prelude.{◌≡◌, ℕ, List, [], ◌∷◌, codes, map, Option, Some, None}
+use Rattle.gx_policy.specs.declared.policy.PolicyData.{PolicyData}
+use Rattle.gx_history.specs.{declared.record.{Step.Step, Verdict.Verdict}, Verdicts.run}
+use Rattle.gx_rows.specs.Sample.{alice, bob, sample, with_rules, login, buys, sells, matches, granted, denied_by, filled}
+use Rattle.gx_whatif.specs.{declared.change.Change.Change, Differing.changes}
+
+-- a change by its number, and the two verdicts
+pub record Told : Type 0 where
+  pub number : ℕ
+  pub recorded : Verdict
+  pub told : Option Verdict
+
+abbrev pub told : ℕ → Verdict → Option Verdict → Told
+told number recorded now = record { number = number; recorded = recorded; told = now }
+
+-- what changes of the day of these steps
+abbrev pub changes_of : PolicyData → PolicyData → List Step → List Told
+changes_of old new steps = map (λ (c : Change). told c.number c.recorded c.told) (changes old new (run old steps))
+
+-- the sample policy without a rule
+abbrev pub ruleless : PolicyData
+ruleless = with_rules []
+
+-- ALICE buys for more than GROSS lets her
+abbrev pub a_rule_comes_steps : List Step
+a_rule_comes_steps =
+    login alice
+    ∷ login bob
+    ∷ sells bob 2 (codes "S1") 100 10000
+    ∷ matches 2
+    ∷ buys alice 3 (codes "A1") 2000 10000
+    ∷ matches 3
+    ∷ matches 3
+    ∷ []
+
+-- a rule that comes denies her order, and its matching steps find none waiting
+abbrev pub ARuleComes : Type 0
+ARuleComes = changes_of ruleless sample a_rule_comes_steps
+    ≡ told 5 granted (Some (denied_by (codes "GROSS"))) ∷ told 6 (filled 5 3 100 10000) None ∷ told 7 (Verdict.Rested 5) None ∷ []
+
+-- GROSS denies what ALICE buys, and BOB's sell finds nobody
+abbrev pub a_rule_goes_steps : List Step
+a_rule_goes_steps =
+    login alice
+    ∷ login bob
+    ∷ buys alice 2 (codes "A1") 2000 10000
+    ∷ sells bob 3 (codes "S1") 100 10000
+    ∷ matches 3
+    ∷ []
+
+-- where the rule goes, her order comes to rest before the next step, and his is filled with it: both by their numbers in the
+-- day
+abbrev pub ARuleGoes : Type 0
+ARuleGoes = changes_of sample ruleless a_rule_goes_steps
+    ≡ told 3 (denied_by (codes "GROSS")) (Some granted) ∷ told 5 (Verdict.Rested 4) (Some (filled 4 3 100 10000)) ∷ []
