@@ -106,7 +106,8 @@ def seeded(*passwords: bytes) -> tuple[int, int]:
     secret = b"".join(it.ljust(10) for it in passwords)
     start = sip(secret)
     factor = sip(secret + start.to_bytes(8, "little"))
-    return folded(int.from_bytes(NAME, "big") ^ start, factor), factor
+    name = int.from_bytes(NAME[:4], "little") << 32 | int.from_bytes(NAME[2:], "little")
+    return folded(name ^ start, factor), factor
 
 
 def first(word: int) -> Token:
@@ -190,6 +191,10 @@ def main() -> int:
         dear = max(times(gate, folder, count, hidden)) > MOST
         in_hand = {"the gate's with all passwords in hand, their first bytes": first(known[0])}
         strange = min(times(gate, folder, KNOWN_ORDERS, in_hand)) < LEAST_KNOWN
+    if dear:
+        print(f"NOT AS WANTED: chosen tokens take more than {MOST} times as long")
+    if strange:
+        print(f"NOT AS WANTED: chosen with all passwords in hand they take less than {LEAST_KNOWN} times as long: is it this hasher?")
     return int(dear or strange)
 
 
