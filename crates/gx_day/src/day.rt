@@ -124,6 +124,7 @@ impl Day {
 
     /// The line that the user is logged in on, who is looked for at this place of the policy's users first. None where
     /// he is on none, or is not known. Takes no memory.
+    #[inline(always)]
     pub fn line_of(&self, user: UserName, near: usize) -> Option<u16>
         ensures { result ≡ line_in self.now user }
     {

@@ -159,6 +159,7 @@ pub fn ended(order: &LiveOrder) -> Message
 }
 
 /// Tells the user, who is looked for at this place of the policy's users first, if there is something to tell.
+#[inline(always)]
 pub fn tell(
     streams: &mut Streams,
     user: UserName,

@@ -128,6 +128,7 @@ impl Enters {
     }
 
     /// Keeps the Enter in place of the oldest where there is no room for more.
+    #[inline(always)]
     pub fn push(&mut self, entered: Entered)
         ensures { self.new ≡ pushed entered self.old }
     {

@@ -70,6 +70,7 @@ fn note_moment(moments: &mut Moments, change: &Change<'_>)
 }
 
 /// Takes note of an Enter that comes.
+#[inline(always)]
 fn note_enter(enters: &mut Enters, change: &Change<'_>)
     ensures { enters.new ≡ noted_enters change.now.order change.now.kind enters.old }
 {

@@ -13,10 +13,14 @@ use indexmap::IndexMap;
 use std::alloc::Global;
 use std::marker::Model;
 
+/// So many numbers have room from the first on, shared by the accounts: a list that grows moves all that it holds.
+const FIRST_NUMBERS: usize = 16_384;
+
 /// A list that grows has room for more than so many further numbers then.
 const FEWEST: usize = 31;
 
 /// Takes out the numbers of orders that have ended.
+#[inline(never)]
 fn sweep(items: &mut Vec<u64>, account: AccountName, table: &Table)
     ensures { items.new.items ≡ filter (is_live_of account table.now) items.old.items }
 {
@@ -24,6 +28,7 @@ fn sweep(items: &mut Vec<u64>, account: AccountName, table: &Table)
 }
 
 /// Makes room for the number of this order, above all others: none of them is above the highest.
+#[inline(always)]
 fn make_room(
     items: &mut Vec<u64>,
     highest: u64,
@@ -78,6 +83,16 @@ impl Numbers {
         }
     }
 
+    /// No number, and room for so many.
+    fn with_room(alloc: Global, room: usize) -> Result<Numbers, OutOfMemory>
+        ensures { IfOk result (λ numbers. numbers ≡ []) }
+    {
+        Ok(Numbers {
+            items: Vec::with_capacity(alloc, room)?,
+            highest: 0,
+        })
+    }
+
     /// The numbers.
     pub(crate) fn as_slice(&self) -> &[u64]
         ensures { result.now ≡ self.now }
@@ -86,6 +101,7 @@ impl Numbers {
     }
 
     /// Puts the number of this order of the account last, which is not live yet, and will be the last that is.
+    #[inline(always)]
     fn push(&mut self, order: &LiveOrder, table: &Table) -> Result<(), OutOfMemory>
         requires last { AreBelow order.now.number table.now }
         ensures same { numbered_of order.now.account table.now self.new
@@ -109,8 +125,9 @@ pub(crate) fn no_lists(
     ensures { IfOk result (λ lists. ListsNone lists.entries) }
 {
     let mut lists = IndexMap::with_capacity(alloc, accounts.len())?;
+    let room = FIRST_NUMBERS / accounts.len().max(1);
     for account in accounts {
-        lists.insert(account.name, Numbers::new(alloc))?;
+        lists.insert(account.name, Numbers::with_room(alloc, room)?)?;
     }
     Ok(lists)
 }

@@ -123,6 +123,7 @@ impl Orders {
     }
 
     /// How many live orders the user has, who is looked for at this place of the policy's users first. It looks at no order.
+    #[inline(always)]
     pub fn count_of(&self, user: UserName, near: usize) -> usize
         ensures { result ≡ length (filter (is_of_user user) self.now.live) }
     {

@@ -15,6 +15,9 @@ use std::marker::Model;
 /// So many orders have room from the first on: a list that grows moves all that it holds.
 const FIRST_ORDERS: usize = 16_384;
 
+/// And so many numbers, since each record has one: of two, an order that comes and that it rests, one is an order's.
+const FIRST_NUMBERS: usize = 32_768;
+
 /// Orders in rows, in the order in which they were put: found by number, and changed where they stand. Contracts see the
 /// list of those that are live. Rows of orders that have ended are taken out once they are more than the live ones (and
 /// some), so that a walk over the rows is one over the live orders, and a call takes the same time however many have ended.
@@ -51,7 +54,7 @@ impl Table {
     pub fn new(alloc: Global) -> Result<Table, OutOfMemory>
         ensures { IfOk result (λ table. table ≡ []) }
     {
-        let places = Vec::with_capacity(alloc, FIRST_ORDERS)?;
+        let places = Vec::with_capacity(alloc, FIRST_NUMBERS)?;
         let rows = Vec::with_capacity(alloc, FIRST_ORDERS)?;
         Ok(Table {
             places,

@@ -27,10 +27,10 @@ impl Model for Stream {
     ghost invariant = { λ s. vec_len s.entries + s.spare ≤ vec_capacity s.entries };
 }
 
-/// Makes room for so many more entries. A list without it becomes four times as long, so that its entries are moved less
-/// often; where so much is refused, no more is taken than is asked for.
+/// Makes room for so many more entries in a list without it: it becomes four times as long, so that its entries are moved
+/// less often; where so much is refused, no more is taken than is asked for.
 #[inline(never)]
-fn make_room(entries: &mut Vec<Entry>, more: usize) -> Result<(), OutOfMemory>
+fn grow(entries: &mut Vec<Entry>, more: usize) -> Result<(), OutOfMemory>
     ensures items { entries.new.items ≡ entries.old.items }
     ensures len { vec_len entries.new ≡ vec_len entries.old }
     ensures capacity { vec_capacity entries.old ≤ vec_capacity entries.new }
@@ -38,11 +38,26 @@ fn make_room(entries: &mut Vec<Entry>, more: usize) -> Result<(), OutOfMemory>
     ensures enough { vec_len entries.old + more ≤ vec_capacity entries.old → IsOk result }
 {
     let far = entries.capacity().saturating_mul(3).max(more);
-    if entries.capacity() - entries.len() < more && entries.reserve(far).is_ok() {
+    if entries.reserve(far).is_ok() {
         return Ok(());
     }
     entries.reserve(more)?;
     Ok(())
+}
+
+/// Makes room for so many more entries.
+#[inline(always)]
+fn make_room(entries: &mut Vec<Entry>, more: usize) -> Result<(), OutOfMemory>
+    ensures items { entries.new.items ≡ entries.old.items }
+    ensures len { vec_len entries.new ≡ vec_len entries.old }
+    ensures capacity { vec_capacity entries.old ≤ vec_capacity entries.new }
+    ensures ok { OnOk result (vec_len entries.new + more ≤ vec_capacity entries.new) }
+    ensures enough { vec_len entries.old + more ≤ vec_capacity entries.old → IsOk result }
+{
+    if more <= entries.capacity() - entries.len() {
+        return Ok(());
+    }
+    grow(entries, more)
 }
 
 impl Stream {
@@ -57,6 +72,7 @@ impl Stream {
     }
 
     /// Puts the entry last, in a place of its own: those that are kept stay kept.
+    #[inline(always)]
     pub(crate) fn push(&mut self, entry: Entry) -> Result<(), OutOfMemory>
         ensures ok { OnOk result (self.new ≡ with_last entry self.old) }
         ensures err { OnErr result (self.new ≡ self.old) }

@@ -13,7 +13,7 @@ use std::alloc::Global;
 use std::marker::Model;
 
 /// So many entries have room from the first on, as many for each user: a list that grows moves all that it holds.
-const FIRST_ENTRIES: usize = 16_384;
+const FIRST_ENTRIES: usize = 32_768;
 
 /// What is kept of what each user of the policy was told, in order, and places kept for more.
 #[derive(Drop)]
@@ -69,6 +69,7 @@ impl Told {
     /// user is looked for at this place of the policy's users first.
     ///
     /// `OutOfMemory`: the stream could not grow, and nothing has changed.
+    #[inline(always)]
     pub(crate) fn append(
         &mut self,
         user: UserName,
