@@ -6,6 +6,11 @@
 //   load PORT CLIENTS WINDOW SECONDS cross|rest      one line: orders, seconds, orders a second, p50, p99, longest in us
 //   load PORT CLIENTS WINDOW SECONDS cross|rest MS   a line before it: the nanosecond of the monotonic clock when it began;
 //                                                    and one behind it: the orders of each so many milliseconds from then on
+//   load PORT CLIENTS WINDOW SECONDS cross|rest MS PAGE WHO PLAN
+//                                                    and at the beginning of each so many milliseconds the server's page is
+//                                                    asked for what the plan's next letter says, over and over: s its state,
+//                                                    in the name of who (his name and password as HTTP's Basic has them), n
+//                                                    what it has not; at any other it is not asked
 //   load echo PORT [NANOSECONDS]
 #include <arpa/inet.h>
 #include <errno.h>
@@ -32,6 +37,7 @@ struct trader {
 static uint64_t *latencies;
 static uint64_t measured;
 static uint64_t *portions, portion, portion_count;
+static struct { int port; const char *who, *plan; uint64_t begun, until; } page;
 
 static void fail(const char *what) {
     perror(what);
@@ -131,6 +137,39 @@ static int listen_to(struct trader *t, int window) {
     return accepted;
 }
 
+static void wait_until(uint64_t moment) {
+    struct timespec t = {.tv_sec = (time_t)(moment / 1000000000u), .tv_nsec = (long)(moment % 1000000000u)};
+    while (clock_nanosleep(CLOCK_MONOTONIC, TIMER_ABSTIME, &t, NULL) == EINTR) {}
+}
+
+// Asks the page for this, and takes the whole answer, which has to be of this status.
+static void ask_page(const char *path, const char *status) {
+    char request[512], answer[MOST];
+    int line = connected(page.port), held = 0;
+    ssize_t count;
+    snprintf(request, sizeof request, "GET %s HTTP/1.1\r\nHost: 127.0.0.1\r\nAuthorization: Basic %s\r\n\r\n", path, page.who);
+    write_all(line, (const uint8_t *)request, strlen(request));
+    while ((count = read(line, answer + (held < 16 ? held : 16), sizeof answer - 16)) > 0) held += (int)count;
+    if (held < 16 || memcmp(answer, "HTTP/1.1 ", 9) != 0 || memcmp(answer + 9, status, 3) != 0) {
+        fprintf(stderr, "the page does not answer %s by %s\n", path, status);
+        exit(2);
+    }
+    close(line);
+}
+
+// Asks the page by the plan, until the traders' time is over.
+static void *ask_by_plan(void *given) {
+    uint64_t letters = strlen(page.plan), turn = 0;
+    for (;; turn++) {
+        char letter = page.plan[turn % letters];
+        uint64_t moment = page.begun + turn * portion;
+        if (moment >= page.until) return given;
+        if (letter != 's' && letter != 'n') continue;
+        wait_until(moment);
+        ask_page(letter == 's' ? "/state.json" : "/nothing", letter == 's' ? "200" : "404");
+    }
+}
+
 // Counts orders to the portion of time that they were accepted in.
 static void count_at(uint64_t since, int accepted) {
     if (portion > 0 && since / portion < portion_count) portions[since / portion] += (uint64_t)accepted;
@@ -160,6 +199,13 @@ static void drive(int port, int clients, int window, double seconds, int cross) 
         portions = calloc((size_t)portion_count, sizeof *portions);
         printf("%llu\n", (unsigned long long)begun);
         fflush(stdout);
+    }
+    if (page.port > 0) {
+        pthread_t asking;
+        page.begun = begun;
+        page.until = until;
+        if (pthread_create(&asking, NULL, ask_by_plan, NULL) != 0) fail("pthread_create");
+        pthread_detach(asking);
     }
     for (int i = 0; i < clients; i++) enter(&traders[i], window, window, cross);
     open = (uint64_t)clients * (uint64_t)window;
@@ -296,8 +342,13 @@ int main(int count, char **words) {
         if (count == 4) work = atol(words[3]);
         echo(atoi(words[2]));
     }
-    if (count != 6 && count != 7) return 2;
-    if (count == 7) portion = (uint64_t)atol(words[6]) * 1000000u;
+    if (count != 6 && count != 7 && count != 10) return 2;
+    if (count == 10) {
+        page.port = atoi(words[7]);
+        page.who = words[8];
+        page.plan = words[9];
+    }
+    if (count >= 7) portion = (uint64_t)atol(words[6]) * 1000000u;
     latencies = malloc(LATENCIES * sizeof *latencies);
     drive(atoi(words[1]), atoi(words[2]), atoi(words[3]), atof(words[4]), strcmp(words[5], "cross") == 0);
     return 0;

@@ -1,12 +1,12 @@
 """What the page costs a trader, for what shows how it works."""
 
+import base64
 import multiprocessing
 import resource
 import select
 import socket
 import subprocess
 import sys
-import time
 from collections.abc import Callable, Iterator
 from contextlib import contextmanager
 from pathlib import Path
@@ -17,7 +17,7 @@ sys.path.insert(0, str(TOP / "bench"))
 
 import load  # noqa: E402  (of bench)
 from pages import (  # noqa: E402  (beside this file)
-    HOST, OLGA, PATIENCE_SECONDS, Answer, Points, Server, exchanged, request_for, serving,
+    HOST, OLGA, PATIENCE_SECONDS, Points, Server, serving,
 )
 
 IDLE = 1_000
@@ -25,8 +25,11 @@ ROUNDS = 5
 ROUND_SECONDS = 1.0
 SLOWER = 1.2  # how many times as long a trader may wait beside idle connections
 DEARER = 0.02  # the share of a trader's orders a second that a page may cost
-PORTION_SECONDS = 0.5  # the page is asked in every other portion of the traders' time
-ASKS = 5  # times a portion
+PORTION_SECONDS = 0.02
+CYCLE, BEHIND = 5, 2  # an answer is asked for in each fifth portion, ten a second, and what it costs falls into two
+# What is asked for at the beginning of the portions of the traders' time, over and over: for a second what the page has not, which
+# costs what whoever asks costs, and no look at the gate; and for a second its state.
+PLAN = 10 * "n...." + 10 * "s...."
 DAY_SECONDS = 10.0  # of traders at one server
 TRADERS, WINDOW = "4", "64"
 
@@ -112,33 +115,32 @@ def idle_cost(gate: str, folder: Path, points: Points) -> None:
     points.look(what, accompanied <= limit, f"wanted: at most {limit:.0f} us")
 
 
-def ask_in_turn(page: int, begun: float, run: subprocess.Popen) -> None:
-    """Asks for the state ten times a second, in every other portion of the traders' time from its second on."""
-    request, turn = request_for("/state.json", OLGA), 0
-    while run.poll() is None:
-        portion, ask = divmod(turn, ASKS)
-        time.sleep(max(0.0, begun + (2 * portion + 1 + ask / ASKS) * PORTION_SECONDS - time.monotonic()))
-        if Answer(exchanged(page, request)).status != 200:
-            raise ConnectionError("the page does not tell the state")
-        turn += 1
-
-
-def orders_of_portions(load_client: str, server: Server, how: str, seconds: float) -> list[int]:
-    """The orders of native traders who enter all they can, in each portion of their time, while the page is asked in every
-    other one."""
-    words = [load_client, str(server.port), TRADERS, WINDOW, str(seconds), how, str(int(1000 * PORTION_SECONDS))]
-    with subprocess.Popen(words, stdout=subprocess.PIPE, text=True) as run:
-        ask_in_turn(server.page, int(run.stdout.readline()) / 1e9, run)
-        figures, portions = run.stdout.read().splitlines()
+def orders_of_portions(load_client: str, server: Server, how: str) -> list[int]:
+    """The orders of native traders who enter all they can, in each portion of their time, while a thread beside them asks the page
+    by the plan."""
+    who = base64.b64encode(":".join(OLGA).encode()).decode()
+    portion = str(round(1000 * PORTION_SECONDS))
+    words = [load_client, str(server.port), TRADERS, WINDOW, str(DAY_SECONDS), how, portion, str(server.page), who, PLAN]
+    run = subprocess.run(words, stdout=subprocess.PIPE, text=True, timeout=6 * DAY_SECONDS, check=False)
     if run.returncode != 0:
         raise ValueError("the load client gave up")
-    return [int(word) for word in portions.split()]
+    return [int(word) for word in run.stdout.splitlines()[-1].split()]
 
 
-def shares_lost(portions: list[int]) -> list[float]:
-    """The share of the orders that each portion with a page asked falls short by, of the two beside it."""
-    asked = range(3, len(portions) - 1, 2)  # the first two are of a server that has just begun
-    return [1 - 2 * portions[at] / (portions[at - 1] + portions[at + 1]) for at in asked]
+def shares_lost(portions: list[int], letter: str) -> list[float]:
+    """The share of a cycle's orders that the portions behind each question of this letter fall short by, of what those around them
+    have. Left out are the first second, and the first question of a kind: its answer is of all that came meanwhile."""
+    lost = []
+    for at in range(round(1 / PORTION_SECONDS), len(portions) - CYCLE + 1, CYCLE):
+        if all(PLAN[place % len(PLAN)] == letter for place in (at - CYCLE, at)):
+            bare = mean(portions[at - CYCLE + BEHIND:at] + portions[at + BEHIND:at + CYCLE])
+            lost.append((BEHIND * bare - sum(portions[at:at + BEHIND])) / (CYCLE * bare))
+    return lost
+
+
+def figure(lost: list[float]) -> tuple[float, float]:
+    """Their mean, and its standard error."""
+    return mean(lost), stdev(lost) / len(lost) ** 0.5
 
 
 def reading_cost(gate: str, folder: Path, points: Points) -> None:
@@ -146,11 +148,15 @@ def reading_cost(gate: str, folder: Path, points: Points) -> None:
     load_client = str(folder / "load")
     subprocess.run(["cc", "-O2", "-pthread", "-o", load_client, str(TOP / "bench" / "load.c")], check=True)
     for how, which in (("cross", "executed"), ("rest", "left live")):
-        lost: list[float] = []
+        states: list[float] = []
+        refusals: list[float] = []
         for _ in range(points.days):
             with serving(gate, folder, load_policy()) as server:
-                lost += shares_lost(orders_of_portions(load_client, server, how, DAY_SECONDS))
-        cost, error = mean(lost), stdev(lost) / len(lost) ** 0.5
+                portions = orders_of_portions(load_client, server, how)
+            states += shares_lost(portions, "s")
+            refusals += shares_lost(portions, "n")
+        (cost, error), (asking, doubtful) = figure(states), figure(refusals)
         doubt = 2 * error if points.slack > 1 else 0.0  # a run with slack fails only where the cost is beyond doubt
-        what = f"ten states a second cost traders whose orders are {which} {cost:.2%} of their orders (+- {error:.2%}, {len(lost)} times)"
+        what = f"ten states a second cost traders whose orders are {which} {cost:.2%} of their orders (+- {error:.2%}, " \
+            f"{len(states)} times), ten answers of 404 {asking:.2%} (+- {doubtful:.2%})"
         points.look(what, cost - doubt <= DEARER * points.slack, f"wanted: at most {DEARER * points.slack:.0%}")

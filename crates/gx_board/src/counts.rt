@@ -22,6 +22,7 @@ pub struct Counts {
 }
 
 /// One more, where the condition holds.
+#[inline(always)]
 pub(crate) fn one_more(is_so: bool, count: u64) -> u64
     ensures { result ≡ one_more is_so count }
 {
@@ -33,6 +34,7 @@ pub(crate) fn one_more(is_so: bool, count: u64) -> u64
 }
 
 /// Whether a request was denied.
+#[inline(always)]
 pub(crate) fn denies(left: &RecordData) -> bool
     ensures { result ≡ denies left.now }
 {
@@ -40,6 +42,7 @@ pub(crate) fn denies(left: &RecordData) -> bool
 }
 
 /// Whether an officer asked for something.
+#[inline(always)]
 pub(crate) fn commands(left: &RecordData) -> bool
     ensures { result ≡ commands left.now }
 {
@@ -64,6 +67,7 @@ impl Counts {
     }
 
     /// The numbers, once the record has come.
+    #[inline(always)]
     pub(crate) fn with_record(self, left: &RecordData) -> Counts
         ensures { result ≡ counted left.now self }
     {

@@ -83,7 +83,7 @@ impl Summary {
     }
 
     /// Notes the record, but for the command that it may grant.
-    fn note(&mut self, left: &RecordData)
+    fn note_kept(&mut self, left: &RecordData)
         ensures { Notes left.now self.old self.new }
     {
         self.counts = self.counts.with_record(left);
@@ -92,13 +92,28 @@ impl Summary {
         push_where(commands(left), &mut self.last_commands, left);
     }
 
+    /// Notes the record, but for the command that it may grant. Of most records nothing is kept but the counts: they are not
+    /// copied, since the gate's lock is held meanwhile.
+    #[inline(always)]
+    #[tactic(auto, using(crate::proofs::Denying::none_counted))]
+    fn note(&mut self, noted: &Record)
+        ensures { Notes noted.now self.old self.new }
+    {
+        let left = noted.content();
+        if denies(&left) || commands(&left) {
+            self.note_kept(&noted.content());
+        } else {
+            self.counts = self.counts.with_record(&left);
+        }
+    }
+
     /// Counts these records, which come behind those that it has counted.
     fn count(&mut self, more: &[Record])
         ensures counted { Counted more.now self.old self.new }
         ensures commands_kept { self.new.commands.items ≡ self.old.commands.items }
     {
         for record in more {
-            self.note(&record.content());
+            self.note(record);
         }
     }
 

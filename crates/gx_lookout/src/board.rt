@@ -10,11 +10,22 @@ use gx_board::{Summary, View};
 use gx_policy::Policy;
 use gx_units::{OutOfMemory, UserName};
 use std::alloc::Global;
+use std::hint::spin_loop;
 use std::marker::Model;
 use std::sync::Wait;
 
-/// So many records are followed at one hold of the gate's lock, so that whoever waits for it does not wait for long.
-const PORTION: usize = 2_000;
+/// So many records are followed at one hold of the gate's lock, so that whoever waits for it has it before he would sleep.
+const PORTION: usize = 250;
+
+/// So many times a processor pauses between two such holds, so that whoever waits for the lock takes it then.
+const PAUSES: u32 = 70;
+
+/// Lets a moment pass between two holds.
+fn pause() {
+    for _ in 0..PAUSES {
+        spin_loop();
+    }
+}
 
 /// A pass, and the summary of those records that it has followed, the first of what the pass has met. Contracts see what the
 /// pass has met.
@@ -93,7 +104,7 @@ impl<L: Lookout> Board<L> {
             pass = back;
             match found {
                 Ok(Some(view)) => return (Board { pass, summary }, Ok(view)),
-                Ok(None) => {}
+                Ok(None) => pause(),
                 Err(refused) => return (Board { pass, summary }, Err(refused)),
             }
         }

@@ -1,4 +1,4 @@
-use Rattle.std.proofs.Common.{◌≡◌, ℕ, ◌+◌, ◌++◌, ◌∷◌, [], ◌∙◌, ap, length, take, List, sym, subst, arith}
+use Rattle.std.proofs.Common.{◌≡◌, ℕ, ◌++◌, ◌∷◌, [], ◌∙◌, ap, length, take, List, sym, subst, arith}
 use Rattle.std.proofs.{lemmas.List.take_more, Math.Seq.take-length}
 use Rattle.gx_history.specs.declared.record.RecordData.{RecordData}
 use Rattle.gx_board.specs.Summaries.{Counted}
@@ -9,11 +9,11 @@ pub loop-record-preserved : goal.loop-record-preserved
 loop-record-preserved c =
     let i : ℕ = c.loop-record.record-index in
     let more : List RecordData = c.args.more.now in
-    let one : take (i + 1) more ≡ take i more ++ c.content.result ∷ [] =
+    let one =
     take_more more i c.record-item.result c.loop-record-test.true
-    ∙ ap (λ (r : RecordData). take i more ++ r ∷ []) (sym c.record-item.is ∙ sym c.content.ensures.same) in (
+    ∙ ap (λ (r : RecordData). take i more ++ r ∷ []) (sym c.record-item.is) in (
       subst (λ (all : List RecordData). Counted all c.args.self.now c.note.new.self) (sym one)
-          (one_further (take i more) c.content.result c.args.self.now c.loop-record.self c.note.new.self c.note.ensures c.loop-record.invariant.0),
+          (one_further (take i more) _ c.args.self.now c.loop-record.self c.note.new.self c.note.ensures c.loop-record.invariant.0),
       c.note.ensures.commands_kept ∙ c.loop-record.invariant.1,
     )
 
