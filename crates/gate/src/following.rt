@@ -3,13 +3,13 @@
 ghost use Rattle.std.specs.Prelude.{◌≤◌, IfOk, length};
 
 use crate::ending::{Ended, Place};
-use crate::files::{Content, file_named, identity_of, look_before};
+use crate::files::{Content, look_before};
+use crate::growing::{MOVED, PIECE, go_to, length_named, read_once};
 use crate::policy_of;
 use gx_audit::{AuditFault, told_of_fault};
 use gx_audit_bytes::RECORD_SIZE;
 use gx_command_line::{AuditFiles, FollowAsked};
 use gx_core::Gate;
-use gx_devices::Counted;
 use gx_policy::Policy;
 use gx_records::ShowsState;
 use gx_text::{Form, append};
@@ -17,20 +17,14 @@ use gx_units::OutOfMemory;
 use gx_watch::Watch;
 use std::alloc::Global;
 use std::fs::File;
-use std::io::{Error, ErrorKind, Read, Seek, SeekFrom, Write};
+use std::io::{Error, ErrorKind, Write};
 use std::process::ExitCode;
 use std::sync::Wait;
 use std::time::{Clock, Duration};
 use std::{io, thread};
 
-/// So many bytes of a journal are read at a time.
-const PIECE: usize = 65_536;
-
 /// What is told of a journal that has become shorter than what was read of its whole records.
 const SHORTER: &str = "another program has made the file shorter: it has lost whole records";
-
-/// What is told of a journal in whose place another file stands, or none.
-const MOVED: &str = "another file has its name, or none";
 
 /// Why a journal is followed no further.
 #[derive(Drop)]
@@ -89,37 +83,15 @@ fn look_at_file<'a>(
     file: &File,
     whole: u64,
 ) -> Result<(), Ended<'a>> {
-    let found = match file.metadata() {
-        Ok(found) => found,
-        Err(error) => return Err(Ended::unread(path, error)),
-    };
-    if identity_of(&found) != file_named(host, path) {
+    let Some(length) = length_named(host, path, file)? else {
         let moved = Error::new(ErrorKind::InvalidData, MOVED);
         return Err(Ended::unread(path, moved));
-    }
-    if found.len() < whole {
+    };
+    if length < whole {
         let shorter = Error::new(ErrorKind::InvalidData, SHORTER);
         return Err(Ended::unread(path, shorter));
     }
     Ok(())
-}
-
-/// Reads once, from this place of the file on: how many bytes came.
-fn read_from<'a>(
-    path: &'a str,
-    file: &mut File,
-    place: u64,
-    room: &mut [u8],
-) -> Result<usize, Ended<'a>>
-    ensures few { IfOk result (λ n. n ≤ length room.new) }
-{
-    if let Err(error) = file.seek(SeekFrom::Start(place)) {
-        return Err(Ended::unread(path, error));
-    }
-    match Counted::new(file).read(room) {
-        Ok(count) => Ok(count),
-        Err(error) => Err(Ended::unread(path, error)),
-    }
 }
 
 /// Takes a record, and puts what is told of it at the end of the text.
@@ -196,7 +168,8 @@ fn read_piece<'a>(
     ensures few { IfOk result (λ n. n ≤ length room.new) }
 {
     look_at_file(host, path, file, whole)?;
-    let count = read_from(path, file, whole, room)?;
+    go_to(path, file, whole)?;
+    let count = read_once(path, file, room)?;
     Ok(count - count % RECORD_SIZE)
 }
 

@@ -11,6 +11,7 @@ mod ending;
 mod ends;
 mod files;
 mod following;
+mod growing;
 mod keeping;
 mod limits;
 mod page;

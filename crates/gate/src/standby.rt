@@ -1,10 +1,9 @@
 //! A server that stands by: it follows the journal of another one, and takes over once that has ended.
 
-ghost use Rattle.std.specs.Prelude.{◌≤◌, IfOk, length};
-
 use crate::ending::Ended;
 use crate::ends::{Awaited, awaited_of, tell_why};
-use crate::files::{Content, file_named, identity_of, refused};
+use crate::files::{Content, refused};
+use crate::growing::{MOVED, PIECE, go_to, length_named, read_once};
 use crate::keeping::{Day, Found, go_on_from, is_ours};
 use crate::starts::Start;
 use gx_answers::AccessGate;
@@ -13,7 +12,6 @@ use gx_audit_bytes::{AuditVersion, RECORD_SIZE};
 use gx_clock::DayClock;
 use gx_command_line::{JournalFile, Serving, Standby};
 use gx_core::Gate;
-use gx_devices::Counted;
 use gx_follower::Follower;
 use gx_log::Log;
 use gx_policy::Policy;
@@ -22,19 +20,12 @@ use gx_server::ProgramFault;
 use gx_shortened::Shortened;
 use gx_units::OutOfMemory;
 use std::fs::File;
-use std::io::{Read, Seek, SeekFrom};
 use std::sync::Wait;
 use std::time::{Clock, Duration};
 use std::{fs, thread};
 
 /// So many milliseconds lie between two looks at a journal that has nothing new.
 const LOOK: u64 = 50;
-
-/// So many bytes of it are read at a time.
-const PIECE: usize = 65_536;
-
-/// What is told of a journal in whose place another file stands.
-const MOVED: &str = "another file has its name, or none";
 
 /// What is told of a journal that has become shorter.
 const SHORTER: &str = "another program has made the file shorter";
@@ -57,24 +48,6 @@ struct Looking<'a, 'l> {
     /// The clock that it ends by.
     clock: DayClock,
     log: &'l Log,
-}
-
-/// Reads once: how many bytes came.
-fn read_once<'a>(path: &'a str, file: &mut File, room: &mut [u8]) -> Result<usize, Ended<'a>>
-    ensures few { IfOk result (λ n. n ≤ length room.new) }
-{
-    match Counted::new(file).read(room) {
-        Ok(count) => Ok(count),
-        Err(error) => Err(Ended::unread(path, error)),
-    }
-}
-
-/// Goes to this place of the file.
-fn go_to<'a>(path: &'a str, file: &mut File, place: u64) -> Result<(), Ended<'a>> {
-    match file.seek(SeekFrom::Start(place)) {
-        Ok(_) => Ok(()),
-        Err(error) => Err(Ended::unread(path, error)),
-    }
 }
 
 /// Whether these are the first bytes of an audit that has no header, and so no journal's.
@@ -173,17 +146,13 @@ fn look_at_end<'a>(
     file: &File,
     read: u64,
 ) -> Result<u64, Ended<'a>> {
-    let found = match file.metadata() {
-        Ok(found) => found,
-        Err(error) => return Err(Ended::unread(path, error)),
-    };
-    if identity_of(&found) != file_named(host, path) {
+    let Some(length) = length_named(host, path, file)? else {
         return Err(refused(path, MOVED));
-    }
-    if found.len() < read {
+    };
+    if length < read {
         return Err(refused(path, SHORTER));
     }
-    Ok(found.len())
+    Ok(length)
 }
 
 /// Follows the journal until it is this server's, and reads all of it: how long it is. `None` where the standby is to end
