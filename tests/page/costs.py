@@ -128,13 +128,18 @@ def orders_of_portions(load_client: str, server: Server, how: str) -> list[int]:
 
 
 def shares_lost(portions: list[int], letter: str) -> list[float]:
-    """The share of a cycle's orders that the portions behind each question of this letter fall short by, of what those around them
-    have. Left out are the first second, and the first question of a kind: its answer is of all that came meanwhile."""
+    """What the portions behind each question of this letter fall short by, of what those around them have, as a share of the orders
+    that a cycle has on the day's average: around a question nothing may have come, where the machine stood still. Left out are the
+    first second, and the first question of a kind: its answer is of all that came meanwhile."""
+    first = round(1 / PORTION_SECONDS)
+    usual = CYCLE * mean(portions[first:])
+    if usual == 0:
+        raise ValueError("no order came behind the first second")
     lost = []
-    for at in range(round(1 / PORTION_SECONDS), len(portions) - CYCLE + 1, CYCLE):
+    for at in range(first, len(portions) - CYCLE + 1, CYCLE):
         if all(PLAN[place % len(PLAN)] == letter for place in (at - CYCLE, at)):
             bare = mean(portions[at - CYCLE + BEHIND:at] + portions[at + BEHIND:at + CYCLE])
-            lost.append((BEHIND * bare - sum(portions[at:at + BEHIND])) / (CYCLE * bare))
+            lost.append((BEHIND * bare - sum(portions[at:at + BEHIND])) / usual)
     return lost
 
 

@@ -1,7 +1,7 @@
 //! That a server listens, told on standard output once it takes connections.
 
-use crate::ending::{Ended, Place};
 use gx_lobby::Lobby;
+use gx_program::{Ended, Place};
 use gx_units::OutOfMemory;
 use std::alloc::Global;
 use std::sync::{Arc, Wait};

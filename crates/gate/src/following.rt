@@ -2,26 +2,26 @@
 
 ghost use Rattle.std.specs.Prelude.{◌≤◌, IfOk, length};
 
-use crate::ending::{Ended, Place};
-use crate::files::{Content, look_before};
-use crate::growing::{MOVED, PIECE, go_to, length_named, read_once};
-use crate::policy_of;
-use gx_audit::{AuditFault, told_of_fault};
+use crate::telling::{words_of, write};
+use gx_audit::AuditFault;
 use gx_audit_bytes::RECORD_SIZE;
 use gx_command_line::{AuditFiles, FollowAsked};
-use gx_core::Gate;
 use gx_policy::Policy;
-use gx_records::ShowsState;
+use gx_program::{
+    Content, Ended, MOVED, PIECE, go_to, length_named, look_before, policy_of, print, read_once,
+    refused,
+};
+use gx_records::{ShowsRecords, ShowsState};
 use gx_text::{Form, append};
 use gx_units::OutOfMemory;
 use gx_watch::Watch;
 use std::alloc::Global;
 use std::fs::File;
-use std::io::{Error, ErrorKind, Write};
+use std::io::{Error, ErrorKind};
 use std::process::ExitCode;
 use std::sync::Wait;
+use std::thread;
 use std::time::{Clock, Duration};
-use std::{io, thread};
 
 /// What is told of a journal that has become shorter than what was read of its whole records.
 const SHORTER: &str = "another program has made the file shorter: it has lost whole records";
@@ -84,20 +84,18 @@ fn look_at_file<'a>(
     whole: u64,
 ) -> Result<(), Ended<'a>> {
     let Some(length) = length_named(host, path, file)? else {
-        let moved = Error::new(ErrorKind::InvalidData, MOVED);
-        return Err(Ended::unread(path, moved));
+        return Err(refused(path, MOVED));
     };
     if length < whole {
-        let shorter = Error::new(ErrorKind::InvalidData, SHORTER);
-        return Err(Ended::unread(path, shorter));
+        return Err(refused(path, SHORTER));
     }
     Ok(())
 }
 
 /// Takes a record, and puts what is told of it at the end of the text.
-fn take_record(
+fn take_record<G: ShowsRecords + ShowsState>(
     alloc: Global,
-    watch: &mut Watch<Gate>,
+    watch: &mut Watch<G>,
     bytes: &[u8],
     text: &mut Vec<u8>,
 ) -> Result<(), AuditFault> {
@@ -115,9 +113,9 @@ fn take_record(
 }
 
 /// Takes these records, one after the other, and puts what is told of them at the end of the text.
-fn take_records(
+fn take_records<G: ShowsRecords + ShowsState>(
     alloc: Global,
-    watch: &mut Watch<Gate>,
+    watch: &mut Watch<G>,
     bytes: &[u8],
     text: &mut Vec<u8>,
 ) -> Result<(), AuditFault> {
@@ -127,21 +125,10 @@ fn take_records(
     Ok(())
 }
 
-/// Writes the text on standard output.
-fn print<'a>(host: &HostRuntime, text: &[u8]) -> Result<(), Ended<'a>> {
-    if text.is_empty() {
-        return Ok(());
-    }
-    match io::writer(host).write_all(text) {
-        Ok(()) => Ok(()),
-        Err(error) => Err(Ended::unwritten(Place::Output, error)),
-    }
-}
-
 /// Takes these records, and tells what is told of them.
-fn tell_records<'a>(
+fn tell_records<'a, G: ShowsRecords + ShowsState>(
     host: &HostRuntime,
-    watch: &mut Watch<Gate>,
+    watch: &mut Watch<G>,
     bytes: &[u8],
 ) -> Result<(), Stop<'a>> {
     let mut text = Vec::new(host.alloc());
@@ -174,11 +161,11 @@ fn read_piece<'a>(
 }
 
 /// Takes a piece of the journal: whether there was one.
-fn take_piece<'a>(
+fn take_piece<'a, G: ShowsRecords + ShowsState>(
     host: &HostRuntime,
     path: &'a str,
     file: &mut File,
-    watch: &mut Watch<Gate>,
+    watch: &mut Watch<G>,
     room: &mut [u8],
 ) -> Result<bool, Stop<'a>> {
     let count = match read_piece(host, path, file, watch.whole(), room) {
@@ -190,11 +177,11 @@ fn take_piece<'a>(
 }
 
 /// Takes all that the journal has: whether there was anything.
-fn take_all<'a>(
+fn take_all<'a, G: ShowsRecords + ShowsState>(
     host: &HostRuntime,
     path: &'a str,
     file: &mut File,
-    watch: &mut Watch<Gate>,
+    watch: &mut Watch<G>,
     room: &mut [u8],
 ) -> Result<bool, Stop<'a>> {
     let mut has_come = false;
@@ -208,13 +195,13 @@ fn take_all<'a>(
 }
 
 /// Follows the journal until its day is closed and nothing more comes.
-fn follow_file<'a, R: Wait + Clock>(
+fn follow_file<'a, R: Wait + Clock, G: ShowsRecords + ShowsState>(
     rt: &R,
     host: &HostRuntime,
     path: &'a str,
     asked: FollowAsked,
     file: &mut File,
-    watch: &mut Watch<Gate>,
+    watch: &mut Watch<G>,
 ) -> Result<(), Stop<'a>> {
     let mut room = Vec::new(host.alloc());
     if room.resize(PIECE, 0u8).is_err() {
@@ -247,14 +234,10 @@ fn tell_fault<'a>(
     fault: AuditFault,
     is_json: bool,
 ) -> Result<ExitCode, Ended<'a>> {
-    let told = match told_of_fault(host.alloc(), fault) {
-        Ok(told) => told,
-        Err(fault) => return Err(Ended::of_writing(fault, Place::Output, None)),
-    };
+    let told = words_of(host, fault)?;
     let mut text = Vec::new(host.alloc());
     append_fault(&mut text, told.line.as_slice(), is_json)?;
-    print(host, text.as_slice())?;
-    Ok(ExitCode::from(told.status()))
+    write(host, text.as_slice(), told.status())
 }
 
 /// What is wrong with the journal, if anything is, or why the program gave up.
@@ -291,11 +274,11 @@ fn form_of(asked: FollowAsked) -> Form {
 }
 
 /// What follows the journal under this policy.
-fn open_watch<'a>(
+fn open_watch<'a, G: ShowsRecords + ShowsState>(
     host: &HostRuntime,
     policy: &Policy,
     asked: FollowAsked,
-) -> Result<Watch<Gate>, Ended<'a>> {
+) -> Result<Watch<G>, Ended<'a>> {
     let Ok(shares) = asked.shares.list(host.alloc()) else {
         return Err(OutOfMemory.into());
     };
@@ -303,7 +286,7 @@ fn open_watch<'a>(
 }
 
 /// Follows the journal under its policy: the status that says what it is.
-fn follow_under<'a, R: Wait + Clock>(
+fn follow_under<'a, G: ShowsRecords + ShowsState, R: Wait + Clock>(
     rt: &R,
     host: &HostRuntime,
     policy: &Policy,
@@ -311,7 +294,7 @@ fn follow_under<'a, R: Wait + Clock>(
     asked: FollowAsked,
 ) -> Result<ExitCode, Ended<'a>> {
     let mut file = await_file(rt, host, path, asked)?;
-    let mut watch = open_watch(host, policy, asked)?;
+    let mut watch: Watch<G> = open_watch(host, policy, asked)?;
     let ended = follow_file(rt, host, path, asked, &mut file, &mut watch);
     match watch.close(host.alloc()) {
         Ok(left) => tell_end(host, ended, left.as_slice(), asked.is_json),
@@ -320,12 +303,12 @@ fn follow_under<'a, R: Wait + Clock>(
 }
 
 /// Follows a journal, and tells what its records tell: the status that says what it is, or why the program gave up.
-pub(crate) fn follow_journal<'a, R: Wait + Clock>(
+pub(crate) fn follow<'a, G: ShowsRecords + ShowsState, R: Wait + Clock>(
     rt: &R,
     host: &HostRuntime,
     files: AuditFiles<'a>,
     asked: FollowAsked<'a>,
 ) -> Result<ExitCode, Ended<'a>> {
     let policy = policy_of(host, files.policy)?;
-    follow_under(rt, host, &policy, files.audit, asked)
+    follow_under::<G, R>(rt, host, &policy, files.audit, asked)
 }

@@ -1,9 +1,9 @@
 //! Where the risk desk's page is served.
 
-use crate::ending::Ended;
 use gx_button::Secret;
 use gx_command_line::Serving;
-use gx_listen::{PagePort, ServeFault};
+use gx_listen::PagePort;
+use gx_program::Ended;
 use std::net::{Ipv4Addr, Net, SocketAddr, TcpListener, TcpStream};
 use std::random::RandomSource;
 
@@ -12,7 +12,7 @@ fn secret<'a>(host: &HostRuntime) -> Result<Secret, Ended<'a>> {
     let mut bytes = [0u8; 32];
     match host.fill_bytes(&mut bytes) {
         Ok(()) => Ok(Secret { bytes }),
-        Err(error) => Err(ServeFault::ListenFailed(error).into()),
+        Err(error) => Err(Ended::no_listener(error)),
     }
 }
 
@@ -24,7 +24,7 @@ pub(crate) fn listen<'a, R: Net<Listener = TcpListener, Stream = TcpStream>>(
     let address = SocketAddr::from((Ipv4Addr::LOCALHOST, port));
     match TcpListener::bind(rt, address) {
         Ok(listener) => Ok(listener),
-        Err(error) => Err(ServeFault::ListenFailed(error).into()),
+        Err(error) => Err(Ended::no_listener(error)),
     }
 }
 

@@ -2,18 +2,15 @@
 
 ghost use Rattle.std.specs.Prelude.{◌^◌, ◌<◌};
 
-use crate::ending::{Ended, Place};
-use crate::files::{Content, bytes_of};
 use gx_audit::{endings_of, order_ends_of};
 use gx_clock::TimeOfDay;
-use gx_command_line::{Shape, TableForm, Wanted};
-use gx_core::Gate;
+use gx_command_line::{AuditFiles, Shape, TableForm, Wanted};
 use gx_desk::Action;
-use gx_devices::Counted;
 use gx_endings::endings::Ending;
 use gx_history::record::{Record, Request, Step, Verdict};
 use gx_policy::Policy;
-use gx_server::Noted;
+use gx_program::{Content, Ended, Place, bytes_of, held_back, policy_of};
+use gx_records::ShowsState;
 use gx_shortened::Shortened;
 use gx_show::{
     AskedNames, AuditRecords, Choice, FindingFault, OrderLife, ShownForm, Style, UnknownName,
@@ -113,7 +110,7 @@ fn is_ending(record: &Record) -> bool {
 }
 
 /// What Kills and Close Days ended, where that is shown and there are any among the records.
-fn endings_for(
+fn endings_for<G: ShowsState>(
     alloc: Global,
     policy: &Policy,
     audit: &[u8],
@@ -122,22 +119,22 @@ fn endings_for(
 ) -> Result<Vec<Ending>, OutOfMemory> {
     let are_shown = style.has_words || style.form != ShownForm::Text;
     if are_shown && records.iter().any(is_ending) {
-        return endings_of::<Gate>(alloc, policy, audit);
+        return endings_of::<G>(alloc, policy, audit);
     }
     Ok(Vec::new(alloc))
 }
 
 /// Writes the records, and tells the number of the first that is none: the status that says whether there is one.
-fn write_found<'a>(
+fn write_found<'a, G: ShowsState>(
     rt: &HostRuntime,
     policy: &Policy,
     audit: &[u8],
     style: &Style,
     found: &AuditRecords,
 ) -> Result<ExitCode, Ended<'a>> {
-    let mut writer = Counted::new(Noted::new(io::writer(rt)));
+    let mut writer = held_back(rt.alloc(), io::writer(rt))?;
     let records = found.records.as_slice();
-    let endings = endings_for(rt.alloc(), policy, audit, style, records)?;
+    let endings = endings_for::<G>(rt.alloc(), policy, audit, style, records)?;
     let endings = endings.as_slice();
     if let Err(fault) = write_records(rt.alloc(), policy, style, records, endings, &mut writer) {
         let cause = writer.into_inner().cause;
@@ -164,7 +161,7 @@ fn tell_unfound<'a>(rt: &HostRuntime, fault: FindingFault) -> Result<ExitCode, E
 }
 
 /// Shows the records of an audit that are asked for: the status that says what the audit is.
-fn show_chosen<'a>(
+fn show_chosen<'a, G: ShowsState>(
     rt: &HostRuntime,
     policy: &Policy,
     audit: &[u8],
@@ -175,11 +172,11 @@ fn show_chosen<'a>(
         Ok(found) => found,
         Err(fault) => return tell_unfound(rt, fault),
     };
-    write_found(rt, policy, audit, style, &found)
+    write_found::<G>(rt, policy, audit, style, &found)
 }
 
 /// The life of the order of this number, if one is asked for.
-fn life_of(
+fn life_of<G: ShowsState>(
     alloc: Global,
     policy: &Policy,
     audit: &[u8],
@@ -188,7 +185,7 @@ fn life_of(
     let Some(number) = order else {
         return Ok(None);
     };
-    let ends = order_ends_of::<Gate>(alloc, policy, audit)?;
+    let ends = order_ends_of::<G>(alloc, policy, audit)?;
     let end = ends.iter().find(|end| end.order == number);
     Ok(Some(OrderLife {
         number,
@@ -198,7 +195,7 @@ fn life_of(
 
 /// Shows the records of the audit in this file that are wanted: the status that says what the audit is, or that a name is
 /// not the policy's.
-pub(crate) fn show_under<'a>(
+fn show_under<'a, G: ShowsState>(
     rt: &HostRuntime,
     policy: &Policy,
     path: &'a str,
@@ -210,6 +207,17 @@ pub(crate) fn show_under<'a>(
         Err(unknown) => return Ok(tell_unknown(rt, policy, &wanted, unknown)),
     };
     let audit = bytes_of(rt, path, Content::Records)?;
-    choice.order = life_of(rt.alloc(), policy, audit.as_slice(), wanted.order)?;
-    show_chosen(rt, policy, audit.as_slice(), &choice, &style_of(shape))
+    choice.order = life_of::<G>(rt.alloc(), policy, audit.as_slice(), wanted.order)?;
+    show_chosen::<G>(rt, policy, audit.as_slice(), &choice, &style_of(shape))
+}
+
+/// Shows records of an audit: the status that says whether all were records.
+pub(crate) fn show<'a, G: ShowsState>(
+    rt: &HostRuntime,
+    files: AuditFiles<'a>,
+    wanted: Wanted<'a>,
+    shape: Shape,
+) -> Result<ExitCode, Ended<'a>> {
+    let policy = policy_of(rt, files.policy)?;
+    show_under::<G>(rt, &policy, files.audit, wanted, shape)
 }

@@ -1,4 +1,4 @@
-//! Runs the cases on standard input, and prints what each does.
+//! The cases of a gate, whichever it is: a text of cases, and a text of what each does.
 //!
 //! A case is a line `== TITLE`, which says what it shows, and parts up to the next case. A part is a line `-- KIND` and
 //! the lines behind it:
@@ -72,182 +72,23 @@
 //! done.
 #![tactic(auto)]
 
-mod alone;
-mod audits;
-mod calls;
-mod endless;
+mod cases;
 mod plays;
-mod policies;
-mod runs;
 mod shown;
 
-use calls::Act;
-use gx_answers::AccessGate;
+use cases::answer_text;
 use gx_core::Gate;
-use gx_policy::Policy;
-use gx_policyfile::read_policy;
-use gx_server::{open_gate, sample_policy, told_of_policy};
-use gx_trials::{
-    BYTE_BY_BYTE, LARGE, Limits, Told, bytes_of, changed_sample, halves, put_both, put_rules,
-    put_title,
-};
-use plays::tell_play;
-use policies::{put_fault, put_migrated};
-use runs::tell_parts;
-use shown::{Shown, show};
+use gx_trials::Told;
 use std::alloc::Global;
 use std::io;
 use std::io::Read as _;
-use std::sync::Wait;
-use std::thread::Threads;
-use std::time::Clock;
-
-/// Runs the parts on a new gate: under the policy of the file, if there is one. `policy` is what the gate opens on.
-fn run_once(
-    alloc: Global,
-    out: &mut Told,
-    file: Option<&[u8]>,
-    policy: &Policy,
-    parts: &str,
-    usual: Limits,
-) {
-    match open_gate::<Gate>(alloc, file) {
-        Ok(gate) => {
-            let mut gate = gate;
-            tell_parts(alloc, out, &mut gate, policy, parts, usual);
-            gate.close();
-        }
-        Err(fault) => put_fault(out, &fault),
-    }
-}
-
-/// Runs the parts byte by byte, behind what was told of them with large pieces.
-fn run_byte_by_byte(
-    alloc: Global,
-    out: &mut Told,
-    file: Option<&[u8]>,
-    policy: &Policy,
-    parts: &str,
-    large: &Told,
-) {
-    let mut told = Told::new(alloc);
-    run_once(alloc, &mut told, file, policy, parts, BYTE_BY_BYTE);
-    put_both(out, large, &told)
-}
-
-/// Runs the parts over devices of both kinds.
-fn run(alloc: Global, out: &mut Told, file: Option<&[u8]>, policy: &Policy, parts: &str) {
-    let mut told = Told::new(alloc);
-    run_once(alloc, &mut told, file, policy, parts, LARGE);
-    run_byte_by_byte(alloc, out, file, policy, parts, &told)
-}
-
-/// Tells the rules of a policy, and runs the parts under its file.
-fn run_ruled(alloc: Global, out: &mut Told, file: &[u8], policy: &Policy, parts: &str) {
-    put_rules(out, policy);
-    run(alloc, out, Some(file), policy, parts)
-}
-
-/// Puts how much a policy file holds, tells its rules, and runs the parts under it.
-fn run_under(alloc: Global, out: &mut Told, line: &[u8], file: &[u8], parts: &str) {
-    out.put_bytes(line);
-    match read_policy(alloc, file) {
-        Ok(policy) => run_ruled(alloc, out, file, &policy, parts),
-        Err(_) => out.give_up(),
-    }
-}
-
-/// Tells of a policy file, and runs the parts under it.
-fn tell_file(alloc: Global, out: &mut Told, file: &[u8], parts: &str) {
-    match told_of_policy(alloc, file) {
-        Ok(line) => run_under(alloc, out, line.as_slice(), file, parts),
-        Err(fault) => put_fault(out, &fault),
-    }
-}
-
-/// Tells of a policy file whose bytes are in hex, and runs the parts under it.
-fn tell_hex_file(alloc: Global, out: &mut Told, text: &str, parts: &str) {
-    let file = bytes_of(alloc, out, text);
-    tell_file(alloc, out, file.as_slice(), parts)
-}
-
-/// Tells of the sample policy's file as it was changed, and runs the parts under it.
-fn tell_changed_sample(alloc: Global, out: &mut Told, change: &str, parts: &str) {
-    match changed_sample(alloc, change) {
-        Ok(file) => tell_file(alloc, out, file.as_bytes(), parts),
-        Err(_) => out.give_up(),
-    }
-}
-
-/// Runs a case: its first part may be a policy, and may be a play.
-fn answer<R: Threads + Wait + Clock + Sync>(
-    rt: &R,
-    alloc: Global,
-    out: &mut Told,
-    sample: &Policy,
-    parts: &str,
-) {
-    let (first, rest) = halves(parts, "\n-- ");
-    let (head, text) = halves(first, "\n");
-    let (kind, words) = halves(head, " ");
-    match kind {
-        "policy" => tell_file(alloc, out, text.as_bytes(), rest),
-        "policy-in-hex" => tell_hex_file(alloc, out, text, rest),
-        "migrate" => put_migrated(alloc, out, text.as_bytes()),
-        "sample" => tell_changed_sample(alloc, out, text, rest),
-        "play" | "play-races" | "play-kept" => {
-            tell_play(rt, alloc, out, sample, kind, words, text)
-        }
-        "calls" => show(rt, alloc, out, sample, Shown::Calls(Act::named(words))),
-        _ => run(alloc, out, None, sample, parts),
-    }
-}
-
-/// Runs a case, behind its title.
-fn answer_case<R: Threads + Wait + Clock + Sync>(
-    rt: &R,
-    alloc: Global,
-    out: &mut Told,
-    sample: &Policy,
-    case: &str,
-) {
-    let (title, parts) = halves(case, "\n-- ");
-    put_title(out, title);
-    answer(rt, alloc, out, sample, parts)
-}
-
-/// Runs the cases of a text.
-fn answer_all<R: Threads + Wait + Clock + Sync>(
-    rt: &R,
-    alloc: Global,
-    out: &mut Told,
-    sample: &Policy,
-    text: &str,
-) {
-    for case in text.split("\n== ") {
-        answer_case(rt, alloc, out, sample, case);
-    }
-}
-
-/// Runs the cases of a text, most of them under the sample policy.
-fn answer_text<R: Threads + Wait + Clock + Sync>(
-    rt: &R,
-    alloc: Global,
-    out: &mut Told,
-    text: &str,
-) {
-    match sample_policy(alloc) {
-        Ok(sample) => answer_all(rt, alloc, out, &sample, text),
-        Err(_) => out.give_up(),
-    }
-}
 
 fn main(rt: HostRuntime) -> io::Result<()> {
     let alloc: Global = rt.alloc();
     let mut text = String::new(alloc);
     rt.reader().read_to_string(&mut text)?;
     let mut told = Told::new(alloc);
-    answer_text(&rt, alloc, &mut told, text.as_str());
+    answer_text::<Gate, HostRuntime>(&rt, alloc, &mut told, text.as_str());
     if !told.is_whole() {
         return Err(io::Error::from(io::ErrorKind::OutOfMemory));
     }

@@ -3,17 +3,17 @@
 
 ghost use Rattle.std.specs.Prelude.{◌≡◌, []};
 
-use crate::audits::{audit_in, tell_shown};
 use crate::shown::{Shown, show};
 use gx_answers::AccessGate;
-use gx_audit::{AuditFault, Resumed, check_audit, resume};
+use gx_audit::{Resumed, resume};
 use gx_audit_bytes::AuditVersion::Two;
 use gx_audit_bytes::write_header;
-use gx_core::Gate;
+use gx_case_parts::{audit_in, put_legal, tell_shown};
 use gx_journal::Journaled;
 use gx_pass::GateName;
 use gx_plays::{Script, Vain, are_owed, play, tell_owed, tell_packets, tell_vain};
 use gx_policy::Policy;
+use gx_records::{ShowsRecords, ShowsState};
 use gx_shared::{Entrance, Kept, Permits, SharedGate, Ticket, close_kept};
 use gx_trials::{LARGE, Limits, Sips, Told, limits_of};
 use gx_units::OutOfMemory;
@@ -42,20 +42,6 @@ pub(crate) struct Setting<'a, 't> {
     limits: Limits,
 }
 
-/// Puts how many records the gate's audit is found to have.
-pub(crate) fn put_legal(alloc: Global, out: &mut Told, gate: &Gate, policy: &Policy) {
-    let audit = audit_in(alloc, out, Two, gate);
-    match check_audit::<Gate>(alloc, policy, audit.as_slice()) {
-        Ok(count) => {
-            out.put("legal ");
-            out.put_number(count);
-            out.put("\n");
-        }
-        Err(AuditFault::OutOfMemory) => out.give_up(),
-        Err(_) => out.put("not legal\n"),
-    }
-}
-
 /// The journal's file: the policy's header, and what was written behind it.
 fn journal_of(alloc: Global, policy: &Policy, written: &[u8]) -> Result<Vec<u8>, OutOfMemory> {
     let mut file = Vec::from_slice(alloc, &write_header(policy))?;
@@ -64,7 +50,7 @@ fn journal_of(alloc: Global, policy: &Policy, written: &[u8]) -> Result<Vec<u8>,
 }
 
 /// Puts whether the journal's file is the gate's audit.
-fn put_whole(alloc: Global, out: &mut Told, gate: &Gate, file: &[u8]) {
+fn put_whole<G: ShowsRecords>(alloc: Global, out: &mut Told, gate: &G, file: &[u8]) {
     let audit = audit_in(alloc, out, Two, gate);
     if audit.as_slice() == file {
         out.put("the journal is the audit\n")
@@ -74,7 +60,13 @@ fn put_whole(alloc: Global, out: &mut Told, gate: &Gate, file: &[u8]) {
 }
 
 /// Puts whether all that peers were told of is in the journal's day, which this gate has.
-fn put_told<R: Wait>(rt: &R, alloc: Global, out: &mut Told, gate: &Gate, script: &Script<'_>) {
+fn put_told<G: AccessGate, R: Wait>(
+    rt: &R,
+    alloc: Global,
+    out: &mut Told,
+    gate: &G,
+    script: &Script<'_>,
+) {
     match are_owed(rt, alloc, gate, script) {
         Ok(true) => out.put("all that was told is in the journal\n"),
         Ok(false) => out.put("something was told that is not in the journal\n"),
@@ -83,7 +75,7 @@ fn put_told<R: Wait>(rt: &R, alloc: Global, out: &mut Told, gate: &Gate, script:
 }
 
 /// Puts whether all that peers were told of is in the file of a journal that failed.
-fn put_failed<R: Wait>(
+fn put_failed<G: AccessGate, R: Wait>(
     rt: &R,
     alloc: Global,
     out: &mut Told,
@@ -92,7 +84,7 @@ fn put_failed<R: Wait>(
     script: &Script<'_>,
 ) {
     out.put("the journal failed\n");
-    let Ok(Resumed { gate, kept: _ }) = resume::<Gate>(alloc, policy, file) else {
+    let Ok(Resumed { gate, kept: _ }) = resume::<G>(alloc, policy, file) else {
         return out.put("the journal is not legal\n");
     };
     put_told(rt, alloc, out, &gate, script);
@@ -100,27 +92,27 @@ fn put_failed<R: Wait>(
 }
 
 /// What a play left: the gate, whether its journal failed, and what the journal's device has taken.
-#[derive(Clone, Copy)]
-struct Left<'a> {
-    gate: &'a Gate,
+#[derive_where(Clone, Copy)]
+struct Left<'a, G> {
+    gate: &'a G,
     has_failed: bool,
     written: &'a [u8],
 }
 
 /// Puts how the reports that each peer was sent stand to those that he is owed, and the journal to the audit.
-fn put_kept<R: Wait>(
+fn put_kept<G: ShowsRecords, R: Wait>(
     rt: &R,
     alloc: Global,
     out: &mut Told,
     policy: &Policy,
-    left: Left<'_>,
+    left: Left<'_, G>,
     script: &Script<'_>,
 ) {
     let Ok(file) = journal_of(alloc, policy, left.written) else {
         return out.give_up();
     };
     if left.has_failed {
-        return put_failed(rt, alloc, out, policy, file.as_slice(), script);
+        return put_failed::<G, R>(rt, alloc, out, policy, file.as_slice(), script);
     }
     tell_owed(rt, alloc, out, left.gate, script);
     put_legal(alloc, out, left.gate, policy);
@@ -128,12 +120,12 @@ fn put_kept<R: Wait>(
 }
 
 /// Puts what each peer was sent, and the records of the day where they have one order alone, or how many they are.
-fn put_day<R: Wait>(
+fn put_day<G: ShowsRecords, R: Wait>(
     rt: &R,
     alloc: Global,
     out: &mut Told,
     policy: &Policy,
-    gate: &Gate,
+    gate: &G,
     setting: Setting<'_, '_>,
 ) {
     tell_packets(rt, alloc, setting.script, out);
@@ -144,12 +136,12 @@ fn put_day<R: Wait>(
 }
 
 /// Puts what was waited for in vain, and what else is told of a play.
-fn tell<R: Wait>(
+fn tell<G: ShowsRecords, R: Wait>(
     rt: &R,
     alloc: Global,
     out: &mut Told,
     policy: &Policy,
-    left: Left<'_>,
+    left: Left<'_, G>,
     setting: Setting<'_, '_>,
     vain: Option<Vain>,
 ) {
@@ -164,12 +156,16 @@ fn tell<R: Wait>(
 }
 
 /// Performs a play at a gate whose records are kept with this pass, and tells of it.
-pub(crate) fn play_at<N: GateName + Send + Sync, R: Threads + Wait + Clock + Sync>(
+pub(crate) fn play_at<
+    G: ShowsRecords + ShowsState + Send,
+    N: GateName + Send + Sync,
+    R: Threads + Wait + Clock + Sync,
+>(
     rt: &R,
     alloc: Global,
     out: &mut Told,
     policy: &Policy,
-    shared: SharedGate<Gate, N>,
+    shared: SharedGate<G, N>,
     permits: Permits<N>,
     pass: Ticket<N>,
     setting: Setting<'_, '_>,
@@ -178,7 +174,7 @@ pub(crate) fn play_at<N: GateName + Send + Sync, R: Threads + Wait + Clock + Syn
     requires none_added { pass.added ≡ 0 }
 {
     let device = Sips::new(alloc, setting.limits);
-    let door: Journaled<'_, SharedGate<Gate, N>, Sips, Brand> = Journaled::new(
+    let door: Journaled<'_, SharedGate<G, N>, Sips, Brand> = Journaled::new(
         alloc, Two, &shared, pass, 0, device,
     );
     let vain = play(
@@ -206,7 +202,7 @@ pub(crate) fn play_at<N: GateName + Send + Sync, R: Threads + Wait + Clock + Syn
 
 /// Performs a play at a gate of its own, and tells of it as its kind says; the words are the limits of the journal's
 /// device, where it has any.
-pub(crate) fn tell_play<R: Threads + Wait + Clock + Sync>(
+pub(crate) fn tell_play<G: ShowsRecords + ShowsState + Send, R: Threads + Wait + Clock + Sync>(
     rt: &R,
     alloc: Global,
     out: &mut Told,
@@ -231,5 +227,5 @@ pub(crate) fn tell_play<R: Threads + Wait + Clock + Sync>(
         telling,
         limits,
     };
-    show(rt, alloc, out, policy, Shown::Play(setting))
+    show::<G, R>(rt, alloc, out, policy, Shown::Play(setting))
 }

@@ -3,13 +3,13 @@
 ghost use Rattle.std.specs.Prelude.{◌≡◌};
 ghost use Rattle.gx_shared.specs.Permits.{all_parts};
 
-use crate::calls::{Act, act_at};
 use crate::plays::{Setting, play_at};
-use gx_answers::AccessGate;
-use gx_core::Gate;
+use gx_case_parts::{Act, put_act, put_legal};
 use gx_pass::{Blank, GateName};
+use gx_plays::{Looks, PlayClock, Timed};
 use gx_policy::Policy;
-use gx_shared::{BlankLedgers, SharedGate};
+use gx_records::{ShowsRecords, ShowsState};
+use gx_shared::{BlankLedgers, Entrance, Permits, SharedGate, Ticket};
 use gx_trials::Told;
 use std::alloc::Global;
 use std::marker::Brand;
@@ -26,8 +26,51 @@ pub(crate) enum Shown<'a, 't> {
     Calls(Act),
 }
 
+/// Makes the calls at a gate, on a clock that stands still, and puts what comes of them.
+fn call_at<
+    G: ShowsRecords + ShowsState + Send,
+    N: GateName + Send + Sync,
+    R: Threads + Wait + Clock + Sync,
+>(rt: &R, alloc: Global, out: &mut Told, shared: &SharedGate<G, N>, permits: Permits<N>, act: Act) {
+    let (clock, looks) = (PlayClock::new(), Looks::new());
+    let mut entrance = Entrance::new(shared, permits);
+    put_act(
+        &Timed::new(rt, &clock, &looks),
+        alloc,
+        out,
+        shared,
+        &mut entrance,
+        act,
+    )
+}
+
+/// Makes the calls at a gate, and puts what comes of them and of its audit.
+fn act_at<
+    G: ShowsRecords + ShowsState + Send,
+    N: GateName + Send + Sync,
+    R: Threads + Wait + Clock + Sync,
+>(
+    rt: &R,
+    alloc: Global,
+    out: &mut Told,
+    policy: &Policy,
+    shared: SharedGate<G, N>,
+    permits: Permits<N>,
+    pass: Ticket<N>,
+    act: Act,
+) {
+    call_at(rt, alloc, out, &shared, permits, act);
+    let (gate, _met, _total) = shared.close(pass);
+    put_legal(alloc, out, &gate, policy);
+    gate.close();
+}
+
 /// Shows it at a gate over this table and this ledger.
-fn show_named<N: GateName + Send + Sync, R: Threads + Wait + Clock + Sync>(
+fn show_named<
+    G: ShowsRecords + ShowsState + Send,
+    N: GateName + Send + Sync,
+    R: Threads + Wait + Clock + Sync,
+>(
     rt: &R,
     alloc: Global,
     out: &mut Told,
@@ -42,10 +85,10 @@ fn show_named<N: GateName + Send + Sync, R: Threads + Wait + Clock + Sync>(
     requires lines { ledgers.lines ≡ N.lines }
     requires parts { N.parts ≡ all_parts }
 {
-    let Ok(gate) = Gate::open(alloc, policy) else {
+    let Ok(gate) = G::open(alloc, policy) else {
         return out.give_up();
     };
-    match SharedGate::<Gate, N>::over(gate, blank, ledgers) {
+    match SharedGate::<G, N>::over(gate, blank, ledgers) {
         Ok((shared, permits, pass)) => match shown {
             Shown::Play(setting) => {
                 play_at(rt, alloc, out, policy, shared, permits, pass, setting)
@@ -57,7 +100,7 @@ fn show_named<N: GateName + Send + Sync, R: Threads + Wait + Clock + Sync>(
 }
 
 /// Shows it at a gate of its own.
-pub(crate) fn show<R: Threads + Wait + Clock + Sync>(
+pub(crate) fn show<G: ShowsRecords + ShowsState + Send, R: Threads + Wait + Clock + Sync>(
     rt: &R,
     alloc: Global,
     out: &mut Told,
@@ -65,7 +108,7 @@ pub(crate) fn show<R: Threads + Wait + Clock + Sync>(
     shown: Shown<'_, '_>,
 ) {
     match Blank::new(alloc) {
-        Ok(blank) => show_named::<Brand, R>(
+        Ok(blank) => show_named::<G, Brand, R>(
             rt,
             alloc,
             out,

@@ -9,7 +9,7 @@ use crate::reading::{byte, number, short};
 use gx_clock::UtcOffset;
 
 /// Which day an audit is of.
-#[derive(Clone, Copy, Debug, PartialEq, Eq)]
+#[derive(Clone, Copy, PartialEq, Eq)]
 pub struct AuditDay {
     /// The date, in days since 1 January 1970.
     pub date: u32,

@@ -9,7 +9,7 @@ use std::marker::Model;
 pub const RECORD_SIZE: usize = 128;
 
 /// A record as far as it is written. Contracts see the list of these bytes.
-#[derive(Debug, Drop)]
+#[derive(Drop)]
 pub(crate) struct Draft {
     room: [u8; RECORD_SIZE],
     used: usize,

@@ -7,7 +7,7 @@ use crate::day::{AuditDay, day_in};
 use crate::header::{DATED_MARK, MARK};
 
 /// How an audit is written.
-#[derive(Clone, Copy, Debug, PartialEq, Eq)]
+#[derive(Clone, Copy, PartialEq, Eq)]
 pub enum AuditVersion {
     /// Records alone, with the mark `GXA1`.
     One,

@@ -25,7 +25,7 @@ const TAG: Tag = Tag {
 };
 
 /// Why nothing is done.
-#[derive(Clone, Copy, Debug, PartialEq, Eq)]
+#[derive(Clone, Copy, PartialEq, Eq)]
 pub enum Refusal {
     /// Nobody is named, or not an officer or a reader with his password.
     Unauthorized,

@@ -7,7 +7,7 @@ ghost use Rattle.gx_clock.specs.Offsets.{minutes_of, minutes_written, offset_of,
 const MOST_MINUTES: u16 = 840;
 
 /// How far local time is from UTC.
-#[derive(Clone, Copy, Debug, PartialEq, Eq)]
+#[derive(Clone, Copy, PartialEq, Eq)]
 pub enum UtcOffset {
     /// So many minutes ahead of UTC, as in the east.
     Ahead(u16),

@@ -13,7 +13,7 @@ const SECOND: u64 = 1_000_000_000;
 const DAY: u64 = 86_400_000_000_000;
 
 /// A time of day, to the second.
-#[derive(Clone, Copy, Debug, PartialEq, Eq)]
+#[derive(Clone, Copy, PartialEq, Eq)]
 pub struct TimeOfDay {
     /// The seconds since midnight, below 86,400 where it was read.
     pub seconds: u32,

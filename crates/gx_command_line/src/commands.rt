@@ -656,35 +656,53 @@ const DESK: Subcommand = Subcommand {
 /// The argument, with its help.
 fn build_argument<'a>(alloc: Global, asked: &Argument) -> Result<Arg<'a>, AllocError> {
     let made = Arg::new(alloc, asked.name).help(asked.help);
+    with_others(with_value(made, asked), asked.kind)
+}
+
+/// The argument with its word, and with what may stand behind that.
+fn with_value<'a>(made: Arg<'a>, asked: &Argument) -> Arg<'a> {
     match asked.kind {
-        Kind::Word => Ok(made.value_name(asked.value).required(true)),
-        Kind::Words => Ok(trailing_words(made, asked)),
-        Kind::Text => Ok(made.long(asked.name).value_name(asked.value)),
-        Kind::NeededText => Ok(made.long(asked.name).value_name(asked.value).required(true)),
-        Kind::Flag => Ok(flag(made, asked)),
-        Kind::Choice(words) => Ok(
-            made.long(asked.name)
-                .value_name(asked.value)
-                .value_parser(words),
-        ),
-        Kind::Port => Ok(number(made.required(true), asked, 65_535)),
-        Kind::Count(most, default) => Ok(number(made.default_values(default), asked, most)),
-        Kind::OtherPort => Ok(number(made, asked, 65_535)),
-        Kind::Number => Ok(number(made, asked, i64::MAX)),
-        Kind::Offset(default) => Ok(offset(made.default_values(default), asked)),
-        Kind::FlagBeside(other) => flag(made, asked).requires_arg(other),
-        Kind::TextBeside(other, against) => made
-            .long(asked.name)
-            .value_name(asked.value)
-            .requires_arg(other)?
-            .conflicts_with(against),
-        Kind::TextOf(group) => made.long(asked.name).value_name(asked.value).group(group),
-        Kind::FlagInPlaceOf(others) => flag(made, asked).conflicts_with_all(others),
-        Kind::TextInPlaceOf(other) => made
-            .long(asked.name)
-            .value_name(asked.value)
-            .conflicts_with(other),
+        Kind::Word => made.value_name(asked.value).required(true),
+        Kind::Words => trailing_words(made, asked),
+        Kind::Text | Kind::TextBeside(_, _) | Kind::TextOf(_) | Kind::TextInPlaceOf(_) => {
+            text(made, asked)
+        }
+        Kind::NeededText => text(made, asked).required(true),
+        Kind::Flag | Kind::FlagBeside(_) | Kind::FlagInPlaceOf(_) => flag(made, asked),
+        Kind::Choice(words) => text(made, asked).value_parser(words),
+        Kind::Port => number(made.required(true), asked, 65_535),
+        Kind::Count(most, default) => number(made.default_values(default), asked, most),
+        Kind::OtherPort => number(made, asked, 65_535),
+        Kind::Number => number(made, asked, i64::MAX),
+        Kind::Offset(default) => offset(made.default_values(default), asked),
     }
+}
+
+/// The argument with the options beside which it stands, and those that it can't stand beside.
+fn with_others<'a>(made: Arg<'a>, kind: Kind) -> Result<Arg<'a>, AllocError> {
+    match kind {
+        Kind::FlagBeside(other) => made.requires_arg(other),
+        Kind::TextBeside(other, against) => made.requires_arg(other)?.conflicts_with(against),
+        Kind::TextOf(group) => made.group(group),
+        Kind::FlagInPlaceOf(others) => made.conflicts_with_all(others),
+        Kind::TextInPlaceOf(other) => made.conflicts_with(other),
+        Kind::Word
+        | Kind::Words
+        | Kind::Text
+        | Kind::NeededText
+        | Kind::Flag
+        | Kind::Choice(_)
+        | Kind::Port
+        | Kind::Count(_, _)
+        | Kind::OtherPort
+        | Kind::Number
+        | Kind::Offset(_) => Ok(made),
+    }
+}
+
+/// The argument as an option with a text behind it.
+fn text<'a>(made: Arg<'a>, asked: &Argument) -> Arg<'a> {
+    made.long(asked.name).value_name(asked.value)
 }
 
 /// The argument as an option with nothing behind it.
@@ -701,16 +719,12 @@ fn trailing_words<'a>(made: Arg<'a>, asked: &Argument) -> Arg<'a> {
 
 /// The argument as an option with an offset from UTC.
 fn offset<'a>(made: Arg<'a>, asked: &Argument) -> Arg<'a> {
-    made.long(asked.name)
-        .value_name(asked.value)
-        .allow_hyphen_values(true)
+    text(made, asked).allow_hyphen_values(true)
 }
 
 /// The argument as an option with a number from 1 on.
 fn number<'a>(made: Arg<'a>, asked: &Argument, most: i64) -> Arg<'a> {
-    made.long(asked.name)
-        .value_name(asked.value)
-        .value_parser(ValueParser::signed(1, most))
+    text(made, asked).value_parser(ValueParser::signed(1, most))
 }
 
 /// The command, with one more argument.

@@ -7,7 +7,7 @@ use std::alloc::{AllocFailed, Global};
 const LONGEST: u64 = 3_600_000;
 
 /// How often a journal that has nothing new is looked at.
-#[derive(Clone, Copy, Debug, PartialEq, Eq)]
+#[derive(Clone, Copy, PartialEq, Eq)]
 pub struct Every {
     /// So many milliseconds lie between two looks.
     pub milliseconds: u64,
@@ -46,7 +46,7 @@ impl Every {
 }
 
 /// The shares of limits, in hundredths, of which is warned.
-#[derive(Clone, Copy, Debug)]
+#[derive(Clone, Copy)]
 pub struct Shares<'a> {
     text: &'a str,
 }
@@ -88,7 +88,7 @@ impl<'a> Shares<'a> {
 }
 
 /// How a journal is followed, and how it is told.
-#[derive(Clone, Copy, Debug)]
+#[derive(Clone, Copy)]
 pub struct FollowAsked<'a> {
     /// How often it is looked at.
     pub every: Every,

@@ -25,7 +25,7 @@ pub use values::{BadValue, ReadOption};
 pub use words::{BadWord, LONGEST_WORD, first_bad_word};
 
 /// In which version the audit of a run is written, and a journal that is begun.
-#[derive(Clone, Copy, Debug, PartialEq, Eq)]
+#[derive(Clone, Copy, PartialEq, Eq)]
 pub enum VersionAsked {
     /// Version 2.
     Two,
@@ -34,7 +34,7 @@ pub enum VersionAsked {
 }
 
 /// The files of a run.
-#[derive(Clone, Copy, Debug)]
+#[derive(Clone, Copy)]
 pub struct RunFiles<'a> {
     /// The policy to run under; without it the sample policy holds.
     pub policy: Option<&'a str>,
@@ -45,7 +45,7 @@ pub struct RunFiles<'a> {
 }
 
 /// An audit, and the policy of its day.
-#[derive(Clone, Copy, Debug)]
+#[derive(Clone, Copy)]
 pub struct AuditFiles<'a> {
     /// The audit.
     pub audit: &'a str,
@@ -54,7 +54,7 @@ pub struct AuditFiles<'a> {
 }
 
 /// What a server is to do.
-#[derive(Clone, Copy, Debug)]
+#[derive(Clone, Copy)]
 pub struct Serving<'a> {
     /// The files of the run.
     pub files: RunFiles<'a>,
@@ -79,7 +79,7 @@ pub struct Serving<'a> {
 }
 
 /// When a server ends by itself: as soon as one of these is so.
-#[derive(Clone, Copy, Debug)]
+#[derive(Clone, Copy)]
 pub struct Ends<'a> {
     /// So many connections were taken and have ended; `None` where they are not counted.
     pub connections: Option<u16>,
@@ -92,7 +92,7 @@ pub struct Ends<'a> {
 }
 
 /// Where a server keeps the journal of its day, and what that outlives.
-#[derive(Clone, Copy, Debug)]
+#[derive(Clone, Copy)]
 pub struct JournalFile<'a> {
     /// The journal.
     pub path: &'a str,
@@ -101,14 +101,14 @@ pub struct JournalFile<'a> {
 }
 
 /// When a server that stands by takes over: as soon as the journal is no other server's any more, and all of this is so.
-#[derive(Clone, Copy, Debug)]
+#[derive(Clone, Copy)]
 pub struct Standby<'a> {
     /// There is this file, if one is named.
     pub takeover_file: Option<&'a str>,
 }
 
 /// Which records of an audit are wanted.
-#[derive(Clone, Copy, Debug)]
+#[derive(Clone, Copy)]
 pub struct Wanted<'a> {
     /// Those that concern this account.
     pub account: Option<&'a str>,
@@ -129,7 +129,7 @@ pub struct Wanted<'a> {
 }
 
 /// The form in which records are shown.
-#[derive(Clone, Copy, Debug, PartialEq, Eq)]
+#[derive(Clone, Copy, PartialEq, Eq)]
 pub enum TableForm {
     /// As lines of a script.
     Text,
@@ -140,7 +140,7 @@ pub enum TableForm {
 }
 
 /// The form in which a day is reported.
-#[derive(Clone, Copy, Debug, PartialEq, Eq)]
+#[derive(Clone, Copy, PartialEq, Eq)]
 pub enum PageForm {
     /// As tables in columns.
     Text,
@@ -153,7 +153,7 @@ pub enum PageForm {
 }
 
 /// How records of an audit are shown.
-#[derive(Clone, Copy, Debug)]
+#[derive(Clone, Copy)]
 pub struct Shape {
     /// As text, as CSV or as JSON.
     pub form: TableForm,
@@ -164,7 +164,7 @@ pub struct Shape {
 }
 
 /// Under which policy a day is judged again.
-#[derive(Clone, Copy, Debug)]
+#[derive(Clone, Copy)]
 pub struct OtherPolicy<'a> {
     /// The policy file.
     pub policy: &'a str,
@@ -173,7 +173,7 @@ pub struct OtherPolicy<'a> {
 }
 
 /// What a terminal client is to do.
-#[derive(Clone, Copy, Debug)]
+#[derive(Clone, Copy)]
 pub struct Desk<'a> {
     /// The address of the gate, if it is not this machine's own.
     pub host: Option<&'a str>,
@@ -194,7 +194,7 @@ pub struct Desk<'a> {
 }
 
 /// What a call asks for.
-#[derive(Clone, Copy, Debug)]
+#[derive(Clone, Copy)]
 pub enum Asked<'a> {
     /// `gate pipe`: to serve one connection.
     Pipe(RunFiles<'a>),
@@ -427,13 +427,11 @@ fn asked_for<'a>(given: &ArgMatches<'a>, words: &'a [String]) -> Option<Asked<'a
 
 /// The value of `--midnight`, where one is given that is no offset.
 fn bad_midnight<'a>(given: &ArgMatches<'a>) -> Option<BadValue<'a>> {
-    let (_name, given) = given.subcommand()?;
     BadValue::of_midnight(given.get_str(MIDNIGHT)?)
 }
 
 /// The value of the option of this name, where one is given that is no time of day.
 fn bad_time<'a>(given: &ArgMatches<'a>, option: ReadOption, name: &str) -> Option<BadValue<'a>> {
-    let (_name, given) = given.subcommand()?;
     BadValue::of_time(option, given.get_str(name)?)
 }
 
@@ -446,20 +444,27 @@ fn bad_times<'a>(given: &ArgMatches<'a>) -> Option<BadValue<'a>> {
 
 /// The value of `--at`, where one is given that is no place.
 fn bad_place<'a>(given: &ArgMatches<'a>) -> Option<BadValue<'a>> {
-    let (_name, given) = given.subcommand()?;
     BadValue::of_at(given.get_str(AT)?)
 }
 
-/// The value of `--every` or `--warn`, where one is given that can't be read.
-fn bad_follow<'a>(given: &ArgMatches<'a>) -> Option<BadValue<'a>> {
-    let (_name, given) = given.subcommand()?;
-    if let Some(bad) = given
-        .get_str(EVERY)
-        .and_then(|text| BadValue::of_every(text))
-    {
-        return Some(bad);
-    }
+/// The value of `--every`, where one is given that is no time.
+fn bad_pause<'a>(given: &ArgMatches<'a>) -> Option<BadValue<'a>> {
+    BadValue::of_every(given.get_str(EVERY)?)
+}
+
+/// The value of `--warn`, where one is given that is no list of shares.
+fn bad_shares<'a>(given: &ArgMatches<'a>) -> Option<BadValue<'a>> {
     BadValue::of_shares(given.get_str(WARN)?)
+}
+
+/// The value of a command's option, where one is given that can't be read.
+fn bad_value<'a>(given: &ArgMatches<'a>) -> Option<BadValue<'a>> {
+    let (_name, given) = given.subcommand()?;
+    bad_midnight(given)
+        .or(bad_times(given))
+        .or(bad_place(given))
+        .or(bad_pause(given))
+        .or(bad_shares(given))
 }
 
 /// The words of a call, as the command line has them. The error is `clap`'s: what is wrong with the words, the help or the
@@ -478,11 +483,7 @@ fn matches_of<'a>(alloc: Global, words: &'a [String]) -> Result<ArgMatches<'a>, 
 /// What is wrong with the call.
 pub fn read<'a>(alloc: Global, words: &'a [String]) -> Result<Option<Asked<'a>>, BadCall<'a>> {
     let given = matches_of(alloc, words)?;
-    match bad_midnight(&given)
-        .or(bad_times(&given))
-        .or(bad_place(&given))
-        .or(bad_follow(&given))
-    {
+    match bad_value(&given) {
         Some(bad) => Err(BadCall::Value(bad)),
         None => Ok(asked_for(&given, words)),
     }

@@ -4,7 +4,7 @@ use clap::ArgMatches;
 use gx_clock::TimeOfDay;
 
 /// Behind which record of an audit.
-#[derive(Clone, Copy, Debug, PartialEq, Eq)]
+#[derive(Clone, Copy, PartialEq, Eq)]
 pub enum Behind {
     /// The last.
     Last,
@@ -28,7 +28,7 @@ impl Behind {
 }
 
 /// Which state is wanted, and how it is told.
-#[derive(Clone, Copy, Debug)]
+#[derive(Clone, Copy)]
 pub struct StateAsked {
     /// Behind which record, or at which time of day.
     pub behind: Behind,

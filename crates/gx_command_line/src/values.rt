@@ -12,7 +12,7 @@ use std::fmt;
 const SHOWN: usize = 64;
 
 /// An option whose value is read by itself.
-#[derive(Clone, Copy, Debug, PartialEq, Eq)]
+#[derive(Clone, Copy, PartialEq, Eq)]
 pub enum ReadOption {
     /// `--midnight <OFFSET>`.
     Midnight,
@@ -60,7 +60,7 @@ impl ReadOption {
 
 /// A value that can't be read. Its `Display` is the text for the user, with each byte that is no visible ASCII character as
 /// `\xNN`.
-#[derive(Clone, Copy, Debug)]
+#[derive(Clone, Copy)]
 pub struct BadValue<'a> {
     option: ReadOption,
     text: &'a str,

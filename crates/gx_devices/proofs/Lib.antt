@@ -1,2 +1,3 @@
 pub mod Known
 pub mod Stopping
+pub mod Pieces

@@ -1,7 +1,7 @@
 -- A run that stopped stands on the way to where it would have come.
-use Rattle.std.proofs.Common.{◌≡◌, ◌⊎◌, inl, inr, List, [], ◌∷◌, ◌++◌, refl, sym, ap, ◌∙◌, subst, append_assoc, append-nil}
+use Rattle.std.proofs.Common.{◌≡◌, inl, inr, List, [], ◌∷◌, ◌++◌, refl, sym, ap, ◌∙◌, subst, append_assoc, append-nil}
 use Rattle.std.specs.Prelude.{fold}
-use Rattle.gx_devices.specs.Stopping.{AreFewer, AreFirst, Cause, Memory, IsBetween, IsRefused, IsUnsent, Mark, Stops, trail}
+use Rattle.gx_devices.specs.Stopping.{AreFewer, AreFirst, Cause, Memory, IsBetween, Mark, Stops, trail}
 
 pub first_same : {T : Type 0} (xs ys : List T) → xs ≡ ys → AreFirst xs ys
 first_same xs ys e = record { others = []; whole = sym e ∙ sym (append-nil xs) }
@@ -89,6 +89,9 @@ module _ {S I R K : Type 0} (mark : S → Mark R K) (marks : S → I → List (M
     trail_rises (item ∷ items) run =
         rises_behind (mark run) (marks run item) (trail marks then (then run item) items) (rises run item)
         (subst (λ m. Rises m (trail marks then (then run item) items)) (sym (ends run item)) (trail_rises items (then run item)))
+
+    pub items_lead : (items : List I) (run : S) → Leads (mark run) (mark (fold then run items))
+    items_lead items run = subst (Leads (mark run)) (trail_ends items run) (rises_last (mark run) (trail marks then run items) (trail_rises items run))
 
     -- where the run stopped leads to where the items lead
     pub trail_leads : (Refused : Cause → List R → Type 0) (cause : Cause) (items : List I) (run : S) (stop : Mark R K)

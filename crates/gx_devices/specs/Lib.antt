@@ -1,3 +1,4 @@
 pub mod Devices
 pub mod Stopping
 pub mod Blaming
+pub mod Pieces

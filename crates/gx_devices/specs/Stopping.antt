@@ -36,9 +36,8 @@ pub record IsRefused {R K : Type 0} (here next stop : Mark R K) : Type 0 where
 -- what was not sent: a front was written where the writer failed, nothing where a growth was refused
 abbrev pub IsOfSending : Cause → (nothing : Type 0) → Type 0
 IsOfSending Memory nothing = nothing
-IsOfSending Full nothing = ⊥
 IsOfSending Writing nothing = Unit {0}
-IsOfSending Reading nothing = ⊥
+IsOfSending other nothing = ⊥
 
 -- All the records were made, and a front of the text was written.
 pub record IsUnsent {R K : Type 0} (cause : Cause) (here next stop : Mark R K) : Type 0 where
@@ -55,16 +54,13 @@ IsBetween Refused cause here next stop = (Refused cause stop.records × IsRefuse
 -- what stops a run at a mark with others behind it: a growth that no step asked for
 abbrev pub MayPause : Cause → Type 0
 MayPause Memory = Unit {0}
-MayPause Full = ⊥
-MayPause Writing = ⊥
-MayPause Reading = ⊥
+MayPause other = ⊥
 
 -- what stops it at the last mark
 abbrev pub MayEnd : Cause → Type 0
 MayEnd Memory = Unit {0}
-MayEnd Full = ⊥
-MayEnd Writing = ⊥
 MayEnd Reading = Unit {0}
+MayEnd other = ⊥
 
 -- where a run stops that stands at a mark and goes through these: where no more can be read, at the last of them
 abbrev pub Stops : {R K : Type 0} → (Cause → List R → Type 0) → Cause → Mark R K → List (Mark R K) → Mark R K → Type 0

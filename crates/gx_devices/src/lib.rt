@@ -7,4 +7,4 @@ mod write;
 
 pub use counted::Counted;
 pub use fault::WriteFault;
-pub use write::{WriteFailed, write_whole};
+pub use write::{WriteFailed, write_flushing, write_whole};

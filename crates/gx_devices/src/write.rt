@@ -20,12 +20,33 @@ pub fn write_whole<W: Write>(writer: &mut Counted<W>, bytes: &[u8]) -> Result<()
     ensures kept { OnOk result (writer.new.failed ≡ writer.old.failed) }
     ensures told { OnErr result (writer.old.failed < writer.new.failed) }
 {
+    write_flushing(writer, bytes, true)
+}
+
+/// Writes all of the bytes, and flushes the writer behind them only where that is asked for; where the writer fails, a
+/// front of them, or all. Who flushes later must do so before waiting for whoever is to see the bytes.
+pub fn write_flushing<W: Write>(
+    writer: &mut Counted<W>,
+    bytes: &[u8],
+    flushes: bool,
+) -> Result<(), WriteFailed>
+    requires { writer.old.failed < 2 ^ 64 - 1 }
+    ensures whole { OnOk result (Appends
+        (W.contents writer.old.device) (W.contents writer.new.device) bytes.now) }
+    ensures front { OnErr result (IsFront
+        (W.contents writer.old.device) (W.contents writer.new.device) bytes.now) }
+    ensures kept { OnOk result (writer.new.failed ≡ writer.old.failed) }
+    ensures told { OnErr result (writer.old.failed < writer.new.failed) }
+{
     let mut done = 0;
     while done < bytes.len() {
         match writer.write(&bytes[done..]) {
             Ok(n) if n > 0 => done += n,
             _ => return Err(WriteFailed),
         }
+    }
+    if !flushes {
+        return Ok(());
     }
     match writer.flush() {
         Ok(()) => Ok(()),

@@ -4,7 +4,7 @@ ghost use Rattle.std.specs.Prelude.{◌≡◌};
 ghost use Rattle.gx_files.specs.Identity.{are_one, shared_file};
 
 /// A file as the system knows it: all its names have the same, and no other file has it.
-#[derive(Clone, Copy, Debug, PartialEq, Eq)]
+#[derive(Clone, Copy, PartialEq, Eq)]
 pub struct FileIdentity {
     /// The device that the file is on.
     pub device: u64,
@@ -13,7 +13,7 @@ pub struct FileIdentity {
 }
 
 /// Two files of a run that are one.
-#[derive(Clone, Copy, Debug, PartialEq, Eq)]
+#[derive(Clone, Copy, PartialEq, Eq)]
 pub enum SharedFile {
     /// The policy file is the journal.
     PolicyAndJournal,

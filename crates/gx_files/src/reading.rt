@@ -13,7 +13,7 @@ use std::io::Read;
 const PIECE: usize = 16_384;
 
 /// Why a file was not read.
-#[derive(Clone, Copy, Debug, PartialEq, Eq)]
+#[derive(Clone, Copy, PartialEq, Eq)]
 pub enum ReadFault {
     /// A growth was refused.
     OutOfMemory,

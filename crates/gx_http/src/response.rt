@@ -12,7 +12,7 @@ use http1::head::write_response as write_response_head;
 use itoa::Buffer;
 
 /// What becomes of a request.
-#[derive(Clone, Copy, Debug, PartialEq, Eq)]
+#[derive(Clone, Copy, PartialEq, Eq)]
 pub enum Status {
     /// It is answered.
     Done,
@@ -35,7 +35,7 @@ pub enum Status {
 }
 
 /// What a response's body is.
-#[derive(Clone, Copy, Debug, PartialEq, Eq)]
+#[derive(Clone, Copy, PartialEq, Eq)]
 pub enum Content {
     /// A page.
     Page,

@@ -15,7 +15,7 @@ pub enum Method {
 }
 
 /// What may be asked for.
-#[derive(Clone, Copy, Debug, PartialEq, Eq)]
+#[derive(Clone, Copy, PartialEq, Eq)]
 pub enum Route {
     /// The page, at `/`.
     Page,

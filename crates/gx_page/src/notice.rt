@@ -10,7 +10,7 @@ use gx_http::{RequestFault, Status};
 use gx_units::LoginRejection;
 
 /// What is said in a line of text.
-#[derive(Clone, Copy, PartialEq, Eq, Debug)]
+#[derive(Clone, Copy, PartialEq, Eq)]
 pub enum Notice {
     /// The gate takes orders.
     Well,

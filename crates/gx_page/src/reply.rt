@@ -24,7 +24,7 @@ use std::sync::Wait;
 const NOBODY: UserName = UserName { bytes: [b' '; 6] };
 
 /// Whether a gate takes orders.
-#[derive(Clone, Copy, PartialEq, Eq, Debug)]
+#[derive(Clone, Copy, PartialEq, Eq)]
 pub enum Health {
     /// It does.
     Well,

@@ -1,15 +1,16 @@
 -- Where a connection that was cut short stops.
-use Rattle.std.proofs.{Common.{◌≡◌, ℕ, ◌+◌, ◌<◌, ◌≤◌, inl, inr, false, cond, List, [], ◌∷◌, ◌++◌, length, take, drop, get_or, refl, sym, ap, ◌∙◌, subst, append_assoc, append-nil, take-append-drop, arith, Option}, KnownBytes.{Appends-nil, Appends-trans, Consumes-trans, Consumes-kept}, lemmas.List.take_more}
-use Rattle.std.specs.{Prelude.fold, Io.KnownBytes.{Consumes, Keeps}}
+use Rattle.std.proofs.{Common.{◌≡◌, ℕ, ◌+◌, ◌<◌, inl, inr, false, cond, List, [], ◌∷◌, ◌++◌, length, take, drop, get_or, refl, sym, ap, ◌∙◌, subst, append_assoc, append-nil, take-append-drop, Option}, KnownBytes.Appends-nil, lemmas.List.take_more}
+use Rattle.std.specs.{Prelude.fold, Io.KnownBytes.Keeps}
 use Rattle.gx_soup.specs.{declared.packet.{ClientPacket.ClientPacket, SoupFault.SoupFault}, Packets.packets_of, Feeding.{Held, HasRead, Gives}}
 use Rattle.gx_soup.proofs.PacketLaws.{packets_grow}
 use Rattle.gx_history.specs.declared.record.RecordData.{RecordData}
 use Rattle.gx_answers.specs.Gates.{GateData}
-use Rattle.gx_devices.specs.Stopping.{AreFewer, Mark, MayEnd, Stops, trail}
-use Rattle.gx_devices.proofs.Stopping.{first_behind, first_same, trail_stops}
-use Rattle.gx_pipe.specs.{declared.{connection.Connection.Connection, fault.PipeFault.PipeFault}, Piping.{Standing, mark, cause_of, Refused, logout_of, IsTaken, IsGivenUp, IsMatchedInPart, row_of, matched_of, pull_marks, packet_marks, StopsIn, Follows, Broken, IsCutShort}, Serving.IsOnLine, Transcript.{Run, run_at, with_text, silent, and_then, ticked, answered, matched, pulled, handled, on_packet, run_of}}
+use Rattle.gx_devices.specs.{Pieces.Flow, Stopping.{AreFewer, Mark, MayEnd, trail}}
+use Rattle.gx_devices.specs.Pieces as pieces
+use Rattle.gx_devices.proofs.{Pieces.{Stands, behind, cut_there, items_cut, refused, unsent}, Stopping.first_same}
+use Rattle.gx_pipe.specs.{declared.{connection.Connection.Connection, fault.PipeFault.PipeFault}, Piping.{Standing, mark, cause_of, Refused, logout_of, IsTaken, IsGivenUp, IsMatchedInPart, row_of, matched_of, pull_marks, packet_marks, IsThere, StopsIn, way, Follows, ArePackets, Broken, IsCutShort}, Serving.IsOnLine, Transcript.{Run, run_at, with_text, silent, and_then, ticked, answered, matched, pulled, handled, on_packet, run_of}}
 use Rattle.gx_session.specs.Events.{is_over}
-use Rattle.gx_pipe.proofs.{Growing.match_going, Marks.packet_ends, OnLine.{settling_keeps, row_keeps, match_keeps, packets_keep, run_keeps}, Runs.{Stands, fold_from}, Turning.{of_text, pauses, taken_behind}}
+use Rattle.gx_pipe.proofs.{Growing.match_going, Marks.packet_ends, OnLine.{settling_keeps, row_keeps, match_keeps, packets_keep, run_keeps}, Runs.fold_from, Turning.{pauses, taken_behind}}
 
 -- What stopped a packet.
 
@@ -50,56 +51,31 @@ module _ (gate : GateData) (c : Connection) (packet : ClientPacket) (going : is_
 
     pub answer_cut : (fault : PipeFault) (now : GateData) (state : Connection) (output left : Option (List ℕ)) → IsGivenUp gate (ticked c) row fault now state output left
         → StopsIn start (packet_marks start packet ++ more) fault now state output left
-    answer_cut fault now state output left (inl h) = stops_there fault now state output left (record {
-      stop = mark start;
-      stops = inr (inl (inl (h.1.cause, record { made = first_same gate.records gate.records refl; left = h.0; text = refl; known = refl })));
-      gate = h.1.gate_is;
-      logout = h.1.logout;
-      line = λ k. k;
-      told = [];
-      text = sym (append-nil text);
-      written = h.1.written;
-    })
-    answer_cut fault now state output left (inr u) = stops_there fault now state output left (record {
-      stop = record { records = row.gate.records; text = text ++ u.text.front; known = record { policy = row.gate.policy; connection = row.connection } };
-      stops = inr (inl (inr (record {
-        records = refl;
-        known = refl;
-        begun = record { others = u.text.front; whole = refl };
-        left = first_behind text u.text.front row.text (record { others = u.text.rest; whole = u.text.whole });
-        sending = of_text (cause_of fault) text u.text.front u.sending;
-      })));
-      gate = u.gate;
-      logout = u.logout;
-      line = row_keeps gate c packet c.coming;
-      told = u.text.front;
-      text = refl;
-      written = u.text.written;
-    })
+    answer_cut fault now state output left (inl h) = stops_there fault now state output left
+        (refused Refused (IsThere now state start) (cause_of fault) (mark start) (mark answered_there) _ output left (mark start) h.1.cause (record { made = first_same gate.records gate.records refl; left = h.0; text = refl; known = refl })
+        (record { gate = h.1.gate_is; logout = h.1.logout; line = λ k. k }) h.1.written)
+    answer_cut fault now state output left (inr u) = stops_there fault now state output left
+        (unsent Refused (IsThere now state start) (cause_of fault) (mark start) (mark answered_there) _ output left row.text u.text refl u.sending
+        (record { gate = u.gate; logout = u.logout; line = row_keeps gate c packet c.coming }))
 
     -- the packet was answered, and a matching step refused
     pub match_cut : (fault : PipeFault) (then now : GateData) (on : Connection) (output left : Option (List ℕ)) → IsTaken row then on output left → IsMatchedInPart then on c.coming fault now
         → StopsIn start (packet_marks start packet ++ more) fault now on output left
     match_cut fault then now on output left t part =
         let here : IsMatchedInPart row.gate row.connection c.coming fault now = subst (λ k. IsMatchedInPart row.gate k c.coming fault now) t.connection (subst (λ g. IsMatchedInPart g on c.coming fault now) t.gate part) in
-        stops_there fault now on output left (record {
-          stop = record { records = now.records; text = text ++ row.text; known = record { policy = row.gate.policy; connection = row.connection } };
-          stops = inr (inr (inr (inl (inl (
-            here.cause,
-            record {
-              made = record { others = here.matches.adds.more; whole = here.matches.adds.goes_on };
-              left = subst (λ (g : GateData). AreFewer now.records g.records) (sym (match_going row.gate row.connection c.coming here.goes_on)) here.left;
-              text = refl;
-              known = refl;
-            },
-          )))));
+        let stop : Mark RecordData Standing = record { records = now.records; text = text ++ row.text; known = record { policy = row.gate.policy; connection = row.connection } } in
+        stops_there fault now on output left
+        (behind Refused (IsThere now on start) (cause_of fault) (mark start) (mark answered_there) _ output left (IsThere now on start) left row.text (λ m h. h) refl t.text
+        (refused Refused (IsThere now on start) (cause_of fault) (mark answered_there) (mark met_there) _ left left stop here.cause (record {
+          made = record { others = here.matches.adds.more; whole = here.matches.adds.goes_on };
+          left = subst (λ (g : GateData). AreFewer now.records g.records) (sym (match_going row.gate row.connection c.coming here.goes_on)) here.left;
+          text = refl;
+          known = refl;
+        }) (record {
           gate = ap (λ p. record { policy = p; records = now.records }) here.matches.policy_kept;
           logout = ap logout_of t.connection;
           line = λ k. subst (λ p. IsOnLine (record { policy = p; records = now.records }) row.connection) here.matches.policy_kept (settling_keeps row.gate now row.connection c.coming here.matches (row_keeps gate c packet c.coming k));
-          told = row.text;
-          text = refl;
-          written = t.text;
-        })
+        }) (Appends-nil left)))
 
     -- the packet was answered, its matching steps made, and the pull cut short
     pub pull_cut : (met then : GateData) (on : Connection) (output mid left : Option (List ℕ)) → IsTaken row met on output mid → then ≡ (matched met on c.coming).gate
@@ -112,16 +88,11 @@ module _ (gate : GateData) (c : Connection) (packet : ClientPacket) (going : is_
         let s : StopsIn met_there (pull_marks met_there c.coming ++ more) fault now state mid left =
         subst (λ k. StopsIn (run_at met_there.gate k (text ++ row.text)) (pull_marks (run_at met_there.gate k (text ++ row.text)) c.coming ++ more) fault now state mid left) t.connection
         (subst (λ g. StopsIn (run_at g on (text ++ row.text)) (pull_marks (run_at g on (text ++ row.text)) c.coming ++ more) fault now state mid left) gate_is (cut (text ++ row.text) more)) in
-        stops_there fault now state output left (record {
-          stop = s.stop;
-          stops = inr (inr (inr (inr s.stops)));
-          gate = s.gate;
-          logout = s.logout;
-          line = λ k. s.line (match_keeps row.gate row.connection c.coming (row_keeps gate c packet c.coming k));
-          told = row.text ++ s.told;
-          text = s.text ∙ append_assoc text row.text s.told;
-          written = Appends-trans output mid left row.text s.told t.text s.written;
-        })
+        let There = IsThere now state met_there in
+        stops_there fault now state output left
+        (behind Refused (IsThere now state start) (cause_of fault) (mark start) (mark answered_there) _ output left There mid row.text
+        (λ m h. record { gate = h.gate; logout = h.logout; line = λ k. h.line (match_keeps row.gate row.connection c.coming (row_keeps gate c packet c.coming k)) }) refl t.text
+        (behind Refused There (cause_of fault) (mark answered_there) (mark met_there) _ mid left There mid [] (λ m h. h) (sym (append-nil _)) (Appends-nil mid) s))
 
 -- the packet at this place was cut short
 pub item_cut : (gate : GateData) (connection : Connection) (packets : List ClientPacket) (i : ℕ) (packet : ClientPacket) → i < length packets → packet ≡ get_or packets i packet → (then : GateData) (state : Connection) (output mid left : Option (List ℕ)) (fault : PipeFault) (now : GateData) (after : Connection)
@@ -137,75 +108,41 @@ item_cut gate connection packets i packet within item then state output mid left
     let done = fold on_packet (silent gate connection) (take i packets) in
     let there : run_at then state (text ++ done.text) ≡ fold on_packet start (take i packets) =
     ap (λ g. run_at g state (text ++ done.text)) taken.gate ∙ ap (λ k. run_at done.gate k (text ++ done.text)) taken.connection ∙ sym (fold_from (take i packets) start) in
-    let s = cut (text ++ done.text) (trail packet_marks on_packet (on_packet (run_at then state (text ++ done.text)) packet) others) in
-    record {
-      stop = s.stop;
-      stops = subst (λ ps. Stops Refused (cause_of fault) (mark start) (trail packet_marks on_packet start ps) s.stop) all
-          (trail_stops mark packet_marks on_packet packet_ends Refused (cause_of fault) (take i packets) (packet ∷ others) start s.stop
-          (subst (λ r. Stops Refused (cause_of fault) (mark r) (trail packet_marks on_packet r (packet ∷ others)) s.stop) there s.stops));
-      gate = s.gate;
-      logout = s.logout;
-      line = λ k. s.line (subst (λ (r : Run). IsOnLine r.gate r.connection) (sym there) (packets_keep (take i packets) start k));
-      told = done.text ++ s.told;
-      text = s.text ∙ append_assoc text done.text s.told;
-      written = Appends-trans output mid left done.text s.told taken.text s.written;
-    }
+    let at : Run = run_at then state (text ++ done.text) in
+    subst (λ ps. StopsIn start (trail packet_marks on_packet start ps) fault now after output left) all
+    (items_cut mark packet_marks on_packet packet_ends Refused (IsThere now after start) (IsThere now after at)
+    (λ m h. record { gate = h.gate; logout = h.logout; line = λ k. h.line (subst (λ (r : Run). IsOnLine r.gate r.connection) (sym there) (packets_keep (take i packets) start k)) })
+    (cause_of fault) (take i packets) (packet ∷ others) start done.text output mid left (ap (λ (r : Run). r.text) (sym there)) taken.text
+    (subst (λ r. pieces.StopsIn Refused (IsThere now after at) (cause_of fault) (mark r) (trail packet_marks on_packet r (packet ∷ others)) mid left) there (cut (text ++ done.text) (trail packet_marks on_packet (on_packet at packet) others))))
 
 -- nothing of the piece was fed
-pub feed_cut : (before : GateData) (first : ℕ) (bytes piece : List ℕ) (gate : GateData) (connection : Connection) (feeder : Held) (output : Option (List ℕ)) → Follows before first bytes gate connection feeder
+pub feed_cut : (before : GateData) (first : ℕ) (bytes piece : List ℕ) (gate : GateData) (connection : Connection) (feeder : Held) (output : Option (List ℕ)) → Follows before first gate connection feeder bytes
     → Broken before first bytes piece PipeFault.OutOfMemory gate connection output output
 feed_cut before first bytes piece gate connection feeder output follows =
     let g = packets_grow bytes piece in
     let run = run_of before first bytes in
-    record { packets = g.0; split = g.1; cut = pauses run (trail packet_marks on_packet run g.0) gate connection output follows.gate follows.connection }
+    record { items = g.0; are_next = g.1; cut = pauses run (trail packet_marks on_packet run g.0) gate connection output follows.gate follows.connection }
 
 pub broken_by : (gate : GateData) (connection : Connection) (feeder feeder' : Held) (piece : List ℕ) (given : List ClientPacket) (told : Option SoupFault) (output left : Option (List ℕ)) (fault : PipeFault) (now : GateData) (state : Connection) → ((bytes : List ℕ) → HasRead feeder bytes → Gives given told feeder' bytes piece)
     → ((text : List ℕ) → StopsIn (run_at gate connection text) (trail packet_marks on_packet (run_at gate connection text) given) fault now state output left)
-    → (before : GateData) (first : ℕ) (bytes : List ℕ) → Follows before first bytes gate connection feeder → Broken before first bytes piece fault now state output left
+    → (before : GateData) (first : ℕ) (bytes : List ℕ) → Follows before first gate connection feeder bytes → Broken before first bytes piece fault now state output left
 broken_by gate connection feeder feeder' piece given told output left fault now state feeds cut before first bytes follows =
     let run = run_of before first bytes in
     record {
-      packets = given;
-      split = (feeds bytes follows.reads).packets;
+      items = given;
+      are_next = (feeds bytes follows.reads).packets;
       cut =
           subst (λ k. StopsIn (run_at run.gate k run.text) (trail packet_marks on_packet (run_at run.gate k run.text) given) fault now state output left) follows.connection
           (subst (λ g. StopsIn (run_at g connection run.text) (trail packet_marks on_packet (run_at g connection run.text) given) fault now state output left) follows.gate (cut run.text));
     }
 
-module _ (input left left' output written : Option (List ℕ)) (before : GateData) (first : ℕ) (gate : GateData) (connection : Connection) (feeder : Held) (s : Stands input left output written before first gate connection feeder) where
+module _ (before : GateData) (first : ℕ) (gate : GateData) (connection : Connection) (feeder : Held) (flow : Flow) (s : Stands (way before first) (Follows before first gate connection feeder) flow) where
   pub stands_on_line : IsOnLine gate connection
   stands_on_line =
       let run = run_of before first s.bytes in
       subst (λ k. IsOnLine gate k) (sym s.follows.connection) (subst (λ g. IsOnLine g run.connection) (sym s.follows.gate) (run_keeps before first s.bytes))
 
   -- all that was read is answered
-  pub fault_stands : (fault : PipeFault) (now : GateData) (state : Connection) → MayEnd (cause_of fault) → Keeps left left' → now ≡ gate → state ≡ connection → IsCutShort input left' output written before first fault now state
-  fault_stands fault now state may kept h e =
-      let run = run_of before first s.bytes in
-      record {
-        bytes = s.bytes;
-        piece = [];
-        consumed = subst (Consumes input left') (sym (append-nil s.bytes)) (Consumes-kept input left left' s.bytes s.consumed kept);
-        small = omega arith;
-        behind = written;
-        earlier = s.text;
-        broken = record {
-          packets = [];
-          split = ap (λ b. (packets_of b).packets) (append-nil s.bytes) ∙ sym (append-nil (packets_of s.bytes).packets);
-          cut = record {
-            stop = mark run;
-            stops = (may, refl);
-            gate = h ∙ s.follows.gate;
-            logout = ap logout_of (e ∙ s.follows.connection);
-            line = λ k. k;
-            told = [];
-            text = sym (append-nil run.text);
-            written = Appends-nil written;
-          };
-        };
-      }
-
-  pub fault_broken : (written' : Option (List ℕ)) (piece : List ℕ) (fault : PipeFault) (now : GateData) (state : Connection) → Consumes left left' piece → length piece ≤ 4096 → Broken before first s.bytes piece fault now state written written'
-      → IsCutShort input left' output written' before first fault now state
-  fault_broken written' piece fault now state took small b =
-      record { bytes = s.bytes; piece = piece; consumed = Consumes-trans input left left' s.bytes piece s.consumed took; small = small; behind = written; earlier = s.text; broken = b }
+  pub fault_stands : (left : Option (List ℕ)) (fault : PipeFault) → MayEnd (cause_of fault) → Keeps flow.left left → IsCutShort (record flow { left = left }) before first fault gate connection
+  fault_stands left fault may kept = cut_there (way before first) _ flow s Refused (IsThere gate connection) ArePackets (cause_of fault) left kept may (record { gate = s.follows.gate; logout = ap logout_of s.follows.connection; line = λ k. k })
+      (ap (λ b. (packets_of b).packets) (append-nil s.bytes) ∙ sym (append-nil (packets_of s.bytes).packets))

@@ -1,5 +1,5 @@
 -- Records are put behind those that are there.
-use Rattle.std.proofs.Common.{◌≡◌, ℕ, Bool, true, false, cond, [], ◌∷◌, ◌++◌, Option, Some, None, refl, ap}
+use Rattle.std.proofs.Common.{◌≡◌, ℕ, true, false, cond, [], ◌∷◌, ◌++◌, Option, refl, ap}
 use Rattle.std.specs.Option.{option_map_or}
 use Rattle.gx_units.specs.declared.names.UserName.{UserName}
 use Rattle.gx_soup.specs.declared.packet.{LoginRequest.LoginRequest, ClientPacket.ClientPacket}
@@ -8,10 +8,10 @@ use Rattle.gx_effects.proofs.Settling.{settled_adds}
 use Rattle.gx_devices.specs.Stopping.{AreFewer, AreFirst}
 use Rattle.gx_devices.proofs.Stopping.{first_same, first_then, fewer_then}
 use Rattle.gx_answers.specs.{Gates.GateData, Asking.stepped, Matches.settled_gate}
-use Rattle.gx_pipe.specs.{declared.connection.Connection.Connection, Steps.login_asked_at, Transcript.{Run, acted, on_event, logged_in, with_login, answered, matched, finished}}
-use Rattle.gx_session.specs.{declared.event.Next.Next, Events.{asks_step, is_over, login_in}, Happenings.Happening, Table.turn}
+use Rattle.gx_pipe.specs.{declared.connection.Connection.Connection, Steps.login_asked_at, Transcript.{Run, acted, on_event, logged_in, answered, matched, finished}}
+use Rattle.gx_session.specs.{declared.event.Next.Next, Events.{asks_step, is_over}, Happenings.Happening, Table.turn}
 use Rattle.gx_session.specs.Happenings as happens
-use Rattle.gx_pipe.proofs.Serving.{left_of, left_is}
+use Rattle.gx_pipe.proofs.{Keeping.{answer_keeps, event_keeps, match_keeps, row_keeps}, Serving.{left_of, left_is}}
 
 abbrev GoesOn : GateData → GateData → Type 0
 GoesOn before now = AreFirst before.records now.records
@@ -32,34 +32,23 @@ step_adds gate a = record { next = left_of gate a; others = []; whole = ap (λ (
 settle_on : (gate : GateData) (moment : ℕ) → GoesOn gate (settled_gate gate moment)
 settle_on gate moment = let adds = settled_adds gate.policy gate.records moment in record { others = adds.more; whole = adds.goes_on }
 
-act_on : (gate : GateData) (user : UserName) (moment : ℕ) (next : Next) → GoesOn gate (acted gate user moment next)
-act_on gate user moment Next.Idle = here gate
-act_on gate user moment Next.Login = here gate
-act_on gate user moment (Next.Act request) = step_on gate _
-act_on gate user moment Next.Logout = step_on gate _
-act_on gate user moment Next.Close = here gate
+on_step : (first gate : GateData) (a : Asked) → GoesOn first gate → GoesOn first (stepped gate a)
+on_step first gate a h = further first gate (stepped gate a) h (step_on gate a)
+
+on_settle : (first gate : GateData) (moment : ℕ) → GoesOn first gate → GoesOn first (settled_gate gate moment)
+on_settle first gate moment h = further first gate (settled_gate gate moment) h (settle_on gate moment)
 
 act_adds : (gate : GateData) (user : UserName) (moment : ℕ) (next : Next) → asks_step next ≡ true → AreFewer gate.records (acted gate user moment next).records
-act_adds gate user moment Next.Idle h = cc
-act_adds gate user moment Next.Login h = cc
 act_adds gate user moment (Next.Act request) h = step_adds gate _
 act_adds gate user moment Next.Logout h = step_adds gate _
-act_adds gate user moment Next.Close h = cc
+act_adds gate user moment next h = cc
 
 pub event_adds : (gate : GateData) (c : Connection) (e : Happening) (moment : ℕ) → asks_step (turn c.session e moment).reply.next ≡ true → AreFewer gate.records (on_event gate c e moment).gate.records
 unfolding on_event
 event_adds gate c e moment h = act_adds gate c.user moment (turn c.session e moment).reply.next h
 
 pub event_on : (gate : GateData) (c : Connection) (e : Happening) (moment : ℕ) → GoesOn gate (on_event gate c e moment).gate
-unfolding on_event
-event_on gate c e moment = act_on gate c.user moment (turn c.session e moment).reply.next
-
-login_on : (gate : GateData) (c : Connection) (moment : ℕ) (login : Option LoginRequest) → GoesOn gate (with_login gate c moment login).gate
-unfolding logged_in
-login_on gate c moment None = here gate
-login_on gate c moment (Some login) =
-    let then = stepped gate (login_asked_at gate moment login) in
-    further gate then (with_login gate c moment (Some login)).gate (step_on gate (login_asked_at gate moment login)) (event_on then _ _ moment)
+event_on gate c e moment = event_keeps (GoesOn gate) (on_step gate) (on_settle gate) gate c e moment (here gate)
 
 pub login_adds : (gate : GateData) (c : Connection) (moment : ℕ) (login : LoginRequest) → AreFewer gate.records (logged_in gate c login moment).gate.records
 unfolding logged_in
@@ -67,24 +56,14 @@ login_adds gate c moment login =
     let then = stepped gate (login_asked_at gate moment login) in
     fewer_then gate.records then.records (logged_in gate c login moment).gate.records (step_adds gate (login_asked_at gate moment login)) (event_on then _ _ moment)
 
--- a login comes behind the packet that asks for it
 pub answer_on : (gate : GateData) (c : Connection) (packet : ClientPacket) (moment : ℕ) → GoesOn (on_event gate c (happens.Packet packet) moment).gate (answered gate c packet moment).gate
-unfolding answered
-answer_on gate c packet moment =
-    let told = on_event gate c (happens.Packet packet) moment in
-    login_on told.gate told.connection moment (login_in packet (turn c.session (happens.Packet packet) moment).reply.next)
+answer_on gate c packet moment = let told = (on_event gate c (happens.Packet packet) moment).gate in answer_keeps (GoesOn told) (on_step told) (on_settle told) gate c packet moment (here told)
 
 pub row_on : (gate : GateData) (c : Connection) (packet : ClientPacket) (moment : ℕ) → GoesOn gate (answered gate c packet moment).gate
-row_on gate c packet moment =
-    further gate (on_event gate c (happens.Packet packet) moment).gate (answered gate c packet moment).gate (event_on gate c (happens.Packet packet) moment) (answer_on gate c packet moment)
+row_on gate c packet moment = row_keeps (GoesOn gate) (on_step gate) (on_settle gate) gate c packet moment (here gate)
 
 pub match_on : (gate : GateData) (c : Connection) (moment : ℕ) → GoesOn gate (matched gate c moment).gate
-unfolding matched
-match_on gate c moment = at (is_over c.session.phase)
-  where
-    at : (b : Bool) → GoesOn gate (cond b gate (settled_gate gate moment))
-    at true = here gate
-    at false = settle_on gate moment
+match_on gate c moment = match_keeps (GoesOn gate) (on_step gate) (on_settle gate) gate c moment (here gate)
 
 pub finish_on : (run : Run) → GoesOn run.gate (finished run).gate
 unfolding finished

@@ -1,30 +1,22 @@
 -- How a user who is on is logged out where a run stopped.
-use Rattle.std.proofs.Common.{◌≡◌, ℕ, ◌⊎◌, inl, inr, Bool, true, false, cond, List, refl, sym, ap, ◌∙◌, Option, Some, None, Result, Ok, Err, OnOk, OnErr}
+use Rattle.std.proofs.Common.{◌≡◌, ℕ, ◌⊎◌, inl, inr, Bool, true, false, cond, List, refl, sym, ap, ◌∙◌, Some, None, Result, Ok, Err, OnOk, OnErr}
 use Rattle.gx_places.specs.Places.{has_kept_places}
+use Rattle.gx_devices.specs.Pieces.{Flow}
 use Rattle.gx_answers.specs.{Gates.GateData, Asking.asked_by}
 use Rattle.gx_history.specs.declared.record.Request.{Request}
 use Rattle.gx_units.specs.declared.names.UserName.{UserName}
 use Rattle.gx_pipe.specs.{declared.{connection.Connection.Connection, fault.PipeFault.PipeFault}, Piping.{gate_at, is_never_refused, logout_of, IsLeaving, IsCutShort, IsAfterFault}, Serving.IsOnLine, Transcript.{silent, acted, after_step, step_of, on_event, run_of, finished}}
-use Rattle.gx_session.specs.{declared.{event.{Next.Next, Reply.Reply}, session.Phase.{Phase, TheVariants.{Fresh, Waiting, On, Abandoned, Done}}}, Events.{asks_step, is_on}, Happenings.Happening, Table.{SessionData, row_in, turn}}
+use Rattle.gx_session.specs.{declared.{event.{Next.Next, Reply.Reply}, session.Phase.{Phase, TheVariants.{Fresh, On}}}, Events.{asks_step, is_on}, Happenings.Happening, Table.{SessionData, row_in, turn}}
 use Rattle.gx_session.specs.Happenings as happens
 use Rattle.gx_pipe.proofs.OnLine.{logout_is_granted, run_keeps}
 
 row_leaves : (p : Phase) (e : Happening) (silent quiet : Bool) → IsLeaving e → (row_in p e silent quiet).reply.next ≡ (row_in p happens.End silent quiet).reply.next
-row_leaves p (happens.Packet packet) silent quiet k = absurd k
-row_leaves p (happens.Answered answer) silent quiet k = absurd k
-row_leaves p (happens.Pulled count ended) silent quiet k = absurd k
-row_leaves p happens.Tick silent quiet k = absurd k
 row_leaves p happens.End silent quiet k = refl
 row_leaves Fresh (happens.Refused fault) silent quiet k = refl
-row_leaves Waiting (happens.Refused fault) silent quiet k = refl
-row_leaves On (happens.Refused fault) silent quiet k = refl
-row_leaves Abandoned (happens.Refused fault) silent quiet k = refl
-row_leaves Done (happens.Refused fault) silent quiet k = refl
 row_leaves Fresh happens.Fault silent quiet k = refl
-row_leaves Waiting happens.Fault silent quiet k = refl
-row_leaves On happens.Fault silent quiet k = refl
-row_leaves Abandoned happens.Fault silent quiet k = refl
-row_leaves Done happens.Fault silent quiet k = refl
+row_leaves p (happens.Refused fault) silent quiet k = refl
+row_leaves p happens.Fault silent quiet k = refl
+row_leaves p e silent quiet k = absurd k
 
 -- a fault of the input, its end and a refused step ask for the same
 pub leaves_as_at_the_end : (gate : GateData) (c : Connection) (e : Happening) (reply : Reply) (moment : ℕ) → IsLeaving e → moment ≡ c.session.heard → reply ≡ (turn c.session e moment).reply
@@ -39,22 +31,17 @@ abbrev AsksAtTheEnd : Phase → Next → Type 0
 AsksAtTheEnd p next = ((next ≡ Next.Logout) × (is_on p ≡ true)) ⊎ ((asks_step next ≡ false) × (is_on p ≡ false))
 
 row_asks : (p : Phase) (silent quiet : Bool) → AsksAtTheEnd p (row_in p happens.End silent quiet).reply.next
-row_asks Fresh silent quiet = inr (refl, refl)
-row_asks Waiting silent quiet = inr (refl, refl)
 row_asks On silent quiet = inl (refl, refl)
-row_asks Abandoned silent quiet = inr (refl, refl)
-row_asks Done silent quiet = inr (refl, refl)
+row_asks p silent quiet = inr (refl, refl)
 
 end_asks : (session : SessionData) (moment : ℕ) → AsksAtTheEnd session.phase (turn session happens.End moment).reply.next
 unfolding turn
 end_asks session moment = row_asks session.phase _ _
 
 no_step : (user : UserName) (moment : ℕ) (next : Next) → asks_step next ≡ false → step_of user moment next ≡ None
-no_step user moment Next.Idle h = refl
-no_step user moment Next.Login h = refl
 no_step user moment (Next.Act request) h = cc
 no_step user moment Next.Logout h = cc
-no_step user moment Next.Close h = refl
+no_step user moment next h = refl
 
 logout_when_on : (c : Connection) → is_on c.session.phase ≡ true → logout_of c ≡ Some (asked_by c.user Request.Logout c.session.heard)
 logout_when_on c on = ap (λ b. cond b (Some (asked_by c.user Request.Logout c.session.heard)) None) on
@@ -94,9 +81,9 @@ pub not_refused : {Q : Type 0} (gate : GateData) (c : Connection) → IsOnLine g
 not_refused gate c line on not = let clash : true ≡ false = sym (never_refused_when_on gate c line on) ∙ not in cc
 
 -- so at the end of its input a connection is not cut short by the logout
-pub never_cut : (input left output written : Option (List ℕ)) (before : GateData) (first : ℕ) (fault : PipeFault) (now : GateData) (state : Connection) (gate : GateData) (c : Connection) → IsOnLine gate c → is_on c.session.phase ≡ true → is_never_refused gate (logout_of c) ≡ false
-    → IsCutShort input left output written before first fault now state
-never_cut input left output written before first fault now state gate c line on not = not_refused gate c line on not
+pub never_cut : (flow : Flow) (before : GateData) (first : ℕ) (fault : PipeFault) (now : GateData) (state : Connection) (gate : GateData) (c : Connection) → IsOnLine gate c → is_on c.session.phase ≡ true → is_never_refused gate (logout_of c) ≡ false
+    → IsCutShort flow before first fault now state
+never_cut flow before first fault now state gate c line on not = not_refused gate c line on not
 
 is_on_at : (p : Phase) (next : Next) → AsksAtTheEnd p next → asks_step next ≡ true → is_on p ≡ true
 is_on_at p next (inl asks) h = asks.1
@@ -120,16 +107,16 @@ on_there now state c gate same out line on = by (is_on c.session.phase) refl
         cc
 
 -- the first packets bring nobody on who is not on line 1
-pub line_there : (input left output written : Option (List ℕ)) (before : GateData) (first : ℕ) (fault : PipeFault) (now : GateData) (state : Connection) → (f : IsCutShort input left output written before first fault now state)
+pub line_there : (flow : Flow) (before : GateData) (first : ℕ) (fault : PipeFault) (now : GateData) (state : Connection) → (f : IsCutShort flow before first fault now state)
     → IsOnLine (gate_at f.broken.cut.stop) f.broken.cut.stop.known.connection
-line_there input left output written before first fault now state f = f.broken.cut.line (run_keeps before first f.bytes)
+line_there flow before first fault now state f = f.broken.cut.there.line (run_keeps before first f.bytes)
 
-pub after_either : {T E : Type 0} (input left output written : Option (List ℕ)) (before : GateData) (first : ℕ) (now after : GateData) (state state' : Connection) (fault : PipeFault) (r : Result T E) → IsCutShort input left output written before first fault now state → OnOk r (after ≡ (finished (silent now state)).gate)
-    → OnErr r (is_on state.session.phase ≡ true) → OnErr r (is_never_refused now (logout_of state) ≡ false) → IsAfterFault input left output written before first after fault
+pub after_either : {T E : Type 0} (flow : Flow) (before : GateData) (first : ℕ) (now after : GateData) (state state' : Connection) (fault : PipeFault) (r : Result T E) → IsCutShort flow before first fault now state → OnOk r (after ≡ (finished (silent now state)).gate)
+    → OnErr r (is_on state.session.phase ≡ true) → OnErr r (is_never_refused now (logout_of state) ≡ false) → IsAfterFault flow before first after fault
 unfolding finished on_event
-after_either input left output written before first now after state state' fault (Ok x) f ok on not =
+after_either flow before first now after state state' fault (Ok x) f ok on not =
     record { now = now; state = state; cut = f; logged_out = ok ∙ ap (after_step now) (step_at_the_end state (turn state.session happens.End state.session.heard).reply.next (end_asks state.session state.session.heard)) }
-after_either input left output written before first now after state state' fault (Err x) f ok on not =
+after_either flow before first now after state state' fault (Err x) f ok on not =
     let stop = f.broken.cut.stop in
-    let clash : true ≡ false = sym (on_there now state stop.known.connection (gate_at stop) f.broken.cut.gate f.broken.cut.logout (line_there input left output written before first fault now state f) on) ∙ not in
+    let clash : true ≡ false = sym (on_there now state stop.known.connection (gate_at stop) f.broken.cut.there.gate f.broken.cut.there.logout (line_there flow before first fault now state f) on) ∙ not in
     cc

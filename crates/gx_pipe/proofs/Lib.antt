@@ -1,5 +1,5 @@
-pub mod Endings
 pub mod Stepping
+pub mod Keeping
 pub mod Growing
 pub mod Turning
 pub mod Runs

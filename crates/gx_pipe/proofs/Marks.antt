@@ -6,23 +6,17 @@ use Rattle.gx_session.specs.{Events.{is_on, is_over}, Sending.reports_text}
 use Rattle.gx_pipe.specs.{Piping.{mark, row_of, matched_of, reported_of, told_of, pull_marks, packet_marks}, Transcript.{Run, run_at, silent, and_then, ticked, answered, matched, unsent, sent, pulled, handled, on_packet}}
 use Rattle.gx_pipe.proofs.Growing.{event_on, row_on, match_on}
 
-abbrev there : Run → Run
-there run = reported_of run
-
 abbrev told : Run → ℕ → Run
-told run moment = told_of (there run) (length (unsent run.gate run.connection)) moment
-
-abbrev row : Run → ClientPacket → Run
-row run packet = row_of run packet
+told run moment = told_of (reported_of run) (length (unsent run.gate run.connection)) moment
 
 abbrev met : Run → ClientPacket → Run
-met run packet = matched_of (row run packet) run.connection.coming
+met run packet = matched_of (row_of run packet) run.connection.coming
 
 pull_ends : (run : Run) (moment : ℕ) → last_of (mark run) (pull_marks run moment) ≡ mark (and_then run (λ g c. pulled g c moment))
 unfolding pulled sent
 pull_ends run moment = by (is_on run.connection.session.phase)
   where
-    by : (b : Bool) → last_of (mark run) (cond b (mark (there run) ∷ mark (told run moment) ∷ []) []) ≡ mark (and_then run (λ g c. cond b (sent g c (unsent g c) moment) (silent g c)))
+    by : (b : Bool) → last_of (mark run) (cond b (mark (reported_of run) ∷ mark (told run moment) ∷ []) []) ≡ mark (and_then run (λ g c. cond b (sent g c (unsent g c) moment) (silent g c)))
     by true = ap (λ t. mark (run_at (told run moment).gate (told run moment).connection t)) (append_assoc run.text (reports_text (unsent run.gate run.connection)) _)
     by false = ap (λ t. mark (run_at run.gate run.connection t)) (sym (append-nil run.text))
 
@@ -30,7 +24,7 @@ pub packet_ends : (run : Run) (packet : ClientPacket) → last_of (mark run) (pa
 unfolding handled matched
 packet_ends run packet = by (is_over run.connection.session.phase)
   where
-    by : (b : Bool) → last_of (mark run) (cond b [] (mark (row run packet) ∷ mark (met run packet) ∷ pull_marks (met run packet) run.connection.coming))
+    by : (b : Bool) → last_of (mark run) (cond b [] (mark (row_of run packet) ∷ mark (met run packet) ∷ pull_marks (met run packet) run.connection.coming))
         ≡ mark (and_then run (λ g c. cond b (silent g c) (and_then (answered g (ticked c) packet c.coming) (λ h k. and_then (matched h k c.coming) (λ i l. pulled i l c.coming)))))
     by true = ap (λ t. mark (run_at run.gate run.connection t)) (sym (append-nil run.text))
     by false = pull_ends (met run packet) run.connection.coming ∙ ap (λ t. mark (run_at (pulled (met run packet).gate (met run packet).connection run.connection.coming).gate (pulled (met run packet).gate (met run packet).connection run.connection.coming).connection t)) (append_assoc run.text (answered run.gate (ticked run.connection) packet run.connection.coming).text (pulled (met run packet).gate (met run packet).connection run.connection.coming).text)
@@ -38,19 +32,19 @@ packet_ends run packet = by (is_over run.connection.session.phase)
 pull_rises : (run : Run) (moment : ℕ) → Rises (mark run) (pull_marks run moment)
 pull_rises run moment = by (is_on run.connection.session.phase)
   where
-    by : (b : Bool) → Rises (mark run) (cond b (mark (there run) ∷ mark (told run moment) ∷ []) [])
+    by : (b : Bool) → Rises (mark run) (cond b (mark (reported_of run) ∷ mark (told run moment) ∷ []) [])
     by true = (
       record { records = first_same run.gate.records run.gate.records refl; text = record { others = reports_text (unsent run.gate run.connection); whole = refl } },
-      (record { records = event_on (there run).gate (there run).connection _ moment; text = record { others = _; whole = refl } }, tt),
+      (record { records = event_on (reported_of run).gate (reported_of run).connection _ moment; text = record { others = _; whole = refl } }, tt),
     )
     by false = tt
 
 pub packet_rises : (run : Run) (packet : ClientPacket) → Rises (mark run) (packet_marks run packet)
 packet_rises run packet = by (is_over run.connection.session.phase)
   where
-    by : (b : Bool) → Rises (mark run) (cond b [] (mark (row run packet) ∷ mark (met run packet) ∷ pull_marks (met run packet) run.connection.coming))
+    by : (b : Bool) → Rises (mark run) (cond b [] (mark (row_of run packet) ∷ mark (met run packet) ∷ pull_marks (met run packet) run.connection.coming))
     by true = tt
     by false = (
       record { records = row_on run.gate (ticked run.connection) packet run.connection.coming; text = record { others = (answered run.gate (ticked run.connection) packet run.connection.coming).text; whole = refl } },
-      (record { records = match_on (row run packet).gate (row run packet).connection run.connection.coming; text = first_same (row run packet).text (row run packet).text refl }, pull_rises (met run packet) run.connection.coming),
+      (record { records = match_on (row_of run packet).gate (row_of run packet).connection run.connection.coming; text = first_same (row_of run packet).text (row_of run packet).text refl }, pull_rises (met run packet) run.connection.coming),
     )

@@ -2,14 +2,15 @@
 use Rattle.std.proofs.Common.{◌≡◌, ℕ, ◌<◌, Bool, true, false, cond, List, [], ◌∷◌, ◌++◌, length, Option, None, Some, refl, ap, ◌∙◌, arith}
 use Rattle.std.specs.{Prelude.{fold, IsFalse}, Option.option_map_or}
 use Rattle.gx_units.specs.declared.names.UserName.{UserName}
-use Rattle.gx_soup.specs.{declared.packet.{LoginRequest.LoginRequest, ClientPacket.ClientPacket}, Packets.packets_of}
+use Rattle.gx_soup.specs.{declared.packet.{ClientPacket.ClientPacket}, Packets.packets_of}
 use Rattle.gx_history.specs.{declared.record.{Asked.Asked, RecordData.RecordData, Step.Step}, InForce.is_closed, Settling.{most_matches, settled}, Verdicts.{next, IsLegal}}
 use Rattle.gx_history_laws.proofs.Runs.{step_left}
 use Rattle.gx_effects.proofs.{Orderly.{IsOrderly, legal_is_orderly, orderly_next}, Settling.{match_is_orderly, settled_keeps, settled_ends}}
 use Rattle.gx_answers.specs.{Gates.GateData, Matches.{matching_of, settled_gate}, Asking.stepped}
-use Rattle.gx_pipe.specs.{declared.connection.Connection.Connection, Steps.login_asked_at, Transcript.{Run, opened_at, silent, and_then, acted, on_event, logged_in, with_login, answered, matched, unsent, sent, pulled, ticked, handled, on_packet, run_of}}
-use Rattle.gx_session.specs.{declared.{event.Next.Next, session.Phase.{Phase, TheVariants.{Fresh, Waiting, On, Abandoned, Done}}}, Events.{is_on, is_over, login_in}, Happenings.Happening, Table.turn}
+use Rattle.gx_pipe.specs.{declared.connection.Connection.Connection, Transcript.{Run, opened_at, silent, on_event, answered, matched, sent, pulled, ticked, on_packet, run_of}}
+use Rattle.gx_session.specs.{declared.{session.Phase.{Phase, TheVariants.{On, Abandoned, Done}}}, Events.{is_over}, Happenings.Happening, Table.turn}
 use Rattle.gx_session.specs.Happenings as happens
+use Rattle.gx_pipe.proofs.Keeping.{all_keep, handled_by, match_keeps, pull_keeps, row_keeps, taken}
 
 -- Each step keeps the records orderly.
 
@@ -30,46 +31,6 @@ unfolding settled
 settled_has_order gate moment orderly =
     settled_keeps gate.policy moment (λ (h : List RecordData). IsOrderly gate.policy h) (λ h r o e. match_is_orderly gate.policy h moment r o e) (most_matches gate.policy gate.records) gate.records orderly
 
-acted_has_order : (gate : GateData) (user : UserName) (moment : ℕ) (next : Next) → HasOrder gate → HasOrder (acted gate user moment next)
-acted_has_order gate user moment Next.Idle orderly = orderly
-acted_has_order gate user moment Next.Login orderly = orderly
-acted_has_order gate user moment (Next.Act request) orderly = stepped_has_order gate _ orderly
-acted_has_order gate user moment Next.Logout orderly = stepped_has_order gate _ orderly
-acted_has_order gate user moment Next.Close orderly = orderly
-
-event_has_order : (gate : GateData) (c : Connection) (e : Happening) (moment : ℕ) → HasOrder gate → HasOrder (on_event gate c e moment).gate
-unfolding on_event
-event_has_order gate c e moment orderly = acted_has_order gate c.user moment (turn c.session e moment).reply.next orderly
-
-login_has_order : (gate : GateData) (c : Connection) (moment : ℕ) (login : Option LoginRequest) → HasOrder gate → HasOrder (with_login gate c moment login).gate
-unfolding logged_in
-login_has_order gate c moment None orderly = orderly
-login_has_order gate c moment (Some login) orderly =
-    event_has_order (stepped gate (login_asked_at gate moment login)) _ _ moment (stepped_has_order gate (login_asked_at gate moment login) orderly)
-
-answer_has_order : (gate : GateData) (c : Connection) (packet : ClientPacket) (moment : ℕ) → HasOrder gate → HasOrder (answered gate c packet moment).gate
-unfolding answered
-answer_has_order gate c packet moment orderly =
-    let told = on_event gate c (happens.Packet packet) moment in
-    login_has_order told.gate told.connection moment (login_in packet (turn c.session (happens.Packet packet) moment).reply.next)
-    (event_has_order gate c (happens.Packet packet) moment orderly)
-
-match_has_order : (gate : GateData) (c : Connection) (moment : ℕ) → HasOrder gate → HasOrder (matched gate c moment).gate
-unfolding matched
-match_has_order gate c moment orderly = at (is_over c.session.phase)
-  where
-    at : (b : Bool) → HasOrder (cond b gate (settled_gate gate moment))
-    at true = orderly
-    at false = settled_has_order gate moment orderly
-
-pull_has_order : (gate : GateData) (c : Connection) (moment : ℕ) → HasOrder gate → HasOrder (pulled gate c moment).gate
-unfolding pulled sent
-pull_has_order gate c moment orderly = at (is_on c.session.phase)
-  where
-    at : (b : Bool) → HasOrder (cond b (sent gate c (unsent gate c) moment) (silent gate c)).gate
-    at true = event_has_order gate _ _ moment orderly
-    at false = orderly
-
 -- What a pull that leaves the session alive leaves.
 
 record GoesOn (gate : GateData) (c : Connection) (run : Run) : Type 0 where
@@ -88,12 +49,11 @@ after_pull : (gate : GateData) (phase : Phase) (heard spoke : ℕ) (user : UserN
     → let c : Connection = record { session = record { phase = phase; heard = heard; sent = spoke }; user = user; next = number; coming = coming } in
     is_over (pulled gate c moment).connection.session.phase ≡ false → GoesOn gate c (pulled gate c moment)
 unfolding pulled sent
-after_pull gate Fresh heard spoke user number coming moment h = record { same_gate = refl; alive = refl }
-after_pull gate Waiting heard spoke user number coming moment h = record { same_gate = refl; alive = refl }
 after_pull gate On heard spoke user number coming moment h =
     record { same_gate = after_reports gate heard spoke user _ coming moment _ (is_closed gate.records) h; alive = refl }
 after_pull gate Abandoned heard spoke user number coming moment h = cc
 after_pull gate Done heard spoke user number coming moment h = cc
+after_pull gate phase heard spoke user number coming moment h = record { same_gate = refl; alive = refl }
 
 -- after one packet: the records are orderly, and where the session goes on no order waits
 record IsQuiet (run : Run) : Type 0 where
@@ -109,43 +69,27 @@ quiet_pull : (gate : GateData) (c : Connection) (moment : ℕ) → HasOrder gate
 quiet_pull gate c moment orderly =
     let now = (matched gate c moment).gate in
     record {
-      has_order = pull_has_order now c moment (match_has_order gate c moment orderly);
+      has_order = pull_keeps HasOrder stepped_has_order settled_has_order now c moment (match_keeps HasOrder stepped_has_order settled_has_order gate c moment orderly);
       none_waits = λ h.
           let k = after_pull now c.session.phase c.session.heard c.session.sent c.user c.next c.coming moment h in
           ap matching_of k.same_gate ∙ none_once_matched gate c moment orderly k.alive;
     }
 
-abbrev taken : GateData → Connection → ClientPacket → Run
-taken gate c packet =
-    and_then (answered gate (ticked c) packet c.coming) (λ g k. and_then (matched g k c.coming) (λ g l. pulled g l c.coming))
-
 quiet_taken : (gate : GateData) (c : Connection) (packet : ClientPacket) → HasOrder gate → IsQuiet (taken gate c packet)
 unfolding matched
 quiet_taken gate c packet orderly =
     let row = answered gate (ticked c) packet c.coming in
-    let q = quiet_pull row.gate row.connection c.coming (answer_has_order gate (ticked c) packet c.coming orderly) in
+    let q = quiet_pull row.gate row.connection c.coming (row_keeps HasOrder stepped_has_order settled_has_order gate (ticked c) packet c.coming orderly) in
     record { has_order = q.has_order; none_waits = q.none_waits }
-
-quiet_handled : (gate : GateData) (c : Connection) (packet : ClientPacket) → HasOrder gate → IsQuiet (handled gate c packet)
-unfolding handled
-quiet_handled gate c packet orderly = at (is_over c.session.phase) refl
-  where
-    at : (b : Bool) → is_over c.session.phase ≡ b → IsQuiet (cond b (silent gate c) (taken gate c packet))
-    at true over = record { has_order = orderly; none_waits = λ alive. cc }
-    at false over = quiet_taken gate c packet orderly
 
 quiet_next : (run : Run) (packet : ClientPacket) → HasOrder run.gate → IsQuiet (on_packet run packet)
 quiet_next run packet orderly =
-    let q = quiet_handled run.gate run.connection packet orderly in
+    let q = handled_by IsQuiet run.gate run.connection packet (λ over. record { has_order = orderly; none_waits = λ alive. cc }) (λ goes. quiet_taken run.gate run.connection packet orderly) in
     record { has_order = q.has_order; none_waits = q.none_waits }
-
-quiet_all : (packets : List ClientPacket) (run : Run) → IsQuiet run → IsQuiet (fold on_packet run packets)
-quiet_all [] run quiet = quiet
-quiet_all (packet ∷ packets) run quiet = quiet_all packets (on_packet run packet) (quiet_next run packet quiet.has_order)
 
 none_waits_after : (gate : GateData) (c : Connection) (packets : List ClientPacket) → HasOrder gate → 0 < length packets → IsQuiet (fold on_packet (silent gate c) packets)
 none_waits_after gate c [] orderly some = absurd (omega arith)
-none_waits_after gate c (packet ∷ packets) orderly some = quiet_all packets (on_packet (silent gate c) packet) (quiet_next (silent gate c) packet orderly)
+none_waits_after gate c (packet ∷ packets) orderly some = all_keep IsQuiet (λ run p quiet. quiet_next run p quiet.has_order) packets (on_packet (silent gate c) packet) (quiet_next (silent gate c) packet orderly)
 
 -- after one packet at least, where the session goes on, no order waits
 pub none_waits : (gate : GateData) (first : ℕ) (bytes : List ℕ) → IsLegal gate.policy gate.records → 0 < length (packets_of bytes).packets

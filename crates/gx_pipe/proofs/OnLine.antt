@@ -10,10 +10,10 @@ use Rattle.gx_history.specs.{declared.record.{Asked.Asked, RecordData.RecordData
 use Rattle.gx_history_laws.proofs.{Logouts.logouts_are_granted, NextInForce.line_of_next, Adding.{granted_is, user_is_itself}}
 use Rattle.gx_effects.proofs.Settling.{settled_adds}
 use Rattle.gx_answers.specs.{Gates.GateData, Asking.{asked_by, stepped}, Logins.login_answered, Matches.{settled_gate, IsSettling}, declared.outcome.LoginAnswer.LoginAnswer}
-use Rattle.gx_pipe.specs.{declared.connection.Connection.Connection, Serving.IsOnLine, Steps.{login_asked_at, login_told}, Transcript.{Run, silent, and_then, on_event, first_told, logged_in, answered, matched, sent, pulled, ticked, handled, on_packet, opened, run_of}}
+use Rattle.gx_pipe.specs.{declared.connection.Connection.Connection, Serving.IsOnLine, Steps.{login_asked_at, login_told}, Transcript.{Run, on_event, first_told, logged_in, answered, matched, sent, pulled, ticked, on_packet, opened, run_of}}
 use Rattle.gx_session.specs.{declared.session.Phase.{Phase, TheVariants.{Fresh, Waiting, On, Abandoned, Done}}, Events.is_over, Table.turn}
 use Rattle.gx_session.specs.Happenings as happens
-use Rattle.gx_pipe.proofs.Serving.{left_of, left_is, rejects, never}
+use Rattle.gx_pipe.proofs.{Keeping.{all_keep, handled_by, taken}, Serving.{left_of, left_is, rejects, never}}
 
 -- No rule forbids the Logout of a user who is on this line.
 pub logout_is_granted : (policy : PolicyData) (history : List RecordData) (user : UserName) (moment : ℕ) → line_of history (folded_user user) ≡ Some 1
@@ -40,10 +40,8 @@ none_put user false = refl
 means_no_line : (user : UserName) (a : Asked) (payload : List ℕ) (found : Option Inbound) (command : Option Command)
     → line_by user a (unwrap_or (option_or (option_map meant_by found) (option_map Request.Command command)) (unreadable payload)) ≡ None
 means_no_line user a payload (Some (Inbound.Enter m)) command = refl
-means_no_line user a payload (Some (Inbound.Replace m)) command = refl
-means_no_line user a payload (Some (Inbound.Cancel m)) command = refl
 means_no_line user a payload None (Some c) = refl
-means_no_line user a payload None None = refl
+means_no_line user a payload found command = refl
 
 payload_puts_nowhere : (user : UserName) (a : Asked) (payload : List ℕ) → line_by user a (request_of payload) ≡ None
 unfolding request_of
@@ -103,9 +101,7 @@ accepted_by gate moment login name from Verdict.Granted granted e = granted_logi
 accepted_by gate moment login name from (Verdict.Denied rule) denied e =
     let r = rejects gate.policy (stepped gate (login_asked_at gate moment login)).records (folded_user login.user) login.wanted rule in
     never _ r.0 name from r.1 e
-accepted_by gate moment login name from (Verdict.Filled f) other e = cc
-accepted_by gate moment login name from (Verdict.Rested o) other e = cc
-accepted_by gate moment login name from (Verdict.Expired o) other e = cc
+accepted_by gate moment login name from other v e = cc
 
 accepted_line : (gate : GateData) (moment : ℕ) (login : LoginRequest) (name : SessionName) (from : ℕ) → login_told gate moment login ≡ LoginAnswer.Accepted name from
     → line_of (stepped gate (login_asked_at gate moment login)).records (folded_user login.user) ≡ Some 1
@@ -128,30 +124,13 @@ row_keeps_by : (gate : GateData) (phase : Phase) (heard spoke : ℕ) (user : Use
     IsOnLine gate c → RunIsOnLine (answered gate c packet moment)
 unfolding answered on_event turn logged_in
 row_keeps_by gate Fresh heard spoke user number coming moment (ClientPacket.Login login) on = login_keeps gate (max heard moment) spoke login coming moment _ refl
-row_keeps_by gate Fresh heard spoke user number coming moment (ClientPacket.Data payload) on = λ h. cc
-row_keeps_by gate Fresh heard spoke user number coming moment ClientPacket.Logout on = λ h. cc
-row_keeps_by gate Fresh heard spoke user number coming moment ClientPacket.Heartbeat on = λ h. cc
-row_keeps_by gate Fresh heard spoke user number coming moment ClientPacket.Debug on = λ h. cc
-row_keeps_by gate Waiting heard spoke user number coming moment (ClientPacket.Login login) on = λ h. cc
-row_keeps_by gate Waiting heard spoke user number coming moment (ClientPacket.Data payload) on = λ h. cc
-row_keeps_by gate Waiting heard spoke user number coming moment ClientPacket.Logout on = λ h. cc
-row_keeps_by gate Waiting heard spoke user number coming moment ClientPacket.Heartbeat on = λ h. cc
-row_keeps_by gate Waiting heard spoke user number coming moment ClientPacket.Debug on = λ h. cc
-row_keeps_by gate On heard spoke user number coming moment (ClientPacket.Login login) on = λ h. cc
 row_keeps_by gate On heard spoke user number coming moment (ClientPacket.Data payload) on = λ h. payload_keeps gate (folded_user user) user payload moment ∙ on refl
-row_keeps_by gate On heard spoke user number coming moment ClientPacket.Logout on = λ h. cc
 row_keeps_by gate On heard spoke user number coming moment ClientPacket.Heartbeat on = on
 row_keeps_by gate On heard spoke user number coming moment ClientPacket.Debug on = on
+row_keeps_by gate Waiting heard spoke user number coming moment (ClientPacket.Login login) on = λ h. cc
 row_keeps_by gate Abandoned heard spoke user number coming moment (ClientPacket.Login login) on = λ h. cc
-row_keeps_by gate Abandoned heard spoke user number coming moment (ClientPacket.Data payload) on = λ h. cc
-row_keeps_by gate Abandoned heard spoke user number coming moment ClientPacket.Logout on = λ h. cc
-row_keeps_by gate Abandoned heard spoke user number coming moment ClientPacket.Heartbeat on = λ h. cc
-row_keeps_by gate Abandoned heard spoke user number coming moment ClientPacket.Debug on = λ h. cc
 row_keeps_by gate Done heard spoke user number coming moment (ClientPacket.Login login) on = λ h. cc
-row_keeps_by gate Done heard spoke user number coming moment (ClientPacket.Data payload) on = λ h. cc
-row_keeps_by gate Done heard spoke user number coming moment ClientPacket.Logout on = λ h. cc
-row_keeps_by gate Done heard spoke user number coming moment ClientPacket.Heartbeat on = λ h. cc
-row_keeps_by gate Done heard spoke user number coming moment ClientPacket.Debug on = λ h. cc
+row_keeps_by gate phase heard spoke user number coming moment packet on = λ h. cc
 
 pub row_keeps : (gate : GateData) (c : Connection) (packet : ClientPacket) (moment : ℕ) → IsOnLine gate c → RunIsOnLine (answered gate (ticked c) packet moment)
 row_keeps gate c packet moment on = row_keeps_by gate c.session.phase c.session.heard c.session.sent c.user c.next (ticked c).coming moment packet on
@@ -175,19 +154,11 @@ pull_keeps_by : (gate : GateData) (phase : Phase) (heard spoke : ℕ) (user : Us
     → let c : Connection = record { session = record { phase = phase; heard = heard; sent = spoke }; user = user; next = number; coming = coming } in
     IsOnLine gate c → RunIsOnLine (pulled gate c moment)
 unfolding pulled sent
-pull_keeps_by gate Fresh heard spoke user number coming moment on = on
-pull_keeps_by gate Waiting heard spoke user number coming moment on = on
 pull_keeps_by gate On heard spoke user number coming moment on = reports_keep gate heard spoke user _ coming moment _ (is_closed gate.records) on
-pull_keeps_by gate Abandoned heard spoke user number coming moment on = on
-pull_keeps_by gate Done heard spoke user number coming moment on = on
+pull_keeps_by gate phase heard spoke user number coming moment on = on
 
 pub pull_keeps : (gate : GateData) (c : Connection) (moment : ℕ) → IsOnLine gate c → RunIsOnLine (pulled gate c moment)
 pull_keeps gate c moment on = pull_keeps_by gate c.session.phase c.session.heard c.session.sent c.user c.next c.coming moment on
-
--- all that a packet leads to, while the session is not over
-abbrev taken : GateData → Connection → ClientPacket → Run
-taken gate c packet =
-    and_then (answered gate (ticked c) packet c.coming) (λ g k. and_then (matched g k c.coming) (λ g l. pulled g l c.coming))
 
 taken_keeps : (gate : GateData) (c : Connection) (packet : ClientPacket) → IsOnLine gate c → RunIsOnLine (taken gate c packet)
 taken_keeps gate c packet on =
@@ -195,20 +166,11 @@ taken_keeps gate c packet on =
     let met = matched row.gate row.connection c.coming in
     pull_keeps met.gate met.connection c.coming (match_keeps row.gate row.connection c.coming (row_keeps gate c packet c.coming on))
 
-handled_keeps : (gate : GateData) (c : Connection) (packet : ClientPacket) → IsOnLine gate c → RunIsOnLine (handled gate c packet)
-unfolding handled
-handled_keeps gate c packet on = at (is_over c.session.phase)
-  where
-    at : (b : Bool) → RunIsOnLine (cond b (silent gate c) (taken gate c packet))
-    at true = on
-    at false = taken_keeps gate c packet on
-
-pub packet_keeps : (run : Run) (packet : ClientPacket) → RunIsOnLine run → RunIsOnLine (on_packet run packet)
-packet_keeps run packet on = handled_keeps run.gate run.connection packet on
+packet_keeps : (run : Run) (packet : ClientPacket) → RunIsOnLine run → RunIsOnLine (on_packet run packet)
+packet_keeps run packet on = handled_by RunIsOnLine run.gate run.connection packet (λ over. on) (λ goes. taken_keeps run.gate run.connection packet on)
 
 pub packets_keep : (packets : List ClientPacket) (run : Run) → RunIsOnLine run → RunIsOnLine (fold on_packet run packets)
-packets_keep [] run on = on
-packets_keep (packet ∷ packets) run on = packets_keep packets (on_packet run packet) (packet_keeps run packet on)
+packets_keep packets run on = all_keep RunIsOnLine packet_keeps packets run on
 
 pub nobody_is_on : (gate : GateData) (first : ℕ) → RunIsOnLine (opened gate first)
 nobody_is_on gate first = λ h. cc

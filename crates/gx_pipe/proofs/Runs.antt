@@ -1,11 +1,13 @@
 -- Laws of runs: text that stands before, a piece more, and the end.
-use Rattle.std.proofs.{Common.{◌≡◌, ℕ, Bool, true, false, ◌||◌, ◌⊎◌, inl, inr, is_some, List, [], ◌∷◌, ◌++◌, refl, sym, ap, ◌∙◌, subst, append_assoc, append-nil, take, Option, None, Some, IfSome, cond}, KnownBytes.{Appends-nil, Appends-trans, Consumes-nil, Consumes-trans}, lemmas.List.Sums.fold-append}
-use Rattle.std.specs.{Prelude.fold, Io.KnownBytes.{Appends, Consumes, IsAtEnd}}
+use Rattle.std.proofs.{Common.{◌≡◌, ℕ, Bool, true, false, ◌||◌, ◌⊎◌, is_some, List, [], ◌∷◌, ◌++◌, refl, sym, ap, ◌∙◌, append_assoc, append-nil, Option, None, cond}, KnownBytes.{Appends-nil}, lemmas.List.Sums.fold-append}
+use Rattle.std.specs.{Prelude.fold, Io.KnownBytes.{IsAtEnd}}
 use Rattle.gx_soup.specs.{declared.packet.{ClientPacket.ClientPacket, SoupFault.SoupFault}, Packets.packets_of, Feeding.{Held, HasRead, Gives}}
 use Rattle.gx_soup.proofs.PacketLaws.{nothing_after_fault, packets_grow}
+use Rattle.gx_devices.specs.Pieces.{Flow}
+use Rattle.gx_devices.proofs.Pieces.{Stands, all_of_whole, stands_first, whole}
 use Rattle.gx_answers.specs.Gates.{GateData}
-use Rattle.gx_pipe.specs.{declared.connection.Connection.Connection, Transcript.{Run, and_then, on_event, answered, matched, pulled, ticked, with_text, silent, handled, on_packet, opened, opened_at, run_of, finished, pipe, is_ended}, Piping.{IsTaken, Follows, Exchanged, IsTranscript, IsPipe}}
-use Rattle.gx_session.specs.{Events.is_over, Table.{SessionData, row_in, turn}, declared.session.Phase.{Phase, TheVariants.{Fresh, Waiting, On, Abandoned, Done}}, Sending.control_text}
+use Rattle.gx_pipe.specs.{declared.connection.Connection.Connection, Transcript.{Run, and_then, on_event, answered, matched, pulled, ticked, with_text, silent, handled, on_packet, opened, opened_at, run_of, finished, pipe, is_ended}, Piping.{mark, gate_at, way, IsTaken, Follows, Exchanged, IsTranscript, IsPipe}}
+use Rattle.gx_session.specs.{Events.is_over, Table.{SessionData, row_in, turn}, declared.session.Phase.{Phase, TheVariants.{Fresh}}, Sending.control_text}
 use Rattle.gx_session.specs.Happenings as happens
 
 -- text that stands before stays before
@@ -20,7 +22,7 @@ pub fold_from : (ps : List ClientPacket) (run : Run) → fold on_packet run ps �
 fold_from ps run =
     ap (λ t. fold on_packet (record { gate = run.gate; connection = run.connection; text = t }) ps) (sym (append-nil run.text)) ∙ fold_behind ps run.text (silent run.gate run.connection)
 
-pub run_nil : (before : GateData) (first : ℕ) → (packets_of []).packets ≡ [] → run_of before first [] ≡ opened before first
+run_nil : (before : GateData) (first : ℕ) → (packets_of []).packets ≡ [] → run_of before first [] ≡ opened before first
 unfolding run_of
 run_nil before first e = ap (fold on_packet (opened before first)) e
 
@@ -33,69 +35,33 @@ over_is : (before : GateData) (first : ℕ) (bytes : List ℕ) (fault : Option S
 unfolding is_ended
 over_is before first bytes fault connection f s = rw (f, s) refl
 
--- a piece that was fed, answered and written
-pub exchanged : (before : GateData) (first : ℕ) (bytes piece : List ℕ) (gate gate' : GateData) (connection connection' : Connection) (feeder feeder' : Held) (given : List ClientPacket) (told : Option SoupFault) (text : List ℕ) (output written : Option (List ℕ)) → Gives given told feeder' bytes piece → fold on_packet (silent gate connection) given ≡ record { gate = gate'; connection = connection'; text = text } → Appends output written text → Follows before first bytes gate connection feeder → Exchanged before first bytes piece (is_some told || is_over connection'.session.phase) gate' connection' feeder' output written
-exchanged before first bytes piece gate gate' connection connection' feeder feeder' given told text output written gives makes wrote follows =
-    let run = run_of before first bytes in
-    let e : run_of before first (bytes ++ piece) ≡ record { gate = gate'; connection = connection'; text = run.text ++ text } =
-    run_more before first bytes piece given gives.packets ∙ ap (with_text run.text) (ap (λ h. fold on_packet (silent h run.connection) given) (sym follows.gate) ∙ (ap (λ s. fold on_packet (silent gate s) given) (sym follows.connection) ∙ makes)) in
-    record {
-      follows = record { reads = gives.reads; gate = sym (ap (λ (r : Run). r.gate) e); connection = sym (ap (λ (r : Run). r.connection) e) };
-      ends = over_is before first (bytes ++ piece) told connection' gives.fault (sym (ap (λ (r : Run). r.connection) e));
-      text = text;
-      written = wrote;
-      more = ap (λ (r : Run). r.text) e;
-    }
-
-makes_taken : (run : Run) (gate : GateData) (connection : Connection) (output written : Option (List ℕ)) → IsTaken run gate connection output written → run ≡ record { gate = gate; connection = connection; text = run.text }
-makes_taken run gate connection output written t =
-    ap (λ h. record { gate = h; connection = run.connection; text = run.text }) (sym t.gate) ∙ ap (λ s. record { gate = gate; connection = s; text = run.text }) (sym t.connection)
-
 -- a piece that was fed, and its packets taken
-pub exchanged_by : (before : GateData) (first : ℕ) (bytes piece : List ℕ) (gate gate' : GateData) (connection connection' : Connection) (feeder feeder' : Held) (given : List ClientPacket) (told : Option SoupFault) (output written : Option (List ℕ)) → Gives given told feeder' bytes piece → IsTaken (fold on_packet (silent gate connection) given) gate' connection' output written → Follows before first bytes gate connection feeder → Exchanged before first bytes piece (is_some told || is_over connection'.session.phase) gate' connection' feeder' output written
+pub exchanged_by : (before : GateData) (first : ℕ) (bytes piece : List ℕ) (gate gate' : GateData) (connection connection' : Connection) (feeder feeder' : Held) (given : List ClientPacket) (told : Option SoupFault) (output written : Option (List ℕ)) → Gives given told feeder' bytes piece → IsTaken (fold on_packet (silent gate connection) given) gate' connection' output written
+    → Follows before first gate connection feeder bytes → Exchanged before first bytes piece (is_some told || is_over connection'.session.phase) gate' connection' feeder' output written
 exchanged_by before first bytes piece gate gate' connection connection' feeder feeder' given told output written gives taken follows =
-    exchanged before first bytes piece gate gate' connection connection' feeder feeder' given told (fold on_packet (silent gate connection) given).text output written gives (makes_taken _ gate' connection' output written taken) taken.text follows
-
--- before an iteration of `run_pipe`
-pub record Stands (input left output written : Option (List ℕ)) (before : GateData) (first : ℕ) (gate : GateData) (connection : Connection) (feeder : Held) : Type 0 where
-  pub bytes : List ℕ
-  pub consumed : Consumes input left bytes
-  pub follows : Follows before first bytes gate connection feeder
-  pub text : Appends output written (run_of before first bytes).text
-
-pub stands_first : (input output : Option (List ℕ)) (before : GateData) (first : ℕ) (feeder : Held) → (packets_of []).packets ≡ [] → HasRead feeder [] → Stands input input output output before first before (opened_at first) feeder
-stands_first input output before first feeder none reads =
-    let e = run_nil before first none in
+    let run = run_of before first bytes in
+    let e : run_of before first (bytes ++ piece) ≡ with_text run.text (fold on_packet (silent gate connection) given) =
+    run_more before first bytes piece given gives.packets ∙ ap (with_text run.text) (ap (λ h. fold on_packet (silent h run.connection) given) (sym follows.gate) ∙ ap (λ s. fold on_packet (silent gate s) given) (sym follows.connection)) in
+    let same : connection' ≡ (run_of before first (bytes ++ piece)).connection = taken.connection ∙ sym (ap (λ (r : Run). r.connection) e) in
     record {
-      bytes = [];
-      consumed = Consumes-nil input;
-      follows = record { reads = reads; gate = rw e refl; connection = rw e refl };
-      text = rw e (Appends-nil output);
+      takes = record {
+        follows = record { reads = gives.reads; gate = taken.gate ∙ sym (ap (λ (r : Run). r.gate) e); connection = same };
+        told = (fold on_packet (silent gate connection) given).text;
+        written = taken.text;
+        more = ap (λ (r : Run). r.text) e;
+      };
+      ends = over_is before first (bytes ++ piece) told connection' gives.fault same;
     }
 
-abbrev pub stands_next : (input left left' output written written' : Option (List ℕ)) (before : GateData) (first : ℕ) (gate gate' : GateData) (connection connection' : Connection) (feeder feeder' : Held) (piece : List ℕ) (over : Bool) → (s : Stands input left output written before first gate connection feeder) → Consumes left left' piece → Exchanged before first s.bytes piece over gate' connection' feeder' written written' → Stands input left' output written' before first gate' connection' feeder'
-stands_next input left left' output written written' before first gate gate' connection connection' feeder feeder' piece over s took e = record {
-  bytes = s.bytes ++ piece;
-  consumed = Consumes-trans input left left' s.bytes piece s.consumed took;
-  follows = e.follows;
-  text = rw e.more (Appends-trans output written written' _ _ s.text e.written);
-}
-
--- a read that gave nothing
-abbrev pub stands_still : (input left left' output written : Option (List ℕ)) (before : GateData) (first : ℕ) (gate : GateData) (connection : Connection) (feeder : Held) (buffer : List ℕ) (n : ℕ) → Stands input left output written before first gate connection feeder → Consumes left left' (take n buffer) → n ≡ 0 → Stands input left' output written before first gate connection feeder
-stands_still input left left' output written before first gate connection feeder buffer n s took none = record {
-  bytes = s.bytes;
-  consumed = subst (Consumes input left') (append-nil s.bytes) (Consumes-trans input left left' s.bytes [] s.consumed (subst (λ k. Consumes left left' (take k buffer)) none took));
-  follows = s.follows;
-  text = s.text;
-}
+pub starts : (before : GateData) (first : ℕ) (feeder : Held) (input output : Option (List ℕ)) → (packets_of []).packets ≡ [] → HasRead feeder []
+    → Stands (way before first) (Follows before first before (opened_at first) feeder) (record { input = input; left = input; output = output; written = output })
+starts before first feeder input output none reads =
+    let e = run_nil before first none in
+    stands_first (way before first) _ input output (record { reads = reads; gate = rw e refl; connection = rw e refl }) (ap (λ (r : Run). r.text) e)
 
 row_end : (p : Phase) (silent quiet : Bool) → (row_in p happens.End silent quiet).reply.send ≡ None
 row_end Fresh silent quiet = refl
-row_end Waiting silent quiet = refl
-row_end On silent quiet = refl
-row_end Abandoned silent quiet = refl
-row_end Done silent quiet = refl
+row_end p silent quiet = refl
 
 -- nothing is sent at the end
 end_is_silent : (session : SessionData) (moment : ℕ) → (turn session happens.End moment).reply.send ≡ None
@@ -121,14 +87,10 @@ unfolding pipe
 pipe_text before first bytes = finished_text (run_of before first bytes)
 
 -- the end of a connection
-pub ended : (input left output written : Option (List ℕ)) (before : GateData) (first : ℕ) (gate gate' : GateData) (connection : Connection) (feeder : Held) → (s : Stands input left output written before first gate connection feeder) → gate' ≡ (finished (silent gate connection)).gate → IsAtEnd left ⊎ (is_ended before first s.bytes ≡ true) → IsTranscript input left output written before first gate'
-ended input left output written before first gate gate' connection feeder s f whole = record {
-  bytes = s.bytes;
-  consumed = s.consumed;
-  gate = f ∙ sym (pipe_history before first s.bytes gate connection s.follows.gate s.follows.connection);
-  text = rw (pipe_text before first s.bytes) s.text;
-  whole = whole;
-}
+pub ended : (before : GateData) (first : ℕ) (gate gate' : GateData) (connection : Connection) (feeder : Held) (flow : Flow) → (s : Stands (way before first) (Follows before first gate connection feeder) flow) → gate' ≡ (finished (silent gate connection)).gate
+    → IsAtEnd flow.left ⊎ (is_ended before first s.bytes ≡ true) → IsTranscript flow before first gate'
+ended before first gate gate' connection feeder flow s f over =
+    whole (way before first) _ flow s (λ bytes. mark (pipe before first bytes)) (is_ended before first) (λ m. gate' ≡ gate_at m) flow.written [] (f ∙ sym (pipe_history before first s.bytes gate connection s.follows.gate s.follows.connection)) (pipe_text before first s.bytes ∙ sym (append-nil _)) (Appends-nil flow.written) over
 
 pub on_done : (run : Run) (p : ClientPacket) → is_over run.connection.session.phase ≡ true → on_packet run p ≡ run
 unfolding handled
@@ -156,15 +118,6 @@ pub nothing_follows : (before : GateData) (first : ℕ) (bytes more : List ℕ) 
 unfolding pipe is_ended
 nothing_follows before first bytes more h = ap finished (over_follows before first bytes more _ _ refl refl h)
 
-all_bytes : (input left output written : Option (List ℕ)) (before : GateData) (first : ℕ) (after : GateData) (bytes : List ℕ) → Consumes input left bytes → after ≡ (pipe before first bytes).gate → Appends output written (pipe before first bytes).text → IsAtEnd left ⊎ (is_ended before first bytes ≡ true) → IfSome input (λ all. IsPipe all output written before first after)
-all_bytes None left output written before first after bytes took h t w = tt
-all_bytes (Some all) None output written before first after bytes took h t w = absurd took
-all_bytes (Some all) (Some rest) output written before first after bytes took h t (inl end) =
-    let e : all ≡ bytes = took ∙ (ap (λ r. bytes ++ r) end ∙ append-nil bytes) in
-    subst (λ b. IsPipe b output written before first after) (sym e) (record { gate = h; text = t })
-all_bytes (Some all) (Some rest) output written before first after bytes took h t (inr over) =
-    let e : pipe before first bytes ≡ pipe before first all = sym (nothing_follows before first bytes rest over) ∙ ap (pipe before first) (sym took) in
-    record { gate = h ∙ ap (λ (r : Run). r.gate) e; text = subst (λ (r : Run). Appends output written r.text) e t }
-
-pub all_of_transcript : (input left output written : Option (List ℕ)) (before : GateData) (first : ℕ) (after : GateData) → IsTranscript input left output written before first after → IfSome input (λ all. IsPipe all output written before first after)
-all_of_transcript input left output written before first after t = all_bytes input left output written before first after t.bytes t.consumed t.gate t.text t.whole
+pub all_of_transcript : (flow : Flow) (before : GateData) (first : ℕ) (after : GateData) → IsTranscript flow before first after → IsPipe flow before first after
+all_of_transcript flow before first after t =
+    all_of_whole (λ bytes. mark (pipe before first bytes)) (is_ended before first) (λ m. after ≡ gate_at m) flow (λ bytes more h. ap mark (nothing_follows before first bytes more h)) t

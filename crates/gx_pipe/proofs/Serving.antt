@@ -1,16 +1,17 @@
 -- What a connection was sent: the session table keeps it from packet to packet.
 use Rattle.std.proofs.{Common.{◌≡◌, ℕ, ◌+◌, ◌-◌, ◌≤◌, max, Bool, true, false, cond, not, ◌&&◌, ◌==◌, nat_le, List, [], ◌∷◌, ◌++◌, length, drop, Option, None, Some, refl, sym, ap, ◌∙◌, subst, append-nil, append_assoc, arith, length-append, length-drop}, lemmas.{Bool.Decides.nat_tests, List.{drop-append-le, drop_at}}}
-use Rattle.std.specs.{Prelude.fold, List.{flat_map, AllByRecursion}, Option.option_map_or}
+use Rattle.std.specs.{List.{flat_map, AllByRecursion}, Option.option_map_or}
 use Rattle.gx_units.specs.{Spelling.folded_user, declared.names.{LoginRejection.LoginRejection, SessionName.SessionName, UserName.UserName}}
 use Rattle.gx_soup.specs.{declared.packet.{LoginRequest.LoginRequest, ClientPacket.ClientPacket, ServerPacket.ServerPacket}, Writing.server_bytes, Packets.packets_of}
-use Rattle.gx_policy.specs.declared.{policy.PolicyData.PolicyData, rule_name.RuleName.{RuleName, TheVariants.{L1, L2, L3, G1, G2, G3, I1, I2, I3, P1, P2, P3, P4, P5, P6, P7, P8, P9, P10, P11, P12, Q1, Q2, Q3, Q4, File}}}
+use Rattle.gx_policy.specs.declared.{policy.PolicyData.PolicyData, rule_name.RuleName.{RuleName, TheVariants.{L3}}}
 use Rattle.gx_history.specs.{declared.{«record».{Asked.Asked, RecordData.RecordData, Step.Step, Verdict.Verdict}, report.Report.Report}, Asking.facts, Logins.first_wanted, Payloads.request_of, Requests.asked, Rules.forbids, Streams.{stream, reports_of}, Verdicts.{next, verdict, facts_now, moment_of}, InForce.is_closed}
 use Rattle.gx_history_laws.proofs.{Granting.{left_by_request, is_no_bar}, NextReports.stream_next, Owners.all_both}
 use Rattle.gx_effects.proofs.Settling.{settled_adds}
 use Rattle.gx_answers.specs.{Gates.GateData, Matches.settled_gate, Logins.login_answered, declared.outcome.LoginAnswer.LoginAnswer, Asking.{asked_by, stepped}}
 use Rattle.gx_pipe.specs.{declared.connection.Connection.Connection, Serving.{owed, IsServed, HasOnlyMatched, Serves}, Steps.{login_asked_at, login_told}, Transcript.{Run, with_text, on_event, first_told, logged_in, answered, sent, matched, pulled, handled, on_packet, opened, run_of, later}}
-use Rattle.gx_session.specs.{declared.session.Phase.{Phase, TheVariants.{Fresh, Waiting, On, Abandoned, Done}}, Table.turn, Sending.{report_packet, reports_text}}
+use Rattle.gx_session.specs.{declared.session.Phase.{Phase, TheVariants.{Fresh, Waiting, On, Abandoned}}, Table.turn, Sending.{report_packet, reports_text}}
 use Rattle.gx_session.specs.Happenings as happens
+use Rattle.gx_pipe.proofs.Keeping.{all_keep}
 
 -- reports that come one after the other are spelled one after the other
 spelled_on : (xs ys : List Report) → flat_map report_packet (xs ++ ys) ≡ flat_map report_packet xs ++ flat_map report_packet ys
@@ -150,32 +151,8 @@ first_within wanted old now false e w o = (grind (arith, nat_tests), omega arith
 -- an answer that accepts comes of a granted login alone
 pub rejects : (policy : PolicyData) (history : List RecordData) (user : UserName) (wanted : ℕ) (rule : RuleName)
     → (reason : LoginRejection) × (login_answered policy history user wanted (Verdict.Denied rule) ≡ LoginAnswer.Rejected reason)
-rejects policy history user wanted L1 = (LoginRejection.NotAuthorized, refl)
-rejects policy history user wanted L2 = (LoginRejection.NotAuthorized, refl)
 rejects policy history user wanted L3 = (LoginRejection.SessionNotAvailable, refl)
-rejects policy history user wanted G1 = (LoginRejection.NotAuthorized, refl)
-rejects policy history user wanted G2 = (LoginRejection.NotAuthorized, refl)
-rejects policy history user wanted G3 = (LoginRejection.NotAuthorized, refl)
-rejects policy history user wanted I1 = (LoginRejection.NotAuthorized, refl)
-rejects policy history user wanted I2 = (LoginRejection.NotAuthorized, refl)
-rejects policy history user wanted I3 = (LoginRejection.NotAuthorized, refl)
-rejects policy history user wanted P1 = (LoginRejection.NotAuthorized, refl)
-rejects policy history user wanted P2 = (LoginRejection.NotAuthorized, refl)
-rejects policy history user wanted P3 = (LoginRejection.NotAuthorized, refl)
-rejects policy history user wanted P4 = (LoginRejection.NotAuthorized, refl)
-rejects policy history user wanted P5 = (LoginRejection.NotAuthorized, refl)
-rejects policy history user wanted P6 = (LoginRejection.NotAuthorized, refl)
-rejects policy history user wanted P7 = (LoginRejection.NotAuthorized, refl)
-rejects policy history user wanted P8 = (LoginRejection.NotAuthorized, refl)
-rejects policy history user wanted P9 = (LoginRejection.NotAuthorized, refl)
-rejects policy history user wanted P10 = (LoginRejection.NotAuthorized, refl)
-rejects policy history user wanted P11 = (LoginRejection.NotAuthorized, refl)
-rejects policy history user wanted P12 = (LoginRejection.NotAuthorized, refl)
-rejects policy history user wanted Q1 = (LoginRejection.NotAuthorized, refl)
-rejects policy history user wanted Q2 = (LoginRejection.NotAuthorized, refl)
-rejects policy history user wanted Q3 = (LoginRejection.NotAuthorized, refl)
-rejects policy history user wanted Q4 = (LoginRejection.NotAuthorized, refl)
-rejects policy history user wanted (File rule) = (LoginRejection.NotAuthorized, refl)
+rejects policy history user wanted other = (LoginRejection.NotAuthorized, refl)
 
 pub never : {P : Type 0} (answer : LoginAnswer) (reason : LoginRejection) (name : SessionName) (from : ℕ) → answer ≡ LoginAnswer.Rejected reason → answer ≡ LoginAnswer.Accepted name from → P
 never answer reason name from e f = cc
@@ -201,9 +178,7 @@ accepted_by gate moment login name from Verdict.Granted granted e =
 accepted_by gate moment login name from (Verdict.Denied rule) denied e =
     let r = rejects gate.policy (stepped gate (login_asked_at gate moment login)).records (folded_user login.user) login.wanted rule in
     never _ r.0 name from r.1 e
-accepted_by gate moment login name from (Verdict.Filled f) other e = cc
-accepted_by gate moment login name from (Verdict.Rested o) other e = cc
-accepted_by gate moment login name from (Verdict.Expired o) other e = cc
+accepted_by gate moment login name from other v e = cc
 
 accepted_is : (gate : GateData) (moment : ℕ) (login : LoginRequest) (name : SessionName) (from : ℕ) → login_told gate moment login ≡ LoginAnswer.Accepted name from
     → IsAcceptance gate moment login name from
@@ -261,8 +236,6 @@ serves_next : (before gate : GateData) (text : List ℕ) (phase : Phase) (heard 
 unfolding handled answered on_event turn logged_in matched pulled
 serves_next before gate text Fresh heard spoke user number coming (ClientPacket.Login login) h =
     after_login before gate text (max heard coming) spoke login (later coming) coming h.1 _ refl
-serves_next before gate text Fresh heard spoke user number coming (ClientPacket.Data payload) h = tt
-serves_next before gate text Fresh heard spoke user number coming ClientPacket.Logout h = tt
 serves_next before gate text Fresh heard spoke user number coming ClientPacket.Heartbeat h = (only_matched before gate coming h.0, append-nil text ∙ h.1)
 serves_next before gate text Fresh heard spoke user number coming ClientPacket.Debug h = (only_matched before gate coming h.0, append-nil text ∙ h.1)
 serves_next before gate text On heard spoke user number coming (ClientPacket.Data payload) h =
@@ -270,8 +243,6 @@ serves_next before gate text On heard spoke user number coming (ClientPacket.Dat
     let more = step_settled_on gate a coming user in
     after_pull before (settled_gate (stepped gate a) coming) text [] (max heard coming) spoke user number (later coming) coming
     (served_more gate (settled_gate (stepped gate a) coming) text user number more.0 h refl more.1)
-serves_next before gate text On heard spoke user number coming (ClientPacket.Login login) h = tt
-serves_next before gate text On heard spoke user number coming ClientPacket.Logout h = tt
 serves_next before gate text On heard spoke user number coming ClientPacket.Heartbeat h =
     let more = settled_on gate coming user in
     after_pull before (settled_gate gate coming) text [] (max heard coming) spoke user number (later coming) coming
@@ -282,19 +253,13 @@ serves_next before gate text On heard spoke user number coming ClientPacket.Debu
     (served_more gate (settled_gate gate coming) text user number more.0 h refl more.1)
 serves_next before gate text Waiting heard spoke user number coming packet h = absurd h
 serves_next before gate text Abandoned heard spoke user number coming packet h = absurd h
-serves_next before gate text Done heard spoke user number coming packet h = tt
-
-serves_all : (before : GateData) (packets : List ClientPacket) (run : Run) → ServesRun before run → ServesRun before (fold on_packet run packets)
-serves_all before [] run h = h
-serves_all before (packet ∷ packets) run h =
-    let c = run.connection in
-    serves_all before packets (on_packet run packet) (serves_next before run.gate run.text c.session.phase c.session.heard c.session.sent c.user c.next c.coming packet h)
+serves_next before gate text phase heard spoke user number coming packet h = tt
 
 run_serves : (gate : GateData) (first : ℕ) (bytes : List ℕ) → ServesRun gate (run_of gate first bytes)
 unfolding run_of
 run_serves gate first bytes =
     let nothing : HasOnlyMatched gate gate = record { policy_kept = refl; more = []; goes_on = sym (append-nil gate.records); are_matches = tt } in
-    serves_all gate (packets_of bytes).packets (opened gate first) (nothing, refl)
+    all_keep (ServesRun gate) (λ run packet h. let c = run.connection in serves_next gate run.gate run.text c.session.phase c.session.heard c.session.sent c.user c.next c.coming packet h) (packets_of bytes).packets (opened gate first) (nothing, refl)
 
 pub served_in : (gate : GateData) (first : ℕ) (bytes : List ℕ) (phase : Phase) → (run_of gate first bytes).connection.session.phase ≡ phase
     → let run = run_of gate first bytes in Serves gate run.gate run.text run.connection.user run.connection.next phase

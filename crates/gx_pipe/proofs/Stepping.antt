@@ -32,37 +32,30 @@ settled_here before now after moment None none s left e =
     e ∙ (sym (ap (λ (rs : List RecordData). record { policy = now.policy; records = rs }) (settled_idle now.policy now.records moment left)) ∙ s.goes_on)
 settled_here before now after moment (Some o) none s left e = cc
 
--- a step that is never refused was not
-pub was_refusable : {T E : Type 0} (sure : Bool) (r : Result T E) (e : E) → (sure ≡ true → is_ok r ≡ true) → r ≡ Err e → sure ≡ false
-was_refusable true r e never refused = let clash : false ≡ true = sym (ap is_ok refused) ∙ never refl in cc
-was_refusable false r e never refused = refl
-
 -- want of memory is told only where the day has room, and a full day only where it has none
-pub told_full : {T : Type 0} (gate after : GateData) (sure : Bool) (r : Result T StepFault) (e : StepFault) → after ≡ gate → (sure ≡ true → is_ok r ≡ true)
-    → (day_limit ≤ length gate.records → sure ≡ false → r ≡ Err StepFault.DayFull) → (e ≡ StepFault.DayFull → day_limit ≤ length gate.records) → r ≡ Err e → IsToldFull after e
-told_full gate after sure r StepFault.DayFull same never full day is = subst (λ (g : GateData). day_limit ≤ length g.records) (sym same) (day refl)
-told_full gate after sure r StepFault.OutOfMemory same never full day is = subst HasRoom (sym same) (by (cases_lt (length gate.records) day_limit))
+told_by : (gate after : GateData) (e : StepFault) → after ≡ gate → (e ≡ StepFault.OutOfMemory → day_limit ≤ length gate.records → ⊥) → (e ≡ StepFault.DayFull → day_limit ≤ length gate.records) → IsToldFull after e
+told_by gate after StepFault.DayFull same room day = subst IsFull (sym same) (day refl)
+told_by gate after StepFault.OutOfMemory same room day = subst HasRoom (sym same) (by (cases_lt (length gate.records) day_limit))
   where
-    not_both : day_limit ≤ length gate.records → (b : Bool) → sure ≡ b → ⊥
-    not_both h true is_sure = let clash : false ≡ true = sym (ap is_ok is) ∙ never is_sure in cc
-    not_both h false unsure = let clash : Err StepFault.DayFull ≡ Err StepFault.OutOfMemory = sym (full h unsure) ∙ is in cc
-
     by : (length gate.records < day_limit) ⊎ (day_limit ≤ length gate.records) → HasRoom gate
     by (inl h) = h
-    by (inr h) = absurd (not_both h sure refl)
+    by (inr h) = absurd (room refl h)
+
+pub told_full : {T : Type 0} (gate after : GateData) (sure : Bool) (r : Result T StepFault) (e : StepFault) → after ≡ gate → (sure ≡ true → is_ok r ≡ true)
+    → (day_limit ≤ length gate.records → sure ≡ false → r ≡ Err StepFault.DayFull) → (e ≡ StepFault.DayFull → day_limit ≤ length gate.records) → r ≡ Err e → IsToldFull after e
+told_full gate after sure r e same never full day is = told_by gate after e same (λ memory h. not_both memory h sure refl) day
+  where
+    not_both : e ≡ StepFault.OutOfMemory → day_limit ≤ length gate.records → (b : Bool) → sure ≡ b → ⊥
+    not_both memory h true is_sure = let clash : false ≡ true = sym (ap is_ok is) ∙ never is_sure in cc
+    not_both memory h false unsure = let clash = sym (full h unsure) ∙ is in cc
 
 pub match_told_full : {T F : Type 0} (gate after : GateData) (found : Option F) (none : T) (r : Result T StepFault) (e : StepFault) → after ≡ gate → (found ≡ None → r ≡ Ok none)
     → (is_some found ≡ true → day_limit ≤ length gate.records → r ≡ Err StepFault.DayFull) → (e ≡ StepFault.DayFull → day_limit ≤ length gate.records) → r ≡ Err e → IsToldFull after e
-match_told_full gate after found none r StepFault.DayFull same idle full day is = subst (λ (g : GateData). day_limit ≤ length g.records) (sym same) (day refl)
-match_told_full {T} {F} gate after found none r StepFault.OutOfMemory same idle full day is = subst HasRoom (sym same) (by (cases_lt (length gate.records) day_limit))
+match_told_full {T} {F} gate after found none r e same idle full day is = told_by gate after e same (λ memory h. not_both memory h found refl) day
   where
-    not_both : day_limit ≤ length gate.records → (x : Option F) → found ≡ x → ⊥
-    not_both h None idles = let clash : Err StepFault.OutOfMemory ≡ Ok none = sym is ∙ idle idles in cc
-    not_both h (Some x) waits = let clash : Err StepFault.DayFull ≡ Err StepFault.OutOfMemory = sym (full (ap is_some waits) h) ∙ is in cc
-
-    by : (length gate.records < day_limit) ⊎ (day_limit ≤ length gate.records) → HasRoom gate
-    by (inl h) = h
-    by (inr h) = absurd (not_both h found refl)
+    not_both : e ≡ StepFault.OutOfMemory → day_limit ≤ length gate.records → (x : Option F) → found ≡ x → ⊥
+    not_both memory h None idles = let clash = sym is ∙ idle idles in cc
+    not_both memory h (Some x) waits = let clash = sym (full (ap is_some waits) h) ∙ is in cc
 
 -- as a connection tells it
 pub of_step : (gate after : GateData) (e : StepFault) → after ≡ gate → IsToldFull after e → Refused (cause_of (fault_of_step e)) gate.records
@@ -96,5 +89,4 @@ refused_left before now after moment none r e s legal same idle is =
     by (Some v) k = ap is_some k
 
 pub of_matching : (gate : GateData) (e : StepFault) → IsToldFull gate e → Refused (cause_of (fault_of_step e)) gate.records
-of_matching gate StepFault.OutOfMemory h = h
-of_matching gate StepFault.DayFull h = h
+of_matching gate e h = of_step gate gate e refl h

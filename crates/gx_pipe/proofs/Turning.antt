@@ -1,15 +1,16 @@
 -- What an event, a login, a packet and a pull leave, whole or given up.
-use Rattle.gx_devices.specs.{declared.fault.WriteFault.WriteFault, Devices.IsFront, Stopping.{AreFewer, Cause, Memory, Full, Writing, Reading, IsOfSending, Mark}}
-use Rattle.std.proofs.{Common.{◌≡◌, ℕ, ◌+◌, ◌-◌, ◌<◌, inl, inr, max, pred, nat_lt, Bool, true, false, ◌&&◌, cond, is_some, List, [], ◌∷◌, ◌++◌, length, take, drop, Option, Some, None, refl, sym, ap, ◌∙◌, subst, append_assoc, append-nil, arith, length-drop}, lemmas.Bool.Decides.nat_tests, KnownBytes.{Appends-nil, Appends-trans}}
+use Rattle.gx_devices.specs.{declared.fault.WriteFault.WriteFault, Devices.IsFront, Stopping.{AreFewer, IsOfSending, Mark}}
+use Rattle.std.proofs.{Common.{◌≡◌, ℕ, ◌+◌, ◌-◌, ◌<◌, inl, inr, max, pred, nat_lt, Bool, true, false, ◌&&◌, cond, is_some, List, [], ◌∷◌, ◌++◌, length, take, drop, Option, Some, None, refl, sym, ap, ◌∙◌, subst, arith, length-drop}, lemmas.Bool.Decides.nat_tests, KnownBytes.{Appends-nil, Appends-trans}}
 use Rattle.std.specs.Io.KnownBytes.{Appends}
 use Rattle.gx_units.specs.{Spelling.folded_user, declared.names.UserName.UserName}
 use Rattle.gx_soup.specs.declared.packet.{LoginRequest.LoginRequest, ClientPacket.ClientPacket}
 use Rattle.gx_history.specs.{declared.{«record».{Request.Request, RecordData.RecordData}, report.Report.Report}, InForce.is_closed, Streams.stream}
 use Rattle.gx_policy.specs.Lists.{slice}
 use Rattle.gx_answers.specs.{Gates.GateData, Told.ends_before, declared.outcome.{LoginAnswer.LoginAnswer, StepFault.StepFault}, Asking.{asked_by, stepped}}
-use Rattle.gx_pipe.specs.{declared.{connection.Connection.Connection, fault.PipeFault.PipeFault}, Serving.IsOnLine, Faults.{fault_of_send, fault_of_step, IsToldFull}, Piping.{Standing, mark, cause_of, Refused, logout_of, IsRunOf, IsTaken, IsUnwritten, IsGivenUp, IsTurnGivenUp, GivesAll, reported_of, told_of, pull_marks, StopsIn}, Steps.{login_asked_at, login_told}, Transcript.{Run, run_at, and_then, with_text, silent, acted, on_event, first_told, logged_in, with_login, answered, sent, unsent, pulled}}
-use Rattle.gx_session.specs.{declared.{event.{Control.Control, Next.Next, Reply.Reply}, session.Phase.{Phase, TheVariants.{Fresh, Waiting, On, Abandoned, Done}}}, Events.{asks_step, is_on, login_in}, Happenings.Happening, Table.{SessionData, row_in, turn}, Sending.{control_bytes, control_text, reports_text}}
-use Rattle.gx_devices.proofs.Stopping.{fewer_then, first_behind, first_same, stops_here}
+use Rattle.gx_pipe.specs.{declared.{connection.Connection.Connection, fault.PipeFault.PipeFault}, Serving.IsOnLine, Faults.{fault_of_send, fault_of_step, IsToldFull}, Piping.{Standing, mark, cause_of, Refused, logout_of, IsRunOf, IsTaken, IsUnwritten, IsGivenUp, IsTurnGivenUp, GivesAll, reported_of, told_of, pull_marks, IsThere, StopsIn}, Steps.{login_asked_at, login_told}, Transcript.{Run, run_at, and_then, with_text, silent, acted, on_event, first_told, logged_in, with_login, answered, sent, unsent, pulled}}
+use Rattle.gx_session.specs.{declared.{event.{Control.Control, Next.Next, Reply.Reply}, session.Phase.{Phase, TheVariants.{Fresh, Waiting, On}}}, Events.{asks_step, is_on, login_in}, Happenings.Happening, Table.{SessionData, row_in, turn}, Sending.{control_bytes, control_text, reports_text}}
+use Rattle.gx_devices.proofs.Stopping.{fewer_then, first_same}
+use Rattle.gx_devices.proofs.Pieces as pieces
 use Rattle.gx_pipe.proofs.{Growing.{event_adds, answer_on, login_adds}, OnLine.pull_keeps, Stepping.of_step}
 use Rattle.gx_session.specs.Happenings as happens
 use Rattle.gx_answers.proofs.Stepped.{all_taken}
@@ -17,12 +18,9 @@ use Rattle.gx_answers.proofs.Stepped.{all_taken}
 -- Rows of the table.
 
 row_answered : (p : Phase) (a : LoginAnswer) (silent quiet : Bool) → p ≡ Waiting → asks_step (row_in p (happens.Answered a) silent quiet).reply.next ≡ false
-row_answered Fresh a silent quiet h = cc
 row_answered Waiting (LoginAnswer.Accepted name next) silent quiet h = refl
 row_answered Waiting (LoginAnswer.Rejected reason) silent quiet h = refl
-row_answered On a silent quiet h = cc
-row_answered Abandoned a silent quiet h = cc
-row_answered Done a silent quiet h = cc
+row_answered p a silent quiet h = cc
 
 answer_asks_nothing : (session : SessionData) (a : LoginAnswer) (moment : ℕ) → session.phase ≡ Waiting → asks_step (turn session (happens.Answered a) moment).reply.next ≡ false
 unfolding turn
@@ -30,18 +28,8 @@ answer_asks_nothing session a moment h = row_answered session.phase a _ _ h
 
 row_packet : (p : Phase) (packet : ClientPacket) (silent quiet : Bool) → (row_in p (happens.Packet packet) silent quiet).reply.send ≡ None
 row_packet Fresh (ClientPacket.Login login) silent quiet = refl
-row_packet Fresh (ClientPacket.Data payload) silent quiet = refl
-row_packet Fresh ClientPacket.Logout silent quiet = refl
-row_packet Fresh ClientPacket.Heartbeat silent quiet = refl
-row_packet Fresh ClientPacket.Debug silent quiet = refl
-row_packet Waiting packet silent quiet = refl
 row_packet On (ClientPacket.Login login) silent quiet = refl
-row_packet On (ClientPacket.Data payload) silent quiet = refl
-row_packet On ClientPacket.Logout silent quiet = refl
-row_packet On ClientPacket.Heartbeat silent quiet = refl
-row_packet On ClientPacket.Debug silent quiet = refl
-row_packet Abandoned packet silent quiet = refl
-row_packet Done packet silent quiet = refl
+row_packet p packet silent quiet = refl
 
 pub packet_is_silent : (session : SessionData) (packet : ClientPacket) (moment : ℕ) → (turn session (happens.Packet packet) moment).reply.send ≡ None
 unfolding turn
@@ -54,18 +42,8 @@ record WaitsFor (before after : Phase) : Type 0 where
 
 row_login : (p : Phase) (packet : ClientPacket) (silent quiet : Bool) → (row_in p (happens.Packet packet) silent quiet).reply.next ≡ Next.Login → WaitsFor p (row_in p (happens.Packet packet) silent quiet).phase
 row_login Fresh (ClientPacket.Login login) silent quiet h = record { fresh = refl; waiting = refl }
-row_login Fresh (ClientPacket.Data payload) silent quiet h = cc
-row_login Fresh ClientPacket.Logout silent quiet h = cc
-row_login Fresh ClientPacket.Heartbeat silent quiet h = cc
-row_login Fresh ClientPacket.Debug silent quiet h = cc
-row_login Waiting packet silent quiet h = cc
 row_login On (ClientPacket.Login login) silent quiet h = cc
-row_login On (ClientPacket.Data payload) silent quiet h = cc
-row_login On ClientPacket.Logout silent quiet h = cc
-row_login On ClientPacket.Heartbeat silent quiet h = cc
-row_login On ClientPacket.Debug silent quiet h = cc
-row_login Abandoned packet silent quiet h = cc
-row_login Done packet silent quiet h = cc
+row_login p packet silent quiet h = cc
 
 login_waits : (session : SessionData) (packet : ClientPacket) (moment : ℕ) → (turn session (happens.Packet packet) moment).reply.next ≡ Next.Login → WaitsFor session.phase (turn session (happens.Packet packet) moment).session.phase
 unfolding turn
@@ -76,31 +54,19 @@ login_waits session packet moment h = row_login session.phase packet _ _ h
 pub taken_behind : (text : List ℕ) (run : Run) (now : GateData) (state : Connection) (output mid left : Option (List ℕ)) → Appends output mid text → IsTaken run now state mid left → IsTaken (with_text text run) now state output left
 taken_behind text run now state output mid left w t = record { gate = t.gate; connection = t.connection; text = Appends-trans output mid left text run.text w t.text }
 
--- nothing was written, where nothing may be
-pub of_text : (cause : Cause) (text front : List ℕ) → IsOfSending cause (front ≡ []) → IsOfSending cause (text ++ front ≡ text)
-of_text Memory text front none = ap (λ t. text ++ t) none ∙ append-nil text
-of_text Full text front h = absurd h
-of_text Writing text front h = tt
-of_text Reading text front h = absurd h
-
 -- a run that a growth stopped where it stood
 pub pauses : (run : Run) (marks : List (Mark RecordData Standing)) (now : GateData) (state : Connection) (output : Option (List ℕ)) → now ≡ run.gate → state ≡ run.connection → StopsIn run marks PipeFault.OutOfMemory now state output output
-pauses run marks now state output same still = record {
-  stop = mark run;
-  stops = stops_here Refused (mark run) marks;
-  gate = same;
-  logout = ap logout_of still;
-  line = λ h. h;
-  told = [];
-  text = sym (append-nil run.text);
-  written = Appends-nil output;
-}
+pauses run marks now state output same still = pieces.pauses Refused (IsThere now state run) (mark run) marks output (record { gate = same; logout = ap logout_of still; line = λ h. h })
+
+-- what was written, where sending failed
+sending : (fault : WriteFault) (text : List ℕ) (output left : Option (List ℕ)) → IsFront output left text → (fault ≡ WriteFault.OutOfMemory → Appends output left []) → (f : IsFront output left text) × IsOfSending (cause_of (fault_of_send fault)) (f.front ≡ [])
+sending WriteFault.OutOfMemory text output left f none = (record { front = []; rest = text; written = none refl; whole = refl }, refl)
+sending WriteFault.WriteFailed text output left f none = (f, tt)
 
 -- a packet of the session's own was not sent
 pub unwritten : (run : Run) (fault : WriteFault) (now : GateData) (state : Connection) (output left : Option (List ℕ)) → now ≡ run.gate → logout_of state ≡ logout_of run.connection → IsFront output left run.text
     → (fault ≡ WriteFault.OutOfMemory → Appends output left []) → IsUnwritten run (fault_of_send fault) now state output left
-unwritten run WriteFault.OutOfMemory now state output left g l f none = record { gate = g; logout = l; text = record { front = []; rest = run.text; written = none refl; whole = refl }; sending = refl }
-unwritten run WriteFault.WriteFailed now state output left g l f none = record { gate = g; logout = l; text = f; sending = tt }
+unwritten run fault now state output left g l f none = let s = sending fault run.text output left f none in record { gate = g; logout = l; text = s.0; sending = s.1 }
 
 pub turn_unwritten : (gate : GateData) (c : Connection) (event : Happening) (moment : ℕ) (reply : Reply) (session : SessionData) (control : Control) (fault : WriteFault) (now : GateData) (output left : Option (List ℕ)) → reply ≡ (turn c.session event moment).reply → session ≡ (turn c.session event moment).session
     → reply.send ≡ Some control → now ≡ acted gate c.user moment reply.next → IsFront output left (control_bytes control) → (fault ≡ WriteFault.OutOfMemory → Appends output left [])
@@ -299,68 +265,22 @@ module _ (gate : GateData) (c : Connection) (moment : ℕ) (reports : List Repor
 
     pub pull_unsent : (fault : WriteFault) (output left : Option (List ℕ)) → IsFront output left (reports_text reports) → (fault ≡ WriteFault.OutOfMemory → Appends output left [])
         → StopsIn here (pull_marks here moment ++ more) (fault_of_send fault) gate c output left
-    pull_unsent fault output left f none = stops_there (fault_of_send fault) gate c output left (sends fault f none)
-      where
-        at : (e : PipeFault) (front : IsFront output left (reports_text reports)) → IsOfSending (cause_of e) (front.front ≡ [])
-            → StopsIn here ((mark behind ∷ mark (and_then behind (λ g k. on_event g k (happens.Pulled count ended) moment)) ∷ []) ++ more) e gate c output left
-        at e front sending = record {
-          stop = record { records = gate.records; text = text ++ front.front; known = record { policy = gate.policy; connection = record c { next = next } } };
-          stops = inr (inl (inr (record {
-            records = refl;
-            known = refl;
-            begun = record { others = front.front; whole = refl };
-            left = first_behind text front.front (reports_text reports) (record { others = front.rest; whole = front.whole });
-            sending = of_text (cause_of e) text front.front sending;
-          })));
-          gate = refl;
-          logout = refl;
-          line = λ h. h;
-          told = front.front;
-          text = refl;
-          written = front.written;
-        }
-
-        sends : (e : WriteFault) → IsFront output left (reports_text reports) → (e ≡ WriteFault.OutOfMemory → Appends output left [])
-            → StopsIn here ((mark behind ∷ mark (and_then behind (λ g k. on_event g k (happens.Pulled count ended) moment)) ∷ []) ++ more) (fault_of_send e) gate c output left
-        sends WriteFault.OutOfMemory front n = at PipeFault.OutOfMemory (record { front = []; rest = reports_text reports; written = n refl; whole = refl }) refl
-        sends WriteFault.WriteFailed front n = at PipeFault.WriteFailed front tt
+    pull_unsent fault output left f none =
+        let s = sending fault (reports_text reports) output left f none in
+        stops_there (fault_of_send fault) gate c output left
+        (pieces.unsent Refused (IsThere gate c here) (cause_of (fault_of_send fault)) (mark here) (mark behind) _ output left (reports_text reports) s.0 refl s.1 (record { gate = refl; logout = refl; line = λ h. h }))
 
     pub pull_unturned : (fault : PipeFault) (now : GateData) (state : Connection) (output mid left : Option (List ℕ)) → Appends output mid (reports_text reports) → IsTurnGivenUp gate (record c { next = next }) (happens.Pulled count ended) moment fault now state mid left
         → StopsIn here (pull_marks here moment ++ more) fault now state output left
-    pull_unturned fault now state output mid left w (inl h) = stops_there fault now state output left (record {
-      stop = mark behind;
-      stops = inr (inr (inr (inl (inl (
-        h.1.cause,
-        record {
-          made = first_same gate.records gate.records refl;
-          left = event_adds gate (record c { next = next }) (happens.Pulled count ended) moment h.0;
-          text = refl;
-          known = refl;
-        },
-      )))));
-      gate = h.1.gate_is;
-      logout = h.1.logout;
-      line = λ k. k;
-      told = reports_text reports;
-      text = refl;
-      written = subst (Appends output left) (append-nil (reports_text reports)) (Appends-trans output mid left (reports_text reports) [] w h.1.written);
-    })
-    pull_unturned fault now state output mid left w (inr h) = stops_there fault now state output left (record {
-      stop = record { records = turned.gate.records; text = (text ++ reports_text reports) ++ h.1.text.front; known = record { policy = turned.gate.policy; connection = turned.connection } };
-      stops = inr (inr (inr (inl (inr (record {
-        records = refl;
-        known = refl;
-        begun = record { others = h.1.text.front; whole = refl };
-        left = first_behind (text ++ reports_text reports) h.1.text.front turned.text (record { others = h.1.text.rest; whole = h.1.text.whole });
-        sending = of_text (cause_of fault) (text ++ reports_text reports) h.1.text.front h.1.sending;
-      })))));
-      gate = h.1.gate;
-      logout = h.1.logout;
-      line = λ k. subst (λ (r : Run). IsOnLine r.gate r.connection) pulled_is (pull_keeps gate c moment k);
-      told = reports_text reports ++ h.1.text.front;
-      text = append_assoc text (reports_text reports) h.1.text.front;
-      written = Appends-trans output mid left (reports_text reports) h.1.text.front w h.1.text.written;
-    })
+    pull_unturned fault now state output mid left w (inl h) = stops_there fault now state output left
+        (pieces.behind Refused (IsThere now state here) (cause_of fault) (mark here) (mark behind) _ output left (IsThere now state here) mid (reports_text reports) (λ m k. k) refl w
+        (pieces.refused Refused (IsThere now state here) (cause_of fault) (mark behind) _ _ mid left (mark behind) h.1.cause
+        (record { made = first_same gate.records gate.records refl; left = event_adds gate (record c { next = next }) (happens.Pulled count ended) moment h.0; text = refl; known = refl })
+        (record { gate = h.1.gate_is; logout = h.1.logout; line = λ k. k }) h.1.written))
+    pull_unturned fault now state output mid left w (inr h) = stops_there fault now state output left
+        (pieces.behind Refused (IsThere now state here) (cause_of fault) (mark here) (mark behind) _ output left (IsThere now state here) mid (reports_text reports) (λ m k. k) refl w
+        (pieces.unsent Refused (IsThere now state here) (cause_of fault) (mark behind) (mark (and_then behind (λ g k. on_event g k (happens.Pulled count ended) moment))) _ mid left turned.text h.1.text refl h.1.sending
+        (record { gate = h.1.gate; logout = h.1.logout; line = λ k. subst (λ (r : Run). IsOnLine r.gate r.connection) pulled_is (pull_keeps gate c moment k) })))
 
 -- a growth that no step asked for
 pub pull_pauses : (gate : GateData) (c : Connection) (moment : ℕ) (output : Option (List ℕ)) (text : List ℕ) (more : List (Mark RecordData Standing))

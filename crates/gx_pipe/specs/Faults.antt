@@ -35,16 +35,15 @@ fault_of_send WriteFault.WriteFailed = PipeFault.WriteFailed
 -- Of the counts of failed calls of a reader and a writer, before and after: a device is blamed exactly where a call of it
 -- failed, and the day is called full only where it is.
 abbrev pub IsToldRightly : (reads reads' writes writes' : ℕ) → GateData → PipeFault → Type 0
-IsToldRightly reads reads' writes writes' gate PipeFault.OutOfMemory = IsUnfailing reads reads' writes writes'
 IsToldRightly reads reads' writes writes' gate PipeFault.ReadFailed = (reads < reads') × (writes' ≡ writes)
 IsToldRightly reads reads' writes writes' gate PipeFault.WriteFailed = (reads' ≡ reads) × (writes < writes')
 IsToldRightly reads reads' writes writes' gate PipeFault.DayFull = IsUnfailing reads reads' writes writes' × (day_limit ≤ length gate.records)
-IsToldRightly reads reads' writes writes' gate PipeFault.Endless = IsUnfailing reads reads' writes writes'
+IsToldRightly reads reads' writes writes' gate other = IsUnfailing reads reads' writes writes'
 
--- not the fault of too many reads
-abbrev pub IsFinite : PipeFault → Type 0
-IsFinite PipeFault.Endless = ⊥
-IsFinite PipeFault.OutOfMemory = Unit {0}
-IsFinite PipeFault.ReadFailed = Unit {0}
-IsFinite PipeFault.WriteFailed = Unit {0}
-IsFinite PipeFault.DayFull = Unit {0}
+-- Of an answer, which reads nothing: the writer is blamed exactly where a call of it failed, and the day is called full only
+-- where it is.
+abbrev pub IsTold : (writes writes' : ℕ) → GateData → PipeFault → Type 0
+IsTold writes writes' gate PipeFault.OutOfMemory = writes' ≡ writes
+IsTold writes writes' gate PipeFault.WriteFailed = writes < writes'
+IsTold writes writes' gate PipeFault.DayFull = (writes' ≡ writes) × (day_limit ≤ length gate.records)
+IsTold writes writes' gate other = ⊥

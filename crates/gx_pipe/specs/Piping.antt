@@ -1,10 +1,11 @@
 -- What a connection did to a reader, a writer and a gate.
-use Rattle.std.specs.{Option.option_map_or, Prelude.{◌≡◌, ℕ, ◌+◌, ◌<◌, ◌≤◌, max, Bool, true, false, ◌⊎◌, if◌then◌else◌, IsTrue, IsFalse, is_some, List, [], ◌∷◌, ◌++◌, length, Option, Some, None}, Io.KnownBytes.{Consumes, Appends, IsAtEnd}}
+use Rattle.std.specs.{Option.option_map_or, Prelude.{◌≡◌, ℕ, ◌+◌, ◌<◌, ◌≤◌, max, Bool, false, ◌⊎◌, if◌then◌else◌, IsTrue, IsFalse, is_some, List, [], ◌∷◌, ◌++◌, length, Option, Some, None}, Io.KnownBytes.Appends}
 use Rattle.gx_soup.specs.{declared.packet.ClientPacket.ClientPacket, Packets.packets_of, Feeding.{Held, HasRead}}
 use Rattle.gx_history.specs.{InForce.is_closed, Verdicts.day_limit, declared.{report.Report.Report, «record».{Asked.Asked, RecordData.RecordData, Request.Request}}}
 use Rattle.gx_policy.specs.declared.policy.PolicyData.{PolicyData}
 use Rattle.gx_answers.specs.{Gates.GateData, Matches.{settled_gate, IsSettling}, Steps.has_its_places, Asking.asked_by}
-use Rattle.gx_devices.specs.{Devices.IsFront, Stopping.{AreFewer, Cause, Memory, Full, Writing, Reading, IsOfSending, Mark, Stops, trail}}
+use Rattle.gx_devices.specs.{Devices.IsFront, Pieces.{Flow, Way, TakesPiece, IsBroken, IsWhole, IsWholeOfAll}, Stopping.{AreFewer, Cause, Memory, Full, Writing, Reading, IsOfSending, Mark}}
+use Rattle.gx_devices.specs.Pieces as pieces
 use Rattle.gx_pipe.specs.{declared.{connection.Connection.Connection, fault.PipeFault.PipeFault}, Serving.IsOnLine, Transcript.{Run, after_step, and_then, unsent, ticked, on_event, answered, matched, reported, on_packet, run_of, pipe, is_ended}}
 use Rattle.gx_session.specs.{Events.{asks_step, is_on, is_over}, Happenings.Happening, Table.turn}
 use Rattle.gx_session.specs.Happenings as happens
@@ -42,8 +43,7 @@ cause_of PipeFault.Endless = Reading
 abbrev pub Refused : Cause → List RecordData → Type 0
 Refused Memory records = length records < day_limit
 Refused Full records = day_limit ≤ length records
-Refused Writing records = ⊥
-Refused Reading records = ⊥
+Refused other records = ⊥
 
 -- the gate and the connection stand where the run ends
 pub record IsRunOf (run : Run) (now : GateData) (state : Connection) : Type 0 where
@@ -96,13 +96,10 @@ pub record GivesAll (gate : GateData) (c : Connection) (reports : List Report) (
 
 -- the input has a fault or is at its end, or a step was refused
 abbrev pub IsLeaving : Happening → Type 0
-IsLeaving (happens.Packet packet) = ⊥
-IsLeaving (happens.Answered answer) = ⊥
 IsLeaving (happens.Refused fault) = Unit {0}
-IsLeaving (happens.Pulled count ended) = ⊥
-IsLeaving happens.Tick = ⊥
 IsLeaving happens.Fault = Unit {0}
 IsLeaving happens.End = Unit {0}
+IsLeaving other = ⊥
 
 -- where the run stands once the next packet is answered
 abbrev pub row_of : Run → ClientPacket → Run
@@ -135,66 +132,54 @@ packet_marks run packet =
     let met = matched_of row run.connection.coming in
     mark row ∷ mark met ∷ pull_marks met run.connection.coming)
 
--- A fault stopped the run on the way through these marks; `told` is what was written on that way. A user who is on is on
--- line 1, so that his Logout is granted.
-pub record StopsIn (run : Run) (marks : List (Mark RecordData Standing)) (fault : PipeFault) (now : GateData) (state : Connection) (output left : Option (List ℕ)) : Type 0 where
-  pub stop : Mark RecordData Standing
-  pub stops : Stops Refused (cause_of fault) (mark run) marks stop
+-- Where a run stopped, as the gate and the connection show it. A user who is on is on line 1, so that his Logout is granted.
+pub record IsThere (now : GateData) (state : Connection) (run : Run) (stop : Mark RecordData Standing) : Type 0 where
   pub gate : now ≡ gate_at stop
   pub logout : logout_of state ≡ logout_of stop.known.connection
   pub line : IsOnLine run.gate run.connection → IsOnLine (gate_at stop) stop.known.connection
-  pub told : List ℕ
-  pub text : stop.text ≡ run.text ++ told
-  pub written : Appends output left told
+
+-- a fault stopped the run on the way through these marks
+abbrev pub StopsIn : Run → List (Mark RecordData Standing) → PipeFault → GateData → Connection → (output left : Option (List ℕ)) → Type 0
+StopsIn run marks fault now state output left = pieces.StopsIn Refused (IsThere now state run) (cause_of fault) (mark run) marks output left
+
+-- the way of a connection through its packets
+abbrev pub way : GateData → ℕ → Way Run ClientPacket RecordData Standing
+way before first = record { mark = mark; marks = packet_marks; next = on_packet; so_far = run_of before first }
 
 -- after these bytes: what the feeder keeps, the gate and the connection
-pub record Follows (before : GateData) (first : ℕ) (bytes : List ℕ) (now : GateData) (state : Connection) (feeder : Held) : Type 0 where
+pub record Follows (before : GateData) (first : ℕ) (now : GateData) (state : Connection) (feeder : Held) (bytes : List ℕ) : Type 0 where
   pub reads : HasRead feeder bytes
   pub gate : now ≡ (run_of before first bytes).gate
   pub connection : state ≡ (run_of before first bytes).connection
 
--- a piece was read and answered
+-- a piece was read and answered; no further byte counts where it is over
 pub record Exchanged (before : GateData) (first : ℕ) (bytes piece : List ℕ) (over : Bool) (now : GateData) (state : Connection) (feeder : Held) (output left : Option (List ℕ)) : Type 0 where
-  pub follows : Follows before first (bytes ++ piece) now state feeder
+  pub takes : TakesPiece (way before first) (Follows before first now state feeder) bytes piece output left
   pub ends : over ≡ is_ended before first (bytes ++ piece)
-  pub text : List ℕ
-  pub written : Appends output left text
-  pub more : (run_of before first (bytes ++ piece)).text ≡ (run_of before first bytes).text ++ text
 
 -- of the bytes read, the gate and the bytes written are the pipe's; the bytes read are all, or no further one counts
-pub record IsTranscript (input left output written : Option (List ℕ)) (before : GateData) (first : ℕ) (after : GateData) : Type 0 where
-  pub bytes : List ℕ
-  pub consumed : Consumes input left bytes
-  pub gate : after ≡ (pipe before first bytes).gate
-  pub text : Appends output written (pipe before first bytes).text
-  pub whole : IsAtEnd left ⊎ (is_ended before first bytes ≡ true)
+abbrev pub IsTranscript : Flow → (before : GateData) (first : ℕ) (after : GateData) → Type 0
+IsTranscript flow before first after = IsWhole (λ bytes. mark (pipe before first bytes)) (is_ended before first) (λ m. after ≡ gate_at m) flow
 
--- the gate and the bytes written are the pipe's of this input
-pub record IsPipe (input : List ℕ) (output written : Option (List ℕ)) (before : GateData) (first : ℕ) (after : GateData) : Type 0 where
-  pub gate : after ≡ (pipe before first input).gate
-  pub text : Appends output written (pipe before first input).text
+-- where the reader tells its bytes: the gate and the bytes written are the pipe's of all of them
+abbrev pub IsPipe : Flow → (before : GateData) (first : ℕ) (after : GateData) → Type 0
+IsPipe flow before first after = IsWholeOfAll (λ bytes. mark (pipe before first bytes)) (λ m. after ≡ gate_at m) flow
+
+-- the packets that end in a piece
+abbrev pub ArePackets : (bytes piece : List ℕ) → List ClientPacket → Type 0
+ArePackets bytes piece packets = (packets_of (bytes ++ piece)).packets ≡ (packets_of bytes).packets ++ packets
 
 -- of the packets that end in a piece, one was cut short
-pub record Broken (before : GateData) (first : ℕ) (bytes piece : List ℕ) (fault : PipeFault) (now : GateData) (state : Connection) (output left : Option (List ℕ)) : Type 0 where
-  pub packets : List ClientPacket
-  pub split : (packets_of (bytes ++ piece)).packets ≡ (packets_of bytes).packets ++ packets
-  pub cut : let run = run_of before first bytes in
-      StopsIn run (trail packet_marks on_packet run packets) fault now state output left
+abbrev pub Broken : GateData → ℕ → (bytes piece : List ℕ) → PipeFault → GateData → Connection → (output left : Option (List ℕ)) → Type 0
+Broken before first bytes piece fault now state output left = IsBroken (way before first) Refused (IsThere now state) ArePackets (cause_of fault) bytes piece output left
 
--- The packets of what was read before the last piece were answered whole (`earlier`); among the packets of that piece the run
--- stopped. A piece has at most 4,096 bytes.
-pub record IsCutShort (input left output written : Option (List ℕ)) (before : GateData) (first : ℕ) (fault : PipeFault) (now : GateData) (state : Connection) : Type 0 where
-  pub bytes : List ℕ
-  pub piece : List ℕ
-  pub consumed : Consumes input left (bytes ++ piece)
-  pub small : length piece ≤ 4096
-  pub behind : Option (List ℕ)
-  pub earlier : Appends output behind (run_of before first bytes).text
-  pub broken : Broken before first bytes piece fault now state behind written
+-- the packets of what was read before the last piece were answered whole; among the packets of that piece the run stopped
+abbrev pub IsCutShort : Flow → (before : GateData) (first : ℕ) → PipeFault → GateData → Connection → Type 0
+IsCutShort flow before first fault now state = pieces.IsCutShort (way before first) Refused (IsThere now state) ArePackets (cause_of fault) flow
 
 -- After a fault: where the run stopped, and the gate with the logout of the user who was logged in there.
-pub record IsAfterFault (input left output written : Option (List ℕ)) (before : GateData) (first : ℕ) (after : GateData) (fault : PipeFault) : Type 0 where
+pub record IsAfterFault (flow : Flow) (before : GateData) (first : ℕ) (after : GateData) (fault : PipeFault) : Type 0 where
   pub now : GateData
   pub state : Connection
-  pub cut : IsCutShort input left output written before first fault now state
+  pub cut : IsCutShort flow before first fault now state
   pub logged_out : after ≡ after_step now (logout_of state)

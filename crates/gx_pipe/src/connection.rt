@@ -8,7 +8,7 @@ ghost use Rattle.gx_soup.specs.declared.packet.ClientPacket.TheVariants.{Data};
 ghost use Rattle.gx_devices.specs.Stopping.{AreFewer, Mark};
 ghost use Rattle.gx_session.specs.{declared.{event.Next.TheVariants.Act, session.Phase.TheVariants.Waiting}, Events.{CanAsk, asks_step, is_on}, Happenings.happening, Table.turn};
 ghost use Rattle.gx_session.specs.Happenings as happens;
-ghost use Rattle.gx_pipe.specs.{Faults.{IsToldFull, IsToldRightly, IsFinite, fault_of_step}, Piping.{is_never_refused, logout_of, IsRunOf, IsTaken, IsGivenUp, IsTurnGivenUp, Standing, pull_marks, packet_marks, StopsIn, GivesAll, IsLeaving, IsMatchedInPart}, Transcript.{acted, silent, step_of, on_event, logged_in, answered, matched, pulled, handled, opened_at, run_at, finished, first_told}};
+ghost use Rattle.gx_pipe.specs.{Faults.{IsToldFull, IsTold, fault_of_step}, Piping.{is_never_refused, logout_of, IsRunOf, IsTaken, IsGivenUp, IsTurnGivenUp, Standing, pull_marks, packet_marks, StopsIn, GivesAll, IsLeaving, IsMatchedInPart}, Transcript.{acted, silent, step_of, on_event, logged_in, answered, matched, pulled, handled, opened_at, run_at, finished, first_told}};
 
 use crate::asking::login_step;
 use crate::fault::PipeFault;
@@ -154,8 +154,7 @@ impl Connection {
             (happening event.entry) moment fault (G.seen gate.new) self.new
             (W.contents writer.old.device) (W.contents writer.new.device)) }
         ensures kept { OnOk result (writer.new.failed ≡ writer.old.failed) }
-        ensures told { IfErr result (IsToldRightly
-            0 0 writer.old.failed writer.new.failed (G.seen gate.new)) }
+        ensures told { IfErr result (IsTold writer.old.failed writer.new.failed (G.seen gate.new)) }
     {
         let mut session = self.session;
         let reply = session.on(event, moment);
@@ -187,8 +186,7 @@ impl Connection {
             (G.seen gate.new) self.new
             (W.contents writer.old.device) (W.contents writer.new.device)) }
         ensures kept { OnOk result (writer.new.failed ≡ writer.old.failed) }
-        ensures told { IfErr result (IsToldRightly
-            0 0 writer.old.failed writer.new.failed (G.seen gate.new)) }
+        ensures told { IfErr result (IsTold writer.old.failed writer.new.failed (G.seen gate.new)) }
     {
         let answer = login_step(gate, moment, login)?;
         self.user = login.user;
@@ -216,8 +214,7 @@ impl Connection {
             (G.seen gate.new) self.new
             (W.contents writer.old.device) (W.contents writer.new.device)) }
         ensures kept { OnOk result (writer.new.failed ≡ writer.old.failed) }
-        ensures told { IfErr result (IsToldRightly
-            0 0 writer.old.failed writer.new.failed (G.seen gate.new)) }
+        ensures told { IfErr result (IsTold writer.old.failed writer.new.failed (G.seen gate.new)) }
     {
         let next = self.turn(alloc, gate, Event::Packet(packet), moment, writer)?;
         match (next, packet) {
@@ -273,8 +270,7 @@ impl Connection {
             (G.seen gate.new) self.new
             (W.contents writer.old.device) (W.contents writer.new.device)) }
         ensures kept { OnOk result (writer.new.failed ≡ writer.old.failed) }
-        ensures told { IfErr result (IsToldRightly
-            0 0 writer.old.failed writer.new.failed (G.seen gate.new)) }
+        ensures told { IfErr result (IsTold writer.old.failed writer.new.failed (G.seen gate.new)) }
     {
         match packet {
             ClientPacket::Data(payload) if self.session.is_on() => {
@@ -339,8 +335,7 @@ impl Connection {
             (happens.Pulled pull.count pull.ended) moment fault (G.seen gate.new) self.new
             (W.contents writer.old.device) (W.contents writer.new.device)) }
         ensures kept { OnOk result (writer.new.failed ≡ writer.old.failed) }
-        ensures told { IfErr result (IsToldRightly
-            0 0 writer.old.failed writer.new.failed (G.seen gate.new)) }
+        ensures told { IfErr result (IsTold writer.old.failed writer.new.failed (G.seen gate.new)) }
     {
         let Pull { count, ended } = pull;
         if ended {
@@ -374,9 +369,7 @@ impl Connection {
             fault (G.seen gate.new) self.new
             (W.contents writer.old.device) (W.contents writer.new.device)) }
         ensures kept { OnOk result (writer.new.failed ≡ writer.old.failed) }
-        ensures finite { IfErr result IsFinite }
-        ensures told { IfErr result (IsToldRightly
-            0 0 writer.old.failed writer.new.failed (G.seen gate.new)) }
+        ensures told { IfErr result (IsTold writer.old.failed writer.new.failed (G.seen gate.new)) }
     {
         if !self.session.is_on() {
             return Ok(());
@@ -385,7 +378,12 @@ impl Connection {
         room.near = reached.place;
         let ended = reached.ended;
         let count = count_of(room.reports.as_slice());
-        send_reports(&mut room.text, room.reports.as_slice(), writer)?;
+        send_reports(
+            &mut room.text,
+            room.reports.as_slice(),
+            writer,
+            room.flushes,
+        )?;
         self.next = reached.next;
         self.tell_pulled(room.alloc, gate, Pull { count, ended }, moment, writer)
     }
@@ -412,9 +410,7 @@ impl Connection {
             fault (G.seen gate.new) self.new
             (W.contents writer.old.device) (W.contents writer.new.device)) }
         ensures kept { OnOk result (writer.new.failed ≡ writer.old.failed) }
-        ensures finite { IfErr result IsFinite }
-        ensures told { IfErr result (IsToldRightly
-            0 0 writer.old.failed writer.new.failed (G.seen gate.new)) }
+        ensures told { IfErr result (IsTold writer.old.failed writer.new.failed (G.seen gate.new)) }
     {
         if self.session.is_over() {
             return Ok(());

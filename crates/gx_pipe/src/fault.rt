@@ -5,7 +5,7 @@ ghost use Rattle.gx_pipe.specs.declared.fault.PipeFault.TheVariants as faults;
 ghost use Rattle.gx_pipe.specs.Faults.{fault_words};
 
 use gx_answers::StepFault;
-use gx_devices::{WriteFailed, WriteFault};
+use gx_devices::WriteFault;
 use gx_units::OutOfMemory;
 use std::error::Error;
 use std::fmt;
@@ -79,13 +79,5 @@ impl From<StepFault> for PipeFault {
             StepFault::OutOfMemory => PipeFault::OutOfMemory,
             StepFault::DayFull => PipeFault::DayFull,
         }
-    }
-}
-
-impl From<WriteFailed> for PipeFault {
-    ghost from_gives = { λ _ e. e ≡ faults.WriteFailed };
-
-    fn from(_failed: WriteFailed) -> PipeFault {
-        Self::WriteFailed
     }
 }

@@ -1,10 +1,10 @@
 //! Laws of the transcript: what was meant, in other words.
 
-ghost use Rattle.std.specs.Prelude.{◌≡◌, ℕ, ◌<◌, length, List, ◌++◌, Option, IfSome, IsTrue, IsFalse};
+ghost use Rattle.std.specs.Prelude.{◌≡◌, ℕ, ◌<◌, length, List, ◌++◌, IfSome, IsTrue, IsFalse};
 ghost use Rattle.gx_soup.specs.Packets.{packets_of};
 ghost use Rattle.gx_history.specs.Verdicts.{IsLegal};
 ghost use Rattle.gx_answers.specs.{Gates.GateData, Matches.matching_of};
-ghost use Rattle.gx_devices.specs.Devices.{IsFront};
+ghost use Rattle.gx_devices.specs.{Devices.IsFront, Pieces.Flow};
 ghost use Rattle.gx_session.specs.{declared.session.Phase.TheVariants.{Fresh, On}, Events.is_over};
 ghost use Rattle.gx_pipe.specs.{declared.fault.PipeFault.PipeFault, Fronts.AreFirst, Piping.{is_never_refused, logout_of, IsAfterFault}, Serving.{WasServed, IsSilent, IsOnLine}, Transcript.{run_of, pipe, is_ended}};
 
@@ -53,12 +53,10 @@ pub fn whoever_is_on_may_leave()
 /// After a fault what was written is a front of what the pipe of the whole input writes, and the records are the
 /// first of the pipe's, with at most the granted Logout of a user behind them; for a reader that tells its bytes.
 pub fn faults_leave_a_front()
-    ensures text { (input left output written : Option (List ℕ)) (before : GateData) (first : ℕ)
-        (after : GateData) (fault : PipeFault)
-        → IsAfterFault input left output written before first after fault
-        → IfSome input (λ all. IsFront output written (pipe before first all).text) }
-    ensures records { (input left output written : Option (List ℕ)) (before : GateData)
-        (first : ℕ) (after : GateData) (fault : PipeFault)
-        → IsAfterFault input left output written before first after fault
-        → IfSome input (λ all. AreFirst after.records (pipe before first all).gate.records) }
+    ensures text { (flow : Flow) (before : GateData) (first : ℕ) (after : GateData)
+        (fault : PipeFault) → IsAfterFault flow before first after fault
+        → IfSome flow.input (λ all. IsFront flow.output flow.written (pipe before first all).text) }
+    ensures records { (flow : Flow) (before : GateData) (first : ℕ) (after : GateData)
+        (fault : PipeFault) → IsAfterFault flow before first after fault
+        → IfSome flow.input (λ all. AreFirst after.records (pipe before first all).gate.records) }
 {}

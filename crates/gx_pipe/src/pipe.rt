@@ -1,9 +1,9 @@
 //! A connection over any reader and any writer.
 
-ghost use Rattle.std.specs.Prelude.{◌≡◌, ℕ, ◌-◌, ◌^◌, ◌<◌, ◌≤◌, List, fold, IfSome, IfOk, IfErr, IsErrOf, OnOk};
+ghost use Rattle.std.specs.Prelude.{◌≡◌, ℕ, ◌-◌, ◌^◌, ◌<◌, ◌≤◌, List, fold, IfOk, IfErr, IsErrOf, OnOk};
 ghost use Rattle.gx_answers.specs.Gates.{GateData};
-ghost use Rattle.gx_devices.specs.{Devices.{IsUnfailing, counted_on}, Stopping.trail};
-ghost use Rattle.gx_pipe.specs.{Faults.{IsToldRightly, IsFinite}, Piping.{IsTaken, StopsIn, IsCutShort, Follows, Exchanged, Broken, IsAfterFault, IsLeaving, IsTranscript, IsPipe, packet_marks}, Transcript.{run_at, silent, on_packet, opened_at}};
+ghost use Rattle.gx_devices.specs.{Devices.{IsUnfailing, counted_on}, Pieces.flow_of, Stopping.trail};
+ghost use Rattle.gx_pipe.specs.{Faults.{IsTold, IsToldRightly}, Piping.{IsTaken, StopsIn, IsCutShort, Follows, Exchanged, Broken, IsAfterFault, IsLeaving, IsTranscript, IsPipe, packet_marks}, Transcript.{run_at, silent, on_packet, opened_at}};
 ghost use Rattle.gx_session.specs.Happenings.{happening};
 
 use crate::connection::Connection;
@@ -19,7 +19,7 @@ use std::io::{Read, Write};
 /// After so many reads the input of [`run_pipe`] is called endless.
 const READS: u64 = 1_000_000_000;
 
-/// Takes packets in order, each answered before the next.
+/// Takes packets in order, each answered before the next. What is answered is flushed behind the last one.
 fn take_packets<G: AccessGate, W: Write>(
     room: &mut PullRoom,
     gate: &mut G,
@@ -38,11 +38,12 @@ fn take_packets<G: AccessGate, W: Write>(
         fault (G.seen gate.new) connection.new
         (W.contents writer.old.device) (W.contents writer.new.device)) }
     ensures kept { OnOk result (writer.new.failed ≡ writer.old.failed) }
-    ensures finite { IfErr result IsFinite }
-    ensures told { IfErr result
-        (IsToldRightly 0 0 writer.old.failed writer.new.failed (G.seen gate.new)) }
+    ensures told { IfErr result (IsTold writer.old.failed writer.new.failed (G.seen gate.new)) }
 {
+    let mut left = packets.len();
     for packet in packets {
+        left = left.wrapping_sub(1);
+        room.flushes = left == 0;
         connection.take(room, gate, packet, writer)?;
     }
     Ok(())
@@ -59,17 +60,15 @@ fn exchange<G: AccessGate, W: Write>(
 ) -> Result<bool, PipeFault>
     requires { writer.old.failed < 2 ^ 64 - 1 }
     ensures ok { IfOk result (λ over. (before : GateData) (first : ℕ) (bytes : List ℕ)
-        → Follows before first bytes (G.seen gate.old) connection.old feeder.old
+        → Follows before first (G.seen gate.old) connection.old feeder.old bytes
         → Exchanged before first bytes piece.now over (G.seen gate.new) connection.new feeder.new
         (W.contents writer.old.device) (W.contents writer.new.device)) }
     ensures err { IfErr result (λ fault. (before : GateData) (first : ℕ) (bytes : List ℕ)
-        → Follows before first bytes (G.seen gate.old) connection.old feeder.old
+        → Follows before first (G.seen gate.old) connection.old feeder.old bytes
         → Broken before first bytes piece.now fault (G.seen gate.new) connection.new
         (W.contents writer.old.device) (W.contents writer.new.device)) }
     ensures kept { OnOk result (writer.new.failed ≡ writer.old.failed) }
-    ensures finite { IfErr result IsFinite }
-    ensures told { IfErr result
-        (IsToldRightly 0 0 writer.old.failed writer.new.failed (G.seen gate.new)) }
+    ensures told { IfErr result (IsTold writer.old.failed writer.new.failed (G.seen gate.new)) }
 {
     let fault = feeder.feed_into(piece, &mut room.packets)?;
     take_packets(
@@ -79,7 +78,8 @@ fn exchange<G: AccessGate, W: Write>(
         writer,
         room.packets.as_slice(),
     )?;
-    Ok(fault.is_some() || connection.session.is_over())
+    let is_over = connection.session.is_over();
+    Ok(fault.is_some() | is_over)
 }
 
 /// Runs a connection until its end or a fault, with so many reads at most.
@@ -96,15 +96,10 @@ fn serve<G: AccessGate, R: Read, W: Write>(
     requires reader { reader.old.failed < 2 ^ 64 - 1 }
     requires writer { writer.old.failed < 2 ^ 64 - 1 }
     ensures pipe { OnOk result (IsTranscript
-        (R.remaining reader.old.device) (R.remaining reader.new.device)
-        (W.contents writer.old.device) (W.contents writer.new.device)
+        (flow_of R.remaining W.contents reader.old reader.new writer.old writer.new)
         (G.seen gate.old) first (G.seen gate.new)) }
-    ensures all { OnOk result (IfSome (R.remaining reader.old.device) (λ input. IsPipe input
-        (W.contents writer.old.device) (W.contents writer.new.device)
-        (G.seen gate.old) first (G.seen gate.new))) }
     ensures cut { IfErr result (λ fault. IsCutShort
-        (R.remaining reader.old.device) (R.remaining reader.new.device)
-        (W.contents writer.old.device) (W.contents writer.new.device)
+        (flow_of R.remaining W.contents reader.old reader.new writer.old writer.new)
         (G.seen gate.old) first fault (G.seen gate.new) connection.new) }
     ensures unfailing { OnOk result (IsUnfailing
         reader.old.failed reader.new.failed writer.old.failed writer.new.failed) }
@@ -173,17 +168,15 @@ pub fn run_pipe_within<G: AccessGate, R: Read, W: Write>(
     requires reader { reader.old.failed < 2 ^ 64 - 1 }
     requires writer { writer.old.failed < 2 ^ 64 - 1 }
     ensures pipe { OnOk result (IsTranscript
-        (R.remaining reader.old.device) (R.remaining reader.new.device)
-        (W.contents writer.old.device) (W.contents writer.new.device)
+        (flow_of R.remaining W.contents reader.old reader.new writer.old writer.new)
         (G.seen gate.old) first (G.seen gate.new)) }
     // Where the reader tells its bytes: the gate and the bytes written are the pipe's of all.
-    ensures all { OnOk result (IfSome (R.remaining reader.old.device) (λ input. IsPipe input
-        (W.contents writer.old.device) (W.contents writer.new.device)
-        (G.seen gate.old) first (G.seen gate.new))) }
+    ensures all { OnOk result (IsPipe
+        (flow_of R.remaining W.contents reader.old reader.new writer.old writer.new)
+        (G.seen gate.old) first (G.seen gate.new)) }
     // The first packets were taken and answered whole; at a failed read or an endless input, all.
     ensures fault { IfErr result (λ fault. IsAfterFault
-        (R.remaining reader.old.device) (R.remaining reader.new.device)
-        (W.contents writer.old.device) (W.contents writer.new.device)
+        (flow_of R.remaining W.contents reader.old reader.new writer.old writer.new)
         (G.seen gate.old) first (G.seen gate.new) fault) }
     ensures unfailing { OnOk result (IsUnfailing
         reader.old.failed reader.new.failed writer.old.failed writer.new.failed) }
@@ -214,17 +207,15 @@ pub fn run_pipe<G: AccessGate, R: Read, W: Write>(
     requires reader { reader.old.failed < 2 ^ 64 - 1 }
     requires writer { writer.old.failed < 2 ^ 64 - 1 }
     ensures pipe { OnOk result (IsTranscript
-        (R.remaining reader.old.device) (R.remaining reader.new.device)
-        (W.contents writer.old.device) (W.contents writer.new.device)
+        (flow_of R.remaining W.contents reader.old reader.new writer.old writer.new)
         (G.seen gate.old) first (G.seen gate.new)) }
     // Where the reader tells its bytes: the gate and the bytes written are the pipe's of all.
-    ensures all { OnOk result (IfSome (R.remaining reader.old.device) (λ input. IsPipe input
-        (W.contents writer.old.device) (W.contents writer.new.device)
-        (G.seen gate.old) first (G.seen gate.new))) }
+    ensures all { OnOk result (IsPipe
+        (flow_of R.remaining W.contents reader.old reader.new writer.old writer.new)
+        (G.seen gate.old) first (G.seen gate.new)) }
     // The first packets were taken and answered whole; at a failed read or an endless input, all.
     ensures fault { IfErr result (λ fault. IsAfterFault
-        (R.remaining reader.old.device) (R.remaining reader.new.device)
-        (W.contents writer.old.device) (W.contents writer.new.device)
+        (flow_of R.remaining W.contents reader.old reader.new writer.old writer.new)
         (G.seen gate.old) first (G.seen gate.new) fault) }
     ensures unfailing { OnOk result (IsUnfailing
         reader.old.failed reader.new.failed writer.old.failed writer.new.failed) }

@@ -14,6 +14,8 @@ pub(crate) struct PullRoom {
     pub(crate) text: Vec<u8>,
     /// Where the user stood among the policy's users: a pull looks for him there first.
     pub(crate) near: usize,
+    /// No packet of the piece follows, so that the writer is flushed before more is read.
+    pub(crate) flushes: bool,
 }
 
 /// Room that is kept from piece to piece.
@@ -34,6 +36,7 @@ impl Room {
                 reports: Vec::new(alloc),
                 text: Vec::new(alloc),
                 near: 0,
+                flushes: true,
             },
         }
     }

@@ -14,7 +14,7 @@ use std::marker::{Model, PhantomData};
 use std::sync::Wait;
 
 /// Why somebody with a right password is given no line.
-#[derive(Clone, Copy, PartialEq, Eq, Debug)]
+#[derive(Clone, Copy, PartialEq, Eq)]
 pub enum LineFault {
     /// He is a trader, and the lines or the records that are left are kept for officers and readers.
     Kept,

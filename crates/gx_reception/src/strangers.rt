@@ -40,7 +40,7 @@ impl Denial {
 }
 
 /// Why the login of a stranger is not put on record, and not answered.
-#[derive(Clone, Copy, PartialEq, Eq, Debug)]
+#[derive(Clone, Copy, PartialEq, Eq)]
 pub enum Undenied {
     /// So many are on record, or there are so many records, that the rest of the day's are for others.
     Spared,

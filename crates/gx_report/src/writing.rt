@@ -8,7 +8,7 @@ use gx_units::OutOfMemory;
 use std::alloc::Global;
 
 /// How a report is written.
-#[derive(Clone, Copy, Debug, PartialEq, Eq)]
+#[derive(Clone, Copy, PartialEq, Eq)]
 pub enum ReportForm {
     /// Tables in columns.
     Text,

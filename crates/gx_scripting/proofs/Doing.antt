@@ -1,5 +1,5 @@
 -- What a line of a script does.
-use Rattle.std.proofs.{Common.{◌≡◌, ℕ, ◌+◌, ◌<◌, ◌≤◌, ◌⊎◌, inl, inr, Bool, true, false, not, leb, le-leb, cond, List, [], ◌∷◌, ◌++◌, length, take, Option, Some, None, Result, Ok, Err, IfOk, refl, sym, ap, ◌∙◌, subst}, lemmas.Bool.{lt-leb, cases_lt}}
+use Rattle.std.proofs.{Common.{◌≡◌, ℕ, ◌+◌, ◌<◌, ◌≤◌, ◌⊎◌, inl, inr, Bool, true, false, not, leb, le-leb, cond, List, [], ◌∷◌, ◌++◌, length, take, Option, Some, None, Result, Ok, Err, refl, sym, ap, ◌∙◌, subst}, lemmas.Bool.{lt-leb, cases_lt}}
 use Rattle.std.specs.Prelude.{is_ok, ◌&&◌}
 use Rattle.gx_history.specs.{declared.{«record».{Asked.Asked, RecordData.RecordData, Step.Step, Verdict.Verdict}, report.Report.Report}, Verdicts.{next, step_verdict, verdict, day_limit}}
 use Rattle.gx_answers.specs.{Gates.{GateData, left_by}, Steps.has_its_places, declared.outcome.{Outcome.Outcome, StepFault.StepFault}, Asking.stepped}
@@ -7,10 +7,6 @@ use Rattle.gx_script.specs.Printing.{outcome_line, refused_line}
 use Rattle.gx_devices.proofs.Stopping.{first_same}
 use Rattle.gx_scripting.specs.{Leaving.IsHalf, Scripting.{Printed, step_of}}
 use Rattle.gx_answers.proofs.Stepped.{stepped_is, all_taken}
-
-pub if_ok : {T E : Type 0} (r : Result T E) (P Q : T → Type 0) → ((x : T) → P x → Q x) → IfOk r P → IfOk r Q
-if_ok (Ok x) P Q f p = f x p
-if_ok (Err e) P Q f p = tt
 
 below : {T : Type 0} (limit n : ℕ) (r : Result T StepFault) (o : T) (e : StepFault) → (limit ≤ n → r ≡ Err e) → r ≡ Ok o → (n < limit) ⊎ (limit ≤ n) → n < limit
 below limit n r o e full ok (inl h) = h

@@ -1,16 +1,16 @@
 -- What `match` and `settle` do, step by step.
-use Rattle.std.proofs.{Common.{◌≡◌, ℕ, ◌-◌, ◌<◌, ◌≤◌, ◌⊎◌, inl, inr, max, arith, Bool, true, false, cond, List, [], ◌∷◌, ◌++◌, length, take, drop, refl, sym, ap, ◌∙◌, append_assoc, subst, length-append, le-leb}, Math.Seq.{drop-append_seam, drop-length, take-append_seam}, lemmas.{Bool.{leb-true, leb-false, lt-leb}, List.take_all}}
-use Rattle.std.specs.Prelude.{Option, None, Some, Result, Ok, Err, is_none, is_some, nat_le, option_map, ◌||◌}
+use Rattle.std.proofs.{Common.{◌≡◌, ℕ, suc, ◌+◌, ◌-◌, ◌<◌, ◌≤◌, ◌⊎◌, inl, inr, max, arith, Bool, true, false, cond, List, [], ◌∷◌, ◌++◌, length, take, drop, refl, sym, ap, ◌∙◌, append_assoc, append-nil, subst, length-append, le-leb}, Math.Seq.{drop-append_seam, take-nil}, lemmas.Bool.{leb-true, leb-false, lt-leb}}
+use Rattle.std.specs.Prelude.{Option, None, Some, is_none, nat_le, option_map, ◌||◌}
 use Rattle.gx_policy.specs.declared.policy.PolicyData.{PolicyData}
 use Rattle.gx_history.specs.{declared.record.{RecordData.RecordData, Verdict.Verdict}, Matching.matching, Settling.{AddsMatches, settled}, Verdicts.{IsLegal, day_limit, next, step_verdict}}
 use Rattle.gx_effects.proofs.{Orderly.legal_is_orderly, Settling.{settled_adds, settled_idle, settled_step}}
 use Rattle.gx_market.specs.Meeting.{match_record}
-use Rattle.gx_answers.specs.{Gates.GateData, Matches.{matching_of, next_match}, declared.outcome.StepFault.StepFault}
+use Rattle.gx_answers.specs.{Gates.GateData, Matches.{matching_of, next_match}}
 use Rattle.gx_script.specs.Printing.{idle_line, outcome_line, refused_line}
 use Rattle.gx_scripting.specs.{Leaving.IsHalf, Scripting.{Printed, is_full, last_line, makes_none, match_by, match_of, most_records, record_lines, settle_of}}
 use Rattle.gx_devices.specs.Stopping.{AreFirst}
 use Rattle.gx_devices.proofs.Stopping.{first_same}
-use Rattle.gx_scripting.proofs.{Doing.not_full, Growing.{GoesOn, here, further, match_on, settle_on, take_front}}
+use Rattle.gx_scripting.proofs.{Growing.{GoesOn, here, further, match_on, settle_on, take_front}, ScriptCuts.either}
 
 -- a match in a gate that is not full
 pub match_is : (gate : GateData) (moment : ℕ) (r : RecordData) → next_match gate moment ≡ Some r → is_full gate ≡ false
@@ -41,148 +41,107 @@ waits_for_one gate moment waits = by (matching gate.policy gate.records) refl
     by None e = absurd (waits e)
     by (Some v) e = (_, ap (option_map (match_record gate.records moment)) e)
 
--- and an order waits where one is to come
-some_waits : (gate : GateData) (moment : ℕ) (r : RecordData) → next_match gate moment ≡ Some r → is_some (matching_of gate) ≡ true
-unfolding next step_verdict
-some_waits gate moment r left = by (matching gate.policy gate.records) refl
-  where
-    by : (found : Option Verdict) → matching gate.policy gate.records ≡ found → is_some (matching_of gate) ≡ true
-    by None e = let none : None ≡ Some r = sym (ap (option_map (match_record gate.records moment)) e) ∙ left in cc
-    by (Some v) e = ap is_some e
-
--- a step that was made had room
-pub had_room : {T : Type 0} (gate : GateData) (moment : ℕ) (r : RecordData) (result : Result T StepFault) (x : T) (fault : StepFault) → next_match gate moment ≡ Some r
-    → (is_some (matching_of gate) ≡ true → day_limit ≤ length gate.records → result ≡ Err fault) → result ≡ Ok x → is_full gate ≡ false
-had_room gate moment r result x fault left full ok = not_full day_limit (length gate.records) result x fault (full (some_waits gate moment r left)) ok
-
 -- where the day is full, and something is to come
 pub refused_is : (gate : GateData) (moment : ℕ) → (matching_of gate ≡ None → ⊥) → day_limit ≤ length gate.records → match_of gate moment ≡ record { gate = gate; text = refused_line }
 refused_is gate moment waits full =
     let one : (r : RecordData) × (next_match gate moment ≡ Some r) = waits_for_one gate moment waits in
     refused_match gate moment one.0 one.1 (le-leb day_limit (length gate.records) full)
 
--- what settling leaves and prints, of this many records, with room for so many, where it comes to these
-told_of : PolicyData → (n most : ℕ) → List RecordData → Printed
-told_of policy n most all = record {
-  gate = record { policy = policy; records = take most all };
-  text = record_lines (drop n (take most all)) ++ last_line (nat_le (length all) most);
+-- what settling leaves and prints, with room for so many of the records that are to come
+settled_in : PolicyData → (records : List RecordData) (room : ℕ) (more : List RecordData) → Printed
+settled_in policy records room more = record {
+  gate = record { policy = policy; records = records ++ take room more };
+  text = record_lines (take room more) ++ last_line (nat_le (length more) room);
 }
 
-settle_is : (gate : GateData) (moment : ℕ) → settle_of gate moment ≡ told_of gate.policy (length gate.records) (most_records gate) (settled gate.policy gate.records moment)
-unfolding settle_of told_of
-settle_is gate moment = refl
+same_test : (a b : Bool) → (a ≡ true → b ≡ true) → (b ≡ true → a ≡ true) → a ≡ b
+same_test true b h k = sym (h refl)
+same_test false true h k = k refl
+same_test false false h k = refl
 
--- nothing to settle
-told_none : (policy : PolicyData) (records : List RecordData) (most : ℕ) → length records ≤ most
-    → told_of policy (length records) most records ≡ record { gate = record { policy = policy; records = records }; text = idle_line }
-unfolding told_of
-told_none policy records most fits =
-    let same : take most records ≡ records = take_all most records fits in
-    ap (λ (made : List RecordData). told made (nat_le (length records) most)) same
-    ∙ ap (told records) (le-leb (length records) most fits)
-    ∙ ap (λ (lines : List ℕ). printed (lines ++ idle_line)) (ap record_lines (drop-length records))
+fits : (n limit k : ℕ) → nat_le (n + k) (max n limit) ≡ nat_le k (limit - n)
+fits n limit k = same_test _ _ (λ h. le-leb k (limit - n) (omega (arith, leb-true (n + k) (max n limit) h))) (λ h. le-leb (n + k) (max n limit) (omega (arith, leb-true k (limit - n) h)))
+
+fits_too : (k room : ℕ) → nat_le (suc k) (suc room) ≡ nat_le k room
+fits_too k room = same_test _ _ (λ h. le-leb k room (omega (arith, leb-true (suc k) (suc room) h))) (λ h. le-leb (suc k) (suc room) (omega (arith, leb-true k room h)))
+
+settle_by : (gate : GateData) (moment : ℕ) (more : List RecordData) → settled gate.policy gate.records moment ≡ gate.records ++ more
+    → settle_of gate moment ≡ settled_in gate.policy gate.records (day_limit - length gate.records) more
+unfolding settle_of settled_in
+settle_by gate moment more all =
+    ap (λ (rs : List RecordData). told (take (most_records gate) rs) (drop n (take (most_records gate) rs)) (nat_le (length rs) (most_records gate))) all
+    ∙ ap (λ (rs : List RecordData). told rs (drop n rs) (nat_le (length (gate.records ++ more)) (most_records gate))) made
+    ∙ ap (λ (rs : List RecordData). told (gate.records ++ take (day_limit - n) more) rs (nat_le (length (gate.records ++ more)) (most_records gate))) (drop-append_seam gate.records (take (day_limit - n) more))
+    ∙ ap (told (gate.records ++ take (day_limit - n) more) (take (day_limit - n) more)) (ap (λ k. nat_le k (most_records gate)) (length-append gate.records more) ∙ fits n day_limit (length more))
   where
-    told : List RecordData → Bool → Printed
-    told made all_fit = record { gate = record { policy = policy; records = made }; text = record_lines (drop (length records) made) ++ last_line all_fit }
+    n : ℕ
+    n = length gate.records
 
-    printed : List ℕ → Printed
-    printed text = record { gate = record { policy = policy; records = records }; text = text }
+    told : List RecordData → List RecordData → Bool → Printed
+    told records news all_fit = record { gate = record { policy = gate.policy; records = records }; text = record_lines news ++ last_line all_fit }
 
--- no room for what there is to settle
-told_full : (policy : PolicyData) (records : List RecordData) (r : RecordData) (more : List RecordData)
-    → told_of policy (length records) (length records) (records ++ r ∷ more) ≡ record { gate = record { policy = policy; records = records }; text = refused_line }
-unfolding told_of
-told_full policy records r more =
-    ap (λ (made : List RecordData). told made (nat_le (length (records ++ r ∷ more)) (length records))) (take-append_seam records (r ∷ more))
-    ∙ ap (told records) (lt-leb (length (records ++ r ∷ more)) (length records) (omega (arith, length-append records (r ∷ more))))
-    ∙ ap (λ (lines : List ℕ). printed (lines ++ refused_line)) (ap record_lines (drop-length records))
+    made : take (most_records gate) (gate.records ++ more) ≡ gate.records ++ take (day_limit - n) more
+    made = take_front gate.records more (most_records gate) (omega arith) ∙ ap (λ k. gate.records ++ take k more) (omega arith)
+
+-- no record is to come, or there is room for none
+settled_none : (policy : PolicyData) (records : List RecordData) (room : ℕ) (more : List RecordData) (fit : Bool) → nat_le (length more) room ≡ fit → take room more ≡ []
+    → settled_in policy records room more ≡ record { gate = record { policy = policy; records = records }; text = last_line fit }
+unfolding settled_in
+settled_none policy records room more fit is none =
+    ap (λ b. printed (records ++ take room more) (record_lines (take room more) ++ last_line b)) is
+    ∙ ap (λ (rs : List RecordData). printed (records ++ rs) (record_lines rs ++ last_line fit)) none
+    ∙ ap (λ (rs : List RecordData). printed rs (last_line fit)) (append-nil records)
   where
-    told : List RecordData → Bool → Printed
-    told made all_fit = record { gate = record { policy = policy; records = made }; text = record_lines (drop (length records) made) ++ last_line all_fit }
-
-    printed : List ℕ → Printed
-    printed text = record { gate = record { policy = policy; records = records }; text = text }
-
--- the first line, and what the others come to
-told_first : (policy : PolicyData) (records : List RecordData) (r : RecordData) (more : List RecordData) (most : ℕ) → length records < most
-    → let others = told_of policy (length (records ++ r ∷ [])) most ((records ++ r ∷ []) ++ more) in
-    told_of policy (length records) most ((records ++ r ∷ []) ++ more) ≡ record { gate = others.gate; text = outcome_line r.number r.verdict ++ others.text }
-unfolding told_of
-told_first policy records r more most room =
-    let behind : List RecordData = take (most - length (records ++ r ∷ [])) more in
-    let made : take most ((records ++ r ∷ []) ++ more) ≡ (records ++ r ∷ []) ++ behind =
-    take_front (records ++ r ∷ []) more most (omega (arith, room, length-append records (r ∷ []))) in
-    let lines : record_lines (drop (length records) (take most ((records ++ r ∷ []) ++ more)))
-    ≡ outcome_line r.number r.verdict ++ record_lines (drop (length (records ++ r ∷ [])) (take most ((records ++ r ∷ []) ++ more))) =
-    ap (λ (xs : List RecordData). record_lines (drop (length records) xs)) (made ∙ append_assoc records (r ∷ []) behind)
-    ∙ ap record_lines (drop-append_seam records (r ∷ behind))
-    ∙ ap (λ (xs : List RecordData). outcome_line r.number r.verdict ++ record_lines xs) (sym (drop-append_seam (records ++ r ∷ []) behind))
-    ∙ ap (λ (xs : List RecordData). outcome_line r.number r.verdict ++ record_lines (drop (length (records ++ r ∷ [])) xs)) (sym made) in
-    ap printed
-    (ap (λ (text : List ℕ). text ++ last) lines
-    ∙ append_assoc (outcome_line r.number r.verdict) (record_lines (drop (length (records ++ r ∷ [])) (take most ((records ++ r ∷ []) ++ more)))) last)
-  where
-    printed : List ℕ → Printed
-    printed text = record { gate = record { policy = policy; records = take most ((records ++ r ∷ []) ++ more) }; text = text }
-
-    last : List ℕ
-    last = last_line (nat_le (length ((records ++ r ∷ []) ++ more)) most)
-
-max_left : (n m : ℕ) → m ≤ n → max n m ≡ n
-max_left n m h = omega (arith, h)
-
-max_right : (n m : ℕ) → n ≤ m → max n m ≡ m
-max_right n m h = omega (arith, h)
+    printed : List RecordData → List ℕ → Printed
+    printed rs text = record { gate = record { policy = policy; records = rs }; text = text }
 
 -- where no order waits, settling is that
 pub settle_idle : (gate : GateData) (moment : ℕ) → next_match gate moment ≡ None → settle_of gate moment ≡ match_of gate moment
 settle_idle gate moment none =
-    settle_is gate moment
-    ∙ ap (told_of gate.policy (length gate.records) (most_records gate)) (settled_idle gate.policy gate.records moment none)
-    ∙ told_none gate.policy gate.records (most_records gate) (omega arith)
+    settle_by gate moment [] (settled_idle gate.policy gate.records moment none ∙ sym (append-nil gate.records))
+    ∙ settled_none gate.policy gate.records (day_limit - length gate.records) [] true (le-leb 0 _ (omega arith)) (take-nil _)
     ∙ sym (idle_match gate moment none)
 
 -- where one waits: the record of the next matching step comes first, and others behind it
 settled_next : (gate : GateData) (moment : ℕ) (r : RecordData) → IsLegal gate.policy gate.records → next_match gate moment ≡ Some r
-    → settled gate.policy gate.records moment ≡ settled gate.policy (gate.records ++ r ∷ []) moment
-settled_next gate moment r legal left = settled_step gate.policy gate.records moment r (legal_is_orderly gate.policy gate.records legal) left
+    → let after = gate.records ++ r ∷ [] in (more : List RecordData) × (settled gate.policy after moment ≡ after ++ more) × (settled gate.policy gate.records moment ≡ gate.records ++ r ∷ more)
+settled_next gate moment r legal left =
+    let adds : AddsMatches (gate.records ++ r ∷ []) (settled gate.policy (gate.records ++ r ∷ []) moment) moment = settled_adds gate.policy (gate.records ++ r ∷ []) moment in (
+      adds.more,
+      adds.goes_on,
+      settled_step gate.policy gate.records moment r (legal_is_orderly gate.policy gate.records legal) left ∙ adds.goes_on ∙ append_assoc gate.records (r ∷ []) adds.more,
+    )
 
 -- and the day is full
 pub settle_refused : (gate : GateData) (moment : ℕ) (r : RecordData) → IsLegal gate.policy gate.records → next_match gate moment ≡ Some r → is_full gate ≡ true
     → settle_of gate moment ≡ match_of gate moment
 settle_refused gate moment r legal left full =
-    let adds : AddsMatches (gate.records ++ r ∷ []) (settled gate.policy (gate.records ++ r ∷ []) moment) moment = settled_adds gate.policy (gate.records ++ r ∷ []) moment in
-    settle_is gate moment
-    ∙ ap (told_of gate.policy (length gate.records) (most_records gate)) (settled_next gate moment r legal left ∙ adds.goes_on ∙ append_assoc gate.records (r ∷ []) adds.more)
-    ∙ ap (λ (most : ℕ). told_of gate.policy (length gate.records) most (gate.records ++ r ∷ adds.more)) (max_left (length gate.records) day_limit (leb-true day_limit (length gate.records) full))
-    ∙ told_full gate.policy gate.records r adds.more
+    let news = settled_next gate moment r legal left in
+    let none : day_limit - length gate.records ≡ 0 = omega (arith, leb-true day_limit (length gate.records) full) in
+    settle_by gate moment (r ∷ news.0) news.2
+    ∙ ap (λ room. settled_in gate.policy gate.records room (r ∷ news.0)) none
+    ∙ settled_none gate.policy gate.records 0 (r ∷ news.0) false (lt-leb _ 0 (omega arith)) refl
     ∙ sym (refused_match gate moment r left full)
 
 -- or it has room for it
 settle_one : (gate : GateData) (moment : ℕ) (r : RecordData) → IsLegal gate.policy gate.records → next_match gate moment ≡ Some r → length gate.records < day_limit
     → let after : GateData = record { policy = gate.policy; records = gate.records ++ r ∷ [] } in
     settle_of gate moment ≡ record { gate = (settle_of after moment).gate; text = outcome_line r.number r.verdict ++ (settle_of after moment).text }
+unfolding settled_in
 settle_one gate moment r legal left room =
     let after : GateData = record { policy = gate.policy; records = gate.records ++ r ∷ [] } in
-    let adds : AddsMatches after.records (settled gate.policy after.records moment) moment = settled_adds gate.policy after.records moment in
-    let now : most_records gate ≡ day_limit = max_right (length gate.records) day_limit (omega (arith, room)) in
-    let then : most_records after ≡ day_limit = max_right (length after.records) day_limit (omega (arith, room, length-append gate.records (r ∷ []))) in
-    let others : settle_of after moment ≡ told_of gate.policy (length after.records) day_limit (after.records ++ adds.more) =
-    settle_is after moment
-    ∙ ap (λ (most : ℕ). told_of gate.policy (length after.records) most (settled gate.policy after.records moment)) then
-    ∙ ap (told_of gate.policy (length after.records) day_limit) adds.goes_on in
-    settle_is gate moment
-    ∙ ap (λ (most : ℕ). told_of gate.policy (length gate.records) most (settled gate.policy gate.records moment)) now
-    ∙ ap (told_of gate.policy (length gate.records) day_limit) (settled_next gate moment r legal left ∙ adds.goes_on)
-    ∙ told_first gate.policy gate.records r adds.more day_limit room
-    ∙ ap (λ (p : Printed). behind p) (sym others)
+    let news = settled_next gate moment r legal left in
+    let more = day_limit - length after.records in
+    let one : day_limit - length gate.records ≡ suc more = omega (arith, room, length-append gate.records (r ∷ [])) in
+    settle_by gate moment (r ∷ news.0) news.2
+    ∙ ap (λ k. settled_in gate.policy gate.records k (r ∷ news.0)) one
+    ∙ ap (λ b. printed (gate.records ++ r ∷ take more news.0) ((outcome_line r.number r.verdict ++ record_lines (take more news.0)) ++ last_line b)) (fits_too (length news.0) more)
+    ∙ ap (λ (rs : List RecordData). printed rs ((outcome_line r.number r.verdict ++ record_lines (take more news.0)) ++ last_line (nat_le (length news.0) more))) (sym (append_assoc gate.records (r ∷ []) (take more news.0)))
+    ∙ ap (printed (after.records ++ take more news.0)) (append_assoc (outcome_line r.number r.verdict) (record_lines (take more news.0)) (last_line (nat_le (length news.0) more)))
+    ∙ ap (λ (p : Printed). record { gate = p.gate; text = outcome_line r.number r.verdict ++ p.text }) (sym (settle_by after moment news.0 news.1))
   where
-    behind : Printed → Printed
-    behind p = record { gate = p.gate; text = outcome_line r.number r.verdict ++ p.text }
-
-either : (a b : Bool) → (a || b) ≡ true → a ≡ false → b ≡ true
-either true b h k = cc
-either false b h k = h
+    printed : List RecordData → List ℕ → Printed
+    printed records text = record { gate = record { policy = gate.policy; records = records }; text = text }
 
 neither : (a b : Bool) → (a || b) ≡ false → (a ≡ false) × (b ≡ false)
 neither true b h = cc

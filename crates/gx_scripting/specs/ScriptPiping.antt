@@ -1,22 +1,27 @@
 -- What `run_script` did to a reader, a writer and a gate.
-use Rattle.std.specs.{Prelude.{◌≡◌, ℕ, ◌+◌, ◌<◌, ◌≤◌, true, length, ◌⊎◌, List, [], ◌∷◌, ◌++◌, Option, Some, None, IfSome}, Io.KnownBytes.{Consumes, Appends, IsAtEnd}}
+use Rattle.std.specs.{Prelude.{◌≡◌, ℕ, ◌<◌, ◌≤◌, Bool, true, ◌||◌, if◌then◌else◌, is_some, length, ◌⊎◌, List, [], ◌∷◌, ◌++◌, Option, Some, None, fold}, Io.KnownBytes.{Appends, IsAtEnd}}
 use Rattle.gx_answers.specs.Gates.{GateData}
-use Rattle.gx_scripting.specs.{declared.script_fault.ScriptFault.ScriptFault, Scripting.{ScriptRun, line_effect, on_line, cut_of, after_lines, script_of, is_settled}}
-use Rattle.gx_devices.specs.{Devices.IsUnfailing, Stopping.{Cause, Memory, Full, Writing, Reading, Mark, Stops, trail}}
+use Rattle.gx_scripting.specs.{declared.script_fault.ScriptFault.ScriptFault, Scripting.{ScriptRun, unread, on_line, script_of, is_settled}, ScriptTexts.is_end}
+use Rattle.gx_devices.specs.{declared.fault.WriteFault.WriteFault, Devices.IsUnfailing, Pieces.{Flow, Way, IsWhole, IsWholeOfAll}, Stopping.{Cause, Memory, Full, Writing, Reading, Mark, trail}}
+use Rattle.gx_devices.specs.Pieces as pieces
+use Rattle.gx_script.specs.ScriptLines.{is_too_long}
 use Rattle.gx_policy.specs.declared.policy.PolicyData.{PolicyData}
 use Rattle.gx_history.specs.declared.record.RecordData.{RecordData}
 
--- after the lines that have ended
-unfoldable pub so_far : GateData → List ℕ → ScriptRun
-so_far before bytes = after_lines before (cut_of bytes).whole
+-- what was read of a script: the lines that have ended, done, and the bytes behind them
+pub record ReadScript : Type 0 where
+  pub run : ScriptRun
+  pub rest : List ℕ
 
--- a line was done, and all that it prints was written
-pub record EndsLine (before : GateData) (line : List ℕ) (now : GateData) (output left : Option (List ℕ)) : Type 0 where
-  pub printed : List ℕ
-  pub effect : line_effect before line ≡ Some (record { gate = now; text = printed })
-  pub written : Appends output left printed
+-- LF ends a line
+abbrev pub read_byte : ReadScript → ℕ → ReadScript
+read_byte r byte = if is_end byte then record { run = on_line r.run r.rest; rest = [] } else record { run = r.run; rest = r.rest ++ byte ∷ [] }
 
--- what a script knows beside its records and its text: the policy, and the number of the first bad line
+-- after these bytes
+unfoldable pub so_far : GateData → List ℕ → ReadScript
+so_far before bytes = fold read_byte (record { run = unread before; rest = [] }) bytes
+
+-- beside its records and its text, what a script knows: the policy, and the number of the first bad line
 pub record Known : Type 0 where
   pub policy : PolicyData
   pub bad : Option ℕ
@@ -29,9 +34,18 @@ mark run = record { records = run.gate.records; text = run.text; known = record 
 abbrev pub gate_at : Mark RecordData Known → GateData
 gate_at m = record { policy = m.known.policy; records = m.records }
 
--- a line has one mark: its records are made, and then what it prints is written
-abbrev pub line_marks : ScriptRun → List ℕ → List (Mark RecordData Known)
-line_marks run line = mark (on_line run line) ∷ []
+-- a byte that ends a line has one mark: the line's records are made, and then what it prints is written
+abbrev pub byte_marks : ReadScript → ℕ → List (Mark RecordData Known)
+byte_marks r byte = if is_end byte then mark (on_line r.run r.rest) ∷ [] else []
+
+-- the way of a script through its bytes
+abbrev pub way : GateData → Way ReadScript ℕ RecordData Known
+way before = record { mark = λ r. mark r.run; marks = byte_marks; next = read_byte; so_far = so_far before }
+
+-- the gate is that of this mark, and the number of the first bad line there is this
+pub record IsAt (now : GateData) (bad : Option ℕ) (m : Mark RecordData Known) : Type 0 where
+  pub gate : now ≡ gate_at m
+  pub first_bad : m.known.bad ≡ bad
 
 -- why a script stops; a full day is printed, and a bad line is told in another way
 abbrev pub cause_of : ScriptFault → Cause
@@ -41,134 +55,109 @@ cause_of ScriptFault.WriteFailed = Writing
 cause_of ScriptFault.OutOfMemory = Memory
 cause_of ScriptFault.Endless = Reading
 
+-- how a script tells that a line was not done, or what it prints not written
+abbrev pub fault_of_write : WriteFault → ScriptFault
+fault_of_write WriteFault.OutOfMemory = ScriptFault.OutOfMemory
+fault_of_write WriteFault.WriteFailed = ScriptFault.WriteFailed
+
 -- a step is refused for want of memory
 abbrev pub Refused : Cause → List RecordData → Type 0
 Refused Memory records = Unit {0}
-Refused Full records = ⊥
-Refused Writing records = ⊥
-Refused Reading records = ⊥
+Refused other records = ⊥
 
--- With these lines to come a fault stopped the script, and no line was bad. `told` is what was written of them.
-pub record StopsIn (run : ScriptRun) (lines : List (List ℕ)) (fault : ScriptFault) (now : GateData) (output left : Option (List ℕ)) : Type 0 where
-  pub stop : Mark RecordData Known
-  pub stops : Stops Refused (cause_of fault) (mark run) (trail line_marks on_line run lines) stop
-  pub good : stop.known.bad ≡ None
-  pub gate : now ≡ gate_at stop
+-- a script with no bad line
+abbrev pub good : GateData → (lines : ℕ) (text : List ℕ) → ScriptRun
+good gate lines text = record { gate = gate; text = text; lines = lines; bad = None }
+
+-- what was read of it, with this held back
+abbrev pub good_read : GateData → (rest : List ℕ) (lines : ℕ) (text : List ℕ) → ReadScript
+good_read gate rest lines text = record { run = good gate lines text; rest = rest }
+
+-- the number of the first bad line, where the last one was bad
+abbrev pub bad_at : Bool → ℕ → Option ℕ
+bad_at is_bad lines = if is_bad then Some lines else None
+
+-- a script with these bytes to come stopped on the way through these marks, and no line was bad
+abbrev pub StopsIn : ScriptRun → List (Mark RecordData Known) → WriteFault → GateData → (output left : Option (List ℕ)) → Type 0
+StopsIn run marks fault now output left = pieces.StopsIn Refused (IsAt now None) (cause_of (fault_of_write fault)) (mark run) marks output left
+
+-- a line was done, and all that it prints was written; or it is bad and did nothing
+pub record EndsLine (gate : GateData) (lines : ℕ) (line : List ℕ) (is_bad : Bool) (now : GateData) (count : ℕ) (output left : Option (List ℕ)) : Type 0 where
   pub told : List ℕ
-  pub text : stop.text ≡ run.text ++ told
   pub written : Appends output left told
+  pub does : (text : List ℕ) → on_line (good gate lines text) line ≡ record { gate = now; text = text ++ told; lines = count; bad = bad_at is_bad count }
 
--- a bad line does nothing
-pub record IsBadLine (before : GateData) (line : List ℕ) (lines n : ℕ) (now : GateData) (output left : Option (List ℕ)) : Type 0 where
-  pub effect : line_effect before line ≡ None
-  pub gate : now ≡ before
-  pub number : n ≡ lines + 1
-  pub written : Appends output left []
+-- a line was not done, or what it prints not written
+abbrev pub StopsAtLine : GateData → (lines : ℕ) (line : List ℕ) → GateData → (output left : Option (List ℕ)) → WriteFault → Type 0
+StopsAtLine gate lines line now output left fault =
+    (text : List ℕ) (more : List (Mark RecordData Known)) → let run = good gate lines text in StopsIn run (mark (on_line run line) ∷ more) fault now output left
 
--- behind so many lines, a line was bad or given up
-abbrev pub StopsAtLine : GateData → List ℕ → ℕ → GateData → Option (List ℕ) → Option (List ℕ) → ScriptFault → Type 0
-StopsAtLine before line lines now output left (ScriptFault.BadLine n) = IsBadLine before line lines n now output left
-StopsAtLine before line lines now output left ScriptFault.ReadFailed = ⊥
-StopsAtLine before line lines now output left ScriptFault.Endless = ⊥
-StopsAtLine before line lines now output left fault =
-    (run : ScriptRun) (others : List (List ℕ)) → run.gate ≡ before → run.bad ≡ None → StopsIn run (line ∷ others) fault now output left
+-- the lines that end in a piece were done, none of them bad, and what they print was written
+pub record TakesPiece (gate : GateData) (held : List ℕ) (lines : ℕ) (piece : List ℕ) (now : GateData) (rest : List ℕ) (count : ℕ) (output left : Option (List ℕ)) : Type 0 where
+  pub told : List ℕ
+  pub written : Appends output left told
+  pub reads : (text : List ℕ) → fold read_byte (good_read gate held lines text) piece ≡ good_read now rest count (text ++ told)
+
+-- what follows does not count: a line was bad, or the last one is too long already
+abbrev pub is_over : ReadScript → Bool
+is_over r = is_some r.run.bad || is_too_long r.rest
+
+-- in a piece a line is bad, the last one of these; the lines before it were done
+pub record FindsBad (gate : GateData) (held : List ℕ) (lines : ℕ) (piece : List ℕ) (now : GateData) (count : ℕ) (output left : Option (List ℕ)) : Type 0 where
+  pub told : List ℕ
+  pub written : Appends output left told
+  pub over : (text : List ℕ) → is_over (fold read_byte (good_read gate held lines text) piece) ≡ true
+  pub finds : (text : List ℕ) → let r = fold read_byte (good_read gate held lines text) piece in
+      on_line r.run r.rest ≡ record { gate = now; text = text ++ told; lines = count; bad = Some count }
+
+-- in a piece the script stopped
+abbrev pub StopsInPiece : GateData → (held : List ℕ) (lines : ℕ) (piece : List ℕ) → GateData → (output left : Option (List ℕ)) → WriteFault → Type 0
+StopsInPiece gate held lines piece now output left fault =
+    (text : List ℕ) → let r = good_read gate held lines text in StopsIn r.run (trail byte_marks read_byte r piece) fault now output left
 
 -- after these bytes, none of whose lines was bad: the gate, what is held back, and how many lines have ended
-pub record IsSoFar (before : GateData) (bytes : List ℕ) (now : GateData) (rest : List ℕ) (lines : ℕ) : Type 0 where
-  pub held : rest ≡ (cut_of bytes).rest
-  pub run : so_far before bytes ≡ record { gate = now; text = (so_far before bytes).text; lines = lines; bad = None }
-
--- the lines that end in a piece were done, and what they print was written
-pub record TakesPiece (before : GateData) (bytes piece : List ℕ) (now : GateData) (rest : List ℕ) (lines : ℕ) (output left : Option (List ℕ)) : Type 0 where
-  pub follows : IsSoFar before (bytes ++ piece) now rest lines
-  pub text : List ℕ
-  pub written : Appends output left text
-  pub more : (so_far before (bytes ++ piece)).text ≡ (so_far before bytes).text ++ text
-
--- the first bad line is this one, and the lines before it were done
-pub record FindsBad (before : GateData) (bytes piece : List ℕ) (n : ℕ) (now : GateData) (output left : Option (List ℕ)) : Type 0 where
-  pub bad : (script_of before (bytes ++ piece)).bad ≡ Some n
-  pub gate : now ≡ (script_of before (bytes ++ piece)).gate
-  pub text : List ℕ
-  pub written : Appends output left text
-  pub more : (script_of before (bytes ++ piece)).text ≡ (so_far before bytes).text ++ text
-  pub settled : is_settled before (bytes ++ piece) ≡ true
-
--- of the lines that end in a piece, one was given up
-pub record BreaksOff (before : GateData) (bytes piece : List ℕ) (now : GateData) (output left : Option (List ℕ)) (fault : ScriptFault) : Type 0 where
-  pub lines : List (List ℕ)
-  pub split : (cut_of (bytes ++ piece)).whole ≡ (cut_of bytes).whole ++ lines
-  pub cut : StopsIn (so_far before bytes) lines fault now output left
-
--- in a piece, a line was bad or given up
-abbrev pub StopsInPiece : GateData → List ℕ → List ℕ → GateData → Option (List ℕ) → Option (List ℕ) → ScriptFault → Type 0
-StopsInPiece before bytes piece now output left (ScriptFault.BadLine n) = FindsBad before bytes piece n now output left
-StopsInPiece before bytes piece now output left ScriptFault.ReadFailed = ⊥
-StopsInPiece before bytes piece now output left ScriptFault.Endless = ⊥
-StopsInPiece before bytes piece now output left fault = BreaksOff before bytes piece now output left fault
+abbrev pub IsSoFar : GateData → GateData → (rest : List ℕ) (lines : ℕ) (bytes : List ℕ) → Type 0
+IsSoFar before now rest lines bytes = (so_far before bytes ≡ good_read now rest lines (so_far before bytes).run.text) × (length rest ≤ 1026)
 
 -- Of the bytes read, the gate, the bytes written and the number of the first bad line are the script's; the bytes read are
 -- all, or what follows them does not count.
-pub record IsScript (input left output written : Option (List ℕ)) (before after : GateData) (bad : Option ℕ) : Type 0 where
-  pub bytes : List ℕ
-  pub consumed : Consumes input left bytes
-  pub gate : after ≡ (script_of before bytes).gate
-  pub first_bad : (script_of before bytes).bad ≡ bad
-  pub text : Appends output written (script_of before bytes).text
-  pub whole : IsAtEnd left ⊎ (is_settled before bytes ≡ true)
+abbrev pub IsScript : Flow → (before after : GateData) → Option ℕ → Type 0
+IsScript flow before after bad = IsWhole (λ bytes. mark (script_of before bytes)) (is_settled before) (IsAt after bad) flow
+
+-- where the reader tells its bytes: the gate, the first bad line and the bytes written are those of the script of all of them
+abbrev pub IsAll : Flow → (before after : GateData) → Option ℕ → Type 0
+IsAll flow before after bad = IsWholeOfAll (λ bytes. mark (script_of before bytes)) (IsAt after bad) flow
 
 -- what no LF ends is a line only once the input is at its end, and was read to it
 abbrev pub IsLast : Cause → (at_end : Type 0) → Type 0
 IsLast Memory at_end = at_end
-IsLast Full at_end = ⊥
 IsLast Writing at_end = at_end
-IsLast Reading at_end = ⊥
+IsLast other at_end = ⊥
 
--- Behind these bytes, a piece has these lines; or it is empty, and they are the last line, which no LF ends.
-abbrev pub HasLines : (bytes piece : List ℕ) → List (List ℕ) → (last : Type 0) → Type 0
-HasLines bytes piece lines last =
-    ((cut_of (bytes ++ piece)).whole ≡ (cut_of bytes).whole ++ lines) ⊎ ((piece ≡ []) × (lines ≡ (cut_of bytes).rest ∷ []) × last)
+-- Behind these bytes, the bytes of a piece are next; or the piece is empty, and the last line ends as by an LF. Of a line at
+-- most 1,026 bytes were held back.
+pub record AreNext (before : GateData) (last : Type 0) (bytes piece items : List ℕ) : Type 0 where
+  pub held : length (so_far before bytes).rest ≤ 1026
+  pub are : (items ≡ piece) ⊎ ((piece ≡ []) × (items ≡ 10 ∷ []) × last)
 
--- The lines that ended before the last piece was read were done, none of them bad, and all that they print was written
--- (`earlier`); in the lines of that piece the script stopped. A piece has at most 4,096 bytes, and what was held back of a
--- line at most 1,026.
-pub record IsCutShort (input left output written : Option (List ℕ)) (before after : GateData) (fault : ScriptFault) : Type 0 where
-  pub bytes : List ℕ
-  pub piece : List ℕ
-  pub consumed : Consumes input left (bytes ++ piece)
-  pub held : length (cut_of bytes).rest ≤ 1026
-  pub small : length piece ≤ 4096
-  pub behind : Option (List ℕ)
-  pub earlier : Appends output behind (so_far before bytes).text
-  pub lines : List (List ℕ)
-  pub are_next : HasLines bytes piece lines (IsLast (cause_of fault) (IsAtEnd left))
-  pub cut : StopsIn (so_far before bytes) lines fault after behind written
+-- The lines that ended before the last piece was read were done, none of them bad, and all that they print was written; in
+-- the lines of that piece the script stopped.
+abbrev pub IsCutShort : Flow → (before after : GateData) → ScriptFault → Type 0
+IsCutShort flow before after fault =
+    pieces.IsCutShort (way before) Refused (λ r. IsAt after None) (AreNext before (IsLast (cause_of fault) (IsAtEnd flow.left))) (cause_of fault) flow
 
 -- what holds where a line was bad
 abbrev pub IfBadLine : ScriptFault → (ℕ → Type 0) → Type 0
 IfBadLine (ScriptFault.BadLine n) P = P n
-IfBadLine ScriptFault.ReadFailed P = Unit {0}
-IfBadLine ScriptFault.WriteFailed P = Unit {0}
-IfBadLine ScriptFault.OutOfMemory P = Unit {0}
-IfBadLine ScriptFault.Endless P = Unit {0}
+IfBadLine other P = Unit {0}
 
 -- what holds where no line was bad
 abbrev pub UnlessBadLine : ScriptFault → Type 0 → Type 0
 UnlessBadLine (ScriptFault.BadLine n) P = Unit {0}
-UnlessBadLine ScriptFault.ReadFailed P = P
-UnlessBadLine ScriptFault.WriteFailed P = P
-UnlessBadLine ScriptFault.OutOfMemory P = P
-UnlessBadLine ScriptFault.Endless P = P
-
--- where the reader tells its bytes: the gate, the first bad line and the bytes written are those of the script of all of them
-abbrev pub IsAll : (input output written : Option (List ℕ)) → GateData → GateData → Option ℕ → Type 0
-IsAll input output written before after bad = IfSome input (λ all.
-    (after ≡ (script_of before all).gate) × ((script_of before all).bad ≡ bad) × Appends output written (script_of before all).text)
+UnlessBadLine other P = P
 
 -- Of the counts of failed calls of a reader and a writer, before and after: a device is blamed exactly where a call of it failed
 abbrev pub IsBlamedRightly : (reads reads' writes writes' : ℕ) → ScriptFault → Type 0
-IsBlamedRightly reads reads' writes writes' (ScriptFault.BadLine n) = IsUnfailing reads reads' writes writes'
 IsBlamedRightly reads reads' writes writes' ScriptFault.ReadFailed = (reads < reads') × (writes' ≡ writes)
 IsBlamedRightly reads reads' writes writes' ScriptFault.WriteFailed = (reads' ≡ reads) × (writes < writes')
-IsBlamedRightly reads reads' writes writes' ScriptFault.OutOfMemory = IsUnfailing reads reads' writes writes'
-IsBlamedRightly reads reads' writes writes' ScriptFault.Endless = IsUnfailing reads reads' writes writes'
+IsBlamedRightly reads reads' writes writes' other = IsUnfailing reads reads' writes writes'

@@ -1,8 +1,8 @@
 //! Laws of scripts.
 
-ghost use Rattle.std.specs.Prelude.{◌≡◌, ℕ, List, ◌++◌, Option, IfSome, IsTrue};
+ghost use Rattle.std.specs.Prelude.{◌≡◌, ℕ, List, ◌++◌, IfSome, IsTrue};
 ghost use Rattle.gx_answers.specs.Gates.{GateData};
-ghost use Rattle.gx_devices.specs.{Devices.IsFront, Stopping.AreFirst};
+ghost use Rattle.gx_devices.specs.{Devices.IsFront, Pieces.Flow, Stopping.AreFirst};
 ghost use Rattle.gx_scripting.specs.{declared.script_fault.ScriptFault.ScriptFault, ScriptPiping.IsCutShort, Scripting.{cut_of, script_of, is_settled}, ScriptTexts.{joined, are_lines}};
 
 /// Once a line of a script is bad, or too long already, nothing that follows makes a step or is printed.
@@ -20,10 +20,10 @@ pub fn lines_make_the_text()
 /// After a fault that is no bad line, what was written is a front of what the whole script prints, and the records
 /// are the first that it leaves; for a reader that tells its bytes.
 pub fn faults_leave_a_front()
-    ensures text { (input left output written : Option (List ℕ)) (before after : GateData)
-        (fault : ScriptFault) → IsCutShort input left output written before after fault
-        → IfSome input (λ all. IsFront output written (script_of before all).text) }
-    ensures records { (input left output written : Option (List ℕ)) (before after : GateData)
-        (fault : ScriptFault) → IsCutShort input left output written before after fault
-        → IfSome input (λ all. AreFirst after.records (script_of before all).gate.records) }
+    ensures text { (flow : Flow) (before after : GateData) (fault : ScriptFault)
+        → IsCutShort flow before after fault
+        → IfSome flow.input (λ all. IsFront flow.output flow.written (script_of before all).text) }
+    ensures records { (flow : Flow) (before after : GateData) (fault : ScriptFault)
+        → IsCutShort flow before after fault
+        → IfSome flow.input (λ all. AreFirst after.records (script_of before all).gate.records) }
 {}

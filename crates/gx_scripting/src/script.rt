@@ -1,24 +1,24 @@
 //! A script over any reader and any writer.
 
-ghost use Rattle.std.specs.Prelude.{◌≡◌, ℕ, ◌+◌, ◌-◌, ◌^◌, ◌<◌, ◌≤◌, List, [], ◌++◌, length, position, Option, Some, None, IsTrue, IfErr, IfNone, IfSome, OnOk, OnErr};
-ghost use Rattle.gx_answers.specs.Gates.{GateData};
-ghost use Rattle.gx_devices.specs.Devices.{counted_on, IsUnfailing};
-ghost use Rattle.gx_scripting.specs.{ScriptPiping.{EndsLine, StopsAtLine, IsSoFar, TakesPiece, StopsInPiece, IsScript, IsCutShort, IsAll, IsBlamedRightly, IfBadLine, UnlessBadLine}, ScriptTexts.{ended, has_no_end, is_end}};
+ghost use Rattle.std.specs.Prelude.{◌≡◌, ◌+◌, ◌-◌, ◌^◌, ◌<◌, ◌≤◌, [], ◌++◌, length, position, Some, None, IsTrue, IsFalse, IfErr, IfNone, IfOk, IfSome, OnOk};
+ghost use Rattle.gx_devices.specs.{Blaming.IsBlamed, Devices.{counted_on, IsUnfailing}, Pieces.flow_of};
+ghost use Rattle.gx_script.specs.ScriptLines.{is_too_long};
+ghost use Rattle.gx_scripting.specs.{ScriptPiping.{EndsLine, StopsAtLine, TakesPiece, FindsBad, StopsInPiece, IsScript, IsCutShort, IsAll, IsBlamedRightly, IfBadLine, UnlessBadLine}, ScriptTexts.{ended, has_no_end, is_end}};
 
 use crate::running::take_line;
 use crate::script_fault::{Explained, LineFault, ScriptFault};
 use gx_answers::AccessGate;
-use gx_devices::{Counted, write_whole};
+use gx_devices::{Counted, WriteFault, write_flushing};
 use gx_script::{Wanted, Wrong};
 use gx_units::OutOfMemory;
-use memchr::memchr;
+use memchr::{memchr, memrchr};
 use std::alloc::Global;
 use std::io::{Read, Write};
 
 /// The most bytes of a line that may still be no longer than it may be: 1,024 and a CR.
 const LONGEST: usize = 1025;
 
-/// What was done: how many lines have ended, and what the last of them says.
+/// What was done: how many lines have ended, the first bad one with them, and what the last of them says.
 #[derive(Drop)]
 struct Progress {
     lines: u64,
@@ -26,6 +26,8 @@ struct Progress {
     text: Vec<u8>,
     /// What is wrong with the bad line, once there is one.
     wrong: Option<Wrong>,
+    /// No line of the piece follows, so that the writer is flushed before more is read.
+    flushes: bool,
 }
 
 /// What is held back between two pieces: the bytes of the line that has not ended, and what was done.
@@ -36,126 +38,92 @@ struct Held {
     ghost one_line: { length rest.items ≤ 1026 },
 }
 
-/// Does a line, and writes what it prints.
+/// Does a line, and writes what it prints. Answers whether the line is bad.
 fn do_line<G: AccessGate, W: Write>(
     gate: &mut G,
     line: &[u8],
     progress: &mut Progress,
     writer: &mut Counted<W>,
-) -> Result<(), ScriptFault>
+) -> Result<bool, WriteFault>
     requires writer { writer.old.failed < 2 ^ 64 - 1 }
     requires room { progress.old.lines < 2 ^ 64 - 1 }
-    ensures ok { OnOk result (EndsLine (G.seen gate.old) line.now (G.seen gate.new)
+    ensures ok { IfOk result (λ is_bad. EndsLine (G.seen gate.old) progress.old.lines line.now
+        is_bad (G.seen gate.new) progress.new.lines
         (W.contents writer.old.device) (W.contents writer.new.device)) }
     ensures counted { OnOk result (progress.new.lines ≡ progress.old.lines + 1) }
     ensures kept { OnOk result (writer.new.failed ≡ writer.old.failed) }
-    ensures err { IfErr result
-        (StopsAtLine (G.seen gate.old) line.now progress.old.lines (G.seen gate.new)
-        (W.contents writer.old.device) (W.contents writer.new.device)) }
-    ensures told { IfErr result (IsBlamedRightly 0 0 writer.old.failed writer.new.failed) }
+    ensures err { IfErr result (StopsAtLine (G.seen gate.old) progress.old.lines line.now
+        (G.seen gate.new) (W.contents writer.old.device) (W.contents writer.new.device)) }
+    ensures told { IfErr result (IsBlamed writer.old.failed writer.new.failed) }
 {
     progress.text.clear();
     match take_line(gate, line, &mut progress.text) {
         Ok(()) => {
-            write_whole(writer, progress.text.as_slice())?;
+            write_flushing(writer, progress.text.as_slice(), progress.flushes)?;
             progress.lines += 1;
-            Ok(())
+            Ok(false)
         }
         Err(LineFault::Bad(wrong)) => {
             progress.wrong = Some(wrong);
-            Err(ScriptFault::BadLine(progress.lines + 1))
+            progress.lines += 1;
+            Ok(true)
         }
-        Err(LineFault::OutOfMemory) => Err(ScriptFault::OutOfMemory),
+        Err(LineFault::OutOfMemory) => Err(WriteFault::OutOfMemory),
     }
 }
 
-/// Does the line that is held back, and writes what it prints.
-fn end_line<G: AccessGate, W: Write>(
-    gate: &mut G,
-    held: &mut Held,
-    writer: &mut Counted<W>,
-) -> Result<(), ScriptFault>
-    requires writer { writer.old.failed < 2 ^ 64 - 1 }
-    requires room { held.old.progress.lines < 2 ^ 64 - 1 }
-    ensures ok { OnOk result (EndsLine (G.seen gate.old) held.old.rest.items (G.seen gate.new)
-        (W.contents writer.old.device) (W.contents writer.new.device)) }
-    ensures cleared { OnOk result (held.new.rest.items ≡ []) }
-    ensures counted { OnOk result (held.new.progress.lines ≡ held.old.progress.lines + 1) }
-    ensures kept { OnOk result (writer.new.failed ≡ writer.old.failed) }
-    ensures err { IfErr result
-        (StopsAtLine (G.seen gate.old) held.old.rest.items held.old.progress.lines
-        (G.seen gate.new) (W.contents writer.old.device) (W.contents writer.new.device)) }
-    ensures told { IfErr result (IsBlamedRightly 0 0 writer.old.failed writer.new.failed) }
-{
-    do_line(gate, held.rest.as_slice(), &mut held.progress, writer)?;
-    held.rest.clear();
-    Ok(())
-}
-
-/// Puts the bytes at the end of what is held back.
-fn hold(held: &mut Held, front: &[u8]) -> Result<(), OutOfMemory>
-    requires { length held.old.rest.items + length front.now ≤ 1025 }
-    ensures rest { OnOk result (held.new.rest.items ≡ held.old.rest.items ++ front.now) }
-    ensures lines { OnOk result (held.new.progress.lines ≡ held.old.progress.lines) }
-{
-    held.rest.extend_from_slice(front)?;
-    Ok(())
-}
-
-/// Takes bytes that go on with the line that is held back, and do not end it. A line that is too long is told before its
-/// end is there.
-fn take_front(held: &mut Held, front: &[u8]) -> Result<(), ScriptFault>
-    requires no_end { IsTrue (has_no_end front.now) }
-    requires room { held.old.progress.lines < 2 ^ 64 - 1 }
-    ensures ok { OnOk result (
-        (before gate : GateData) (bytes : List ℕ) (output : Option (List ℕ))
-        → IsSoFar before bytes gate held.old.rest.items held.old.progress.lines
-        → TakesPiece before bytes front.now gate held.new.rest.items held.new.progress.lines
-        output output) }
-    ensures lines { OnOk result (held.new.progress.lines ≡ held.old.progress.lines) }
-    ensures err { IfErr result (λ e.
-        (before gate : GateData) (bytes tail : List ℕ) (output : Option (List ℕ))
-        → IsSoFar before bytes gate held.old.rest.items held.old.progress.lines
-        → StopsInPiece before bytes (front.now ++ tail) gate output output e) }
-    ensures told { IfErr result (λ e. (writes : ℕ) → IsBlamedRightly 0 0 writes writes e) }
+/// Takes bytes that go on with the line that is held back, and do not end it. Answers whether the line is too long, which
+/// is told before its end is there.
+fn take_front(held: &mut Held, front: &[u8]) -> Result<bool, OutOfMemory>
+    requires { held.old.progress.lines < 2 ^ 64 - 1 }
+    ensures ok { IfOk result (λ is_long. IsFalse is_long
+        → held.new.rest.items ≡ held.old.rest.items ++ front.now) }
+    ensures lines { IfOk result (λ is_long. IsFalse is_long
+        → held.new.progress.lines ≡ held.old.progress.lines) }
+    ensures long { IfOk result (λ is_long. IsTrue is_long
+        → IsTrue (is_too_long (held.old.rest.items ++ front.now))) }
+    ensures counted { IfOk result (λ is_long. IsTrue is_long
+        → held.new.progress.lines ≡ held.old.progress.lines + 1) }
 {
     if held.rest.len() + front.len() > LONGEST {
         held.progress.wrong = Some(Wrong::new(1, Wanted::Shorter));
-        return Err(ScriptFault::BadLine(held.progress.lines + 1));
+        held.progress.lines += 1;
+        return Ok(true);
     }
-    hold(held, front)?;
-    Ok(())
+    held.rest.extend_from_slice(front)?;
+    Ok(false)
 }
 
-/// Takes the rest of a line, and its end: does the line, and writes what it prints. A line that lies whole in the piece
-/// is read where it lies.
+/// Takes the rest of a line, and its end: does the line, and writes what it prints. Answers whether the line is bad. A line
+/// that lies whole in the piece is read where it lies.
 fn take_ended<G: AccessGate, W: Write>(
     gate: &mut G,
     held: &mut Held,
     writer: &mut Counted<W>,
     front: &[u8],
-) -> Result<(), ScriptFault>
-    requires no_end { IsTrue (has_no_end front.now) }
+) -> Result<bool, WriteFault>
     requires writer { writer.old.failed < 2 ^ 64 - 1 }
     requires room { held.old.progress.lines < 2 ^ 64 - 1 }
-    ensures ok { OnOk result ((before : GateData) (bytes : List ℕ)
-        → IsSoFar before bytes (G.seen gate.old) held.old.rest.items held.old.progress.lines
-        → TakesPiece before bytes (ended front.now)
-        (G.seen gate.new) held.new.rest.items held.new.progress.lines
+    ensures ok { IfOk result (λ is_bad. EndsLine (G.seen gate.old) held.old.progress.lines
+        (held.old.rest.items ++ front.now) is_bad (G.seen gate.new) held.new.progress.lines
         (W.contents writer.old.device) (W.contents writer.new.device)) }
+    ensures cleared { IfOk result (λ is_bad. IsFalse is_bad → held.new.rest.items ≡ []) }
     ensures counted { OnOk result (held.new.progress.lines ≡ held.old.progress.lines + 1) }
     ensures kept { OnOk result (writer.new.failed ≡ writer.old.failed) }
-    ensures err { IfErr result (λ e. (before : GateData) (bytes tail : List ℕ)
-        → IsSoFar before bytes (G.seen gate.old) held.old.rest.items held.old.progress.lines
-        → StopsInPiece before bytes (ended front.now ++ tail) (G.seen gate.new)
-        (W.contents writer.old.device) (W.contents writer.new.device) e) }
-    ensures told { IfErr result (IsBlamedRightly 0 0 writer.old.failed writer.new.failed) }
+    ensures err { IfErr result (StopsAtLine (G.seen gate.old) held.old.progress.lines
+        (held.old.rest.items ++ front.now) (G.seen gate.new)
+        (W.contents writer.old.device) (W.contents writer.new.device)) }
+    ensures told { IfErr result (IsBlamed writer.old.failed writer.new.failed) }
 {
     if held.rest.as_slice().is_empty() {
         return do_line(gate, front, &mut held.progress, writer);
     }
-    take_front(held, front)?;
-    end_line(gate, held, writer)
+    if take_front(held, front)? {
+        return Ok(true);
+    }
+    let is_bad = do_line(gate, held.rest.as_slice(), &mut held.progress, writer)?;
+    held.rest.clear();
+    Ok(is_bad)
 }
 
 /// Where the first LF stands.
@@ -177,35 +145,52 @@ fn first_line(text: &[u8]) -> Option<(&[u8], &[u8])>
     Some((&text[..end], &text[end + 1..]))
 }
 
-/// Takes a piece of the script: does the lines that end in it, and writes what they print.
+/// How many bytes stand behind the last LF; all, where there is none.
+fn unended_size(piece: &[u8]) -> usize {
+    match memrchr(b'\n', piece) {
+        Some(end) => piece.len() - end - 1,
+        None => piece.len(),
+    }
+}
+
+/// Takes a piece of the script: does the lines that end in it, and writes what they print. The writer is flushed behind the
+/// last of them. Answers whether one is bad, at which the taking ends.
 fn take_piece<G: AccessGate, W: Write>(
     gate: &mut G,
     held: &mut Held,
     writer: &mut Counted<W>,
     piece: &[u8],
-) -> Result<(), ScriptFault>
+) -> Result<bool, WriteFault>
     requires writer { writer.old.failed < 2 ^ 64 - 1 }
     requires room { held.old.progress.lines + length piece.now < 2 ^ 64 - 1 }
-    ensures ok { OnOk result ((before : GateData) (bytes : List ℕ)
-        → IsSoFar before bytes (G.seen gate.old) held.old.rest.items held.old.progress.lines
-        → TakesPiece before bytes piece.now (G.seen gate.new) held.new.rest.items held.new.progress.lines
+    ensures ok { IfOk result (λ is_bad. IsFalse is_bad
+        → TakesPiece (G.seen gate.old) held.old.rest.items held.old.progress.lines piece.now
+        (G.seen gate.new) held.new.rest.items held.new.progress.lines
         (W.contents writer.old.device) (W.contents writer.new.device)) }
-    ensures counted { OnOk result
-        (held.new.progress.lines ≤ held.old.progress.lines + length piece.now) }
+    ensures bad { IfOk result (λ is_bad. IsTrue is_bad
+        → FindsBad (G.seen gate.old) held.old.rest.items held.old.progress.lines piece.now
+        (G.seen gate.new) held.new.progress.lines
+        (W.contents writer.old.device) (W.contents writer.new.device)) }
+    ensures counted { IfOk result (λ is_bad. IsFalse is_bad
+        → held.new.progress.lines ≤ held.old.progress.lines + length piece.now) }
     ensures kept { OnOk result (writer.new.failed ≡ writer.old.failed) }
-    ensures err { IfErr result (λ e. (before : GateData) (bytes : List ℕ)
-        → IsSoFar before bytes (G.seen gate.old) held.old.rest.items held.old.progress.lines
-        → StopsInPiece before bytes piece.now (G.seen gate.new)
-        (W.contents writer.old.device) (W.contents writer.new.device) e) }
-    ensures told { IfErr result (IsBlamedRightly 0 0 writer.old.failed writer.new.failed) }
+    ensures err { IfErr result (StopsInPiece (G.seen gate.old) held.old.rest.items
+        held.old.progress.lines piece.now (G.seen gate.new)
+        (W.contents writer.old.device) (W.contents writer.new.device)) }
+    ensures told { IfErr result (IsBlamed writer.old.failed writer.new.failed) }
     ensures bounded { length held.new.rest.items ≤ 1026 }
 {
+    let unended = unended_size(piece);
     let mut left = piece;
     while let Some((line, behind)) = first_line(left) {
-        take_ended(gate, held, writer, line)?;
+        held.progress.flushes = behind.len() == unended;
+        let is_bad = take_ended(gate, held, writer, line)?;
+        if is_bad {
+            return Ok(true);
+        }
         left = behind;
     }
-    take_front(held, left)
+    Ok(take_front(held, left)?)
 }
 
 /// Reads a script to its end, or to a fault.
@@ -220,16 +205,13 @@ fn follow<G: AccessGate, R: Read, W: Write>(
     requires reader { reader.old.failed < 2 ^ 64 - 1 }
     requires writer { writer.old.failed < 2 ^ 64 - 1 }
     ensures script { OnOk result (IsScript
-        (R.remaining reader.old.device) (R.remaining reader.new.device)
-        (W.contents writer.old.device) (W.contents writer.new.device)
+        (flow_of R.remaining W.contents reader.old reader.new writer.old writer.new)
         (G.seen gate.old) (G.seen gate.new) None) }
     ensures bad { IfErr result (λ e. IfBadLine e (λ n. IsScript
-        (R.remaining reader.old.device) (R.remaining reader.new.device)
-        (W.contents writer.old.device) (W.contents writer.new.device)
+        (flow_of R.remaining W.contents reader.old reader.new writer.old writer.new)
         (G.seen gate.old) (G.seen gate.new) (Some n))) }
     ensures fault { IfErr result (λ e. UnlessBadLine e (IsCutShort
-        (R.remaining reader.old.device) (R.remaining reader.new.device)
-        (W.contents writer.old.device) (W.contents writer.new.device)
+        (flow_of R.remaining W.contents reader.old reader.new writer.old writer.new)
         (G.seen gate.old) (G.seen gate.new) e)) }
     ensures endless { IfErr result (λ e. e ≡ ScriptFault.Endless
         → counted_on reader.old.calls 1000000000 ≤ reader.new.calls) }
@@ -245,9 +227,16 @@ fn follow<G: AccessGate, R: Read, W: Write>(
             Err(_) => return Err(ScriptFault::ReadFailed),
         };
         if n == 0 {
-            return end_line(gate, held, writer);
+            let last_is_bad = take_ended(gate, held, writer, &[])?;
+            if last_is_bad {
+                return Err(ScriptFault::BadLine(held.progress.lines));
+            }
+            return Ok(());
         }
-        take_piece(gate, held, writer, &buffer[..n])?;
+        let is_bad = take_piece(gate, held, writer, &buffer[..n])?;
+        if is_bad {
+            return Err(ScriptFault::BadLine(held.progress.lines));
+        }
     }
     Err(ScriptFault::Endless)
 }
@@ -263,6 +252,7 @@ impl Held {
                 lines: 0,
                 text: Vec::new(alloc),
                 wrong: None,
+                flushes: true,
             },
         }
     }
@@ -286,25 +276,20 @@ pub fn run_script<G: AccessGate, R: Read, W: Write>(
     requires reader { reader.old.failed < 2 ^ 64 - 1 }
     requires writer { writer.old.failed < 2 ^ 64 - 1 }
     ensures script { OnOk result (IsScript
-        (R.remaining reader.old.device) (R.remaining reader.new.device)
-        (W.contents writer.old.device) (W.contents writer.new.device)
+        (flow_of R.remaining W.contents reader.old reader.new writer.old writer.new)
         (G.seen gate.old) (G.seen gate.new) None) }
     // Where the reader tells its bytes, the gate and the bytes written are those of the script of all of them.
     ensures all { OnOk result (IsAll
-        (R.remaining reader.old.device)
-        (W.contents writer.old.device) (W.contents writer.new.device)
+        (flow_of R.remaining W.contents reader.old reader.new writer.old writer.new)
         (G.seen gate.old) (G.seen gate.new) None) }
     ensures bad { IfErr result (λ e. IfBadLine e.fault (λ n. IsScript
-        (R.remaining reader.old.device) (R.remaining reader.new.device)
-        (W.contents writer.old.device) (W.contents writer.new.device)
+        (flow_of R.remaining W.contents reader.old reader.new writer.old writer.new)
         (G.seen gate.old) (G.seen gate.new) (Some n))) }
     ensures first_bad { IfErr result (λ e. IfBadLine e.fault (λ n. IsAll
-        (R.remaining reader.old.device)
-        (W.contents writer.old.device) (W.contents writer.new.device)
+        (flow_of R.remaining W.contents reader.old reader.new writer.old writer.new)
         (G.seen gate.old) (G.seen gate.new) (Some n))) }
     ensures fault { IfErr result (λ e. UnlessBadLine e.fault (IsCutShort
-        (R.remaining reader.old.device) (R.remaining reader.new.device)
-        (W.contents writer.old.device) (W.contents writer.new.device)
+        (flow_of R.remaining W.contents reader.old reader.new writer.old writer.new)
         (G.seen gate.old) (G.seen gate.new) e.fault)) }
     ensures endless { IfErr result (λ e. e.fault ≡ ScriptFault.Endless
         → counted_on reader.old.calls 1000000000 ≤ reader.new.calls) }

@@ -2,9 +2,8 @@
 
 ghost use Rattle.std.specs.Prelude.{◌≡◌};
 ghost use Rattle.gx_scripting.specs.declared.script_fault.LineFault.TheVariants as line_faults;
-ghost use Rattle.gx_scripting.specs.declared.script_fault.ScriptFault.TheVariants as script_faults;
 
-use gx_devices::WriteFailed;
+use gx_devices::WriteFault;
 use gx_script::Wrong;
 use gx_units::OutOfMemory;
 use thiserror::Error;
@@ -29,19 +28,16 @@ pub enum ScriptFault {
     Endless,
 }
 
-impl From<OutOfMemory> for ScriptFault {
-    ghost from_gives = { λ _ e. e ≡ script_faults.OutOfMemory };
+impl From<WriteFault> for ScriptFault {
+    ghost use Rattle.gx_scripting.specs.ScriptPiping.{fault_of_write};
 
-    fn from(_refused: OutOfMemory) -> ScriptFault {
-        ScriptFault::OutOfMemory
-    }
-}
+    ghost from_gives = { λ stopped e. e ≡ fault_of_write stopped };
 
-impl From<WriteFailed> for ScriptFault {
-    ghost from_gives = { λ _ e. e ≡ script_faults.WriteFailed };
-
-    fn from(_failed: WriteFailed) -> ScriptFault {
-        ScriptFault::WriteFailed
+    fn from(stopped: WriteFault) -> ScriptFault {
+        match stopped {
+            WriteFault::OutOfMemory => ScriptFault::OutOfMemory,
+            WriteFault::WriteFailed => ScriptFault::WriteFailed,
+        }
     }
 }
 

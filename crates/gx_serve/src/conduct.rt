@@ -13,7 +13,7 @@ use std::marker::Model;
 const MOST_SILENT: u16 = 1_000;
 
 /// Why a user is put out.
-#[derive(Clone, Copy, PartialEq, Eq, Debug)]
+#[derive(Clone, Copy, PartialEq, Eq)]
 pub enum Exclusion {
     /// 1,000 of his requests, one behind the other, were denied by rules that nobody is told of: G1, G2 or G3.
     Silent,

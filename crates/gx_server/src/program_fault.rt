@@ -21,7 +21,7 @@ use std::io::ErrorKind;
 pub type FaultLine = ArrayVec<u8, 64>;
 
 /// A device of a run.
-#[derive(Clone, Copy, Debug, PartialEq, Eq)]
+#[derive(Clone, Copy, PartialEq, Eq)]
 pub enum Device {
     /// What a connection or a script is read from.
     Reader,

@@ -6,7 +6,7 @@ ghost use Rattle.gx_session.specs.{Sending.{control_bytes, report_packet, report
 
 use crate::event::{Control, Sign};
 use gx_answers::{LoginAnswer, Pulled};
-use gx_devices::{Counted, WriteFault, write_whole};
+use gx_devices::{Counted, WriteFault, write_flushing, write_whole};
 use gx_history::report::Report;
 use gx_ouch::MESSAGE_ROOM;
 use gx_soup::{ServerPacket, append_sequenced, encode};
@@ -58,14 +58,16 @@ pub fn send_pulled<W: Write>(
     ensures told { IfErr result (IsBlamed writer.old.failed writer.new.failed) }
 {
     let mut text = Vec::new(alloc);
-    send_reports(&mut text, pulled.reports.as_slice(), writer)
+    send_reports(&mut text, pulled.reports.as_slice(), writer, true)
 }
 
-/// Sends reports as `send_pulled` does, and puts their packets together in this text, whose room is kept for the next.
+/// Sends reports as `send_pulled` does, and puts their packets together in this text, whose room is kept for the next. The
+/// writer is flushed behind them where that is asked for, though there may be none.
 pub fn send_reports<W: Write>(
     text: &mut Vec<u8>,
     reports: &[Report],
     writer: &mut Counted<W>,
+    flushes: bool,
 ) -> Result<(), WriteFault>
     requires { writer.old.failed < 2 ^ 64 - 1 }
     ensures sent { OnOk result (Appends
@@ -80,7 +82,7 @@ pub fn send_reports<W: Write>(
     ensures told { IfErr result (IsBlamed writer.old.failed writer.new.failed) }
 {
     put_reports(text, reports)?;
-    write_whole(writer, text.as_slice())?;
+    write_flushing(writer, text.as_slice(), flushes)?;
     Ok(())
 }
 

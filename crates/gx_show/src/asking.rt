@@ -23,7 +23,7 @@ pub struct AskedNames<'a> {
 }
 
 /// What a name that is asked for is not known as.
-#[derive(Clone, Copy, Debug, PartialEq, Eq)]
+#[derive(Clone, Copy, PartialEq, Eq)]
 pub enum UnknownName {
     /// As an account of the policy.
     Account,

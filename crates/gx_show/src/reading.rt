@@ -26,7 +26,7 @@ pub struct AuditRecords {
 }
 
 /// Why no records of an audit are found.
-#[derive(Clone, Copy, Debug, PartialEq, Eq)]
+#[derive(Clone, Copy, PartialEq, Eq)]
 pub enum FindingFault {
     /// The audit has a whole header, which is not the policy's.
     OtherPolicy,

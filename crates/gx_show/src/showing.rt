@@ -5,7 +5,7 @@ ghost use Rattle.std.specs.Prelude.{◌≡◌, ◌^◌, ◌-◌, ◌<◌, OnOk};
 use crate::style::{ShownForm, Style};
 use crate::table::{denied_by, record_csv, record_json};
 use gx_audit_bytes::{RECORD_SIZE, message_shown, write_record};
-use gx_devices::{Counted, WriteFault, write_whole};
+use gx_devices::{Counted, WriteFault, write_flushing, write_whole};
 use gx_endings::endings::Ending;
 use gx_fields::{EndedOrders, csv_names, reason_of, reject_of};
 use gx_history::record::{Asked, Login, Record, RecordData, Request, Step, Unreadable, Verdict};
@@ -297,7 +297,7 @@ fn write_head<W: Write>(
 {
     if style.form == ShownForm::Csv {
         let names = csv_names(alloc)?;
-        write_whole(writer, names.as_slice())?;
+        write_flushing(writer, names.as_slice(), false)?;
     }
     Ok(())
 }
@@ -329,7 +329,7 @@ fn line_with(
 }
 
 /// Writes the records in this style, a line for each, in their order, with what Kills and Close Days among them ended, where
-/// it stands among the endings, which are by rising number.
+/// it stands among the endings, which are by rising number. The writer is flushed behind the last line.
 ///
 /// # Errors
 ///
@@ -347,7 +347,8 @@ pub fn write_records<W: Write>(
     write_head(alloc, style, writer)?;
     for each in records {
         let line = line_with(alloc, policy, style, each, endings)?;
-        write_whole(writer, line.as_slice())?;
+        write_flushing(writer, line.as_slice(), false)?;
     }
+    write_whole(writer, b"")?;
     Ok(())
 }

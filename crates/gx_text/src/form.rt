@@ -1,7 +1,7 @@
 //! How lines are written.
 
 /// How a line is written.
-#[derive(Clone, Copy, Debug, PartialEq, Eq)]
+#[derive(Clone, Copy, PartialEq, Eq)]
 pub enum Form {
     /// As a person reads it.
     Text,

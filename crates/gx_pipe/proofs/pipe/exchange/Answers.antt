@@ -1,25 +1,11 @@
-use Rattle.std.proofs.{Common.{◌≡◌, Bool, true, false, ◌||◌, is_some, sym, ◌∙◌}, lemmas.Result.err_from_is_err_and}
-use Rattle.gx_session.specs.Events.{is_over}
+use Rattle.std.proofs.{lemmas.Result.err_from_is_err_and}
 use Rattle.gx_pipe.proofs.{Runs.exchanged_by, Faults.{broken_by, feed_cut}}
 use Rattle.gx_devices.proofs.Known.{on_fault}
 use Rattle.gx_pipe.proofs.pipe.exchange.Goals as goal
 
-or_then : (a b r : Bool) → a ≡ true → r ≡ true → r ≡ (a || b)
-or_then true b r h e = e
-or_then false b r h e = cc
-
-or_else : (a b r : Bool) → a ≡ false → r ≡ b → r ≡ (a || b)
-or_else true b r h e = cc
-or_else false b r h e = e
-
-pub returns-then-is_some-clause-ok : goal.returns-then-is_some-clause-ok
-returns-then-is_some-clause-ok g c = λ before first bytes follows.
-    rw (or_then (is_some c.in_ok-fault.fault) (is_over c.take_packets.new.connection.session.phase) c.is_some.result (sym c.is_some.ensures ∙ c.if-is_some.true) c.if-is_some.true)
-    (exchanged_by before first bytes c.args.piece.now (g.G.AccessGate.seen c.args.gate.now) (g.G.AccessGate.seen c.take_packets.new.gate) c.args.connection.now c.take_packets.new.connection c.args.feeder.now c.feed_into.new.self c.feed_into.new.packets.items c.in_ok-fault.fault _ _ (c.in_ok-fault.ensures.fed bytes follows.reads) (rw c.as_slice.ensures.value at c.in_ok-take_packets.ensures.ok) follows)
-
-pub returns-else-is_some-clause-ok : goal.returns-else-is_some-clause-ok
-returns-else-is_some-clause-ok g c = λ before first bytes follows.
-    rw (or_else (is_some c.in_ok-fault.fault) (is_over c.take_packets.new.connection.session.phase) c.is_over.result (sym c.is_some.ensures ∙ c.if-is_some.false) c.is_over.ensures)
+pub returns-clause-ok : goal.returns-clause-ok
+returns-clause-ok g c = λ before first bytes follows.
+    rw (c.is_some.ensures, c.is_over-is_over.ensures)
     (exchanged_by before first bytes c.args.piece.now (g.G.AccessGate.seen c.args.gate.now) (g.G.AccessGate.seen c.take_packets.new.gate) c.args.connection.now c.take_packets.new.connection c.args.feeder.now c.feed_into.new.self c.feed_into.new.packets.items c.in_ok-fault.fault _ _ (c.in_ok-fault.ensures.fed bytes follows.reads) (rw c.as_slice.ensures.value at c.in_ok-take_packets.ensures.ok) follows)
 
 pub returns-in_err-fault-clause-err : goal.returns-in_err-fault-clause-err

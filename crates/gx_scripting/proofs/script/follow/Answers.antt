@@ -1,12 +1,12 @@
-use Rattle.std.proofs.{Common.{refl, arith, ◌∙◌}, KnownBytes.Keeps-refl, lemmas.Result.err_from_is_err_and}
-use Rattle.gx_devices.proofs.Known.{counted_next, on_fault}
-use Rattle.gx_scripting.proofs.{ScriptRuns.{if_err, on_ok}, ScriptEnds.{stands_first, stands_next, ends, ends_with_bad, ends_halfway, stops_reading, stops_with_bad, stops_halfway}}
+use Rattle.std.proofs.{Common.{true, false, append-nil, refl, arith, ◌∙◌}, KnownBytes.Keeps-refl, lemmas.Result.err_from_is_err_and}
+use Rattle.gx_devices.proofs.{Known.{counted_next, on_fault}, Pieces.{stands_next, stands_still}}
 use Rattle.gx_scripting.specs.declared.script_fault.ScriptFault.{ScriptFault}
+use Rattle.gx_scripting.proofs.ScriptEnds.{breaks, ends, finds, starts, stops, stops_reading, takes, unless_bad}
 use Rattle.gx_scripting.proofs.script.follow.Goals as goal
 
 pub loop-init : goal.loop-init
 loop-init g c = record {
-  stands = stands_first _ _ _ _ _ c.requires.nothing c.requires.no_line;
+  stands = starts _ _ _ _ _ c.requires.nothing c.requires.no_line;
   counted = omega (arith, c.requires.no_line);
   calls = omega arith;
   reads = refl;
@@ -16,48 +16,41 @@ loop-init g c = record {
 pub loop-preserved : goal.loop-preserved
 loop-preserved g c =
     let s = c.loop.invariant.stands in
+    let bad = c.if-is_bad.false in
     record {
-      stands = stands_next _ _ _ _ _ _ _ _ s _ _ _ _ _ _ c.in-Ok.ensures.bytes.0 (c.in_ok-take_piece.ensures.ok _ s.bytes s.follows) c.in_ok-take_piece.ensures.bounded;
-      counted = omega (arith, c.in_ok-take_piece.ensures.counted, c.in-Ok.ensures.bound, c.loop.invariant.counted);
+      stands = stands_next _ _ _ s _ _ _ _ c.in-Ok.ensures.bytes.0 (takes _ _ _ _ s.bytes _ _ _ _ _ _ s.follows (c.in_ok-is_bad.ensures.ok bad) c.in_ok-is_bad.ensures.bounded);
+      counted = omega (arith, c.in_ok-is_bad.ensures.counted bad, c.in-Ok.ensures.bound, c.loop.invariant.counted);
       calls = counted_next _ _ _ _ c.loop.invariant.calls (c.read.ensures.called (omega arith));
       reads = c.in-Ok.ensures.kept ∙ c.loop.invariant.reads;
-      writes = c.in_ok-take_piece.ensures.kept ∙ c.loop.invariant.writes;
+      writes = c.in_ok-is_bad.ensures.kept ∙ c.loop.invariant.writes;
     }
 
 pub returns-in-Err-clause-fault : goal.returns-in-Err-clause-fault
-returns-in-Err-clause-fault g c =
-    stops_reading _ _ _ _ _ _ _ _ c.loop.invariant.stands ScriptFault.ReadFailed tt _ c.in-Err.ensures.bytes
+returns-in-Err-clause-fault g c = stops_reading _ _ _ _ _ c.loop.invariant.stands ScriptFault.ReadFailed tt _ c.in-Err.ensures.bytes
+
+pub returns-clause-fault : goal.returns-clause-fault
+returns-clause-fault g c = stops_reading _ _ _ _ _ c.loop.invariant.stands ScriptFault.Endless tt _ (Keeps-refl _)
 
 pub returns-then-n-eq0-clause-script : goal.returns-then-n-eq0-clause-script
 returns-then-n-eq0-clause-script g c =
-    on_ok c.end_line.result _ _
-    (ends _ _ _ _ _ _ _ _ c.loop.invariant.stands _ _ _ c.in-Ok.ensures.bytes.0 c.if-n-eq0.true _ _ (c.in-Ok.ensures.bytes.1 c.if-n-eq0.true (omega arith)))
-    c.end_line.ensures.ok
+    let s = stands_still _ _ _ c.loop.invariant.stands _ _ _ c.in-Ok.ensures.bytes.0 c.if-n-eq0.true in
+    ends _ _ _ _ _ s _ _ false _ (c.in-Ok.ensures.bytes.1 c.if-n-eq0.true (omega arith)) (rw (c.if-last_is_bad.false, append-nil) at c.in_ok-last_is_bad.ensures.ok)
 
-pub returns-then-n-eq0-clause-bad : goal.returns-then-n-eq0-clause-bad
-returns-then-n-eq0-clause-bad g c =
-    if_err c.end_line.result _ _
-    (ends_with_bad _ _ _ _ _ _ _ _ c.loop.invariant.stands _ _ _ c.in-Ok.ensures.bytes.0 c.if-n-eq0.true _ _ (c.in-Ok.ensures.bytes.1 c.if-n-eq0.true (omega arith)))
-    c.end_line.ensures.err
+pub returns-then-last_is_bad-clause-bad : goal.returns-then-last_is_bad-clause-bad
+returns-then-last_is_bad-clause-bad g c =
+    let s = stands_still _ _ _ c.loop.invariant.stands _ _ _ c.in-Ok.ensures.bytes.0 c.if-n-eq0.true in
+    ends _ _ _ _ _ s _ _ true _ (c.in-Ok.ensures.bytes.1 c.if-n-eq0.true (omega arith)) (rw (c.if-last_is_bad.true, append-nil) at c.in_ok-last_is_bad.ensures.ok)
 
-pub returns-then-n-eq0-clause-fault : goal.returns-then-n-eq0-clause-fault
-returns-then-n-eq0-clause-fault g c =
-    if_err c.end_line.result _ _
-    (ends_halfway _ _ _ _ _ _ _ _ c.loop.invariant.stands _ _ _ c.in-Ok.ensures.bytes.0 c.if-n-eq0.true _ _ (c.in-Ok.ensures.bytes.1 c.if-n-eq0.true (omega arith)))
-    c.end_line.ensures.err
-
-pub returns-in_err-take_piece-clause-bad : goal.returns-in_err-take_piece-clause-bad
-returns-in_err-take_piece-clause-bad g c =
+pub returns-in_err-last_is_bad-clause-fault : goal.returns-in_err-last_is_bad-clause-fault
+returns-in_err-last_is_bad-clause-fault g c =
     let p = err_from_is_err_and c.from_residual.result c.from_residual.ensures.1 in
-    let s = c.loop.invariant.stands in
-    on_fault _ _ _ _ p.1 p.2 (stops_with_bad _ _ _ _ _ _ _ _ s _ _ _ _ c.in-Ok.ensures.bytes.0 _ (c.in_err-take_piece.ensures.err _ s.bytes s.follows))
+    let s = stands_still _ _ _ c.loop.invariant.stands _ _ _ c.in-Ok.ensures.bytes.0 c.if-n-eq0.true in
+    on_fault _ _ _ _ p.1 p.2 (unless_bad _ _ (stops _ _ _ _ _ s _ _ _ (c.in-Ok.ensures.bytes.1 c.if-n-eq0.true (omega arith)) (rw append-nil at c.in_err-last_is_bad.ensures.err)))
 
-pub returns-in_err-take_piece-clause-fault : goal.returns-in_err-take_piece-clause-fault
-returns-in_err-take_piece-clause-fault g c =
-    let p = err_from_is_err_and c.from_residual.result c.from_residual.ensures.1 in
-    let s = c.loop.invariant.stands in
-    on_fault _ _ _ _ p.1 p.2 (stops_halfway _ _ _ _ _ _ _ _ s _ _ _ _ c.in-Ok.ensures.bytes.0 (omega (arith, c.in-Ok.ensures.bound)) _ (c.in_err-take_piece.ensures.err _ s.bytes s.follows))
+pub returns-then-is_bad-clause-bad : goal.returns-then-is_bad-clause-bad
+returns-then-is_bad-clause-bad g c = finds _ _ _ _ _ c.loop.invariant.stands _ _ _ _ _ c.in-Ok.ensures.bytes.0 (c.in_ok-is_bad.ensures.bad c.if-is_bad.true)
 
-pub returns-clause-fault : goal.returns-clause-fault
-returns-clause-fault g c =
-    stops_reading _ _ _ _ _ _ _ _ c.loop.invariant.stands ScriptFault.Endless tt _ (Keeps-refl _)
+pub returns-in_err-is_bad-clause-fault : goal.returns-in_err-is_bad-clause-fault
+returns-in_err-is_bad-clause-fault g c =
+    let p = err_from_is_err_and c.from_residual-in_err-is_bad.result c.from_residual-in_err-is_bad.ensures.1 in
+    on_fault _ _ _ _ p.1 p.2 (unless_bad _ _ (breaks _ _ _ _ _ c.loop.invariant.stands _ _ _ _ _ c.in-Ok.ensures.bytes.0 (omega (arith, c.in-Ok.ensures.bound)) c.in_err-is_bad.ensures.err))

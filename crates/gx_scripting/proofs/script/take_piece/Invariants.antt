@@ -1,14 +1,12 @@
 use Rattle.std.proofs.Common.{◌≡◌, ℕ, ◌+◌, ◌≤◌, List, ◌++◌, length}
-use Rattle.gx_answers.specs.Gates.{GateData}
-use Rattle.gx_scripting.specs.ScriptPiping.{IsSoFar, TakesPiece}
+use Rattle.gx_scripting.specs.ScriptPiping.{TakesPiece}
 use Rattle.gx_scripting.proofs.script.take_piece.Given as goal
 
 abbrev pub invariant-loop-line : goal.invariant-loop-line
 invariant-loop-line g l = record {
   done : List ℕ;
   split : l.piece ≡ done ++ l.left;
-  takes : (before : GateData) (bytes : List ℕ) → IsSoFar before bytes (g.G.AccessGate.seen l.fn.gate) l.fn.held.rest.items l.fn.held.progress.lines
-      → TakesPiece before bytes done (g.G.AccessGate.seen l.gate) l.held.rest.items l.held.progress.lines (g.W.Write.contents l.fn.writer.device) (g.W.Write.contents l.writer.device);
+  takes : TakesPiece (g.G.AccessGate.seen l.fn.gate) l.fn.held.rest.items l.fn.held.progress.lines done (g.G.AccessGate.seen l.gate) l.held.rest.items l.held.progress.lines (g.W.Write.contents l.fn.writer.device) (g.W.Write.contents l.writer.device);
   counted : l.held.progress.lines + length l.left ≤ l.fn.held.progress.lines + length l.piece;
   kept : l.writer.failed ≡ l.fn.writer.failed;
 }

@@ -1,0 +1,76 @@
+//! Where connections come in.
+
+use crate::announcing::Announcer;
+use crate::limits::places_for;
+use crate::page::{listen, open_page};
+use crate::runtime::ServerRuntime;
+use gx_command_line::Serving;
+use gx_listen::{Ending, PagePort, ServeFault};
+use gx_lobby::Lobby;
+use gx_log::Log;
+use gx_program::Ended;
+use gx_runs::{Start, await_ends};
+use gx_server::ProgramFault;
+use gx_units::{Moment, OutOfMemory};
+use std::alloc::Global;
+use std::net::TcpListener;
+use std::sync::Arc;
+
+/// Where connections come in: who listens for them, where the risk desk's page is served, the lobby of the server, and who tells
+/// that it listens.
+#[derive(Drop)]
+pub(crate) struct Entrance {
+    pub(crate) listener: TcpListener,
+    pub(crate) page: Option<PagePort>,
+    pub(crate) lobby: Arc<Lobby, Global>,
+    pub(crate) announcer: Announcer,
+}
+
+/// Listens for connections, which is told once they are taken. The server of the lobby ends as was asked for, and its clock
+/// has begun at the start, no earlier than at the moment `last`.
+pub(crate) fn open_lobby<'a, R: ServerRuntime>(
+    rt: &R,
+    host: &HostRuntime,
+    serving: &Serving<'a>,
+    start: Start,
+    last: Moment,
+    log: &Arc<Log, Global>,
+) -> Result<Entrance, Ended<'a>> {
+    let listener = listen(rt, serving.port)?;
+    let page = open_page(rt, host, serving)?;
+    let alloc = host.alloc();
+    let places = places_for(rt, host, log, serving.at_once, page.is_some());
+    let clock = start.clock(serving.midnight, last);
+    let Ok(log) = Arc::try_clone(log) else {
+        return Err(OutOfMemory.into());
+    };
+    let lobby = Lobby::new(alloc, clock, places, u64::from(serving.login_within), log);
+    let Ok(lobby) = Arc::new(alloc, lobby) else {
+        return Err(OutOfMemory.into());
+    };
+    await_ends(*rt, *host, serving.ends, &lobby)?;
+    let announcer = Announcer::begin(*rt, *host, &lobby, serving.port)?;
+    Ok(Entrance {
+        listener,
+        page,
+        lobby,
+        announcer,
+    })
+}
+
+/// Why the program gives up, where a server did for this.
+pub(crate) fn unserved<'a>(fault: ServeFault) -> Ended<'a> {
+    match fault {
+        ServeFault::OutOfMemory => OutOfMemory.into(),
+        ServeFault::ListenFailed(error) => Ended::no_listener(error),
+        ServeFault::NoLines => ProgramFault::NoLines.into(),
+    }
+}
+
+/// How a server ended.
+pub(crate) fn served<'a>(ended: Ending) -> Result<(), Ended<'a>> {
+    match ended.fault() {
+        Some(fault) => Err(unserved(fault)),
+        None => Ok(()),
+    }
+}

@@ -1,0 +1,215 @@
+//! A server of the day that a journal holds.
+
+use crate::entrance::{Entrance, open_lobby, served, unserved};
+use crate::runtime::ServerRuntime;
+use gx_answers::AccessGate;
+use gx_audit_bytes::AuditVersion;
+use gx_command_line::{JournalFile, Serving, Standby};
+use gx_devices::WriteFault;
+use gx_listen::ServeFault;
+use gx_log::Log;
+use gx_policy::Policy;
+use gx_program::{Ended, Named, Place, tell_apart};
+use gx_records::{ShowsRecords, ShowsState};
+use gx_runs::{
+    AuditFile, Day, JournalDevice, Start, TakenOver, audit_version, close_audited, connections_of,
+    leave_audit, look_back, open_audit, open_file, open_journal, take_over, take_up, tell_cut,
+};
+use gx_server::Noted;
+use gx_shared::{Kept, serve_journaled};
+use std::alloc::Global;
+use std::io;
+use std::sync::{Arc, Wait};
+use std::time::Clock;
+
+/// Serves connections of a day that goes on, and keeps its records. Tells how the server ended, too, and whether it was
+/// told that it listens.
+fn go_on<'a, G: ShowsRecords + ShowsState + Send, R: ServerRuntime>(
+    rt: &R,
+    host: &HostRuntime,
+    serving: &Serving<'a>,
+    start: Start,
+    day: Day<G>,
+    log: &Arc<Log, Global>,
+) -> Result<(Kept<G, Noted<JournalDevice>>, Result<(), Ended<'a>>), Ended<'a>> {
+    let Day {
+        gate,
+        version,
+        cut,
+        device,
+    } = day;
+    match open_lobby(rt, host, serving, start, gate.moment_of_last(), log) {
+        Ok(
+            Entrance {
+                listener,
+                page,
+                lobby,
+                announcer,
+            },
+        ) => {
+            let count = gate.length();
+            tell_cut(rt, host, log, count, cut);
+            let connections = connections_of(serving.ends);
+            let alloc = host.alloc();
+            let kept = serve_journaled(
+                rt,
+                alloc,
+                gate,
+                version,
+                count,
+                device,
+                &lobby,
+                page,
+                listener,
+                connections,
+            );
+            let announced = announcer.end(rt);
+            match kept {
+                Ok((kept, ended)) => Ok((kept, served(ended).and(announced))),
+                Err(fault) => Err(unserved(ServeFault::from(fault))),
+            }
+        }
+        Err(ended) => {
+            gate.close();
+            Err(ended)
+        }
+    }
+}
+
+/// Whether a journal in this file was kept, and what the system said where it was not.
+fn kept<'a>(
+    fault: Option<WriteFault>,
+    path: &'a str,
+    said: Option<io::Error>,
+) -> Result<(), Ended<'a>> {
+    match fault {
+        Some(fault) => Err(Ended::of_writing(fault, Place::File(path), said)),
+        None => Ok(()),
+    }
+}
+
+/// How a server ended that kept its records in a journal, once its audit is written.
+fn close_server<'a, G: ShowsRecords>(
+    host: &HostRuntime,
+    path: &'a str,
+    left: Kept<G, Noted<JournalDevice>>,
+    ended: Result<(), Ended<'a>>,
+    version: AuditVersion,
+    audit: Option<AuditFile<'a>>,
+) -> Result<(), Ended<'a>> {
+    let Kept {
+        gate,
+        fault,
+        device,
+    } = left;
+    let audited = close_audited(host, version, gate, audit);
+    let Noted { device, cause } = device;
+    kept(fault, path, cause)
+        .and(look_back(path, &device))
+        .and(ended)
+        .and(audited)
+}
+
+/// The day that a journal holds, and the file of its audit. Nothing is written before all files are seen to differ.
+fn open_day<'a, G: AccessGate>(
+    host: &HostRuntime,
+    policy: &Policy,
+    journal: JournalFile<'a>,
+    named: Named<'a>,
+    asked: AuditVersion,
+) -> Result<(Day<G>, Option<AuditFile<'a>>), Ended<'a>> {
+    let file = open_journal(host, journal.path)?;
+    tell_apart(host, named)?;
+    let audit = open_audit(host, named)?;
+    match take_up(host, policy, journal, file, asked) {
+        Ok(day) => Ok((day, audit)),
+        Err(ended) => {
+            leave_audit(host, audit);
+            Err(ended)
+        }
+    }
+}
+
+/// A day that goes on, since when it does, and the file of its audit.
+struct Opened<'a, G> {
+    start: Start,
+    day: Day<G>,
+    audit: Option<AuditFile<'a>>,
+}
+
+/// The day of a journal that another server has kept, and the file of its audit. `None` where the standby is to end before it
+/// takes over.
+fn stand_by<'a, G: AccessGate, R: Wait + Clock>(
+    rt: &R,
+    host: &HostRuntime,
+    policy: &Policy,
+    serving: &Serving<'a>,
+    standby: Standby<'a>,
+    start: Start,
+    journal: JournalFile<'a>,
+    named: Named<'a>,
+    log: &Log,
+) -> Result<Option<Opened<'a, G>>, Ended<'a>> {
+    let file = open_file(host, journal.path, false)?;
+    tell_apart(host, named)?;
+    let audit = open_audit(host, named)?;
+    match take_over(
+        rt, host, policy, serving, standby, journal, file, start, log,
+    ) {
+        Ok(Some(TakenOver { start, day })) => Ok(Some(Opened { start, day, audit })),
+        Ok(None) => {
+            leave_audit(host, audit);
+            Ok(None)
+        }
+        Err(ended) => {
+            leave_audit(host, audit);
+            Err(ended)
+        }
+    }
+}
+
+/// The day of a journal, once it is this server's, and the file of its audit. `None` where a standby is to end before.
+fn open_kept<'a, G: AccessGate, R: Wait + Clock>(
+    rt: &R,
+    host: &HostRuntime,
+    policy: &Policy,
+    serving: &Serving<'a>,
+    start: Start,
+    journal: JournalFile<'a>,
+    named: Named<'a>,
+    log: &Log,
+) -> Result<Option<Opened<'a, G>>, Ended<'a>> {
+    if let Some(standby) = serving.standby {
+        return stand_by(
+            rt, host, policy, serving, standby, start, journal, named, log,
+        );
+    }
+    let (day, audit) = open_day(host, policy, journal, named, start.version)?;
+    Ok(Some(Opened { start, day, audit }))
+}
+
+/// Serves connections of the day that a journal holds, keeps its records, and writes the audit.
+pub(crate) fn serve_kept<'a, G: ShowsRecords + ShowsState + Send, R: ServerRuntime>(
+    rt: &R,
+    host: &HostRuntime,
+    policy: &Policy,
+    serving: &Serving<'a>,
+    start: Start,
+    journal: JournalFile<'a>,
+    named: Named<'a>,
+    log: &Arc<Log, Global>,
+) -> Result<(), Ended<'a>> {
+    let kept = open_kept::<G, R>(rt, host, policy, serving, start, journal, named, log)?;
+    let Some(opened) = kept else {
+        return Ok(());
+    };
+    let Opened { start, day, audit } = opened;
+    let version = audit_version(start.version, day.version);
+    match go_on(rt, host, serving, start, day, log) {
+        Ok((left, ended)) => close_server(host, journal.path, left, ended, version, audit),
+        Err(ended) => {
+            leave_audit(host, audit);
+            Err(ended)
+        }
+    }
+}

@@ -1,0 +1,427 @@
+//! `gate desk`: a terminal of a gate.
+
+use crossbeam_channel::{Receiver, Sender, bounded};
+use gx_clock::{DayClock, UtcOffset};
+use gx_command_line::Desk;
+use gx_conversation::{Fault, NO_ACCOUNTS, Run, Setup};
+use gx_policy::Policy;
+use gx_program::{Content, Ended, bytes_of, policy_of, tell};
+use gx_soup::LoginRequest;
+use gx_terminal::Wish;
+use gx_text::Form;
+use gx_units::{AccountName, OutOfMemory, Password, SessionName, UserName, padded};
+use std::alloc::Global;
+use std::env::VarError;
+use std::io::{BufRead, Write};
+use std::net::{Net, TcpStream};
+use std::process::ExitCode;
+use std::sync::Wait;
+use std::thread::Threads;
+use std::time::{Clock, Duration};
+use std::{env, io, thread};
+
+/// A read of the line waits so many milliseconds at most.
+const LOOK: u64 = 50;
+
+/// A write of which the gate takes nothing for so many milliseconds fails.
+const WRITE_PATIENCE: u64 = 5_000;
+
+/// So many times, a second apart, the gate is called again where the line broke.
+const CALLS: u32 = 60;
+
+/// So many lines of standard input are read ahead.
+const LINES_AHEAD: usize = 64;
+
+/// The nanoseconds of a millisecond, and the milliseconds of a day.
+const MILLISECOND: u64 = 1_000_000;
+
+const DAY: u64 = 86_400_000;
+
+/// The gate's address, where none is given.
+const OWN_ADDRESS: &str = "127.0.0.1";
+
+/// The variable that has the password.
+const PASSWORD_VARIABLE: &str = "GATE_PASSWORD";
+
+/// The lines of standard input without their LF, and a None at its end.
+type Lines = Receiver<Option<Vec<u8>>, Global>;
+
+/// Why there is no run.
+#[derive(Drop)]
+enum Stop<'a> {
+    /// The program gave up.
+    Ended(Ended<'a>),
+    /// The arguments, or what they name, can't be meant; what is told of that.
+    Words(&'static str),
+    /// The gate can't be reached.
+    Unreached(io::Error),
+    /// The run ended early; its status so far.
+    Fault(Fault, u8),
+}
+
+impl<'a> From<Ended<'a>> for Stop<'a> {
+    fn from(ended: Ended<'a>) -> Stop<'a> {
+        Stop::Ended(ended)
+    }
+}
+
+impl<'a> From<OutOfMemory> for Stop<'a> {
+    fn from(refused: OutOfMemory) -> Stop<'a> {
+        Stop::Ended(refused.into())
+    }
+}
+
+/// The words of the one command as a line; `None` where there are none.
+fn command_of(alloc: Global, words: &[String]) -> Result<Option<Vec<u8>>, OutOfMemory> {
+    if words.is_empty() {
+        return Ok(None);
+    }
+    let mut line = Vec::new(alloc);
+    for word in words {
+        line.extend_from_slice(word.as_bytes())?;
+        line.push(b' ')?;
+    }
+    Ok(Some(line))
+}
+
+/// The names of the accounts.
+fn names_of(alloc: Global, policy: &Policy) -> Result<Vec<AccountName>, OutOfMemory> {
+    let mut names = Vec::new(alloc);
+    for account in policy.accounts() {
+        names.push(account.name)?;
+    }
+    Ok(names)
+}
+
+/// The accounts of the policy that is named, if one is.
+fn accounts_of<'a>(
+    host: &HostRuntime,
+    path: Option<&'a str>,
+) -> Result<Option<Vec<AccountName>>, Ended<'a>> {
+    if path.is_none() {
+        return Ok(None);
+    }
+    let policy = policy_of(host, path)?;
+    Ok(Some(names_of(host.alloc(), &policy)?))
+}
+
+/// The first line of a text, without what ends it.
+fn first_line(text: &[u8]) -> &[u8] {
+    let end = text.iter().position(|byte| *byte == b'\n');
+    let line = &text[..end.unwrap_or(text.len()).min(text.len())];
+    match line {
+        [front @ .., b'\r'] => front,
+        _ => line,
+    }
+}
+
+/// A password in its field.
+fn password_in(text: &[u8]) -> Option<Password> {
+    let bytes = padded(first_line(text))?;
+    Some(Password { bytes })
+}
+
+/// What the password's file or its variable holds; `None` where neither is there.
+fn kept_password<'a>(
+    host: &HostRuntime,
+    path: Option<&'a str>,
+) -> Result<Option<Vec<u8>>, Stop<'a>> {
+    if let Some(path) = path {
+        return Ok(Some(bytes_of(host, path, Content::Password)?));
+    }
+    match env::var(host, PASSWORD_VARIABLE) {
+        Ok(text) => Ok(Some(text.into_bytes())),
+        Err(VarError::NotPresent) => Ok(None),
+        Err(VarError::OutOfMemory) => Err(OutOfMemory.into()),
+        Err(_) => Err(Stop::Words("GATE_PASSWORD is no text")),
+    }
+}
+
+/// The next line, without its LF; `None` at the end of the input, or where it can't be read.
+fn next_line<I: BufRead>(alloc: Global, input: &mut I) -> Option<Vec<u8>> {
+    let mut line = Vec::new(alloc);
+    match input.read_until(b'\n', &mut line) {
+        Ok(count) if count > 0 => {}
+        _ => return None,
+    }
+    if line.as_slice().last() == Some(&b'\n') {
+        line.pop();
+    }
+    Some(line)
+}
+
+/// Sends the lines of an input to whoever obeys them.
+fn send_lines<I: BufRead, R: Wait>(
+    rt: &R,
+    alloc: Global,
+    input: &mut I,
+    to: &Sender<Option<Vec<u8>>, Global>,
+) {
+    for _ in 0..u64::MAX {
+        match next_line(alloc, input) {
+            Some(line) => {
+                if to.send(rt, Some(line)).is_err() {
+                    return;
+                }
+            }
+            None => break,
+        }
+    }
+    let _ = to.send(rt, None);
+}
+
+/// Starts the thread that reads standard input.
+fn start_input<R: Threads + Wait + Copy + Send + 'static>(
+    rt: R,
+    host: HostRuntime,
+    to: Sender<Option<Vec<u8>>, Global>,
+) -> Result<(), OutOfMemory> {
+    let alloc = host.alloc();
+    match thread::spawn(&rt, move || send_lines(&rt, alloc, &mut host.reader(), &to)) {
+        Ok(_) => Ok(()),
+        Err(_) => Err(OutOfMemory),
+    }
+}
+
+/// The lines of standard input, which is read only where it is wanted.
+fn lines_of<R: Threads + Wait + Copy + Send + 'static>(
+    rt: R,
+    host: HostRuntime,
+    is_wanted: bool,
+) -> Result<Lines, OutOfMemory> {
+    let (sender, lines) = bounded(host.alloc(), LINES_AHEAD)?;
+    if is_wanted {
+        start_input(rt, host, sender)?;
+    }
+    Ok(lines)
+}
+
+/// The password: the one that is kept, or else the next line.
+fn password_of<'a, R: Wait>(
+    rt: &R,
+    kept: Option<Vec<u8>>,
+    lines: &Lines,
+) -> Result<Password, Stop<'a>> {
+    let text = match kept {
+        Some(text) => text,
+        None => match lines.recv(rt) {
+            Ok(Some(line)) => line,
+            _ => return Err(Stop::Words("no password is given; `gate desk --help` says how")),
+        },
+    };
+    match password_in(text.as_slice()) {
+        Some(password) => Ok(password),
+        None => Err(Stop::Words("a password has at most 10 characters")),
+    }
+}
+
+/// The user in its field.
+fn user_of<'a>(name: &str) -> Result<UserName, Stop<'a>> {
+    match padded(name.as_bytes()) {
+        Some(bytes) => Ok(UserName { bytes }),
+        None => Err(Stop::Words("a user's name has at most 6 characters")),
+    }
+}
+
+/// A line to the gate.
+fn connect<'a, R: Net<Stream = TcpStream>>(rt: &R, desk: &Desk) -> Result<TcpStream, Stop<'a>> {
+    let host = desk.host.unwrap_or(OWN_ADDRESS);
+    match TcpStream::connect(rt, (host, desk.port)) {
+        Ok(stream) => Ok(stream),
+        Err(error) => Err(Stop::Unreached(error)),
+    }
+}
+
+/// Sets a stream up: small packets go out at once, and reads and writes end in time.
+fn set_up(stream: &TcpStream) -> io::Result<()> {
+    stream.set_nodelay(true)?;
+    stream.set_read_timeout(Some(Duration::from_millis(LOOK)))?;
+    stream.set_write_timeout(Some(Duration::from_millis(WRITE_PATIENCE)))
+}
+
+/// The milliseconds past midnight, by UTC.
+fn start_of<R: Clock>(rt: &R) -> u32 {
+    let moment = DayClock::begin(rt, UtcOffset::UTC, 0).now(rt);
+    (moment / MILLISECOND % DAY) as u32
+}
+
+/// A line to the gate, set up.
+fn call<'a, R: Net<Stream = TcpStream>>(rt: &R, desk: &Desk) -> Result<TcpStream, Stop<'a>> {
+    let stream = connect(rt, desk)?;
+    match set_up(&stream) {
+        Ok(()) => Ok(stream),
+        Err(error) => Err(Stop::Unreached(error)),
+    }
+}
+
+/// Goes on over a new line to the gate, for which it is called each second for a minute.
+fn call_again<R, O: Write + Drop, E: Write + Drop>(
+    rt: &R,
+    desk: &Desk,
+    run: &mut Run<TcpStream, O, E>,
+) -> Result<(), Fault>
+where
+    R: Net<Stream = TcpStream> + Wait + Clock,
+{
+    run.tell_broken();
+    for _ in 0..CALLS {
+        thread::sleep(rt, Duration::from_secs(1));
+        if let Ok(stream) = call(rt, desk) {
+            if run.take_up(rt, stream).is_ok() {
+                return Ok(());
+            }
+        }
+    }
+    Err(Fault::LineBroke)
+}
+
+/// Obeys the lines, over new lines to the gate where that is asked for.
+fn follow<R, O: Write + Drop, E: Write + Drop>(
+    rt: &R,
+    desk: &Desk,
+    run: &mut Run<TcpStream, O, E>,
+    lines: &Lines,
+) -> Result<(), Fault>
+where
+    R: Net<Stream = TcpStream> + Wait + Clock,
+{
+    run.log_in(rt)?;
+    for _ in rt.forever() {
+        match run.follow(rt, lines) {
+            Err(Fault::LineBroke) if desk.reconnects => call_again(rt, desk, run)?,
+            ended => return ended,
+        }
+    }
+    Ok(())
+}
+
+/// Runs over a line to the gate: the status of what was answered.
+fn talk<'a, R>(
+    rt: &R,
+    host: &HostRuntime,
+    desk: &Desk,
+    setup: Setup,
+    lines: &Lines,
+) -> Result<u8, Stop<'a>>
+where
+    R: Net<Stream = TcpStream> + Wait + Clock,
+{
+    let stream = call(rt, desk)?;
+    let alloc = host.alloc();
+    let streams = host.stderr();
+    let mut run = Run::new(
+        rt,
+        alloc,
+        setup,
+        stream,
+        io::writer(host),
+        io::writer(&streams),
+    );
+    match follow(rt, desk, &mut run, lines) {
+        Ok(()) => Ok(run.status()),
+        Err(fault) => Err(Stop::Fault(fault, run.status())),
+    }
+}
+
+/// How answers are written.
+fn form_of(desk: &Desk) -> Form {
+    if desk.is_json { Form::Json } else { Form::Text }
+}
+
+/// Whether lines come behind the one command; where it can't be meant, what is told of that.
+fn goes_on<'a>(host: &HostRuntime, desk: &Desk, command: &[u8]) -> Result<bool, Stop<'a>> {
+    match Wish::read(command) {
+        Ok(Wish::KillAll) if desk.policy.is_none() => Err(Stop::Words(NO_ACCOUNTS)),
+        Ok(wish) => Ok(wish == Wish::Watch),
+        Err(wrong) => {
+            let _ = eprintln!(host; "gate: {wrong}");
+            Err(Stop::Words(""))
+        }
+    }
+}
+
+/// Whether standard input is wanted: for the password, or for commands.
+fn wants_input<'a>(
+    host: &HostRuntime,
+    desk: &Desk,
+    command: &Option<Vec<u8>>,
+    has_password: bool,
+) -> Result<bool, Stop<'a>> {
+    match command {
+        Some(line) => Ok(goes_on(host, desk, line.as_slice())? || !has_password),
+        None => Ok(true),
+    }
+}
+
+/// The login of the user, who asks for the last report.
+fn login_of(user: UserName, password: Password) -> LoginRequest {
+    LoginRequest {
+        user,
+        password,
+        session: SessionName { bytes: [b' '; 10] },
+        wanted: 0,
+    }
+}
+
+/// Runs the terminal: the status of what was answered.
+fn run_desk<'a, R>(rt: &R, host: &HostRuntime, desk: Desk<'a>) -> Result<u8, Stop<'a>>
+where
+    R: Net<Stream = TcpStream> + Threads + Wait + Clock + Copy + Send + 'static,
+{
+    let user = user_of(desk.user)?;
+    let command = command_of(host.alloc(), desk.words)?;
+    let kept = kept_password(host, desk.password_file)?;
+    let is_wanted = wants_input(host, &desk, &command, kept.is_some())?;
+    let accounts = accounts_of(host, desk.policy)?;
+    let lines = lines_of(*rt, *host, is_wanted)?;
+    let password = password_of(rt, kept, &lines)?;
+    let setup = Setup {
+        login: login_of(user, password),
+        form: form_of(&desk),
+        start: start_of(rt),
+        accounts,
+        command,
+    };
+    talk(rt, host, &desk, setup, &lines)
+}
+
+/// Tells what can't be meant, if anything is to be told of it: the status of a fault of the arguments.
+fn tell_words(host: &HostRuntime, text: &str) -> ExitCode {
+    if !text.is_empty() {
+        let _ = eprintln!(host; "gate: {text}");
+    }
+    ExitCode::from(2)
+}
+
+/// Tells why the gate can't be reached: the status that says so.
+fn tell_unreached(host: &HostRuntime, error: &io::Error) -> ExitCode {
+    let _ = eprintln!(host; "gate: the gate can't be reached: {error}");
+    ExitCode::from(1)
+}
+
+/// Tells why the run ended early: the status that says so, or that it had, where that is higher.
+fn tell_fault(host: &HostRuntime, fault: &Fault, status: u8) -> ExitCode {
+    let _ = eprintln!(host; "gate: {fault}");
+    ExitCode::from(fault.status().max(status))
+}
+
+/// Tells why there is no run, or why it ended early: the status that says so.
+fn tell_stop(host: &HostRuntime, stop: Stop) -> ExitCode {
+    match stop {
+        Stop::Ended(ended) => tell(host, ended),
+        Stop::Words(text) => tell_words(host, text),
+        Stop::Unreached(error) => tell_unreached(host, &error),
+        Stop::Fault(fault, status) => tell_fault(host, &fault, status),
+    }
+}
+
+/// Runs the terminal, or tells why not: the status of either.
+pub fn desk_told<R>(rt: &R, host: &HostRuntime, desk: Desk<'_>) -> ExitCode
+where
+    R: Net<Stream = TcpStream> + Threads + Wait + Clock + Copy + Send + 'static,
+{
+    match run_desk(rt, host, desk) {
+        Ok(status) => ExitCode::from(status),
+        Err(stop) => tell_stop(host, stop),
+    }
+}

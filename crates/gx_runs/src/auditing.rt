@@ -1,0 +1,311 @@
+//! The file of a run's audit: opened before the run, and put in its place behind it.
+
+ghost use Rattle.std.specs.Prelude.{◌-◌, ◌^◌, ◌<◌};
+
+use gx_audit::write_audit;
+use gx_audit_bytes::AuditVersion;
+use gx_devices::Counted;
+use gx_files::FileIdentity;
+use gx_program::{Ended, Named, Place, file_named, identity_of, tell_apart};
+use gx_records::ShowsRecords;
+use gx_server::{Noted, ProgramFault};
+use gx_units::OutOfMemory;
+use std::fs::{File, OpenOptions, TryLockError};
+use std::io::{Error, ErrorKind, Write};
+use std::os::unix::fs::FileTypeExt;
+use std::{fs, io};
+
+/// What is told of a name beside the audit's that is not free for it.
+const NOT_REGULAR: &str = "the name with .tmp behind it is not a regular file's";
+
+/// Where the audit of a run goes.
+#[derive(Drop)]
+pub struct AuditFile<'a> {
+    path: &'a str,
+    way: Way,
+}
+
+/// How the audit comes there.
+#[derive(Drop)]
+enum Way {
+    /// It is written into what the name leads to: a device, or a file behind a symbolic link.
+    Through(File),
+    /// The same, for a named pipe: to open it waits for a reader.
+    Pipe,
+    /// It is written beside, and put in place when it is whole.
+    Beside(Beside),
+}
+
+/// A file beside that of the audit, which takes its place at the end. Both are locked.
+#[derive(Drop)]
+struct Beside {
+    name: String,
+    file: File,
+    /// What stands in its place until then, if something does.
+    standing: Option<File>,
+}
+
+/// That the audit's file can't be written.
+fn unwritten<'a>(path: &'a str, error: Error) -> Ended<'a> {
+    Ended::unwritten(Place::File(path), error)
+}
+
+/// Opens a file to be written, as it is.
+fn open_to_write(rt: &HostRuntime, path: &str, create: bool) -> io::Result<File> {
+    let mut options = OpenOptions::new();
+    options.write(true).create(create);
+    options.open(rt, path)
+}
+
+/// Locks the file for this program alone.
+fn lock<'a>(path: &'a str, file: File) -> Result<File, Ended<'a>> {
+    match file.try_lock() {
+        Ok(()) => Ok(file),
+        Err(TryLockError::WouldBlock) => Err(ProgramFault::AuditInUse.into()),
+        Err(TryLockError::Error(error)) => Err(unwritten(path, error)),
+    }
+}
+
+/// What stands in the audit's place, locked; `None` where nothing does.
+fn claim<'a>(rt: &HostRuntime, path: &'a str) -> Result<Option<File>, Ended<'a>> {
+    match open_to_write(rt, path, false) {
+        Ok(file) => Ok(Some(lock(path, file)?)),
+        Err(error) if error.kind() == ErrorKind::NotFound => Ok(None),
+        Err(error) => Err(unwritten(path, error)),
+    }
+}
+
+/// The name beside a file's.
+fn name_beside(rt: &HostRuntime, path: &str) -> Result<String, OutOfMemory> {
+    match format!(in rt.alloc(); "{path}.tmp") {
+        Ok(name) => Ok(name),
+        Err(_) => Err(OutOfMemory),
+    }
+}
+
+/// Which file this is.
+fn identity(file: &File) -> Option<FileIdentity> {
+    match file.metadata() {
+        Ok(found) => identity_of(&found),
+        Err(_) => None,
+    }
+}
+
+/// Whether there is a file of this name that is no regular one.
+fn is_odd(rt: &HostRuntime, name: &str) -> bool {
+    match fs::symlink_metadata(rt, name) {
+        Ok(found) => !found.is_file(),
+        Err(_) => false,
+    }
+}
+
+/// The file of this name beside the audit's, locked. What is left there of a run that was cut off stays for now.
+fn open_beside<'a>(
+    rt: &HostRuntime,
+    named: Named<'a>,
+    path: &'a str,
+    name: &str,
+) -> Result<File, Ended<'a>> {
+    if is_odd(rt, name) {
+        return Err(unwritten(path, Error::new(ErrorKind::InvalidData, NOT_REGULAR)));
+    }
+    let file = match open_to_write(rt, name, true) {
+        Ok(file) => file,
+        Err(error) => return Err(unwritten(path, error)),
+    };
+    tell_apart(
+        rt,
+        Named {
+            audit: Some(name),
+            ..named
+        },
+    )?;
+    let file = lock(path, file)?;
+    if identity(&file) != file_named(rt, name) {
+        return Err(ProgramFault::AuditInUse.into());
+    }
+    Ok(file)
+}
+
+/// The audit's file where a regular file stands or nothing does.
+fn way_beside<'a>(rt: &HostRuntime, named: Named<'a>, path: &'a str) -> Result<Way, Ended<'a>> {
+    let standing = claim(rt, path)?;
+    let name = name_beside(rt, path)?;
+    let file = open_beside(rt, named, path, name.as_str())?;
+    Ok(Way::Beside(Beside {
+        name,
+        file,
+        standing,
+    }))
+}
+
+/// The audit's file where something else stands.
+fn way_through<'a>(rt: &HostRuntime, path: &'a str) -> Result<Way, Ended<'a>> {
+    if let Ok(found) = fs::metadata(rt, path) {
+        if found.file_type().is_fifo() {
+            return Ok(Way::Pipe);
+        }
+    }
+    match open_to_write(rt, path, true) {
+        Ok(file) if identity(&file).is_some() => Ok(Way::Through(lock(path, file)?)),
+        Ok(file) => Ok(Way::Through(file)),
+        Err(error) => Err(unwritten(path, error)),
+    }
+}
+
+/// Writes the gate's audit to the device of this place.
+fn write_records<'a, G: ShowsRecords, W: Write + Drop>(
+    version: AuditVersion,
+    gate: &G,
+    device: W,
+    place: Place<'a>,
+) -> Result<(), Ended<'a>> {
+    let mut writer = Counted::new(Noted::new(device));
+    match write_audit(version, gate, &mut writer) {
+        Ok(()) => Ok(()),
+        Err(failed) => Err(Ended::of_writing(failed.into(), place, writer.into_inner().cause)),
+    }
+}
+
+/// Cuts off what a file has, where it is a regular one.
+fn cut<'a>(path: &'a str, file: &File) -> Result<(), Ended<'a>> {
+    if identity(file).is_none() {
+        return Ok(());
+    }
+    match file.set_len(0) {
+        Ok(()) => Ok(()),
+        Err(error) => Err(unwritten(path, error)),
+    }
+}
+
+/// Writes the gate's audit into an open file, from its beginning.
+fn write_through<'a, G: ShowsRecords>(
+    version: AuditVersion,
+    gate: &G,
+    path: &'a str,
+    file: &File,
+) -> Result<(), Ended<'a>> {
+    cut(path, file)?;
+    write_records(version, gate, file, Place::File(path))
+}
+
+/// Writes the gate's audit into a named pipe.
+fn write_pipe<'a, G: ShowsRecords>(
+    rt: &HostRuntime,
+    version: AuditVersion,
+    gate: &G,
+    path: &'a str,
+) -> Result<(), Ended<'a>> {
+    match open_to_write(rt, path, false) {
+        Ok(file) => write_records(version, gate, file, Place::File(path)),
+        Err(error) => Err(unwritten(path, error)),
+    }
+}
+
+impl Beside {
+    /// Whether what stands in the audit's place is what stood there, or else is no one's.
+    fn hold_place<'a>(&self, rt: &HostRuntime, path: &'a str) -> Result<Option<File>, Ended<'a>> {
+        let held = self.standing.as_ref().and_then(|file| identity(file));
+        if held.is_some() && held == file_named(rt, path) {
+            return Ok(None);
+        }
+        claim(rt, path)
+    }
+
+    /// Gives the file the mode of what stands in its place.
+    fn take_mode(&self) -> io::Result<()> {
+        match &self.standing {
+            Some(file) => self.file.set_permissions(file.metadata()?.permissions()),
+            None => Ok(()),
+        }
+    }
+
+    /// Puts the file in its place.
+    fn put<'a>(&self, rt: &HostRuntime, path: &'a str) -> Result<(), Ended<'a>> {
+        let _held = self.hold_place(rt, path)?;
+        let put = self
+            .take_mode()
+            .and_then(|()| self.file.sync_data())
+            .and_then(|()| fs::rename(rt, self.name.as_str(), path));
+        match put {
+            Ok(()) => Ok(()),
+            Err(error) => Err(unwritten(path, error)),
+        }
+    }
+}
+
+/// Whether a file may be made where the system says so of its name: no file has an empty one.
+fn is_new(path: &str, error: &Error) -> bool {
+    error.kind() == ErrorKind::NotFound && !path.is_empty()
+}
+
+impl<'a> AuditFile<'a> {
+    /// Opens the file that the audit is to go to, and leaves it as it is.
+    fn open(rt: &HostRuntime, named: Named<'a>, path: &'a str) -> Result<AuditFile<'a>, Ended<'a>> {
+        let way = match fs::symlink_metadata(rt, path) {
+            Ok(found) if found.is_file() => way_beside(rt, named, path)?,
+            Ok(_) => way_through(rt, path)?,
+            Err(error) if is_new(path, &error) => way_beside(rt, named, path)?,
+            Err(error) => return Err(unwritten(path, error)),
+        };
+        Ok(AuditFile { path, way })
+    }
+
+    /// Writes the gate's audit there in this version.
+    fn write<G: ShowsRecords>(
+        self,
+        rt: &HostRuntime,
+        version: AuditVersion,
+        gate: &G,
+    ) -> Result<(), Ended<'a>> {
+        let AuditFile { path, way } = self;
+        match way {
+            Way::Through(file) => write_through(version, gate, path, &file),
+            Way::Pipe => write_pipe(rt, version, gate, path),
+            Way::Beside(beside) => {
+                write_through(version, gate, path, &beside.file)?;
+                beside.put(rt, path)
+            }
+        }
+    }
+
+    /// Lets the file go where there is nothing to be written.
+    fn leave(self, rt: &HostRuntime) {
+        if let Way::Beside(beside) = self.way {
+            let _ = fs::remove_file(rt, beside.name.as_str());
+        }
+    }
+}
+
+/// Opens the audit's file, where an audit is wanted.
+pub fn open_audit<'a>(
+    rt: &HostRuntime,
+    named: Named<'a>,
+) -> Result<Option<AuditFile<'a>>, Ended<'a>> {
+    match named.audit {
+        Some(path) => Ok(Some(AuditFile::open(rt, named, path)?)),
+        None => Ok(None),
+    }
+}
+
+/// Closes a gate, and writes its audit in this version, where one is wanted.
+pub fn close_audited<'a, G: ShowsRecords>(
+    rt: &HostRuntime,
+    version: AuditVersion,
+    gate: G,
+    audit: Option<AuditFile<'a>>,
+) -> Result<(), Ended<'a>> {
+    let kept = match audit {
+        Some(file) => file.write(rt, version, &gate),
+        None => Ok(()),
+    };
+    gate.close();
+    kept
+}
+
+/// Lets the audit's file go, where there was no run.
+pub fn leave_audit<'a>(rt: &HostRuntime, audit: Option<AuditFile<'a>>) {
+    if let Some(file) = audit {
+        file.leave(rt);
+    }
+}
