@@ -5,7 +5,7 @@ use Rattle.gx_units.specs.{Names.same_account, declared.names.AccountName.Accoun
 use Rattle.gx_ouch.specs.declared.letters.Liquidity.{Liquidity}
 use Rattle.gx_policy.specs.{declared.policy.{Account.Account, PolicyData.PolicyData}, Lists.each_with_earlier, People.account_of}
 use Rattle.gx_history.specs.{declared.record.{Asked.Asked, Fill.Fill, RecordData.RecordData, Request.Request, Step.Step, Verdict.Verdict}, Book.rested_of, Executions.{Execution, executions, side_of, sides_in}, Orders.{Order, order_numbered, orders}, Requests.{asked, is_granted}}
-use Rattle.gx_history_laws.proofs.{NextOrders.executions_next, Pushing.each_after_next}
+use Rattle.gx_laws.proofs.{NextOrders.executions_next, Pushing.each_after_next}
 use Rattle.gx_overview.specs.Accounts.{capped_count}
 use Rattle.gx_activity.specs.{declared.{activity.{ActivityRow.ActivityRow, OrderRequests.OrderRequests}, deeds.Deed.Deed}, Activity.{expired_of, is_asked, is_cancel, is_denied, is_enter, is_replace, orders_of, orders_said, trades_for}, Noting.{deed_of, deeds_in, one_more, row_done, so_far}}
 

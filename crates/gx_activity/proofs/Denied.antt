@@ -4,7 +4,7 @@ use Rattle.std.specs.{Prelude.{Option, Some, None, count_by, option_to_list}, Op
 use Rattle.gx_units.specs.{Names.{same_account, same_rule}, declared.names.{AccountName.AccountName, RuleId.RuleId}}
 use Rattle.gx_policy.specs.{declared.policy.PolicyData.PolicyData, Lists.once}
 use Rattle.gx_history.specs.declared.record.RecordData.{RecordData}
-use Rattle.gx_history_laws.proofs.Names.{account_is, account_is_itself}
+use Rattle.gx_laws.proofs.Names.{account_is, account_is_itself}
 use Rattle.gx_overview.specs.Accounts.{capped_count}
 use Rattle.gx_overview.proofs.Passing.{map_same, map_twice}
 use Rattle.gx_activity.specs.{declared.denials.{Denial.Denial, DenialRow.DenialRow}, Denials.{denial_in, denial_row, denial_rows, denials, row_of, same_denial}, Denying.{counted_in, counted_once, denial_table, never, once_more, so_often, table_of}}

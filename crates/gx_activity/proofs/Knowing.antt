@@ -3,7 +3,7 @@ use Rattle.std.proofs.{Common.{◌≡◌, ℕ, ◌+◌, ◌<◌, List, [], ◌�
 use Rattle.gx_units.specs.declared.names.AccountName.{AccountName}
 use Rattle.gx_policy.specs.declared.policy.{Account.Account, PolicyData.PolicyData}
 use Rattle.gx_history.specs.{declared.record.RecordData.RecordData, Executions.executions, Orders.orders}
-use Rattle.gx_history_laws.proofs.NextOrders.{orders_next, orders_none}
+use Rattle.gx_laws.proofs.NextOrders.{orders_next, orders_none}
 use Rattle.gx_overview.specs.{declared.owners.Owners.Owners, Executed.KnowOrders}
 use Rattle.gx_activity.specs.{declared.activity.ActivityRow.ActivityRow, Activity.idle, Noting.{NoteRecord, deeds_in, row_in, so_far}}
 use Rattle.gx_activity.proofs.{Counting.row_next, Rowing.row_after}

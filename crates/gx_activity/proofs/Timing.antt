@@ -1,7 +1,7 @@
 -- What one more record adds to the counts of a span.
 use Rattle.std.proofs.{Common.{◌≡◌, ℕ, ◌+◌, ◌<◌, ◌≤◌, ◌^◌, Bool, true, false, cond, ◌&&◌, List, [], ◌∷◌, ◌++◌, length, take, get_or, arith, ap, sym, ◌∙◌}, lemmas.List.{take_more, Sums.{count_by-le-length, sum_by_push}}}
 use Rattle.gx_history.specs.declared.record.RecordData.{RecordData}
-use Rattle.gx_history_laws.specs.Laws.{grants_order}
+use Rattle.gx_laws.specs.HistoryLaws.{grants_order}
 use Rattle.gx_overview.specs.Accounts.{capped_count}
 use Rattle.gx_activity.specs.{declared.spans.SpanRow.SpanRow, Activity.is_denied, Spans.{is_filled, is_in_span, so_many_in, span_row}, Spanning.{span_noted, span_so_far, span_with}}
 use Rattle.gx_activity.proofs.{Counting.{no_more, one_more_is}, Standing.fits}

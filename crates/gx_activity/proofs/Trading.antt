@@ -4,7 +4,7 @@ use Rattle.std.specs.Prelude.{fold}
 use Rattle.gx_units.specs.{Money.value, Names.{same_account, same_stock}}
 use Rattle.gx_policy.specs.{declared.policy.PolicyData.PolicyData, Lists.once}
 use Rattle.gx_history.specs.{declared.record.RecordData.RecordData, Book.is_buy, Executions.{Execution, executions, sides_in}, Figures.done_of_chosen, Orders.orders}
-use Rattle.gx_history_laws.proofs.{Names.{account_is, account_is_itself, stock_is}, NextOrders.{executions_next, executions_none, orders_next}}
+use Rattle.gx_laws.proofs.{Names.{account_is, account_is_itself, stock_is}, NextOrders.{executions_next, executions_none, orders_next}}
 use Rattle.gx_overview.specs.{declared.{executed.Executed.Executed, owners.Owners.Owners}, Accounts.capped, Executed.{KnowOrders, value_of_chosen}}
 use Rattle.gx_overview.proofs.{Counting.sum_capped, Executing.{shares_next, value_next}, Passing.map_twice}
 use Rattle.gx_activity.specs.{declared.positions.{Position.Position, PositionRow.PositionRow}, Positions.{is_in, no_position, position_of, position_row, position_rows, position_with, row_of, same_position}, Positioning.{NotePositions, entries_after, position_table, table_of}}

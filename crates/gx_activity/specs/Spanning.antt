@@ -1,7 +1,7 @@
 -- What one more record changes in the rows of the spans.
 use Rattle.std.specs.Prelude.{◌≡◌, ℕ, List, Some, slice_get, if◌then◌else◌}
 use Rattle.gx_history.specs.declared.record.RecordData.{RecordData}
-use Rattle.gx_history_laws.specs.Laws.{grants_order}
+use Rattle.gx_laws.specs.HistoryLaws.{grants_order}
 use Rattle.gx_overview.specs.Accounts.{capped_count}
 use Rattle.gx_activity.specs.{declared.spans.SpanRow.SpanRow, Activity.is_denied, Noting.one_more, Spans.{is_filled, is_in_span, span_row}}
 

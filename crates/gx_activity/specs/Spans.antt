@@ -1,7 +1,7 @@
 -- What there was in spans of time.
 use Rattle.std.specs.Prelude.{ℕ, ◌+◌, ◌*◌, Bool, true, false, ◌&&◌, nat_le, nat_lt, List, count_by}
 use Rattle.gx_history.specs.declared.record.{RecordData.RecordData, Verdict.Verdict}
-use Rattle.gx_history_laws.specs.Laws.{grants_order}
+use Rattle.gx_laws.specs.HistoryLaws.{grants_order}
 use Rattle.gx_activity.specs.{declared.spans.SpanRow.SpanRow, Activity.is_denied}
 
 -- two orders traded

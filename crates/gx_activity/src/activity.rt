@@ -6,6 +6,7 @@ ghost use Rattle.gx_policy.specs.declared.policy.Account.{Account};
 
 use crate::deeds::Deed;
 use gx_history::record::{Fill, Record, Request, Step, Verdict};
+use gx_history::records::Records;
 use gx_overview::owners::Owners;
 use gx_people::people::People;
 use gx_policy::{Account, Policy};
@@ -194,7 +195,7 @@ fn note_record(
 fn note_records(
     alloc: Global,
     policy: &Policy,
-    records: &[Record],
+    records: &Records<'_>,
 ) -> Result<IndexMap<AccountName, ActivityRow>, OutOfMemory>
     ensures noted { IfOk result (λ table. (a : Account)
         → row_in table.entries a.name ≡ so_far policy.now records.now a) }
@@ -202,8 +203,8 @@ fn note_records(
     let people = People::new(alloc, policy)?;
     let mut table = IndexMap::new(alloc);
     let mut owners = Owners::new(alloc);
-    for record in records {
-        note_record(&mut table, &mut owners, policy, &people, record)?;
+    for place in 0..records.len() {
+        note_record(&mut table, &mut owners, policy, &people, &records.at(place))?;
     }
     Ok(table)
 }
@@ -241,7 +242,7 @@ pub fn activity_rows<G: ShowsRecords>(
     // That the records are fewer than 2^63, so that no count stops.
     gate.length();
     let policy = gate.policy();
-    let table = note_records(alloc, policy, gate.shown_records())?;
+    let table = note_records(alloc, policy, &gate.shown_records())?;
     let rows = rows_of(alloc, &table, policy.accounts())?;
     Ok(rows)
 }

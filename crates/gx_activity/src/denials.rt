@@ -5,6 +5,7 @@ ghost use Rattle.gx_activity.specs.{Denials.{denial_in, denial_row, denial_rows,
 
 use crate::listing::rows_in;
 use gx_history::record::{Record, Step, Verdict};
+use gx_history::records::Records;
 use gx_people::people::People;
 use gx_policy::Policy;
 use gx_records::ShowsRecords;
@@ -88,15 +89,15 @@ fn count_in(
 fn count_all(
     alloc: Global,
     policy: &Policy,
-    records: &[Record],
+    records: &Records<'_>,
 ) -> Result<IndexMap<Denial, DenialRow>, OutOfMemory>
     ensures table { IfOk result
         (λ table. table.entries ≡ denial_table policy.now records.now) }
 {
     let people = People::new(alloc, policy)?;
     let mut table = IndexMap::new(alloc);
-    for record in records {
-        count_in(&mut table, policy, &people, record)?;
+    for place in 0..records.len() {
+        count_in(&mut table, policy, &people, &records.at(place))?;
     }
     Ok(table)
 }
@@ -115,6 +116,6 @@ pub fn denial_rows<G: ShowsRecords>(alloc: Global, gate: &G) -> Result<Vec<Denia
 {
     // That the records are fewer than 2^63, so that no count stops.
     gate.length();
-    let table = count_all(alloc, gate.policy(), gate.shown_records())?;
+    let table = count_all(alloc, gate.policy(), &gate.shown_records())?;
     rows_in(alloc, &table)
 }

@@ -6,6 +6,7 @@ ghost use Rattle.gx_history.specs.Executions.{executions};
 
 use crate::listing::rows_in;
 use gx_history::record::{Fill, Record, Step, Verdict};
+use gx_history::records::Records;
 use gx_overview::executed::Executed;
 use gx_overview::owners::{Owner, Owners};
 use gx_people::people::People;
@@ -137,7 +138,7 @@ fn note_record(
 fn note_records(
     alloc: Global,
     policy: &Policy,
-    records: &[Record],
+    records: &Records<'_>,
 ) -> Result<IndexMap<Position, PositionRow>, OutOfMemory>
     ensures table { IfOk result
         (λ table. table.entries ≡ position_table policy.now records.now) }
@@ -145,8 +146,8 @@ fn note_records(
     let mut table = IndexMap::new(alloc);
     let people = People::new(alloc, policy)?;
     let mut owners = Owners::new(alloc);
-    for record in records {
-        note_record(&mut table, &mut owners, policy, &people, record)?;
+    for place in 0..records.len() {
+        note_record(&mut table, &mut owners, policy, &people, &records.at(place))?;
     }
     Ok(table)
 }
@@ -166,6 +167,6 @@ pub fn position_rows<G: ShowsRecords>(
     ensures all { IfOk result (λ rows. (p : Position) → row_of rows.items p
         ≡ position_row (executions (G.seen gate.now).policy (G.seen gate.now).records) p) }
 {
-    let table = note_records(alloc, gate.policy(), gate.shown_records())?;
+    let table = note_records(alloc, gate.policy(), &gate.shown_records())?;
     rows_in(alloc, &table)
 }

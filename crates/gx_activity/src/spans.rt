@@ -5,6 +5,7 @@ ghost use Rattle.gx_history.specs.Requests.{is_order};
 ghost use Rattle.gx_activity.specs.{Spans.{is_in_span, span_row}, Spanning.{no_records, span_with, IsNoted}};
 
 use gx_history::record::{Asked, Record, RecordData, Request, Step, Verdict};
+use gx_history::records::Records;
 use gx_units::{Moment, OutOfMemory};
 use std::alloc::Global;
 
@@ -81,15 +82,15 @@ fn note(rows: &mut [SpanRow], from: Moment, width: u64, left: &Record)
     }
 }
 
-fn note_all(rows: &mut [SpanRow], from: Moment, width: u64, records: &[Record])
+fn note_all(rows: &mut [SpanRow], from: Moment, width: u64, records: &Records<'_>)
     requires lasting { 0 < width }
     requires first { (k : ℕ) → k < length rows.old
         → slice_get rows.old k ≡ Some no_records }
     ensures noted { (k : ℕ) → k < length rows.old
         → slice_get rows.new k ≡ Some (span_row records.now from width k) }
 {
-    for record in records {
-        note(rows, from, width, record);
+    for place in 0..records.len() {
+        note(rows, from, width, &records.at(place));
     }
 }
 
@@ -101,7 +102,7 @@ fn note_all(rows: &mut [SpanRow], from: Moment, width: u64, records: &[Record])
 /// `OutOfMemory` where the rows were refused their memory.
 pub fn span_rows(
     alloc: Global,
-    records: &[Record],
+    records: &Records<'_>,
     from: Moment,
     width: u64,
     spans: usize,

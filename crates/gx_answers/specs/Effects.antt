@@ -2,8 +2,7 @@
 use Rattle.std.specs.Prelude.{◌≡◌, Bool, IsTrue, IsFalse}
 use Rattle.gx_units.specs.declared.names.AccountName.{AccountName}
 use Rattle.gx_history.specs.{declared.{facts.StockSide.StockSide, «record».RecordData.RecordData}, MayMove.MayMove, World.{World, move_of, stepped, world}, Figures.{of_accounts, on_side}, InForce.is_killed}
-use Rattle.gx_effects.specs.Lifts.{EndsKill}
-use Rattle.gx_exposure.specs.Exposure.{HasNothing, NoneIsGranted, side_shares}
+use Rattle.gx_laws.specs.{Lifts.EndsKill, Exposure.{HasNothing, NoneIsGranted, side_shares}}
 use Rattle.gx_answers.specs.Gates.{GateData}
 
 -- all that a step can change, by the gate's records

@@ -1,7 +1,7 @@
 //! What is asked of a gate that one has alone.
 
 ghost use Rattle.std.specs.Prelude.{◌≡◌, ◌+◌, ◌<◌, ◌^◌, max, [], length, IsFalse, IsOk, IsTrue, IfOk, IfErr, IfSome, OnOk, OnErr, None, Some, is_some, option_map};
-ghost use Rattle.gx_exposure.specs.Exposure.{NetStaysWithin, SharesStayWithin, ValuesStayWithin};
+ghost use Rattle.gx_laws.specs.Exposure.{NetStaysWithin, SharesStayWithin, ValuesStayWithin};
 ghost use Rattle.gx_history.specs.{InForce.{is_killed, line_of}, Matched.{AreUncrossed, HasNoOrders}, Showing.is_askable, Verdicts.IsLegal};
 ghost use Rattle.gx_policy.specs.{Lists.slice, People.user_in};
 ghost use Rattle.gx_answers.specs.declared.outcome.StepFault.TheVariants as faults;

@@ -4,7 +4,7 @@ use Rattle.std.specs.Prelude.{Some}
 use Rattle.gx_desk.specs.declared.Action.{Action}
 use Rattle.gx_policy.specs.declared.policy.PolicyData.{PolicyData}
 use Rattle.gx_history.specs.{declared.record.{Asked.Asked, RecordData.RecordData, Request.Request, Step.Step, Verdict.Verdict}, Verdicts.{day_limit, next, Follows, IsGrantedKillOrLogout, IsKillOrLogout}}
-use Rattle.gx_history_laws.proofs.Granting.{verdict_of_next}
+use Rattle.gx_laws.proofs.Granting.{verdict_of_next}
 use Rattle.gx_places.specs.Places.{has_kept_places, is_kill_or_logout}
 use Rattle.gx_answers.specs.{Gates.GateData, Steps.has_its_places}
 use Rattle.gx_audit.specs.Auditing.{NoneFollows}

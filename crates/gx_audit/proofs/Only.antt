@@ -3,7 +3,7 @@ use Rattle.std.proofs.{Common.{◌≡◌, ℕ, ◌+◌, ◌==◌, true, inl, inr
 use Rattle.std.specs.{Prelude.{Some, Result, Ok, Err}, List.AllByRecursion}
 use Rattle.gx_history.specs.{declared.record.RecordData.RecordData, Verdicts.{Follows, IsLegal, moment_of, next, step_verdict}}
 use Rattle.gx_policy.specs.{declared.policy.PolicyData.PolicyData, Lists.{each_after, each_with_earlier}}
-use Rattle.gx_history_laws.proofs.{Legality.some_number, Order.some_same}
+use Rattle.gx_laws.proofs.{Legality.some_number, Order.some_same}
 use Rattle.gx_audit.specs.{declared.fault.AuditFault.AuditFault, Auditing.{HasCutHeader, HasOtherHeader, IsAnswer, IsFaultAt, IsFirstFault, IsJudgement, IsOnlyAnswer}}
 use Rattle.gx_audit_bytes.specs.{declared.version.AuditVersion.AuditVersion, Versions.version_of, Headers.front_of, Records.record_bytes, Reading.{record_of, IsShown}, Audits.{all_bytes, whole_audit, AreShown}}
 use Rattle.gx_audit_bytes.proofs.ReadBack.{both_true, fields_lie}

@@ -22,12 +22,13 @@ pub none_written : (version : AuditVersion) (output : Option (List ℕ)) → App
 none_written version output = subst (Appends output output) (sym (no_bytes version)) (Appends-nil output)
 
 -- one more piece is written
-pub piece_written : (version : AuditVersion) (a b c : Option (List ℕ)) (records : List RecordData) (done size upto : ℕ) → done + size ≡ upto → Appends a b (all_bytes version (take done records))
-    → Appends b c (all_bytes version (take size (drop done records))) → Appends a c (all_bytes version (take upto records))
-piece_written version a b c records done size upto at so_far more =
-    let both : all_bytes version (take done records) ++ all_bytes version (take size (drop done records)) ≡ all_bytes version (take upto records) =
-    sym (all_joined version (take done records) (take size (drop done records))) ∙ ap (all_bytes version) (sym (take-add done size records)) ∙ ap (λ (n : ℕ). all_bytes version (take n records)) at in
-    subst (Appends a c) both (Appends-trans a b c (all_bytes version (take done records)) (all_bytes version (take size (drop done records))) so_far more)
+pub piece_written : (version : AuditVersion) (a b c : Option (List ℕ)) (records piece : List RecordData) (done size upto : ℕ) → piece ≡ take size (drop done records) → done + size ≡ upto
+    → Appends a b (all_bytes version (take done records)) → Appends b c (all_bytes version piece) → Appends a c (all_bytes version (take upto records))
+piece_written version a b c records piece done size upto is at so_far more =
+    let both : all_bytes version (take done records) ++ all_bytes version piece ≡ all_bytes version (take upto records) =
+    ap (λ (p : List RecordData). all_bytes version (take done records) ++ all_bytes version p) is
+    ∙ sym (all_joined version (take done records) (take size (drop done records))) ∙ ap (all_bytes version) (sym (take-add done size records)) ∙ ap (λ (n : ℕ). all_bytes version (take n records)) at in
+    subst (Appends a c) both (Appends-trans a b c (all_bytes version (take done records)) (all_bytes version piece) so_far more)
 
 -- all are written
 pub whole_written : (version : AuditVersion) (a b : Option (List ℕ)) (records : List RecordData) (done : ℕ) → length records ≤ done → Appends a b (all_bytes version (take done records)) → Appends a b (all_bytes version records)
@@ -38,9 +39,9 @@ regrouped : (a f r z : List ℕ) → a ++ ((f ++ r) ++ z) ≡ (a ++ f) ++ (r ++ 
 regrouped a f r z = simp append_assoc
 
 -- a front of one more piece is written
-pub piece_cut : (version : AuditVersion) (a b c : Option (List ℕ)) (records : List RecordData) (done size : ℕ) → Appends a b (all_bytes version (take done records))
-    → IsFront b c (all_bytes version (take size (drop done records))) → IsFront a c (all_bytes version records)
-piece_cut version a b c records done size so_far cut = record {
+pub piece_cut : (version : AuditVersion) (a b c : Option (List ℕ)) (records piece : List RecordData) (done size : ℕ) → piece ≡ take size (drop done records) → Appends a b (all_bytes version (take done records))
+    → IsFront b c (all_bytes version piece) → IsFront a c (all_bytes version records)
+piece_cut version a b c records piece done size is so_far cut = record {
   front = all_bytes version (take done records) ++ cut.front;
   rest = cut.rest ++ all_bytes version (drop size (drop done records));
   written = Appends-trans a b c (all_bytes version (take done records)) cut.front so_far cut.written;
@@ -55,7 +56,7 @@ piece_cut version a b c records done size so_far cut = record {
     left_is =
         ap (all_bytes version) (sym (take-append-drop size (drop done records)))
         ∙ all_joined version (take size (drop done records)) (drop size (drop done records))
-        ∙ ap (λ (bytes : List ℕ). bytes ++ all_bytes version (drop size (drop done records))) cut.whole
+        ∙ ap (λ (bytes : List ℕ). bytes ++ all_bytes version (drop size (drop done records))) (ap (all_bytes version) (sym is) ∙ cut.whole)
 
 -- the records are written behind the front
 pub behind_front : (a b c : Option (List ℕ)) (front bytes : List ℕ) → Appends a b front → Appends b c bytes → Appends a c (front ++ bytes)

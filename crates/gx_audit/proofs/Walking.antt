@@ -3,7 +3,7 @@ use Rattle.std.proofs.{Common.{◌≡◌, ℕ, ◌+◌, ◌≤◌, ◌<◌, List
 use Rattle.std.specs.Prelude.{Result, Ok, Err}
 use Rattle.gx_history.specs.{declared.record.RecordData.RecordData, Verdicts.IsLegal}
 use Rattle.gx_policy.specs.declared.policy.PolicyData.{PolicyData}
-use Rattle.gx_history_laws.proofs.Pushing.{all_next}
+use Rattle.gx_laws.proofs.Pushing.{all_next}
 use Rattle.gx_audit.specs.{declared.fault.AuditFault.AuditFault, Replaying.{EndsAt, IsRecordsFault}, Auditing.{IsAnswer, IsFaultAt, IsRecordFault, IsFirstFault, IsOneMore}}
 use Rattle.gx_audit_bytes.specs.{declared.version.AuditVersion.AuditVersion, Versions.version_of, Headers.front_of, Records.record_bytes, Reading.IsShown, Audits.{all_bytes, whole_audit, AreShown}}
 use Rattle.gx_audit_bytes.proofs.Joined.{no_bytes, more_bytes}

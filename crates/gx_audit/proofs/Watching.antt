@@ -5,7 +5,7 @@ use Rattle.gx_policy.specs.declared.policy.PolicyData.{PolicyData}
 use Rattle.gx_history.specs.declared.record.RecordData.{RecordData}
 use Rattle.gx_audit_bytes.specs.{declared.version.AuditVersion.AuditVersion, Reading.record_of}
 use Rattle.gx_records.specs.Watching.{earlier_of}
-use Rattle.gx_history_laws.proofs.Order.{some_same}
+use Rattle.gx_laws.proofs.Order.{some_same}
 use Rattle.gx_audit.specs.Auditing.{IsOneMore}
 
 -- the record that was added is the one that the bytes show

@@ -10,6 +10,7 @@ use arrayvec::ArrayVec;
 use gx_audit_bytes::{AuditVersion, RECORD_SIZE, write_record_in};
 use gx_devices::{Counted, WriteFailed, write_whole};
 use gx_history::record::Record;
+use gx_history::records::Records;
 use gx_records::ShowsRecords;
 use std::io::Write;
 
@@ -38,7 +39,7 @@ pub fn write_audit<G: ShowsRecords, W: Write>(
     ensures told { OnErr result (writer.old.failed < writer.new.failed) }
 {
     write_front(version, gate, writer)?;
-    write_records(version, gate.shown_records(), writer)
+    write_records(version, &gate.shown_records(), writer)
 }
 
 /// Writes what stands in front of the records.
@@ -67,7 +68,7 @@ fn write_front<G: ShowsRecords, W: Write>(
 /// Writes the records.
 fn write_records<W: Write>(
     version: AuditVersion,
-    records: &[Record],
+    records: &Records<'_>,
     writer: &mut Counted<W>,
 ) -> Result<(), WriteFailed>
     requires { writer.old.failed < 2 ^ 64 - 1 }
@@ -84,7 +85,7 @@ fn write_records<W: Write>(
     let mut done = 0;
     while done < count {
         let size = PIECE.min(count - done);
-        write_piece(version, &records[done..done + size], writer)?;
+        write_piece(version, &records.part(done, size), writer)?;
         done += size;
     }
     Ok(())
@@ -93,7 +94,7 @@ fn write_records<W: Write>(
 /// Writes a few records.
 fn write_piece<W: Write>(
     version: AuditVersion,
-    piece: &[Record],
+    piece: &Records<'_>,
     writer: &mut Counted<W>,
 ) -> Result<(), WriteFailed>
     requires few { length piece.now ≤ 64 }
@@ -112,13 +113,14 @@ fn write_piece<W: Write>(
 }
 
 /// The bytes of a few records.
-fn piece_bytes(version: AuditVersion, piece: &[Record]) -> PieceBytes
+#[inline(always)]
+fn piece_bytes(version: AuditVersion, piece: &Records<'_>) -> PieceBytes
     requires { length piece.now ≤ 64 }
     ensures { result.items ≡ all_bytes version piece.now }
 {
     let mut bytes = PieceBytes::new();
-    for given in piece {
-        put(version, &mut bytes, given);
+    for place in 0..piece.len() {
+        put(version, &mut bytes, &piece.at(place));
     }
     bytes
 }

@@ -1,7 +1,7 @@
 -- Records, written one behind the other.
 use Rattle.std.proofs.{Common.{◌≡◌, ℕ, ◌+◌, ◌<◌, List, [], ◌∷◌, ◌++◌, length, take, get_or, refl, sym, ap, ◌∙◌, append_assoc, subst}, lemmas.List.{append-nil, take_more}}
 use Rattle.gx_history.specs.declared.record.RecordData.{RecordData}
-use Rattle.gx_history_laws.proofs.Pushing.{all_next}
+use Rattle.gx_laws.proofs.Pushing.{all_next}
 use Rattle.gx_audit_bytes.specs.{declared.version.AuditVersion.AuditVersion, Audits.{all_bytes, AreShown}, Reading.IsShown, Records.record_bytes}
 
 pub no_bytes : (version : AuditVersion) → all_bytes version [] ≡ []

@@ -1,7 +1,6 @@
 -- Nothing of another's account is in a view.
-use Rattle.std.proofs.Common.{◌≡◌, Bool, true, false, List, [], ◌∷◌, map, refl, sym, subst, if◌then◌else◌}
+use Rattle.std.proofs.{Common.{◌≡◌, Bool, true, false, List, [], ◌∷◌, map, refl, sym, subst, if◌then◌else◌}, lemmas.{Bool.and_parts, List.Elements.{All-append, All-cons, All-map, All-nil, All-weaker}}}
 use Rattle.std.specs.Prelude.{All, IsTrue, filter, flat_map, is_some}
-use Rattle.std.proofs.lemmas.{Bool.and_parts, List.Elements.{All-append, All-cons, All-map, All-nil, All-weaker}}
 use Rattle.gx_units.specs.declared.names.{AccountName.AccountName, RuleId.RuleId, UserName.UserName}
 use Rattle.gx_policy.specs.{Kinds.{is_gross, is_net}, declared.policy.{Account.Account, FileRule.FileRule, PolicyData.PolicyData}}
 use Rattle.gx_history.specs.declared.record.RecordData.{RecordData}

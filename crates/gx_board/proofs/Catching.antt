@@ -1,6 +1,5 @@
 -- A summary that follows a gate's records a portion at a time.
-use Rattle.std.proofs.Common.{◌≡◌, ℕ, ◌+◌, ◌<◌, ◌≤◌, ◌^◌, ◌⊎◌, inl, inr, List, ◌++◌, length, take, drop, min, sym, ap, ◌∙◌, subst, arith}
-use Rattle.std.proofs.{Math.Seq.{take-add, take-length}, lemmas.List.{length-append, length-take, take-append-le, take_all}}
+use Rattle.std.proofs.{Common.{◌≡◌, ℕ, ◌+◌, ◌<◌, ◌≤◌, ◌^◌, ◌⊎◌, inl, inr, List, ◌++◌, length, take, drop, min, sym, ap, ◌∙◌, subst, arith}, Math.Seq.{take-add, take-length}, lemmas.List.{length-append, length-take, take-append-le, take_all}}
 use Rattle.gx_policy.specs.declared.policy.PolicyData.{PolicyData}
 use Rattle.gx_history.specs.declared.record.RecordData.{RecordData}
 use Rattle.gx_overview.specs.Accounts.{capped_count}

@@ -1,8 +1,6 @@
 -- What one more record makes of a summary.
-use Rattle.std.proofs.Common.{◌≡◌, ℕ, ◌+◌, ◌-◌, Bool, true, false, List, [], ◌∷◌, ◌++◌, length, map, drop, refl, sym, ap, ◌∙◌, subst, if◌then◌else◌, arith}
+use Rattle.std.proofs.{Common.{◌≡◌, ℕ, ◌+◌, ◌-◌, Bool, true, false, List, [], ◌∷◌, ◌++◌, length, map, drop, refl, sym, ap, ◌∙◌, subst, if◌then◌else◌, arith, append-nil}, lemmas.List.{append_assoc, drop-append-le, drop-drop, length-append, length-drop, map-append, Elements.{filter-append, filter_map-append}, Sums.{fold-append, sum_by-append}}}
 use Rattle.std.specs.Prelude.{count_by, filter, fold, max}
-use Rattle.std.proofs.lemmas.{List.{append_assoc, drop-append-le, drop-drop, length-append, length-drop, map-append}, List.Elements.{filter-append, filter_map-append}, List.Sums.{fold-append, sum_by-append}}
-use Rattle.std.proofs.Common.{append-nil}
 use Rattle.circular_buffer.specs.Buffer.{buffer, keep_last}
 use Rattle.gx_units.specs.declared.names.RuleId.{RuleId}
 use Rattle.gx_policy.specs.declared.policy.PolicyData.{PolicyData}

@@ -4,9 +4,8 @@ use Rattle.std.specs.{Prelude.{Option, Some, option_and_then, option_map}, Optio
 use Rattle.gx_units.specs.{declared.names.{AccountName.AccountName, UserName.UserName}, Names.{same_account, same_user}}
 use Rattle.gx_policy.specs.{declared.policy.{PolicyData.PolicyData, User.User}, Lists.are_distinct, People.{account_of_role, role_in, user_in}, Soundness.is_sound}
 use Rattle.gx_history.specs.{declared.{live_order.LiveOrder.LiveOrder, record.RecordData.RecordData}, Live.live, Verdicts.IsLegal}
-use Rattle.gx_history_laws.proofs.{Adding.user_is, Judging.both, Names.{same_user_flip, users_differ}}
-use Rattle.gx_effects.specs.Laws.{IsOfItsTrader}
-use Rattle.gx_effects.proofs.TheirTraders.{live_orders_are_of_their_traders}
+use Rattle.gx_laws.proofs.{Adding.user_is, Judging.both, Names.{same_user_flip, users_differ}, TheirTraders.live_orders_are_of_their_traders}
+use Rattle.gx_laws.specs.EffectLaws.{IsOfItsTrader}
 use Rattle.gx_slab.specs.Slabs.{of_account}
 use Rattle.gx_records.specs.State.{of_user}
 use Rattle.gx_board.specs.Accounts.{orders_of_trader, trades_for}

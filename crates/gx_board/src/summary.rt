@@ -7,6 +7,7 @@ use crate::counts::{Counts, commands, denies};
 use crate::denied::{DeniedRow, first_rows, note};
 use circular_buffer::HeapCircularBuffer;
 use gx_history::record::{Record, RecordData};
+use gx_history::records::Records;
 use gx_overview::commands::{GrantedCommand, granted_commands};
 use gx_policy::Policy;
 use gx_records::ShowsRecords;
@@ -45,19 +46,6 @@ fn push_where(is_so: bool, ring: &mut HeapCircularBuffer<RecordData>, left: &Rec
 {
     if is_so {
         ring.push_back(*left);
-    }
-}
-
-/// The records behind the first so many, but no more than so many.
-fn portion(records: &[Record], done: usize, most: usize) -> &[Record]
-    requires { done ≤ length records.now }
-    ensures { result.now ≡ take most (drop done records.now) }
-{
-    let left = &records[done..];
-    if left.len() <= most {
-        left
-    } else {
-        &left[..most]
     }
 }
 
@@ -108,12 +96,12 @@ impl Summary {
     }
 
     /// Counts these records, which come behind those that it has counted.
-    fn count(&mut self, more: &[Record])
+    fn count(&mut self, more: &Records<'_>)
         ensures counted { Counted more.now self.old self.new }
         ensures commands_kept { self.new.commands.items ≡ self.old.commands.items }
     {
-        for record in more {
-            self.note(record);
+        for place in 0..more.len() {
+            self.note(&more.at(place));
         }
     }
 
@@ -122,7 +110,7 @@ impl Summary {
     /// # Errors
     ///
     /// `OutOfMemory` where memory was refused; then it has followed none of them.
-    pub fn follow(&mut self, alloc: Global, more: &[Record]) -> Result<(), OutOfMemory>
+    pub fn follow(&mut self, alloc: Global, more: &Records<'_>) -> Result<(), OutOfMemory>
         ensures followed { OnOk result (Follows more.now self.old self.new) }
         ensures refused { OnErr result (Stays self.old self.new) }
     {
@@ -154,8 +142,8 @@ impl Summary {
         // The records are fewer than 2^63, so that no count stops.
         gate.length();
         let records = gate.shown_records();
-        let more = portion(records, self.counts.records as usize, most);
-        self.follow(alloc, more)?;
+        let more = records.part(self.counts.records as usize, most);
+        self.follow(alloc, &more)?;
         Ok(self.counts.records == records.len() as u64)
     }
 }

@@ -4,7 +4,7 @@ use Rattle.std.specs.Prelude.{Some}
 use Rattle.gx_desk.specs.declared.Action.{Action}
 use Rattle.gx_policy.specs.declared.policy.PolicyData.{PolicyData}
 use Rattle.gx_history.specs.{declared.{«record».{Asked.Asked, RecordData.RecordData, Request.Request, Step.Step, Verdict.Verdict}, moves.Move.Move}, Verdicts.{FitsDay, IsGrantedKillOrLogout, IsKillOrLogout, day_limit, next}, World.{move_of, world}}
-use Rattle.gx_history_laws.proofs.{NextReports.{legal_next, legal_none}, Numbers.number_left, Runs.step_left}
+use Rattle.gx_laws.proofs.{NextReports.{legal_next, legal_none}, Numbers.number_left, Runs.step_left}
 use Rattle.gx_keepers.specs.{declared.keepers.Keepers.Keepers, Keepers.{AreInForce, KeepPlaces, Takes}}
 use Rattle.gx_places.specs.Places.{has_kept_places, is_kill_or_logout, most_record_places, record_places}
 use Rattle.gx_places.proofs.Asked.{kept_records_take_places, so_many_record_places_are_enough}

@@ -3,8 +3,7 @@ use Rattle.std.proofs.{Common.{◌≡◌, ℕ, ◌+◌, arith, true, false, leng
 use Rattle.std.specs.Prelude.{None, Some, option_map, ◌&&◌}
 use Rattle.gx_policy.specs.declared.policy.PolicyData.{PolicyData}
 use Rattle.gx_history.specs.{declared.{«record».{RecordData.RecordData, Step.Step, Verdict.Verdict}, live_order.LiveOrder.LiveOrder}, Matching.matching, Requests.is_judged, Showing.{is_showable, is_verdict_of}, Verdicts.{IsLegal, moment_of, next, step_verdict}, Live.live}
-use Rattle.gx_history_laws.proofs.{Numbers.number_left, Runs.step_left}
-use Rattle.gx_effects.proofs.{Matches.not_judged, Orderly.legal_is_orderly, Settling.settled_step}
+use Rattle.gx_laws.proofs.{Numbers.number_left, Runs.step_left, Matches.not_judged, Orderly.legal_is_orderly, Settling.settled_step}
 use Rattle.gx_book.specs.Books.{StockOrders}
 use Rattle.gx_market.proofs.Crossing.{matching_is_met}
 use Rattle.gx_market.specs.Meeting.{best_against, match_record, met, next_met}

@@ -8,7 +8,7 @@ use Rattle.gx_history.specs.{declared.{facts.StockSide.StockSide, live_order.Liv
 use Rattle.gx_orders.specs.LiveOrders.{OrdersData}
 use Rattle.gx_people.specs.Entitled.{sees}
 use Rattle.gx_people.proofs.Entitling.{kept}
-use Rattle.gx_positions.proofs.{Sized.{IsSized, legal_is_sized}, Small.{IsSmall, IsSmallSide, below, product, sum_within}, Sound.{live_are_few, positions_are_sound}}
+use Rattle.gx_laws.proofs.{Sized.{IsSized, legal_is_sized}, Small.{IsSmall, IsSmallSide, below, product, sum_within}, Sound.{live_are_few, positions_are_sound}}
 use Rattle.gx_rules.specs.Settings.{limit_in}
 use Rattle.gx_ledger.specs.{declared.{asks.Asks.Asks, sums.{NetSums.NetSums, Sums.Sums}}, Standing.{GivesGross, GivesNet, counted_with, gross_sums_of, net_sums_of}, Tallies.{asks_of, count_of}}
 use Rattle.gx_keepers.specs.declared.keepers.Keepers.{Keepers}

@@ -14,8 +14,8 @@ use gx_answers::{
 use gx_history::history::History;
 use gx_history::moves::Move;
 use gx_history::record::{Asked, Record, Request, Verdict};
+use gx_history::records::Records;
 use gx_history::report::Report;
-use gx_history::slices::slice;
 use gx_keepers::apply::carry_on;
 use gx_keepers::keepers::Keepers;
 use gx_keepers::matching::carry_match;
@@ -102,8 +102,7 @@ impl AccessGate for Gate {
             },
             &a,
         )?;
-        self.history
-            .push_reserved(Record::new(record_of(&a, outcome)));
+        self.history.push_reserved(Record::new(entry));
         Ok(outcome)
     }
 
@@ -136,7 +135,7 @@ impl AccessGate for Gate {
     }
 
     fn length(&self) -> u64 {
-        self.history.as_slice().len() as u64
+        self.history.len() as u64
     }
 
     fn is_legal(&self) {
@@ -160,7 +159,7 @@ impl AccessGate for Gate {
     }
 
     fn records(&self, from: u64, most: u64) -> Result<Vec<Record>, OutOfMemory> {
-        Ok(slice(self.history.as_slice(), from, most).to_vec(self.alloc)?)
+        self.history.records().slice(from, most).to_vec(self.alloc)
     }
 
     fn reports(&self, user: UserName, from: u64, most: u64) -> Result<Pulled, OutOfMemory> {
@@ -209,8 +208,8 @@ impl AccessGate for Gate {
 }
 
 impl ShowsRecords for Gate {
-    fn shown_records(&self) -> &[Record] {
-        self.history.as_slice()
+    fn shown_records(&self) -> Records<'_> {
+        self.history.records()
     }
 }
 

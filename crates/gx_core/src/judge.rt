@@ -197,7 +197,7 @@ impl Gate {
     }
 
     /// The number, the moment and the verdict of the record that the request leaves, by what the rules ask.
-    #[tactic(auto, using(gx_history_laws::proofs::Granting::next_in_parts))]
+    #[tactic(auto, using(gx_laws::proofs::Granting::next_in_parts))]
     pub(crate) fn judge(&self, a: &Asked, near: Near, known: &Facts) -> Outcome
         requires askable { IsTrue (is_askable a.now) }
         requires known { known.now ≡ facts_now self.now.policy self.now.records a.now }

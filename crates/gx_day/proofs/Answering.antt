@@ -5,7 +5,7 @@ use Rattle.gx_units.specs.{Names.{same_account, same_user}, declared.names.{Acco
 use Rattle.gx_desk.specs.declared.{Action.Action, Command.Command}
 use Rattle.gx_policy.specs.{declared.{policy.{Account.Account, PolicyData.PolicyData, User.User}, rule_name.RuleName.TheVariants.{L1, Q1}}, Lists.where_true, People.{account_named, user_in}}
 use Rattle.gx_history.specs.{declared.record.{Asked.Asked, Login.Login, RecordData.RecordData, Request.Request, Step.Step, Verdict.Verdict}, Asking.{facts, knows_names, knows_user, of_command}, InForce.{is_closed, kill_after, kill_in_force, kill_or_lift_of, line_by, line_of}, Requests.{action_of, asked, granted, is_granted}, Rules.forbids, Verdicts.{Follows, IsLegal, facts_now, last_moment, next}}
-use Rattle.gx_history_laws.proofs.{Granting.{legal_keeps, is_no_bar}, KillsNext.{kill_in_force_next, kill_in_force_none}, NextInForce.{line_of_next, line_of_none}, Order.some_same, Adding.user_is, Judging.both, Names.account_is}
+use Rattle.gx_laws.proofs.{Granting.{legal_keeps, is_no_bar}, KillsNext.{kill_in_force_next, kill_in_force_none}, NextInForce.{line_of_next, line_of_none}, Order.some_same, Adding.user_is, Judging.both, Names.account_is}
 use Rattle.gx_day.specs.{DayData.{AccountKill, DayData, UserLine, kill_in, line_in}, InForce.{day_in_force, kill_now, line_now}}
 
 -- a granted record was asked for

@@ -5,7 +5,7 @@ use Rattle.gx_units.specs.{Names.{same_account, same_user}, declared.names.{Acco
 use Rattle.gx_desk.specs.declared.{Action.Action, Command.Command}
 use Rattle.gx_policy.specs.declared.policy.{Account.Account, Lifters.Lifters, PolicyData.PolicyData, User.User}
 use Rattle.gx_history.specs.{declared.{moves.Move.{Move, TheVariants.{Nothing, Denies, PutsOn, Adds, Sizes, Replaces, Commands, Fills, Rests, Expires}}, «record».RecordData.RecordData}, InForce.{kill_in_force, line_of, kill_after}, World.{World, world, commanded, move_of, moved}}
-use Rattle.gx_history_laws.proofs.{KillsNext.kill_in_force_none, Keeping.map_same, Moves.{InForce, in_force_next}, Names.{same_account_flip, same_user_flip}, NextInForce.{is_closed_none, last_moment_next, line_of_none}}
+use Rattle.gx_laws.proofs.{KillsNext.kill_in_force_none, Keeping.map_same, Moves.{InForce, in_force_next}, Names.{same_account_flip, same_user_flip}, NextInForce.{is_closed_none, last_moment_next, line_of_none}}
 use Rattle.gx_day.specs.{DayData.{AccountKill, DayData, UserLine, at_moment, marked, put_on}, InForce.{day_commanded, day_in_force, day_moved, fresh_day, kill_now, line_now, off_line, unkilled}, Laws.DaysGoOn}
 
 -- two days are the same where their parts are

@@ -6,7 +6,7 @@ use Rattle.indexmap.specs.IndexMap.{insert_entry}
 use Rattle.gx_units.specs.{Names.{same_account, same_user}, declared.names.{AccountName.AccountName, UserName.UserName}}
 use Rattle.gx_policy.specs.{declared.policy.{Account.Account, Lifters.Lifters, User.User}, Lists.are_distinct}
 use Rattle.gx_history.specs.InForce.{kill_after}
-use Rattle.gx_history_laws.proofs.{Adding.user_is, Names.{account_is, same_account_flip, same_user_flip}, Tables.{changed_in_place, new_next, none_changed, none_found}}
+use Rattle.gx_laws.proofs.{Adding.user_is, Names.{account_is, same_account_flip, same_user_flip}, Tables.{changed_in_place, new_next, none_changed, none_found}}
 use Rattle.gx_day.specs.{DayData.{AccountKill, UserLine, marked, put_on}, InForce.{off_line, unkilled}, declared.day.Kill.Kill, View.{kill_entry, kills_of, lifted_by, line_entry, lines_of}}
 
 abbrev line_put : UserName → Option ℕ → Option ℕ → Bool → UserLine

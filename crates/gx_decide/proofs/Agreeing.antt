@@ -5,12 +5,10 @@ use Rattle.gx_units.specs.declared.names.AccountName.{AccountName}
 use Rattle.gx_desk.specs.declared.Action.{Action}
 use Rattle.gx_history.specs.{declared.{facts.Facts.Facts, live_order.LiveOrder.LiveOrder, «record».{Asked.Asked, RecordData.RecordData, Request.Request}}, Asking.{facts, of_command}, Figures.{Positions, figures, positions}, InForce.rules_in_force, Rules.first_forbidding, Verdicts.{facts_now, figures_asked, verdict, verdict_by, with_figures}}
 use Rattle.gx_policy.specs.{declared.policy.{FileRule.FileRule, PolicyData.PolicyData, User.User}, People.{account_named, account_of}, Soundness.is_sound}
-use Rattle.gx_history_laws.proofs.FiguresKept.{figures_kept}
+use Rattle.gx_laws.proofs.{FiguresKept.figures_kept, Sound.positions_are_sound, Accounts.accounts_are_known}
 use Rattle.gx_people.specs.Entitled.{people_in_force}
 use Rattle.gx_people.proofs.Keeping.{powers_stay}
-use Rattle.gx_positions.proofs.Sound.{positions_are_sound}
 use Rattle.gx_decide.specs.{Deciding.{AskForTheSame, knows_asker, with_powers}, Verdicts.DecidesTheVerdict}
-use Rattle.gx_effects.proofs.Accounts.{accounts_are_known}
 
 account_fact : (policy : PolicyData) (history : List RecordData) (a : Asked) → (facts_now policy history a).account ≡ account_of policy a.user
 unfolding facts

@@ -5,7 +5,7 @@ use Rattle.gx_desk.specs.declared.Action.{Action}
 use Rattle.gx_history.specs.{declared.{facts.Facts.Facts, live_order.LiveOrder.LiveOrder, «record».{Asked.Asked, Request.Request, Verdict.Verdict}}, Asking.of_command, Figures.{Positions, figures}, Rules.first_forbidding, Verdicts.{figures_asked, verdict_by, with_figures}}
 use Rattle.gx_policy.specs.{declared.policy.{FileRule.FileRule, PolicyData.PolicyData, User.User}, People.account_named}
 use Rattle.gx_people.specs.Entitled.{has, power_of}
-use Rattle.gx_positions.specs.Sound.{AreSound}
+use Rattle.gx_laws.specs.Sound.{AreSound}
 use Rattle.gx_ledger.specs.{Keeping.Kept, StandsFor.StandsFor}
 
 -- the facts, with what these people say of the asker's power

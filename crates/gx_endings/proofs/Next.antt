@@ -3,7 +3,7 @@ use Rattle.std.proofs.{Common.{◌≡◌, List, [], ◌∷◌, ◌++◌, refl, a
 use Rattle.std.specs.{Prelude.{Option, Some, None, filter_map, option_to_list}, List.{cons_option, flat_map}}
 use Rattle.gx_policy.specs.{declared.policy.PolicyData.PolicyData, Lists.each_with_earlier}
 use Rattle.gx_history.specs.declared.record.RecordData.{RecordData}
-use Rattle.gx_history_laws.proofs.Pushing.{each_after_next}
+use Rattle.gx_laws.proofs.Pushing.{each_after_next}
 use Rattle.gx_endings.specs.{declared.{commands.CommandRow.CommandRow, endings.Ending.Ending, order_ends.OrderEnd.OrderEnd}, Commands.{command_by, command_rows}, Endings.{Grows, ending_by, endings, order_ends, order_ends_by}}
 
 one_found : {Y : Type 0} (found : Option Y) → cons_option found [] ≡ option_to_list found

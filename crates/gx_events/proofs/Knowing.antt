@@ -3,7 +3,7 @@ use Rattle.std.proofs.{Common.{◌≡◌, ℕ, max, fold, List, [], ◌∷◌, �
 use Rattle.std.specs.{Prelude.{Option, Some, None}, Option.option_map_or, List.{filter_map, cons_option}}
 use Rattle.gx_policy.specs.declared.policy.PolicyData.{PolicyData}
 use Rattle.gx_history.specs.{declared.record.RecordData.RecordData, InForce.rules_in_force, Requests.granted_action, Verdicts.last_moment}
-use Rattle.gx_history_laws.proofs.NextInForce.{last_moment_next, rules_in_force_next, rules_in_force_none}
+use Rattle.gx_laws.proofs.NextInForce.{last_moment_next, rules_in_force_next, rules_in_force_none}
 use Rattle.gx_events.specs.Known.{counted, denied_within, denies_login, highest_line, known_next, known_of, limits_of, login_line, minute_of}
 use Rattle.gx_events.proofs.{Counting.{denied_is, denied_more}, Limiting.limits_changed}
 

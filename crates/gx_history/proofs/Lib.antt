@@ -1,1 +1,2 @@
 pub mod Slicing
+pub mod Unpacking

@@ -1,7 +1,6 @@
 -- A search over fields, a field further.
-use Rattle.std.proofs.Common.{◌≡◌, ℕ, ◌+◌, ◌<◌, Bool, true, false, List, ◌∷◌, length, drop, map, get_or, Option, Some, ap, ◌∙◌}
+use Rattle.std.proofs.{Common.{◌≡◌, ℕ, ◌+◌, ◌<◌, Bool, true, false, List, ◌∷◌, length, drop, map, get_or, Option, Some, ap, ◌∙◌}, lemmas.List.drop_more}
 use Rattle.std.specs.Prelude.{find, option_map, if◌then◌else◌}
-use Rattle.std.proofs.lemmas.List.{drop_more}
 use Rattle.httparse.specs.{Spans.{header_bytes, span_bytes}, declared.spans.HeaderSpan.HeaderSpan}
 use Rattle.http1.specs.{Fields.{Header, is_named}, Text.eq_ignore_case}
 use Rattle.gx_http.specs.Credentials.{value_named}

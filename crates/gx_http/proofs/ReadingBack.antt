@@ -1,7 +1,6 @@
 -- A response is read back.
-use Rattle.std.proofs.Common.{◌≡◌, ◌^◌, ◌<◌, ℕ, Bool, true, List, [], ◌∷◌, ◌++◌, length, map, refl, sym, ap, ◌∙◌}
+use Rattle.std.proofs.{Common.{◌≡◌, ◌^◌, ◌<◌, ℕ, Bool, true, List, [], ◌∷◌, ◌++◌, length, map, refl, sym, ap, ◌∙◌}, lemmas.Fmt.decimal_is_IsNumeral}
 use Rattle.std.specs.{Prelude.{codes, decimal, if◌then◌else◌}, List.list_all, Option.option_to_list, Str.Parse.digits_value}
-use Rattle.std.proofs.lemmas.Fmt.{decimal_is_IsNumeral}
 use Rattle.httparse.specs.Spans.{name_and_value}
 use Rattle.http1.specs.{Fields.{Header, content_length, is_named, is_number, known_fields, values_named}, Head.response_head, Text.eq_ignore_case}
 use Rattle.http1.specs.declared.fields.ContentLength.TheVariants as Length

@@ -1,6 +1,5 @@
 -- Responses, as bytes.
-use Rattle.std.specs.Prelude.{ℕ, List, [], ◌∷◌, ◌++◌, length, Option, Some, None, codes, decimal}
-use Rattle.std.specs.Option.{option_to_list}
+use Rattle.std.specs.{Prelude.{ℕ, List, [], ◌∷◌, ◌++◌, length, Option, Some, None, codes, decimal}, Option.option_to_list}
 use Rattle.http1.specs.{Fields.Header, Head.response_text}
 use Rattle.gx_http.specs.{declared.{request.RequestFault.RequestFault, response.{Content.Content, Status.Status}, routes.Method.Method}, Routes.method_text}
 

@@ -1,7 +1,6 @@
 -- Among entries of distinct keys, one with an equal key is the only one.
-use Rattle.std.proofs.Common.{◌≡◌, ◌∙◌, ◌+◌, ◌<◌, ℕ, zero, suc, Bool, true, false, cond, not, nat_lt, lt-ltb, arith, length, List, [], ◌∷◌, Some, None, IfSome, refl, sym, ap, subst, true≢false, is_some, unwrap_or, slice_get, position}
+use Rattle.std.proofs.{Common.{◌≡◌, ◌∙◌, ◌+◌, ◌<◌, ℕ, zero, suc, Bool, true, false, cond, not, nat_lt, lt-ltb, arith, length, List, [], ◌∷◌, Some, None, IfSome, refl, sym, ap, subst, true≢false, is_some, unwrap_or, slice_get, position}, lemmas.{Map.{NonePasses, none_passes_from_lookup, Entries.place_from_lookup}, Option.slice_get_within}}
 use Rattle.std.specs.{Cmp.IsEquivalence, List.{AllByRecursion, IsDistinct, position_or_len}, Map.{keys_of, values_of, lookup, set_value}}
-use Rattle.std.proofs.lemmas.{Map.{NonePasses, none_passes_from_lookup, Entries.place_from_lookup}, Option.slice_get_within}
 use Rattle.indexmap.specs.IndexMap.{IndexMap, UpdatesBy, WritesThrough, set_value_at, with_value_at}
 use Rattle.indexmap.proofs.{CallerLemmas.{index_map_len-with_value_at, keys-with_value_at, updates-with_value_at}, MapLemmas.{Found-position, Missing-position, some_index, value_index}}
 

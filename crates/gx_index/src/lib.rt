@@ -1,8 +1,7 @@
 //! Look-ups in a map in the order of insertion that begin where the key is likely to stand.
 #![tactic(auto)]
 
-ghost use Rattle.std.specs.Prelude.{◌≡◌, ◌<◌, is_some, option_copied, position, slice_get, IfSome};
-ghost use Rattle.std.specs.{Borrow.sem, Option.option_copied_mut};
+ghost use Rattle.std.specs.{Prelude.{◌≡◌, ◌<◌, is_some, option_copied, position, slice_get, IfSome}, Borrow.sem, Option.option_copied_mut};
 ghost use Rattle.indexmap.specs.{IndexMap.{get_by, index_map_len, index_of_by, values, IsUnique}, Lends.lends_get};
 
 use indexmap::{IndexMap, IndexSet};

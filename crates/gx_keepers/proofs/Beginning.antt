@@ -9,7 +9,7 @@ use Rattle.gx_orders.proofs.Staying.{none_at_first}
 use Rattle.gx_book.specs.Books.{StockOrders, empty_book}
 use Rattle.gx_market.proofs.Booked.{book_at_first}
 use Rattle.gx_people.proofs.Keeping.{first_users}
-use Rattle.gx_positions.specs.Changing.{nothing}
+use Rattle.gx_laws.specs.Changing.{nothing}
 use Rattle.gx_ledger.specs.{Keeping.Kept, StandsFor.StandsFor}
 use Rattle.gx_streams.specs.{Streams.{AllStreams, empty_streams}, Telling.shown}
 use Rattle.gx_streams.proofs.Telling.{first_told}

@@ -6,8 +6,7 @@ use Rattle.gx_desk.specs.declared.{Action.Action, Command.Command}
 use Rattle.gx_policy.specs.{declared.{policy.{FileRule.FileRule, PolicyData.PolicyData, User.User}, rule_name.RuleName.RuleName}, People.account_of}
 use Rattle.gx_history.specs.{declared.{live_order.LiveOrder.LiveOrder, moves.Move.Move, «record».{Asked.Asked, Fill.Fill, RecordData.RecordData, Request.Request, Step.Step, Verdict.Verdict}, report.Message.Message}, InForce.rules_in_force, Live.{live, live_under}, LiveOrders.replacement_order, Requests.{action_of, asked, granted_action, is_granted}, Streams.{canceled_of, replaced_of, reported, reports_of, reports_of_denial, stream, to_user}, Turns.new_order, Verdicts.next, World.{Does, World, accepted_of, move_asked, move_by, moved, world}}
 use Rattle.gx_ouch.specs.declared.letters.CancelReason.{CancelReason}
-use Rattle.gx_history_laws.proofs.{Adding.user_is_itself, NextInForce.{rules_in_force_next, rules_with}, NextReports.stream_next}
-use Rattle.gx_effects.proofs.Doing.{IsAskedMove, IsMatchMove, asked_does, match_does, world_does}
+use Rattle.gx_laws.proofs.{Adding.user_is_itself, NextInForce.{rules_in_force_next, rules_with}, NextReports.stream_next, Doing.{IsAskedMove, IsMatchMove, asked_does, match_does, world_does}}
 use Rattle.gx_day.specs.{DayData.{DayData, at_moment}, InForce.{day_in_force, day_moved}}
 use Rattle.gx_day.proofs.Going.{day_next}
 use Rattle.gx_orders.specs.{Changes.orders_moved, LiveOrders.OrdersData}

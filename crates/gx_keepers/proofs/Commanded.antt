@@ -5,8 +5,7 @@ use Rattle.std.specs.{Prelude.{Option, Some, None, is_some, option_and_then, opt
 use Rattle.gx_units.specs.{Names.same_user, declared.names.{AccountName.AccountName, UserName.UserName}}
 use Rattle.gx_desk.specs.declared.{Action.Action, AnswerCode.AnswerCode, Command.Command}
 use Rattle.gx_history.specs.{declared.{moves.Move.Move, «record».{RecordData.RecordData, Step.Step}, report.Report.Report, live_order.LiveOrder.LiveOrder}, Asking.{knows_limit, knows_names, rule_in_force}, InForce.{changed, rules_in_force}, Readers.reader_in, Streams.{answer, day_end, granted_code, lift_code, reported, reports_of, stream, to_user, ended_of}, Verdicts.next, Live.live}
-use Rattle.gx_history_laws.proofs.{Adding.{user_is, user_is_itself}, Judging.both, Names.{same_user_flip, users_differ}, NextReports.stream_next}
-use Rattle.gx_effects.proofs.{Commanding.{grants_the_command, told_by_command}, Doing.{IsCommanded, command_does, may_do}}
+use Rattle.gx_laws.proofs.{Adding.{user_is, user_is_itself}, Judging.both, Names.{same_user_flip, users_differ}, NextReports.stream_next, Commanding.{grants_the_command, told_by_command}, Doing.{IsCommanded, command_does, may_do}}
 use Rattle.gx_day.specs.{DayData.{DayData, at_moment}, InForce.{day_commanded, day_in_force, day_moved}}
 use Rattle.gx_day.proofs.{Going.day_next, Answering.known_kill_is_kept}
 use Rattle.gx_orders.specs.{Changes.{is_lasting, live_left, with_live}, LiveOrders.OrdersData}

@@ -6,13 +6,11 @@ use Rattle.gx_desk.specs.declared.{Action.Action, Command.Command}
 use Rattle.gx_policy.specs.{declared.policy.PolicyData.PolicyData, People.account_of}
 use Rattle.gx_history.specs.{declared.{live_order.LiveOrder.LiveOrder, moves.Move.Move, «record».{Asked.Asked, Fill.Fill, RecordData.RecordData, Request.Request, Step.Step, Verdict.Verdict}}, Figures.{Positions, positions}, Live.{live, live_numbered, live_under}, LiveOrders.{replacement_order, shares_open}, MayMove.MayMove, Orders.{Order, ends_account, entered, order_under, orders, orders_added, orders_made, replacing}, Requests.{asked, is_granted}, Turns.{Turn, new_in, new_order}, Verdicts.{FitsDay, IsLegal, next}, World.{Does, World, move_asked, move_by, turn_in, turn_of, world}}
 use Rattle.gx_history.specs.Turns as turns
-use Rattle.gx_history_laws.proofs.{NextReports.legal_next, Order.some_same, Owners.filtered, Runs.step_left}
-use Rattle.gx_effects.proofs.{Doing.turn_does, Known.{live_are_found, number_found}, Moving.may_move}
+use Rattle.gx_laws.proofs.{NextReports.legal_next, Order.some_same, Owners.filtered, Runs.step_left, Doing.turn_does, Known.{live_are_found, number_found}, Moving.may_move, Coming.records_may_come, GoingOn.{days_begin_empty, positions_go_on}, Sound.positions_are_sound, Sums.left_by}
 use Rattle.gx_orders.specs.{Changes.is_lasting, LiveOrders.OrdersData}
 use Rattle.gx_orders.proofs.Finding.{finds_orders}
 use Rattle.gx_market.specs.Changes.{cut_from}
-use Rattle.gx_positions.specs.{Changing.{executed_by, nothing, positions_with}, Sound.{AreSound, MayChange, MayCome, MayReplace, MaySize}}
-use Rattle.gx_positions.proofs.{Coming.records_may_come, GoingOn.{days_begin_empty, positions_go_on}, Sound.positions_are_sound, Sums.left_by}
+use Rattle.gx_laws.specs.{Changing.{executed_by, nothing, positions_with}, Sound.{AreSound, MayChange, MayCome, MayReplace, MaySize}}
 use Rattle.gx_ledger.specs.{Following.{AreHeld, ClosesAll, Replaces}, Keeping.Kept, StandsFor.{Accepts, Carries, Closes, Cuts, Fills, IsHeld, StandsFor}}
 use Rattle.gx_ledger.proofs.{Carrying.stays_for, Following.{all_are_ended, distinct_filtered, none_closes}}
 use Rattle.gx_keepers.specs.{declared.keepers.Keepers.Keepers, Keepers.Takes, Ends.is_ended, Ledgers.{StandsForDay, ended_orders}}

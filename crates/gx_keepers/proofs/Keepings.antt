@@ -4,12 +4,11 @@ use Rattle.std.specs.Prelude.{Option, Some, None, is_some, ◌&&◌}
 use Rattle.gx_units.specs.{Names.same_user, declared.names.UserName.UserName}
 use Rattle.gx_policy.specs.{declared.policy.{PolicyData.PolicyData, User.User}, People.{is_officer, is_reader, role_in, user_in}}
 use Rattle.gx_history.specs.{declared.{«record».{Asked.Asked, RecordData.RecordData, Step.Step, Verdict.Verdict}, report.Message.Message, live_order.LiveOrder.LiveOrder}, Requests.is_judged, Streams.{reported, reports_of, stream}, Verdicts.{IsLegal, day_limit, next}, Live.live}
-use Rattle.gx_history_laws.proofs.{Adding.user_is, Granting.asked_is_judged, Judging.both, NextReports.{legal_before, stream_next}, Numbers.all_weaker, Pushing.all_next}
+use Rattle.gx_laws.proofs.{Adding.user_is, Granting.asked_is_judged, Judging.both, NextReports.{legal_before, stream_next}, Numbers.all_weaker, Pushing.all_next, Sound.live_are_few}
 use Rattle.gx_orders.specs.LiveOrders.{OrdersData}
 use Rattle.gx_people.proofs.Keeping.{officers_stay}
 use Rattle.gx_places.specs.Places.{concerns_many, enough_places, has_kept_places, most_kills, orders_held, report_places}
 use Rattle.gx_places.proofs.Asked.{enough_is_more, kept_places_are_enough, matches_want_no_more, others_want_no_more, so_many_are_enough}
-use Rattle.gx_positions.proofs.Sound.{live_are_few}
 use Rattle.gx_streams.specs.{Kept.{places_in, with_places}, Laws.TellsOne, Sending.{KnowsReaders, is_fill}, Streams.{AllStreams, is_told, on_told}}
 use Rattle.gx_streams.proofs.{Finding.told_are, OnlyKnown.{copies_alone, none_sent, only_known, readers_are}, Places.{others_keep, places_kept}}
 use Rattle.gx_keepers.specs.{declared.keepers.Keepers.Keepers, Keepers.{AreInForce, HasEnough, HasPlaces, HaveAllPlaces, HaveEnough, HaveNoFewer, HavePlaces, KeepPlaces, KnowTheSame, KnowsUsers, TakesAsked, count_of, enough_of}}

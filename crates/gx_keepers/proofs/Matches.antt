@@ -5,8 +5,7 @@ use Rattle.gx_units.specs.{Names.same_account, declared.names.AccountName.Accoun
 use Rattle.gx_ouch.specs.declared.letters.{CancelReason.CancelReason, Liquidity.Liquidity}
 use Rattle.gx_policy.specs.{declared.policy.{Account.Account, PolicyData.PolicyData, Role.Role, User.User}, People.{account_of, account_of_role, is_reader, role_in, user_in}, Soundness.is_sound}
 use Rattle.gx_history.specs.{declared.{«record».{Fill.Fill, RecordData.RecordData, Step.Step, Verdict.Verdict}, report.Message.Message, live_order.LiveOrder.LiveOrder, moves.Move.Move}, Book.is_buy, Executions.{Execution, sides}, InForce.is_entitled, Streams.{reported, stream, to_user, canceled_of}, LiveOrders.shares_open, Live.{live, live_numbered}, Requests.asked, Verdicts.next, World.Does}
-use Rattle.gx_history_laws.proofs.{Masks.same_mask, Names.{account_is, accounts_few}, Order.some_same, Owners.IsHisAccounts}
-use Rattle.gx_effects.proofs.{Accounts.accounts_are_known, Orderly.legal_is_orderly, Fills.{IsFill, both_sides, is_fill, maker_side, sides_are, taker_side}, Naming.IsOfKnown, Doing.{expiry_does, fill_does, matches_at, may_do}}
+use Rattle.gx_laws.proofs.{Masks.same_mask, Names.{account_is, accounts_few}, Order.some_same, Owners.IsHisAccounts, Accounts.accounts_are_known, Orderly.legal_is_orderly, Fills.{IsFill, both_sides, is_fill, maker_side, sides_are, taker_side}, Naming.IsOfKnown, Doing.{expiry_does, fill_does, matches_at, may_do}}
 use Rattle.gx_book.specs.{Books.{StockOrders, resting_in}, Queue.IsLatest}
 use Rattle.gx_orders.specs.{Laws.{CanFill, ComesFirst}, Changes.orders_moved, LiveOrders.{OrdersData, first_waiting}}
 use Rattle.gx_market.proofs.Latest.{first_is_latest}

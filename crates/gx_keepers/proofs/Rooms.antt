@@ -5,7 +5,7 @@ use Rattle.gx_units.specs.{Names.same_user, declared.names.UserName.UserName}
 use Rattle.gx_desk.specs.declared.Action.{Action}
 use Rattle.gx_policy.specs.declared.policy.{PolicyData.PolicyData, User.User}
 use Rattle.gx_history.specs.{declared.{«record».RecordData.RecordData, report.{Message.Message, Report.Report}}, Readers.reader_in, Streams.{reports_of, stream}, Verdicts.IsLegal}
-use Rattle.gx_history_laws.proofs.NextReports.{stream_next}
+use Rattle.gx_laws.proofs.NextReports.{stream_next}
 use Rattle.gx_streams.specs.{declared.fill.ToldFill.ToldFill, Kept.{UserList, list_of, on_user, with_kept_last}, Streams.{AllStreams, is_told, on_told, reports_in, with_fill, with_fill_told}, Telling.{shown, told_after, with_all_owed, with_owed}}
 use Rattle.gx_streams.proofs.Finding.{reports_are}
 use Rattle.gx_keepers.specs.{Keepers.{HaveAllPlaces, HaveNoFewer, KeepPlaces, KeepRoom, KnowsUsers, with_told}, Settings.{sent_on, sent_to}}

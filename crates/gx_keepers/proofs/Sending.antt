@@ -5,7 +5,7 @@ use Rattle.gx_units.specs.{Names.{same_account, same_user}, declared.names.{Acco
 use Rattle.gx_desk.specs.declared.{WrittenName.WrittenName, Action.Action}
 use Rattle.gx_policy.specs.{declared.policy.{PolicyData.PolicyData, Role.Role, User.User}, Lists.are_distinct, Soundness.is_sound, People.{is_reader, role_in, user_in}}
 use Rattle.gx_history.specs.{declared.report.Report.Report, InForce.in_role, Masks.mask_by, Readers.reader_in}
-use Rattle.gx_history_laws.proofs.{Adding.{user_is, user_is_itself}, Judging.both, Masks.same_mask, Order.some_same, Names.{same_user_flip, users_differ}}
+use Rattle.gx_laws.proofs.{Adding.{user_is, user_is_itself}, Judging.both, Masks.same_mask, Order.some_same, Names.{same_user_flip, users_differ}}
 use Rattle.gx_people.specs.Entitled.{change_role, given, granted_to, has_room, revoked_from, sees, sees_with, sees_without, with_account, without_account}
 use Rattle.gx_streams.specs.{Kept.at_first, Streams.{AllStreams, ReaderMask, empty_streams, entitled, mask_in, no_mask, with_mask}, Telling.{shown, shown_list, with_all_owed, with_owed}}
 use Rattle.gx_keepers.specs.{Keepers.{AreSentTo, mask_for}, Settings.{sent_on, sent_to}}

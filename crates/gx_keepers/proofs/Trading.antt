@@ -4,7 +4,7 @@ use Rattle.std.specs.{Prelude.{Option, Some, None, option_and_then}, Option.opti
 use Rattle.gx_units.specs.declared.names.{AccountName.AccountName}
 use Rattle.gx_policy.specs.{declared.policy.{PolicyData.PolicyData, Role.Role, User.User}, People.{account_of, account_of_role, is_officer, role_in, user_in}}
 use Rattle.gx_history.specs.{declared.{live_order.LiveOrder.LiveOrder, moves.Move.Move, «record».{Asked.Asked, RecordData.RecordData, Request.Request, Step.Step, Verdict.Verdict}}, Live.live_under, Turns.new_order, World.{Does, World, move_asked, move_by, world}}
-use Rattle.gx_effects.proofs.Doing.{may_do}
+use Rattle.gx_laws.proofs.Doing.{may_do}
 use Rattle.gx_people.proofs.Keeping.{officers_stay}
 use Rattle.gx_streams.specs.Streams.{AllStreams, is_told}
 use Rattle.gx_keepers.specs.{declared.keepers.Keepers.Keepers, Keepers.{HasEnough, HasPlaces, Takes, count_of, kills_of}}

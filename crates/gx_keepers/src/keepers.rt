@@ -2,7 +2,7 @@
 
 ghost use Rattle.std.specs.Prelude.{◌≡◌, [], IfOk, OnOk};
 ghost use Rattle.gx_book.specs.Books.{empty_book};
-ghost use Rattle.gx_positions.specs.Changing.{nothing};
+ghost use Rattle.gx_laws.specs.Changing.{nothing};
 ghost use Rattle.gx_streams.specs.{Streams.empty_streams, Telling.shown};
 ghost use Rattle.gx_ledger.specs.StandsFor.{StandsFor};
 ghost use Rattle.gx_day.specs.InForce.{fresh_day};

@@ -4,8 +4,7 @@ use Rattle.std.specs.{Prelude.◌&&◌, Option.option_map_or, List.AllByRecursio
 use Rattle.gx_units.specs.{Spelling.folded_user, Names.{same_token, same_user}, declared.names.{Token.Token, UserName.UserName}}
 use Rattle.gx_policy.specs.declared.policy.{PolicyData.PolicyData, User.User}
 use Rattle.gx_history.specs.{declared.record.{Asked.Asked, RecordData.RecordData, Request.Request, Step.Step, Verdict.Verdict}, InForce.line_of, Orders.{asks_under, record_uses, uses_token}, Requests.{asked, new_token}, Verdicts.{IsLegal, last_moment, next, verdict}, World.{World, world}}
-use Rattle.gx_history_laws.proofs.{Adding.user_is_itself, Logouts.logouts_are_granted, NextOrders.or_not, Pushing.all_next, Runs.step_left}
-use Rattle.gx_effects.proofs.ByKind.{logouts_put_off}
+use Rattle.gx_laws.proofs.{Adding.user_is_itself, Logouts.logouts_are_granted, NextOrders.or_not, Pushing.all_next, Runs.step_left, ByKind.logouts_put_off}
 use Rattle.gx_places.specs.Places.{has_kept_places}
 use Rattle.gx_answers.specs.{declared.outcome.{Outcome.Outcome, StepFault.StepFault}, Gates.{GateData, left_by}, Steps.{has_its_places, next_of, verdict_of, with_record}}
 use Rattle.gx_door.specs.Acts.{asked_on}

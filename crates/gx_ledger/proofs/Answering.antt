@@ -5,9 +5,8 @@ use Rattle.std.specs.{Prelude.{Option, Some, None, is_some, find, option_and_the
 use Rattle.gx_units.specs.{Money.value, Names.{same_account, same_stock}, declared.names.{AccountName.AccountName, Symbol.Symbol}}
 use Rattle.gx_ouch.specs.declared.outbound.OrderTerms.{OrderTerms}
 use Rattle.gx_history.specs.{LiveOrders.shares_open, declared.{live_order.LiveOrder.LiveOrder, facts.{RuleFigures.RuleFigures, StockSide.StockSide}, «record».Request.Request}, Executions.Execution, Book.is_on, Figures.{Positions, counts_account, figures, kind_figures, net_done, no_figures, on_side, open_value, other_side, reference, side_asked, side_done, side_live, stock_asked}, Rules.{figured, figured_from}, Verdicts.with_figures}
-use Rattle.gx_history_laws.proofs.{Names.{account_is, same_account_flip, stock_is}, Numbers.all_weaker}
-use Rattle.gx_positions.specs.Sound.{AreSound, IsListed}
-use Rattle.gx_positions.proofs.Sums.{done_are, is_chosen, none_of, shares_of, sum_of_none}
+use Rattle.gx_laws.proofs.{Names.{account_is, same_account_flip, stock_is}, Numbers.all_weaker, Sums.{done_are, is_chosen, none_of, shares_of, sum_of_none}}
+use Rattle.gx_laws.specs.Sound.{AreSound, IsListed}
 use Rattle.gx_ledger.specs.{declared.{group.Group.Group, asks.Asks.Asks, sides.StockSums.StockSums, sums.Sums.Sums, tally.{Tally.Tally, Wanted.Wanted}}, Accounts.{account_names, account_place}, Keeping.{Kept, price_of, reference_for}, Running.{asked_as, capped_signed, net_of, no_sides, on_its_side, sides_at}, StandsFor.{GivesFigures, IsMadeIn, StandsFor, both_sides, group_of, members_of, side_sums_of, sides_of, tally_of, total_of}, Tallies.{asks_of, count_of, figures_of_group, net_sums_in, place_in, seat_for, seat_in, seats_for, tally_figures, tells_reference}, Told.figures_at}
 use Rattle.gx_ledger.proofs.{Counted.{alike_is, recent_counted}, Counting.{map_twice, place-cons}, Totals.done_fit}
 

@@ -3,8 +3,8 @@ use Rattle.std.proofs.{Common.{◌≡◌, ℕ, ◌-◌, Bool, [], map, refl, sym
 use Rattle.gx_units.specs.declared.names.AccountName.{AccountName}
 use Rattle.gx_history.specs.{declared.live_order.LiveOrder.LiveOrder, Figures.Positions, LiveOrders.shares_open, Turns.{Ends, Sizes, Turn, new_in}}
 use Rattle.gx_policy.specs.declared.policy.PolicyData.{PolicyData}
-use Rattle.gx_positions.specs.{Changing.{executed_by, positions_with}, Sound.AreSound}
-use Rattle.gx_positions.proofs.Sums.{Loses, ended_loses, left_by, sized_loses}
+use Rattle.gx_laws.specs.{Changing.{executed_by, positions_with}, Sound.AreSound}
+use Rattle.gx_laws.proofs.Sums.{Loses, ended_loses, left_by, sized_loses}
 use Rattle.gx_ledger.specs.{Keeping.{Kept, comes, kept_noted, leaves}, StandsFor.{Accepts, Closes, Cuts, StandsFor, tally_of, total_of}}
 use Rattle.gx_ledger.proofs.{Counting.{Totals, kept_follows}, Totals.{accepted_total, left_total, none_comes, order_added, same_total, with_order}}
 

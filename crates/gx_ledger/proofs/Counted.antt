@@ -4,7 +4,7 @@ use Rattle.std.specs.{Option.option_map_or, Prelude.{count_by, is_none, nat_lt},
 use Rattle.gx_units.specs.declared.names.AccountName.{AccountName}
 use Rattle.gx_history.specs.{declared.record.Request.Request, Figures.{equal_recent, is_alike, recent}, Orders.Order}
 use Rattle.gx_policy.specs.Lists.{last_few}
-use Rattle.gx_positions.specs.Sound.{NeverFall}
+use Rattle.gx_laws.specs.Sound.{NeverFall}
 use Rattle.gx_ledger.specs.{Running.{asked_as, count_alike, is_recent, recent_in}, StandsFor.{entered_of, enters_of, moments_of}}
 use Rattle.gx_ledger.proofs.Likeness.{alike_in, asked_alike, is_like}
 

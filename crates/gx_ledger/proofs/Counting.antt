@@ -5,7 +5,7 @@ use Rattle.circular_buffer.specs.Buffer.{buffer}
 use Rattle.gx_units.specs.{Money.value, Names.{same_account, same_stock}, declared.names.{AccountName.AccountName, Symbol.Symbol}}
 use Rattle.gx_history.specs.{declared.live_order.LiveOrder.LiveOrder, Book.{is_buy, is_on}}
 use Rattle.gx_policy.specs.{declared.policy.{Count.Count, FileRule.FileRule, PolicyData.PolicyData, Scope.Scope, Stock.Stock}, Lists.are_distinct, People.covers}
-use Rattle.gx_history_laws.proofs.{Granting.{left_false, right_false}, Names.same_account_flip}
+use Rattle.gx_laws.proofs.{Granting.{left_false, right_false}, Names.same_account_flip}
 use Rattle.gx_ledger.specs.{Changes.Change, declared.{group.{Entered.Entered, Group.Group}, change.ChangeKind.ChangeKind, sides.StockSums.StockSums, sums.Sums.Sums, asks.Asks.Asks}, Accounts.account_place, Keeping.{Kept, kept_noted, noted}, Running.{changed_group, changed_sums, counted_singly, entered_as, noted_enters, noted_moments, noted_sides, pushed}, StandsFor.{Total, group_of, members_of, ring, sides_of, tally_of}, Tallies.{asks_of, changed_in, count_of, place_in, seats_for, tally_after, tells_reference}}
 
 -- the change is of an order on this side of the stock

@@ -4,7 +4,7 @@ use Rattle.std.specs.{Prelude.{Option, Some, None}, List.{list_any, AllByRecursi
 use Rattle.indexmap.specs.{IndexMap.insert_entry, IndexSet.insert_key}
 use Rattle.gx_units.specs.{Names.{same_account, same_stock}, declared.names.{AccountName.AccountName, Symbol.Symbol}}
 use Rattle.gx_policy.specs.{declared.policy.{Account.Account, Stock.Stock}, Lists.are_distinct}
-use Rattle.gx_history_laws.proofs.{Granting.{left_false, right_false}, Names.stock_is}
+use Rattle.gx_laws.proofs.{Granting.{left_false, right_false}, Names.stock_is}
 use Rattle.gx_ledger.specs.{Accounts.account_names, Keeping.priced, declared.sides.StockSums.StockSums, Tables.{accounts_differ, names_differ}}
 use Rattle.gx_ledger.proofs.Counting.{left_none, right_true}
 

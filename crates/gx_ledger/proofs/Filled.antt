@@ -5,11 +5,9 @@ use Rattle.gx_units.specs.{Money.value, Names.same_stock, declared.names.{Accoun
 use Rattle.gx_ouch.specs.declared.outbound.OrderTerms.{OrderTerms}
 use Rattle.gx_history.specs.{declared.{facts.StockSide.StockSide, live_order.LiveOrder.LiveOrder, «record».Fill.Fill}, Executions.Execution, Figures.{Positions, done_of_chosen, done_shares, done_value, live_shares, live_value, of_accounts, on_side, reference, side_done, side_live}, Turns.becomes}
 use Rattle.gx_policy.specs.{declared.policy.{PolicyData.PolicyData, Stock.Stock}, Lists.where_true, People.stock_named}
-use Rattle.gx_history_laws.proofs.{Names.stock_is, NextFigures.reference_more, Order.some_same, Owners.all_both}
+use Rattle.gx_laws.proofs.{Names.stock_is, NextFigures.reference_more, Order.some_same, Owners.all_both, Fills.both_sides, NewOrders.found_is, Sums.{IsOpenSum, done_shares_filled, done_value_filled, filled_by, is_chosen, shares_of, sides_are, value_of}}
 use Rattle.gx_history.specs.Turns as turns
-use Rattle.gx_effects.proofs.{Fills.both_sides, NewOrders.found_is}
-use Rattle.gx_positions.specs.{Changing.{executed_by, positions_with}, Sound.{AreSound, IsListed, MayFill, SumsFit, anyone}}
-use Rattle.gx_positions.proofs.Sums.{IsOpenSum, done_shares_filled, done_value_filled, filled_by, is_chosen, shares_of, sides_are, value_of}
+use Rattle.gx_laws.specs.{Changing.{executed_by, positions_with}, Sound.{AreSound, IsListed, MayFill, SumsFit, anyone}}
 use Rattle.gx_ledger.specs.{declared.sums.Sums.Sums, Keeping.{Kept, is_filled, kept_noted, priced, with_price}, Running.capped, StandsFor.{AreFilled, Fills, IsMadeIn, StandsFor, Total, enters_of, moments_of, prices_of, total_of}}
 use Rattle.gx_ledger.proofs.{Carrying.tallies_same, Counting.{Totals, changed_total, changes_side, kept_follows, totals_after}, Totals.{done_fit, done_value_fit, less, more, on_its_own_side}}
 

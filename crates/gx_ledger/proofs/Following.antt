@@ -4,10 +4,8 @@ use Rattle.std.specs.{Prelude.{Some, None, nat_eq}, List.{AllByRecursion, IsDist
 use Rattle.gx_history.specs.{declared.live_order.LiveOrder.LiveOrder, Figures.{Positions, live_shares, live_value, of_accounts}, Live.live_numbered, Orders.ends_account, Turns.becomes}
 use Rattle.gx_policy.specs.declared.policy.PolicyData.{PolicyData}
 use Rattle.gx_history.specs.Turns as turns
-use Rattle.gx_history_laws.proofs.{Owners.filtered, Pushing.all_before}
-use Rattle.gx_effects.proofs.World.{all_stay, those_go}
-use Rattle.gx_positions.specs.{Changing.positions_with, Sound.{AreSound, IsListed, IsLive, MayCome, anyone, numbers_of}}
-use Rattle.gx_positions.proofs.Sums.{IsNoMore, is_numbered, no_rise_by, none_if_gone, shares_of, value_of}
+use Rattle.gx_laws.proofs.{Owners.filtered, Pushing.all_before, World.{all_stay, those_go}, Sums.{IsNoMore, is_numbered, no_rise_by, none_if_gone, shares_of, value_of}}
+use Rattle.gx_laws.specs.{Changing.positions_with, Sound.{AreSound, IsListed, IsLive, MayCome, anyone, numbers_of}}
 use Rattle.gx_ledger.specs.{Following.{AllAreEnded, EndedThenAccepted, NoneCloses, OneMoreCloses, all_closed, closed, ended_by}, StandsFor.{IsHeld, StandsFor}}
 
 -- any other number

@@ -3,7 +3,7 @@ use Rattle.std.proofs.{Common.{◌≡◌, ℕ, zero, suc, ◌+◌, ◌<◌, Bool
 use Rattle.std.specs.Prelude.{Option, Some, None, option_map, is_some, unwrap_or, fold}
 use Rattle.gx_units.specs.{Names.same_account, declared.names.AccountName.AccountName}
 use Rattle.gx_policy.specs.{declared.policy.{Account.Account, Count.Count}, People.covers}
-use Rattle.gx_history_laws.proofs.Names.{account_is}
+use Rattle.gx_laws.proofs.Names.{account_is}
 use Rattle.gx_ledger.specs.{Changes.Change, declared.{tally.Tally.Tally, tally_places.CountedAt.CountedAt}, Counts.{AreCounted, counting, counting_from, counts, group_place, noted_in, tally_with}, Accounts.{account_names, account_place}, Keeping.{Kept, kept_noted, noted}, Running.changed_group, Tallies.{changed_at, changed_in, place_in, tally_after}}
 use Rattle.gx_ledger.proofs.{Counting.place-cons, Entries.some_is}
 

@@ -5,9 +5,8 @@ use Rattle.circular_buffer.specs.Buffer.{buffer}
 use Rattle.gx_units.specs.{Names.{same_account, same_stock}, declared.names.AccountName.AccountName}
 use Rattle.gx_policy.specs.{declared.policy.{Account.Account, Count.Count, FileRule.FileRule, PolicyData.PolicyData, Scope.Scope, Stock.Stock}, Lists.are_distinct, People.{covers, stock_named}, Soundness.is_sound}
 use Rattle.gx_history.specs.{declared.facts.StockSide.StockSide, Figures.{of_accounts, on_side, reference}}
-use Rattle.gx_history_laws.proofs.{Granting.{left_false, right_false}, Judging.both, Names.accounts_differ as accounts_apart, NextFigures.{done_none, done_value_none, reference_none}}
-use Rattle.gx_positions.specs.Changing.{nothing}
-use Rattle.gx_positions.proofs.Sums.{none_of, shares_of, value_of}
+use Rattle.gx_laws.proofs.{Granting.{left_false, right_false}, Judging.both, Names.accounts_differ as accounts_apart, NextFigures.{done_none, done_value_none, reference_none}, Sums.{none_of, shares_of, value_of}}
+use Rattle.gx_laws.specs.Changing.{nothing}
 use Rattle.gx_ledger.specs.{declared.{asks.Asks.Asks, group.Group.Group}, Accounts.account_names, Keeping.reference_prices, Running.first_sides, StandsFor.{StandsFor, group_of, members_of, prices_of, ring, shares_among, side_sums_of, sides_of, tally_of, total_of, value_among}, Tables.{accounts_differ, names_differ}, Tallies.{asks_of, count_of, new_group, new_groups, new_tally, seats_for, tells_reference}}
 use Rattle.gx_ledger.proofs.Counting.{left_none, right_true}
 

@@ -4,8 +4,8 @@ use Rattle.std.specs.{Prelude.{Option, Some, None, is_some, find, option_and_the
 use Rattle.gx_units.specs.{Names.same_account, declared.names.AccountName.AccountName}
 use Rattle.gx_policy.specs.{declared.policy.{Account.Account, Count.Count, FileRule.FileRule, PolicyData.PolicyData}, People.{account_named, covers}}
 use Rattle.gx_history.specs.{declared.facts.StockSide.StockSide, Figures.{Positions, counts_account}}
-use Rattle.gx_history_laws.proofs.Names.{same_account_flip}
-use Rattle.gx_positions.specs.Sound.{AreSound}
+use Rattle.gx_laws.proofs.Names.{same_account_flip}
+use Rattle.gx_laws.specs.Sound.{AreSound}
 use Rattle.gx_ledger.specs.{declared.{group.Group.Group, asks.Asks.Asks, tally.Tally.Tally}, Accounts.{account_names, account_place}, Keeping.Kept, Standing.{GivesGross, GivesNet, counted_with, gross_in_group, gross_sums_of, group_with, net_in_group, net_sums_of, tally_gross, tally_net}, StandsFor.{IsMadeIn, StandsFor, group_of, members_of, tally_of, total_of}, Tallies.{asks_of, count_of, group_in, place_in}}
 use Rattle.gx_ledger.proofs.{Answering.{group_found, live_answers, net_answers}, Counting.place-cons}
 

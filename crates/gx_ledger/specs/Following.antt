@@ -4,7 +4,7 @@ use Rattle.gx_desk.specs.declared.Action.{Action}
 use Rattle.gx_policy.specs.declared.policy.PolicyData.{PolicyData}
 use Rattle.gx_history.specs.{declared.live_order.LiveOrder.LiveOrder, Figures.Positions, Orders.{Order, ends_account}}
 use Rattle.gx_history.specs.Turns as turns
-use Rattle.gx_positions.specs.{Changing.positions_with, Sound.{AreSound, MayReplace, numbers_of}}
+use Rattle.gx_laws.specs.{Changing.positions_with, Sound.{AreSound, MayReplace, numbers_of}}
 use Rattle.gx_ledger.specs.{Keeping.Kept, StandsFor.{Accepts, Carries, Closes, IsAccepted, IsHeld, StandsFor}}
 
 -- the live orders, fills and grants, once one order has ended

@@ -3,7 +3,7 @@ use Rattle.std.specs.Prelude.{ℕ, ◌≡◌, ◌&&◌, Bool, Option, Some, None
 use Rattle.gx_units.specs.declared.names.AccountName.{AccountName}
 use Rattle.gx_policy.specs.{declared.policy.{FileRule.FileRule, PolicyData.PolicyData}, People.{account_named, covers}}
 use Rattle.gx_history.specs.{declared.facts.StockSide.StockSide, Figures.{Positions, counts_account, net_done, side_live}}
-use Rattle.gx_positions.specs.Sound.{AreSound}
+use Rattle.gx_laws.specs.Sound.{AreSound}
 use Rattle.gx_ledger.specs.{declared.{asks.Asks.Asks, group.Group.Group, sums.{Sums.Sums, NetSums.NetSums}, tally.Tally.Tally}, Keeping.Kept, StandsFor.{StandsFor, shares_among, value_among}, Tallies.{asks_of, count_of, group_in, net_sums_in}}
 
 -- the accounts that the rule counts together with this one of the policy: it alone, or all of the scope. None where the

@@ -5,7 +5,7 @@ use Rattle.gx_units.specs.{Names.same_account, declared.names.{AccountName.Accou
 use Rattle.gx_history.specs.{declared.{live_order.LiveOrder.LiveOrder, «record».{Fill.Fill, Request.Request}}, Executions.Execution, Figures.{Positions, figures, live_shares, live_value, done_shares, done_value, reference, side_done, side_live}, Live.live_numbered, LiveOrders.shares_open, Orders.Order, Rules.figured, Verdicts.with_figures, Turns.Turn}
 use Rattle.gx_policy.specs.{declared.policy.{Count.Count, FileRule.FileRule, PolicyData.PolicyData, Scope.Scope, Stock.Stock}, Lists.{are_distinct, last_few}, People.{account_named, covers, stock_named}}
 use Rattle.gx_history.specs.Turns as turns
-use Rattle.gx_positions.specs.{Changing.positions_with, Sound.{AreSound, IsOf, MayCome, MayFill}}
+use Rattle.gx_laws.specs.{Changing.positions_with, Sound.{AreSound, IsOf, MayCome, MayFill}}
 use Rattle.gx_ledger.specs.{declared.{asks.Asks.Asks, group.{Entered.Entered, Group.Group}, sides.StockSums.StockSums, sums.Sums.Sums, tally.Tally.Tally}, Accounts.account_names, Keeping.Kept, Tallies.{asks_of, count_of, seats_for, tells_reference}, Told.{Asking, figures_at}}
 
 -- the shares of these accounts

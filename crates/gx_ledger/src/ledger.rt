@@ -2,7 +2,7 @@
 
 ghost use Rattle.std.specs.{Prelude.{◌≡◌, IfOk, option_and_then, slice_get}, Option.option_map_or};
 ghost use Rattle.gx_history.specs.{Figures.{open_value, side_asked}, LiveOrders.shares_open};
-ghost use Rattle.gx_positions.specs.Changing.{nothing};
+ghost use Rattle.gx_laws.specs.Changing.{nothing};
 ghost use Rattle.gx_ledger.specs.{Accounts.account_place, Keeping.{kept_noted, price_of, reference_for, with_price}, Running.asked_as, StandsFor.{Accepts, Closes, Cuts, Fills, GivesFigures, StandsFor}, Standing.{GivesGross, GivesNet, tally_gross, tally_net}, Told.figures_at};
 
 use crate::change::{Change, ChangeKind};

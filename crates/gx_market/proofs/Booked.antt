@@ -4,7 +4,7 @@ use Rattle.std.specs.{Prelude.{Some, ◌&&◌, is_some}, Option.option_map_or, C
 use Rattle.gx_units.specs.{Names.same_stock, declared.names.Symbol.Symbol}
 use Rattle.gx_policy.specs.{declared.policy.{PolicyData.PolicyData, Stock.Stock}, People.stock_named}
 use Rattle.gx_history.specs.{declared.record.RecordData.RecordData, Book.{is_buy, is_on}, Live.side}
-use Rattle.gx_history_laws.proofs.Names.{stock_is}
+use Rattle.gx_laws.proofs.Names.{stock_is}
 use Rattle.gx_book.specs.{declared.resting.Resting.Resting, Books.{StockOrders, empty_book, on_each_side, on_side, resting_in, side_of, with_side}}
 use Rattle.gx_market.specs.BookInForce.{book_in_force, rested_in, stock_in_force}
 

@@ -4,7 +4,7 @@ use Rattle.std.specs.{Prelude.{Option, Some, None, ◌==◌, ◌||◌, nat_lt, i
 use Rattle.gx_units.specs.declared.names.Symbol.{Symbol}
 use Rattle.gx_policy.specs.declared.policy.PolicyData.{PolicyData}
 use Rattle.gx_history.specs.{declared.{live_order.LiveOrder.LiveOrder, moves.Move.Move, «record».{Fill.Fill, RecordData.RecordData}}, Live.{live, live_numbered, side}, LiveOrders.shares_open, MayMove.{MayExpire, MayFill}, Turns.{Ends, Fills, Keeps, Replaces, Sizes, becomes, side_turned, while_open}, World.{Does, turn_in, world}}
-use Rattle.gx_effects.proofs.{Doing.{may_do, side_does}, Known.number_found, Resting.does_not_rest}
+use Rattle.gx_laws.proofs.{Doing.{may_do, side_does}, Known.number_found, Resting.does_not_rest}
 use Rattle.gx_orders.specs.Laws.{ComesFirst}
 use Rattle.gx_orders.proofs.Finding.{finds_orders}
 use Rattle.gx_market.specs.{BookInForce.book_in_force, Changes.{book_moved, left_with, put_to_rest, resting_of}, Laws.BooksGoOn}

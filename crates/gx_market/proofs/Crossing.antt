@@ -9,7 +9,7 @@ use Rattle.gx_orders.specs.InForce.{orders_in_force}
 use Rattle.gx_market.specs.{BookInForce.book_in_force, Changes.resting_of, Laws.{NextIsMet, NextRecordIsMet}, Meeting.{best_against, match_record, met, next_met}}
 use Rattle.gx_market.proofs.Booked.{resting_found}
 use Rattle.gx_orders.proofs.Finding.{comes_first, first_is}
-use Rattle.gx_effects.proofs.{Resting.first_lives, Known.{RestsThere, all_resting}, Orderly.legal_is_orderly}
+use Rattle.gx_laws.proofs.{Resting.first_lives, Known.{RestsThere, all_resting}, Orderly.legal_is_orderly}
 
 -- the best that is kept is the best that rests
 best_is : (policy : PolicyData) (history : List RecordData) (first : LiveOrder) (others : List LiveOrder) → IsLegal policy history → waiting policy history ≡ first ∷ others

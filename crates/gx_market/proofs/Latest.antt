@@ -3,8 +3,7 @@ use Rattle.std.proofs.{Common.{◌≡◌, ℕ, ◌<◌, ◌≤◌, Bool, true, f
 use Rattle.std.specs.{Prelude.{Option, Some, None, ◌==◌}, List.{AllByRecursion, cons_option, filter_map}}
 use Rattle.gx_policy.specs.declared.policy.PolicyData.{PolicyData}
 use Rattle.gx_history.specs.{declared.{live_order.LiveOrder.LiveOrder, «record».{RecordData.RecordData, Verdict.Verdict}}, Book.{is_buy, rested_of}, MayMove.MayRest, Live.{live, side}, Turns.{Turn, Adds, Replaces, Rests, becomes, new_in, turned}, Verdicts.{IsLegal, next}, World.{world, turn_by}}
-use Rattle.gx_history_laws.proofs.{Granting.legal_keeps, NextReports.{legal_next, legal_none}, Numbers.{all_weaker, number_left}, Order.some_same, Owners.all_both}
-use Rattle.gx_effects.proofs.{Entered.{all_mapped, all_found_of}, Known.{RestsThere, all_resting}, Live.live_next, Moving.may_by, NewOrders.found_is, Resting.{IsLiving, all_living}, Sides.{AreNew, becomes_same, goes, new_by, puts_to_rest}, Orderly.legal_is_orderly}
+use Rattle.gx_laws.proofs.{Granting.legal_keeps, NextReports.{legal_next, legal_none}, Numbers.{all_weaker, number_left}, Order.some_same, Owners.all_both, Entered.{all_mapped, all_found_of}, Known.{RestsThere, all_resting}, Live.live_next, Moving.may_by, NewOrders.found_is, Resting.{IsLiving, all_living}, Sides.{AreNew, becomes_same, goes, new_by, puts_to_rest}, Orderly.legal_is_orderly}
 use Rattle.gx_orders.specs.LiveOrders.{OrdersData, first_waiting}
 use Rattle.gx_orders.proofs.{Staying.{live_within, none_at_first}, Finding.comes_first}
 use Rattle.gx_book.specs.declared.resting.Resting.{Resting}

@@ -4,8 +4,7 @@ use Rattle.std.specs.{Prelude.{Option, Some, None, ◌==◌, ◌&&◌, ◌||◌,
 use Rattle.gx_units.specs.{Names.{same_account, same_stock}, declared.names.Symbol.Symbol}
 use Rattle.gx_policy.specs.declared.policy.{PolicyData.PolicyData, Stock.Stock}
 use Rattle.gx_history.specs.{declared.{live_order.LiveOrder.LiveOrder, «record».RecordData.RecordData}, Book.{is_buy, is_on, rested}, Live.{has_come, is_there, live, live_numbered, side}, Verdicts.IsLegal}
-use Rattle.gx_history_laws.proofs.{Names.same_account_flip, Numbers.all_weaker, Order.{IsFirstSuch, first_such, none_such, some_same}, Owners.all_both, Granting.none_pass}
-use Rattle.gx_effects.proofs.{Entered.all_mapped, NewOrders.found_is, Ordered.all_parted, Resting.{IsLiving, all_living, same_order}, Known.{RestsThere, all_resting}, BookSides.side_has, Orderly.legal_is_orderly}
+use Rattle.gx_laws.proofs.{Names.same_account_flip, Numbers.all_weaker, Order.{IsFirstSuch, first_such, none_such, some_same}, Owners.all_both, Granting.none_pass, Entered.all_mapped, NewOrders.found_is, Ordered.all_parted, Resting.{IsLiving, all_living, same_order}, Known.{RestsThere, all_resting}, BookSides.side_has, Orderly.legal_is_orderly}
 use Rattle.gx_book.specs.{declared.resting.Resting.Resting, Books.{StockOrders, all_orders, both_sides, order_in, resting_in, side_of, stock_in}, Queue.{is_numbered, is_same}}
 use Rattle.gx_market.specs.{BookInForce.{book_in_force, rested_in, stock_in_force}, Changes.resting_of, Laws.{BooksAreLive, LiveWaitOrRest, RestingAreLive}, Standing.{IsLiveBook, IsLiveThere, rests_as}}
 use Rattle.gx_market.proofs.Booked.{resting_found}

@@ -4,8 +4,7 @@ use Rattle.std.specs.{Prelude.{◌&&◌, nat_le}, List.{AllByRecursion, filter, 
 use Rattle.gx_units.specs.{Names.same_stock, declared.names.Symbol.Symbol}
 use Rattle.gx_policy.specs.{declared.policy.{PolicyData.PolicyData, Stock.Stock}, Lists.IsInOrder}
 use Rattle.gx_history.specs.{declared.{live_order.LiveOrder.LiveOrder, «record».RecordData.RecordData}, Book.rested, Matching.crosses, Live.{ahead, is_buy_order, is_there, live, live_numbered, side}, Verdicts.IsLegal}
-use Rattle.gx_history_laws.proofs.{Judging.both, Numbers.all_weaker}
-use Rattle.gx_effects.proofs.{Entered.all_mapped, Known.{RestsThere, all_resting}, NeverCrossed.never_crossed, Among.all_and, Ordered.ordered_by, Orderly.legal_is_orderly, Sides.prices_rank}
+use Rattle.gx_laws.proofs.{Judging.both, Numbers.all_weaker, Entered.all_mapped, Known.{RestsThere, all_resting}, NeverCrossed.never_crossed, Among.all_and, Ordered.ordered_by, Orderly.legal_is_orderly, Sides.prices_rank}
 use Rattle.gx_book.specs.{declared.resting.Resting.Resting, Books.is_sound_stock, Queue.{is_better, is_in_order}}
 use Rattle.gx_market.specs.{BookInForce.{book_in_force, rested_in, stock_in_force}, Changes.resting_of, Laws.{BooksAreSound, BooksAreUncrossed, IsUncrossed}}
 

@@ -5,12 +5,11 @@ use Rattle.gx_units.specs.{Names.same_account, declared.names.Symbol.Symbol}
 use Rattle.gx_desk.specs.declared.Action.{Action}
 use Rattle.gx_policy.specs.{declared.policy.PolicyData.PolicyData, Lists.{placed, where_true}}
 use Rattle.gx_history.specs.{declared.{live_order.LiveOrder.LiveOrder, «record».RecordData.RecordData}, Live.{ahead, is_there, live, live_numbered, side}, Turns.{EndsAll, Rests, becomes, side_turned, while_open}, Verdicts.IsLegal}
-use Rattle.gx_history_laws.proofs.{Names.same_account_flip, Numbers.all_weaker}
+use Rattle.gx_laws.proofs.{Names.same_account_flip, Numbers.all_weaker, Resting.same_order, Known.{RestsThere, all_resting}, Orderly.legal_is_orderly}
 use Rattle.gx_book.specs.{declared.resting.Resting.Resting, Queue.{is_same, no_orders, with_order, without_account, without_order}}
 use Rattle.gx_book.specs.Queue as queue
 use Rattle.gx_market.specs.{BookInForce.{book_in_force, rested_in}, Changes.{ended_by, left_with, put_to_rest, resting_of, taken_out}}
 use Rattle.gx_market.proofs.Booked.{each_side, no_side, one_side}
-use Rattle.gx_effects.proofs.{Resting.same_order, Known.{RestsThere, all_resting}, Orderly.legal_is_orderly}
 
 clash : {b : Bool} → b ≡ true → b ≡ false → ⊥
 clash h k = cc

@@ -1,12 +1,11 @@
 -- The log of one more record.
 use Rattle.std.proofs.{Common.{◌≡◌, ℕ, ◌-◌, List, [], ◌∷◌, ◌++◌, length, drop, sym, ap, subst, ◌∙◌, arith}, lemmas.{Grind.flat_map-append, List.{drop_at, length-append}}}
 use Rattle.std.specs.Prelude.{flat_map}
-use Rattle.gx_policy.specs.Lists.{each_after}
-use Rattle.gx_policy.specs.declared.policy.PolicyData.{PolicyData}
+use Rattle.gx_policy.specs.{Lists.each_after, declared.policy.PolicyData.PolicyData}
 use Rattle.gx_history.specs.declared.record.RecordData.{RecordData}
 use Rattle.gx_text.specs.declared.form.Form.{Form}
 use Rattle.gx_events.specs.{Known.{known_of}, Lines.{line_of, lines_behind, log_of}}
-use Rattle.gx_history_laws.proofs.Pushing.{each_after_next}
+use Rattle.gx_laws.proofs.Pushing.{each_after_next}
 use Rattle.gx_monitor.specs.{declared.day_log.DayLog.DayLog, Logs.IsLogOf}
 
 pub empty_log : (day : DayLog) (policy : PolicyData) → day.text.items ≡ [] → day.log.known ≡ known_of policy [] → IsLogOf policy [] day

@@ -6,7 +6,8 @@ ghost use Rattle.gx_policy.specs.declared.policy.PolicyData.{PolicyData};
 ghost use Rattle.gx_monitor.specs.Logs.{IsLogOf};
 
 use gx_events::EventLog;
-use gx_history::record::{Record, RecordData};
+use gx_history::record::RecordData;
+use gx_history::records::Records;
 use gx_policy::Policy;
 use gx_records::{ShowsRecords, Watches};
 use gx_text::{Form, append};
@@ -25,10 +26,10 @@ pub struct DayLog {
 }
 
 /// The last of the records, alone; none where there is none.
-fn last_of(records: &[Record]) -> &[Record]
-    ensures { result.now ≡ drop (length records.now - 1) records.now }
+fn last_of<'a>(records: &Records<'a>) -> Records<'a>
+    ensures { result ≡ drop (length records.now - 1) records.now }
 {
-    &records[records.len().saturating_sub(1)..]
+    records.past(records.len().saturating_sub(1))
 }
 
 impl DayLog {
@@ -68,7 +69,8 @@ impl<G: ShowsRecords> Watches<G> for DayLog {
     }
 
     fn after(&mut self, gate: &G, _left: &RecordData) -> Result<(), OutOfMemory> {
-        let lines = self.log.tell(self.alloc, last_of(gate.shown_records()))?;
+        let last = last_of(&gate.shown_records()).to_vec(self.alloc)?;
+        let lines = self.log.tell(self.alloc, last.as_slice())?;
         append(&mut self.text, lines.as_slice())
     }
 }

@@ -2,7 +2,7 @@
 use Rattle.std.proofs.{Common.{◌≡◌, ℕ, ◌<◌, ◌≤◌, ◌+◌, arith, true, false, not, Bool, cond, List, [], ◌∷◌, length, drop, get_or, refl, ◌∙◌, ap, sym, subst, ◌==◌}, Math.ListN.drop_of_length-le, lemmas.{Bool.{eqb-true, ne_eqb}, List.drop_more}}
 use Rattle.std.specs.{Prelude.{Option, Some, None, ◌&&◌}, List.{cons_option, AllByRecursion}}
 use Rattle.gx_units.specs.{Names.same_account, declared.names.{AccountName.AccountName, UserName.UserName}}
-use Rattle.gx_history_laws.proofs.{Judging.both, Owners.filtered}
+use Rattle.gx_laws.proofs.{Judging.both, Owners.filtered}
 use Rattle.gx_history.specs.declared.live_order.LiveOrder.{LiveOrder}
 use Rattle.gx_slab.specs.Slabs as slabs
 use Rattle.gx_slab.specs.Slabs.{numbered_of, order_of}

@@ -2,7 +2,7 @@
 use Rattle.std.proofs.{Common.{◌≡◌, ℕ, ◌+◌, ◌-◌, ◌≤◌, arith, true, false, not, Bool, cond, List, [], ◌∷◌, ◌++◌, length, refl, ◌∙◌, ap, sym}, lemmas.Bool.eqb-true}
 use Rattle.std.specs.{Prelude.{Option, Some, None, unwrap_or, if◌then◌else◌}, List.{filter, find}, Map.lookup}
 use Rattle.gx_units.specs.{Names.same_user, declared.names.UserName.UserName}
-use Rattle.gx_history_laws.proofs.{Adding.user_is, Order.some_same}
+use Rattle.gx_laws.proofs.{Adding.user_is, Order.some_same}
 use Rattle.gx_history.specs.declared.live_order.LiveOrder.{LiveOrder}
 use Rattle.gx_orders.specs.{LiveOrders.{NumbersRise, changed, has_number, is_of_user, without}, Tables.{counted_of, orders_of, AreCounted, CountsOneLess, CountsOneMore}}
 use Rattle.gx_orders.proofs.Kept.{behind, none_taken}

@@ -4,8 +4,7 @@ use Rattle.std.specs.Prelude.{Option, Some, None, IfSome, IsFalse, slice_get}
 use Rattle.gx_units.specs.declared.names.{Token.Token, UserName.UserName}
 use Rattle.gx_policy.specs.declared.{policy.PolicyData.PolicyData, rule_name.RuleName.RuleName}
 use Rattle.gx_history.specs.{declared.{live_order.LiveOrder.LiveOrder, moves.Move.{Move, TheVariants.{Adds, Commands, Denies, Expires, Fills, Nothing, PutsOn, Replaces, Rests, Sizes}}, «record».{Asked.Asked, RecordData.RecordData, Verdict.Verdict}}, Live.{live, live_under, waiting}, LiveOrders.is_under, MayMove.{IsNew, MayExpire, MayReplace, MayRest}, Verdicts.{IsLegal, next, verdict}, World.{Does, world}}
-use Rattle.gx_history_laws.proofs.{Granting.verdict_of_next, Numbers.number_left, Owners.last_such_is}
-use Rattle.gx_effects.proofs.{Doing.{IsDenied, denial_does, may_do}, Resting.{IsLiving, all_living, first_lives}}
+use Rattle.gx_laws.proofs.{Granting.verdict_of_next, Numbers.number_left, Owners.last_such_is, Doing.{IsDenied, denial_does, may_do}, Resting.{IsLiving, all_living, first_lives}}
 use Rattle.gx_orders.specs.{Changes.{IsUnused, denied_token}, InForce.orders_in_force, Laws.{ComesFirst, IsNewTo, MakesPlace, RecordsFindOrders}, LiveOrders.{AreBelow, first_waiting, is_used, live_numbered}}
 use Rattle.gx_orders.proofs.{Keeping.{first_of_filter, used_is}, Matching.fills_fit, Staying.live_within, Tokens.denied_is_new}
 

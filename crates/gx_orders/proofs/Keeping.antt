@@ -4,7 +4,7 @@ use Rattle.std.specs.{Prelude.{Option, Some, None, ◌&&◌, ◌||◌, option_ma
 use Rattle.gx_units.specs.{Names.{same_user, same_token}, declared.names.{Token.Token, UserName.UserName}}
 use Rattle.gx_policy.specs.declared.policy.PolicyData.{PolicyData}
 use Rattle.gx_history.specs.{declared.{«record».{Asked.Asked, RecordData.RecordData}, live_order.UserToken.UserToken}, Orders.{asks_under, is_token_used, record_uses, uses_token}, Requests.{asked, new_token}, LiveOrders.key}
-use Rattle.gx_history_laws.proofs.Names.{same_token_flip, same_user_flip}
+use Rattle.gx_laws.proofs.Names.{same_token_flip, same_user_flip}
 use Rattle.gx_orders.specs.{LiveOrders.{is_used, same_user_token}, InForce.{orders_in_force, token_asked, token_used_by, used_tokens}}
 
 -- the first that passes is the first of those that pass

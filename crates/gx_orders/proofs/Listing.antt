@@ -2,7 +2,7 @@
 use Rattle.std.proofs.{Common.{◌≡◌, ℕ, ◌<◌, arith, true, false, not, Bool, cond, List, [], ◌∷◌, ◌++◌, map, refl, ◌∙◌, ap, sym, subst, ◌==◌, if◌then◌else◌}, lemmas.{Bool.{eq-eqb, eqb-true, ne_eqb}, List.{append-nil, Elements.{filter-append, filter_map-append}}}}
 use Rattle.std.specs.{Prelude.{OnOk, Option, Some, None, Result, Ok, Err, ◌&&◌, is_some, option_map, unwrap_or}, List.{cons_option, filter, filter_map, find, AllByRecursion}, Map.lookup}
 use Rattle.gx_units.specs.{Names.same_account, declared.names.AccountName.AccountName}
-use Rattle.gx_history_laws.proofs.{Judging.both, Names.{account_is, account_is_itself, same_account_flip}, Order.some_same}
+use Rattle.gx_laws.proofs.{Judging.both, Names.{account_is, account_is_itself, same_account_flip}, Order.some_same}
 use Rattle.gx_history.specs.declared.live_order.LiveOrder.{LiveOrder}
 use Rattle.gx_slab.specs.Slabs.{numbered_of, order_of}
 use Rattle.gx_orders.specs.{LiveOrders.{changed, has_number, of_account, of_others, without}, Tables.{AreListed, ListsOneMore, ListsTheSame, NumbersBelow, is_live_of, listed_of}}

@@ -3,8 +3,7 @@ use Rattle.std.proofs.{Common.{◌≡◌, ℕ, ◌+◌, ◌-◌, ◌<◌, ◌≤
 use Rattle.std.specs.{Prelude.{Option, Some, ◌||◌, ◌==◌, is_some, IfSome}, List.AllByRecursion}
 use Rattle.gx_history.specs.{declared.{live_order.LiveOrder.LiveOrder, «record».{Fill.Fill, RecordData.RecordData}}, Verdicts.IsLegal, Book.is_buy, LiveOrders.shares_open, MayMove.MayFill, Live.live, World.world}
 use Rattle.gx_policy.specs.declared.policy.PolicyData.{PolicyData}
-use Rattle.gx_history_laws.proofs.{Order.some_same, Ends.live_have_open}
-use Rattle.gx_effects.proofs.{NewOrders.found_is, Resting.{does_not_rest, first_lives}, Known.{RestsThere, all_resting}, Orderly.legal_is_orderly}
+use Rattle.gx_laws.proofs.{Order.some_same, Ends.live_have_open, NewOrders.found_is, Resting.{does_not_rest, first_lives}, Known.{RestsThere, all_resting}, Orderly.legal_is_orderly}
 use Rattle.gx_orders.specs.{LiveOrders.{HasOpen, filled, filled_at, has_number, is_open, open_ones, live_numbered, IsOpen}, Laws.CanFill}
 
 -- a fill

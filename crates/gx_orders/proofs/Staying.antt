@@ -3,8 +3,7 @@ use Rattle.std.proofs.Common.{◌≡◌, ℕ, ◌+◌, ◌<◌, ◌≤◌, List,
 use Rattle.std.specs.{Prelude.{Option, Some, option_to_list}, List.{AllByRecursion, filter_map}}
 use Rattle.gx_policy.specs.{declared.policy.PolicyData.PolicyData, People.account_of}
 use Rattle.gx_history.specs.{declared.{«record».RecordData.RecordData, live_order.{LiveOrder.LiveOrder, UserToken.UserToken}}, Executions.executions, Orders.Order, Verdicts.IsLegal, Live.{live, open_now}}
-use Rattle.gx_history_laws.proofs.{NextOrders.orders_none, Numbers.numbers_are_within, Owners.orders_are_their_users}
-use Rattle.gx_effects.proofs.Resting.{of_live}
+use Rattle.gx_laws.proofs.{NextOrders.orders_none, Numbers.numbers_are_within, Owners.orders_are_their_users, Resting.of_live}
 use Rattle.gx_orders.specs.{LiveOrders.OrdersData, InForce.{token_used_by, used_tokens}, Laws.{AccountsAreTheUsers, NoneAtFirst}}
 use Rattle.gx_orders.proofs.Keeping.{used_next}
 

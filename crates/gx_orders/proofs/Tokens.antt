@@ -4,9 +4,8 @@ use Rattle.std.specs.{Prelude.{Option, Some, None, option_map, drop}, List.{find
 use Rattle.gx_units.specs.declared.names.Token.{Token}
 use Rattle.gx_history.specs.{declared.{facts.{Facts.Facts, RuleFigures.RuleFigures}, «record».{Asked.Asked, RecordData.RecordData, Request.Request, Step.Step, Verdict.Verdict}}, Orders.is_token_used, Requests.new_token, Rules.{Rule, BuiltIn, OfFile, applies, first_forbidding, forbids, name_of, written_order}, Verdicts.{facts_now, moment_of, next, rules_now, verdict, verdict_by}}
 use Rattle.gx_policy.specs.{declared.{policy.{FileRule.FileRule, PolicyData.PolicyData}, rule_name.RuleName.{RuleName, TheVariants.{L1, L2, L3, G1, G2, G3, I1}}}, RuleNames.{is_answered_rule, rules_before, rules_behind}}
-use Rattle.gx_history_laws.proofs.{Granting.{left_by_request, verdict_left}, Order.some_same}
+use Rattle.gx_laws.proofs.{Granting.{left_by_request, verdict_left}, Order.some_same, Moving.token_fact}
 use Rattle.gx_orders.specs.{LiveOrders.is_used, InForce.orders_in_force, Changes.denied_token}
-use Rattle.gx_effects.proofs.Moving.{token_fact}
 use Rattle.gx_orders.proofs.Keeping.{used_is}
 
 -- the record that the request leaves

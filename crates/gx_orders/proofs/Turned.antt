@@ -5,8 +5,7 @@ use Rattle.gx_units.specs.declared.names.{AccountName.AccountName, Token.Token, 
 use Rattle.gx_desk.specs.declared.Action.{Action}
 use Rattle.gx_policy.specs.{People.account_of, RuleNames.is_answered_rule, declared.policy.PolicyData.PolicyData}
 use Rattle.gx_history.specs.{declared.{live_order.{LiveOrder.LiveOrder, UserToken.UserToken}, moves.Move.Move, «record».{Asked.Asked, RecordData.RecordData, Request.Request, Step.Step, Verdict.Verdict}}, Live.{live, live_under}, LiveOrders.{key, replacement_order, token_of}, MayMove.MayMove, Orders.{ends_account, uses_token}, Requests.{asked, new_token}, Turns.{new_order, turned, while_open}, World.{Does, World, move_asked, move_by, turn_in, world}}
-use Rattle.gx_history_laws.proofs.Ends.{live_have_open}
-use Rattle.gx_effects.proofs.{Doing.live_does, Moving.{his_own, may_move}, World.{all_stay, those_go}}
+use Rattle.gx_laws.proofs.{Ends.live_have_open, Doing.live_does, Moving.{his_own, may_move}, World.{all_stay, those_go}}
 use Rattle.gx_orders.specs.{Changes.{denied_token, is_lasting, live_left, orders_moved}, InForce.{orders_in_force, token_asked, token_used_by}, Laws.{FindsOrders, OrdersGoOn}, LiveOrders.{at_rest, filled, has_number, is_open, open_ones, sized, without, IsOpen, OrdersData}}
 use Rattle.gx_orders.proofs.{Finding.finds_orders, Matching.{differ, in_turn}, Staying.{data_is, used_then}}
 

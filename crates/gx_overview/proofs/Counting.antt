@@ -6,7 +6,7 @@ use Rattle.gx_ouch.specs.declared.outbound.OrderTerms.{OrderTerms}
 use Rattle.gx_policy.specs.declared.policy.{Account.Account, PolicyData.PolicyData}
 use Rattle.gx_history.specs.{declared.{live_order.LiveOrder.LiveOrder, «record».RecordData.RecordData}, Book.is_buy, Figures.open_of_chosen, Live.live, LiveOrders.shares_open}
 use Rattle.gx_overview.specs.{declared.accounts.{LiveSums.LiveSums}, Accounts.{account_row, capped, capped_count, entries_with, is_of, live_sums, no_orders, row_of, sums_in, with_order}}
-use Rattle.gx_history_laws.proofs.Names.{account_is}
+use Rattle.gx_laws.proofs.Names.{account_is}
 use Rattle.gx_overview.proofs.{Keeping.inserted, Passing.map_same}
 
 -- one more that passes, or does not

@@ -5,7 +5,7 @@ use Rattle.gx_units.specs.{Money.value, Names.same_account, declared.names.Accou
 use Rattle.gx_ouch.specs.declared.{letters.Liquidity.Liquidity, outbound.OrderTerms.OrderTerms}
 use Rattle.gx_policy.specs.declared.policy.{Account.Account, PolicyData.PolicyData}
 use Rattle.gx_history.specs.{declared.record.{Fill.Fill, RecordData.RecordData}, Book.is_buy, Executions.{Execution, executions, side_of, sides_in}, Figures.done_of_chosen, Orders.{Order, order_numbered, orders}}
-use Rattle.gx_history_laws.proofs.NextOrders.{executions_next, executions_none, orders_next, orders_none}
+use Rattle.gx_laws.proofs.NextOrders.{executions_next, executions_none, orders_next, orders_none}
 use Rattle.gx_overview.specs.{declared.{executed.{Executed.Executed, ExecutedRow.ExecutedRow}, owners.Owners.Owners}, Accounts.{capped, is_of}, Executed.{KnowOrders, NoteRecord, executed_by, executed_row, no_executions, owner_of, row_filled, rows_after, rows_filled, side_filled, value_of_chosen}}
 use Rattle.gx_overview.proofs.{Counting.sum_capped, Passing.{each_folded, map_same, map_twice, written_back}}
 

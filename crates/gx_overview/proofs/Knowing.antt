@@ -5,7 +5,7 @@ use Rattle.gx_units.specs.{Names.{same_token, same_user}, declared.names.{Accoun
 use Rattle.gx_ouch.specs.declared.inbound.{EnterOrder.EnterOrder, ReplaceOrder.ReplaceOrder}
 use Rattle.gx_policy.specs.{declared.policy.PolicyData.PolicyData, People.account_of}
 use Rattle.gx_history.specs.{declared.record.{RecordData.RecordData, Request.Request}, Orders.{Order, entered, order_numbered, order_under, orders_made, replacing}, Book.is_buy}
-use Rattle.gx_history_laws.proofs.{Adding.user_is, Order.some_same}
+use Rattle.gx_laws.proofs.{Adding.user_is, Order.some_same}
 use Rattle.gx_overview.specs.{declared.owners.{Owner.Owner, Owners.Owners}, Executed.{KnowOrders, is_key, owner_of}, Owning.{IsOneMore, Learn}}
 use Rattle.gx_overview.proofs.Passing.{last_such_next}
 

@@ -1,8 +1,9 @@
 -- What one more item makes of what a pass over a list keeps.
-use Rattle.std.proofs.{Common.{◌≡◌, ℕ, ◌+◌, ◌<◌, Bool, true, false, cond, List, [], ◌∷◌, ◌++◌, map, length, take, drop, set, get_or, ◌-◌, min, arith, refl, ap, sym, ◌∙◌}, lemmas.List.{append-nil, drop_all, take_all, get_or_default, length-append, length-drop, length-map, length-take, map-id, take_more, Edits.map_over_more, Elements.{filter_map-append, filter-append}}}
-use Rattle.std.specs.{Prelude.{Option, Some, None, fold}, List.{filter, filter_map, last_or}}
+use Rattle.std.proofs.{Common.{◌≡◌, ℕ, ◌+◌, ◌<◌, Bool, true, false, cond, List, [], ◌∷◌, ◌++◌, map, length, take, drop, set, get_or, ◌-◌, min, max, arith, refl, ap, sym, ◌∙◌}, lemmas.List.{append-nil, drop_all, take_all, get_or_default, length-append, length-drop, length-map, length-take, map-append, map-id, Sums.fold-append, take_more, Edits.map_over_more, Elements.{filter_map-append, filter-append}}}
+use Rattle.std.specs.{Prelude.{Option, Some, None, fold, slice_get}, List.{filter, filter_map, last_or}}
 use Rattle.gx_policy.specs.Lists.{last_such}
-use Rattle.gx_history_laws.proofs.Pushing.{last_or-append}
+use Rattle.gx_history.proofs.Unpacking.{one_more_taken}
+use Rattle.gx_laws.proofs.Pushing.{last_or-append}
 
 -- the last such, of one more
 pub last_such_next : {X : Type 0} (test : X → Bool) (xs : List X) (x : X) → last_such test (xs ++ x ∷ []) ≡ cond (test x) (Some x) (last_such test xs)
@@ -67,3 +68,11 @@ written_back new items n same whole =
     ap (λ rest. take n (new ++ rest)) (drop_all (length new) items (omega (arith, same)))
     ∙ ap (take n) (append-nil new)
     ∙ take_all n new (omega (arith, same, whole))
+
+-- the most of what f says of one more item
+pub most_of_one_more : {X : Type 0} (f : X → ℕ) (xs : List X) (place : ℕ) (x : X) → slice_get xs place ≡ Some x
+    → max (fold max 0 (map f (take place xs))) (f x) ≡ fold max 0 (map f (take (place + 1) xs))
+most_of_one_more f xs place x is =
+    sym (fold-append max 0 (map f (take place xs)) (f x ∷ []))
+    ∙ ap (fold max 0) (sym (map-append f (take place xs) (x ∷ [])))
+    ∙ ap (λ items. fold max 0 (map f items)) (sym (one_more_taken xs place x is))

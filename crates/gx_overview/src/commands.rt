@@ -5,6 +5,7 @@ ghost use Rattle.gx_overview.specs.Commands.{command_by, granted_command, grante
 
 use gx_desk::Action;
 use gx_history::record::{Asked, Record, RecordData, Request, Step, Verdict};
+use gx_history::records::Records;
 use gx_units::{AccountName, Moment, OutOfMemory, RuleId, Symbol, UserName};
 use std::alloc::Global;
 
@@ -77,13 +78,13 @@ fn note(commands: &mut Vec<GrantedCommand>, left: &Record) -> Result<(), OutOfMe
 /// `OutOfMemory` where the list was refused its memory.
 pub fn granted_commands(
     alloc: Global,
-    records: &[Record],
+    records: &Records<'_>,
 ) -> Result<Vec<GrantedCommand>, OutOfMemory>
     ensures commands { IfOk result (λ commands. commands.items ≡ granted_commands records.now) }
 {
     let mut commands = Vec::new(alloc);
-    for record in records {
-        note(&mut commands, record)?;
+    for place in 0..records.len() {
+        note(&mut commands, &records.at(place))?;
     }
     Ok(commands)
 }

@@ -4,7 +4,7 @@ ghost use Rattle.std.specs.Prelude.{◌≡◌, ◌-◌, map, IfOk};
 ghost use Rattle.gx_pass.specs.Views.{highest_line};
 ghost use Rattle.gx_overview.specs.Rules.{day_row, user_row};
 
-use gx_history::record::Record;
+use gx_history::records::Records;
 use gx_pass::{LAST_LINE, line_in};
 use gx_policy::User;
 use gx_records::{ShowsRecords, ShowsState};
@@ -50,12 +50,13 @@ pub fn day_row<G: ShowsState>(gate: &G) -> DayRow
 }
 
 /// The highest line of these records, 0 where none has one.
-fn highest_line(records: &[Record]) -> u16
+#[tactic(auto, using(crate::proofs::Passing::most_of_one_more))]
+fn highest_line(records: &Records<'_>) -> u16
     ensures { result ≡ highest_line records.now }
 {
     let mut highest = 0;
-    for record in records {
-        highest = highest.max(line_in(&record.content()));
+    for place in 0..records.len() {
+        highest = highest.max(line_in(&records.at(place).content()));
     }
     highest
 }
@@ -65,7 +66,7 @@ fn highest_line(records: &[Record]) -> u16
 pub fn lines_left<G: ShowsRecords>(gate: &G) -> u16
     ensures { result ≡ 65535 - highest_line (G.seen gate.now).records }
 {
-    LAST_LINE - highest_line(gate.shown_records())
+    LAST_LINE - highest_line(&gate.shown_records())
 }
 
 fn user_row<G: ShowsState>(gate: &G, user: &User) -> UserRow

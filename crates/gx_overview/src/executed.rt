@@ -6,6 +6,7 @@ ghost use Rattle.gx_overview.specs.Executed.{executed_row, no_executions, row_fi
 
 use crate::owners::{Owner, Owners};
 use gx_history::record::{Fill, Record, Step, Verdict};
+use gx_history::records::Records;
 use gx_people::people::People;
 use gx_policy::{Account, Policy};
 use gx_records::ShowsRecords;
@@ -119,15 +120,15 @@ fn note_records(
     alloc: Global,
     rows: &mut [ExecutedRow],
     policy: &Policy,
-    records: &[Record],
+    records: &Records<'_>,
 ) -> Result<(), OutOfMemory>
     ensures noted { OnOk result
         (rows.new ≡ fold rows_after rows.old (executions policy.now records.now)) }
 {
     let people = People::new(alloc, policy)?;
     let mut owners = Owners::new(alloc);
-    for record in records {
-        note_record(rows, &mut owners, policy, &people, record)?;
+    for place in 0..records.len() {
+        note_record(rows, &mut owners, policy, &people, &records.at(place))?;
     }
     Ok(())
 }
@@ -168,6 +169,6 @@ pub fn executed_rows<G: ShowsRecords>(
 {
     let policy = gate.policy();
     let mut rows = first_rows(alloc, policy.accounts())?;
-    note_records(alloc, &mut rows, policy, gate.shown_records())?;
+    note_records(alloc, &mut rows, policy, &gate.shown_records())?;
     Ok(rows)
 }

@@ -3,7 +3,7 @@ use Rattle.std.proofs.Common.{◌≡◌, ℕ, Bool, true, false, cond, ◌⊎◌
 use Rattle.std.specs.{Prelude.{Option, Some, None, is_some, unwrap_or}, Option.option_map_or, Map.keys_of}
 use Rattle.gx_policy.specs.declared.policy.PolicyData.{PolicyData}
 use Rattle.gx_history.specs.declared.record.RecordData.{RecordData}
-use Rattle.gx_history_laws.proofs.Order.{some_same}
+use Rattle.gx_laws.proofs.Order.{some_same}
 use Rattle.gx_records.specs.State.{limit_in_force}
 use Rattle.gx_peaks.specs.{declared.{figure.Figure.Figure, key.PeakKey.PeakKey, peak.{Peak.Peak, Reading.Reading}, table.{HeldPeak.HeldPeak, PeakTable.PeakTable}}, Figures.{amount, is_counted, used_of}, Keys.{key_of, same_key}, Noting.{Advances, AdvancesTo, AreTheirs, IsHeld, IsNoted, IsSame, IsKeptUnder, Lags, figure_at, held_under, noted, peak_under}, Peaks.IsPeakOf, Raising.{reading_of, taken_in, unmoved}, Same.{key_is, key_is_itself}}
 use Rattle.gx_peaks.proofs.{Rising.{taken_again, taken_in_is}, Sameness.amounts_same, Sorts.is_some_always}

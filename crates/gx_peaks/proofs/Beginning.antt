@@ -5,8 +5,7 @@ use Rattle.gx_units.specs.declared.names.{AccountName.AccountName, RuleId.RuleId
 use Rattle.gx_ouch.specs.declared.outbound.OrderTerms.{OrderTerms}
 use Rattle.gx_policy.specs.declared.policy.PolicyData.{PolicyData}
 use Rattle.gx_history.specs.{declared.record.RecordData.RecordData, Figures.{Positions, done_of_chosen, done_value, live_value, net_done, on_side, open_of_chosen, other_side, side_live}}
-use Rattle.gx_exposure.proofs.Steps.{shares_held, value_held}
-use Rattle.gx_positions.proofs.GoingOn.{days_begin_empty}
+use Rattle.gx_laws.proofs.{Steps.{shares_held, value_held}, GoingOn.days_begin_empty}
 use Rattle.gx_records.specs.State.{limit_in_force}
 use Rattle.gx_peaks.specs.{declared.{figure.Figure.Figure, key.PeakKey.PeakKey, peak.Peak.Peak, table.{HeldPeak.HeldPeak, PeakTable.PeakTable}}, Figures.{above_zero, amount, is_counted}, Keys.{key_of, same_key}, Noting.{AreHeld, peak_under}, Peaks.{IsPeakOf, is_past, limit_behind}, Raising.unmoved}
 use Rattle.gx_peaks.proofs.{Holding.none_is_within, Sorts.{Net, Shares, Sort, Value, amount_is, has_sort, total_of}}

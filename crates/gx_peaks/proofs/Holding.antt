@@ -4,7 +4,7 @@ use Rattle.std.specs.{Prelude.{Option, Some, None, is_some, option_and_then}, Op
 use Rattle.gx_units.specs.{Names.same_rule, declared.names.{AccountName.AccountName, RuleId.RuleId}}
 use Rattle.gx_policy.specs.{declared.policy.PolicyData.PolicyData, People.account_named, Soundness.is_sound}
 use Rattle.gx_history.specs.{declared.{live_order.LiveOrder.LiveOrder, «record».{RecordData.RecordData, Verdict.Verdict}}, Book.is_buy, Live.{live, live_numbered}, Verdicts.{Follows, IsLegal}}
-use Rattle.gx_history_laws.proofs.{NextReports.legal_before, Order.some_same}
+use Rattle.gx_laws.proofs.{NextReports.legal_before, Order.some_same}
 use Rattle.gx_records.specs.State.{limit_in_force}
 use Rattle.gx_peaks.specs.{declared.{figure.Figure.Figure, table.{HeldPeak.HeldPeak, PeakTable.PeakTable}}, Figures.{amount, is_counted}, Keys.key_of, Noting.{Advances, AdvancesTo, AreHeld, IsHeld, IsOfOrder, IsOfSeller, IsOfSetting, Lags, held_under, peak_under}, Peaks.{IsPeakOf, is_over}, Raising.unmoved, Touching.{gains_by, gains_of, seller, set_in, sets_limit}}
 use Rattle.gx_peaks.proofs.{Newest.account_is_known, Quiet.{counts_gain, counts_order, no_rise}, Rising.{still_is, whole}, Sameness.{counts_it, counts_its_gain}, Settings.limit_is_kept, Sorts.{Sort, amount_is, has_sort, sort_of}}

@@ -4,8 +4,7 @@ use Rattle.std.specs.{Prelude.{Option, Some, None, Result, Ok, Err, OnOk, ◌&&�
 use Rattle.gx_units.specs.{Names.same_rule, declared.names.{AccountName.AccountName, RuleId.RuleId}}
 use Rattle.gx_policy.specs.{declared.policy.{FileRule.FileRule, PolicyData.PolicyData}, People.{account_named, rule_in}}
 use Rattle.gx_history.specs.declared.{facts.StockSide.StockSide, «record».RecordData.RecordData}
-use Rattle.gx_history_laws.proofs.Order.{some_same}
-use Rattle.gx_effects.proofs.{Among.{IsIn, all_are_in}, NewOrders.found_is}
+use Rattle.gx_laws.proofs.{Order.some_same, Among.{IsIn, all_are_in}, NewOrders.found_is}
 use Rattle.gx_peaks.specs.{declared.{figure.Figure.Figure, key.PeakKey.PeakKey, table.{HeldPeak.HeldPeak, PeakTable.PeakTable}}, Figures.{counts, is_counted}, Keys.{key_of, same_key}, Noting.{AdvancesTo, AreTheirs, IsNoted, IsOfAccount, IsOfPlace, IsOfRule, IsSame, IsKeptUnder, IsUnder, held_under}, Same.{key_is, rule_is, rule_is_itself}}
 use Rattle.gx_peaks.proofs.{Advancing.{and_then, noted_advances, noted_theirs, reached_by, stays_put}, Sorts.{Sort, counted_is, has_sort, sort_under}}
 

@@ -5,10 +5,8 @@ use Rattle.gx_units.specs.declared.names.AccountName.{AccountName}
 use Rattle.gx_policy.specs.{declared.policy.PolicyData.PolicyData, People.{account_named, account_of}, Soundness.is_sound}
 use Rattle.gx_history.specs.{declared.{live_order.LiveOrder.LiveOrder, «record».{Asked.Asked, RecordData.RecordData, Request.Request, Step.Step, Verdict.Verdict}, moves.Move.TheVariants.{Adds, Nothing, Replaces, Sizes}}, Figures.{Positions, positions}, Live.{live, live_numbered, live_under}, LiveOrders.replacement_order, Orders.Order, Turns.{Turn, becomes, new_in, new_order, turned}, Verdicts.{Follows, IsLegal}, World.{World, move_asked, turn_by, turn_in, world}}
 use Rattle.gx_history.specs.Turns as turns
-use Rattle.gx_history_laws.proofs.Owners.{IsHisAccounts, orders_are_their_users}
-use Rattle.gx_effects.proofs.{Accounts.accounts_are_known, NewOrders.found_is}
-use Rattle.gx_positions.specs.{Laws.{granted_after, turn_after}, Sound.MayChange}
-use Rattle.gx_positions.proofs.{Coming.{of_live, records_may_come}, GoingOn.positions_go_on}
+use Rattle.gx_laws.proofs.{Owners.{IsHisAccounts, orders_are_their_users}, Accounts.accounts_are_known, NewOrders.found_is, Coming.{of_live, records_may_come}, GoingOn.positions_go_on}
+use Rattle.gx_laws.specs.{PositionLaws.{granted_after, turn_after}, Sound.MayChange}
 
 -- an order that is new has the number of the record
 abbrev HasNumber : ℕ → LiveOrder → Type 0

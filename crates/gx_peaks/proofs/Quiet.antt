@@ -5,12 +5,8 @@ use Rattle.gx_units.specs.{Money.value, declared.names.AccountName.AccountName}
 use Rattle.gx_ouch.specs.declared.outbound.OrderTerms.{OrderTerms}
 use Rattle.gx_policy.specs.declared.policy.PolicyData.{PolicyData}
 use Rattle.gx_history.specs.{declared.{facts.StockSide.StockSide, live_order.LiveOrder.LiveOrder, «record».{Fill.Fill, RecordData.RecordData, Verdict.Verdict}}, Book.is_buy, Executions.{Execution, executions, sides}, Figures.{Positions, done_of_chosen, of_accounts, on_side, open_of_chosen, other_side, positions}, Live.{live, live_numbered}, Orders.{Order, orders, orders_added}, Turns.{Turn, Fills, new_in}, Verdicts.{Follows, IsLegal}, World.{turn_by, world}}
-use Rattle.gx_history_laws.proofs.{NextOrders.executions_next, NextReports.legal_next, Numbers.all_weaker}
-use Rattle.gx_effects.proofs.Fills.{both_sides, maker_side, taker_side}
-use Rattle.gx_positions.specs.{Changing.executed_by, Laws.{granted_after, turn_after}, Sound.{MayChange, MayFill}}
-use Rattle.gx_positions.proofs.{Coming.records_may_come, GoingOn.positions_go_on, Small.new_ones, Sound.positions_are_sound, Sums.{is_chosen, sides_are, sum_of_filter}}
-use Rattle.gx_exposure.specs.Exposure.{gain, gained, gross_value, shares_of_chosen}
-use Rattle.gx_exposure.proofs.{After.{GoOn, done_stays}, Steps.{AddsNone, AreWorth, gained-append, no_more_shares, no_more_value, shares_held, value_held}, Worth.executions_are_worth}
+use Rattle.gx_laws.proofs.{NextOrders.executions_next, NextReports.legal_next, Numbers.all_weaker, Fills.{both_sides, maker_side, taker_side}, Coming.records_may_come, GoingOn.positions_go_on, Small.new_ones, Sound.positions_are_sound, Sums.{is_chosen, sides_are, sum_of_filter}, After.{GoOn, done_stays}, Steps.{AddsNone, AreWorth, gained-append, no_more_shares, no_more_value, shares_held, value_held}, Worth.executions_are_worth}
+use Rattle.gx_laws.specs.{Changing.executed_by, PositionLaws.{granted_after, turn_after}, Sound.{MayChange, MayFill}, Exposure.{gain, gained, gross_value, shares_of_chosen}}
 use Rattle.gx_peaks.specs.{Figures.above_zero, Touching.{gains_by, gains_of, seller}}
 use Rattle.gx_peaks.proofs.{Newest.new_is_newest, Sorts.{Net, Shares, Sort, Value, total_of}}
 

@@ -4,7 +4,7 @@ use Rattle.std.proofs.Common.{◌≡◌, Bool, true, false, cond, not, ◌⊎◌
 use Rattle.std.specs.Prelude.{Option, Some, None, ◌&&◌, is_some, option_and_then}
 use Rattle.gx_units.specs.{Names.{same_account, same_stock}, declared.names.AccountName.AccountName}
 use Rattle.gx_history.specs.{declared.{facts.StockSide.StockSide, live_order.LiveOrder.LiveOrder, «record».RecordData.RecordData}, Book.{is_buy, is_on}, Figures.{counts_account, on_side}}
-use Rattle.gx_history_laws.proofs.{Judging.both, Names.{account_is, stock_is}, Order.some_same}
+use Rattle.gx_laws.proofs.{Judging.both, Names.{account_is, stock_is}, Order.some_same}
 use Rattle.gx_records.specs.State.{counted_with, is_for}
 use Rattle.gx_peaks.specs.{declared.{figure.Figure.Figure, key.PeakKey.PeakKey}, Figures.{amount, is_counted}, Keys.{key_of, whose}, Noting.{IsOfAccount, IsSame, side_of}}
 use Rattle.gx_peaks.proofs.{Quiet.{counts_gain, counts_order}, Sorts.{Net, Shares, Sort, Value, amount_is, has_sort, is_some_always, sort_by, sort_of, sort_under, total_of}}

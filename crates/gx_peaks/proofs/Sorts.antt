@@ -4,7 +4,7 @@ use Rattle.std.proofs.Common.{◌≡◌, ℕ, ◌+ℤ◌, pos, Bool, true, false
 use Rattle.std.specs.{Option.option_map_or, Prelude.{Option, Some, None, ◌&&◌, is_some, option_and_then, option_map, unwrap_or}}
 use Rattle.gx_units.specs.declared.names.AccountName.{AccountName}
 use Rattle.gx_history.specs.{declared.{facts.StockSide.StockSide, «record».RecordData.RecordData}, Executions.executions, Figures.{net_done, side_live}, Live.live}
-use Rattle.gx_exposure.specs.Exposure.{gross_shares, gross_value}
+use Rattle.gx_laws.specs.Exposure.{gross_shares, gross_value}
 use Rattle.gx_records.specs.State.{counted_with, gross_of, gross_of_rule, is_for, net_of, net_of_rule}
 use Rattle.gx_peaks.specs.{declared.figure.Figure.Figure, Figures.{above_zero, amount, counts, fits, is_counted, used_of, used_on}}
 

@@ -3,7 +3,7 @@ use Rattle.std.proofs.Common.{◌≡◌, ℕ, ◌≤◌, List, [], ◌∷◌, �
 use Rattle.std.specs.Prelude.{Option, Some, None, option_map, unwrap_or}
 use Rattle.gx_policy.specs.declared.policy.PolicyData.{PolicyData}
 use Rattle.gx_history.specs.declared.record.RecordData.{RecordData}
-use Rattle.gx_history_laws.proofs.NextReports.{legal_before}
+use Rattle.gx_laws.proofs.NextReports.{legal_before}
 use Rattle.gx_peaks.specs.{declared.figure.Figure.Figure, Figures.amount, Laws.{LimitsStay, MostRaiseNothing}}
 use Rattle.gx_peaks.proofs.{Quiet.none_rises, Settings.limit_is_kept, Sorts.{Sort, amount_is, sort_of, total_of, used_is}}
 

@@ -3,7 +3,7 @@ use Rattle.std.proofs.{Common.{◌≡◌, ℕ, Bool, true, false, List, refl, ap
 use Rattle.std.specs.{Prelude.{Option, Some, None, ◌&&◌}, Bool.beq, Option.option_eq}
 use Rattle.gx_units.specs.{Names.{same_account, same_rule, same_stock}, declared.names.{RuleId.RuleId, Symbol.Symbol}}
 use Rattle.gx_history.specs.declared.facts.StockSide.{StockSide}
-use Rattle.gx_history_laws.proofs.{Judging.both, Names.{account_is, account_is_itself, stock_is}}
+use Rattle.gx_laws.proofs.{Judging.both, Names.{account_is, account_is_itself, stock_is}}
 use Rattle.gx_peaks.specs.{declared.key.PeakKey.PeakKey, Keys.{key_bytes, same_key, same_side}}
 
 -- names that are the same are equal

@@ -6,7 +6,7 @@ use Rattle.gx_desk.specs.{Names.is_written, declared.{WrittenName.WrittenName, A
 use Rattle.gx_policy.specs.{declared.policy.{PolicyData.PolicyData, Role.Role, User.User}, People.{is_reader, role_in, user_in}}
 use Rattle.gx_history.specs.{declared.record.RecordData.RecordData, Readers.reader_in, Requests.granted_actions}
 use Rattle.gx_people.specs.Entitled.{change_role, with_account, without_account, granted_to, revoked_from, given, people_in_force}
-use Rattle.gx_history_laws.proofs.Order.{some_same}
+use Rattle.gx_laws.proofs.Order.{some_same}
 
 -- the user of a name, after a role changed
 pub user_changed : (n : UserName) (f : Role → Role) (users : List User) (name : UserName)

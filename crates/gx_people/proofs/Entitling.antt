@@ -5,7 +5,7 @@ use Rattle.gx_units.specs.{Names.{same_user, same_account, has_no_lower_case}, d
 use Rattle.gx_desk.specs.{Names.is_written, declared.{WrittenName.WrittenName, Action.Action}}
 use Rattle.gx_policy.specs.{declared.policy.{PolicyData.PolicyData, Role.Role, User.User}, Lists.{last_value, where_true}, People.{is_reader, role_in, names_account, user_in}, Soundness.is_sound}
 use Rattle.gx_history.specs.{declared.record.{Asked.Asked, RecordData.RecordData}, InForce.{in_role, is_entitled, grant_or_revoke_of, last_mark}, Readers.reader_in, Requests.{granted, granted_actions, granted_mark, action_of}}
-use Rattle.gx_history_laws.proofs.{Adding.user_is, Names.{account_is, same_account_flip}, Order.some_same}
+use Rattle.gx_laws.proofs.{Adding.user_is, Names.{account_is, same_account_flip}, Order.some_same}
 use Rattle.gx_people.specs.Entitled.{change_role, with_account, without_account, granted_to, revoked_from, given, people_in_force, sees}
 use Rattle.gx_people.proofs.{Spelling.{AreUpper, same_written, sound_upper}, Changing.{user_changed, role_word, reader_stays, given_word}}
 

@@ -6,7 +6,7 @@ use Rattle.gx_desk.specs.declared.{WrittenName.WrittenName, Action.Action}
 use Rattle.gx_policy.specs.{declared.policy.{PolicyData.PolicyData, Role.Role, User.User}, People.{account_of, account_of_role, is_officer, is_trader, role_in, user_in}, Soundness.is_sound}
 use Rattle.gx_history.specs.{declared.record.RecordData.RecordData, Asking.{has_power, sees_now}, InForce.is_entitled, Logins.{password_is, same_password}, Readers.reader_in, Requests.granted_action}
 use Rattle.gx_people.specs.Entitled.{given, granted_to, has, has_in_role, holds, holds_in_role, people_in_force, power_of, revoked_from, sees}
-use Rattle.gx_history_laws.proofs.{NextInForce.granted_next, Order.some_same}
+use Rattle.gx_laws.proofs.{NextInForce.granted_next, Order.some_same}
 use Rattle.gx_people.proofs.{Table.{is_some_map, map_or}, Changing.{RoleStays, reader_in_force, role_word, stays_in_force}, Entitling.kept}
 
 map_or_same : {X : Type 0} (f g : X → Bool) → ((x : X) → f x ≡ g x) → (o : Option X) → option_map_or f o false ≡ option_map_or g o false

@@ -5,8 +5,7 @@ use Rattle.gx_units.specs.{Names.{same_account, same_user}, declared.names.{Acco
 use Rattle.gx_desk.specs.declared.Action.{Action}
 use Rattle.gx_policy.specs.{declared.policy.{Account.Account, PolicyData.PolicyData, Role.Role, User.User}, Lists.are_distinct, People.{account_named, names_account, user_in}, Soundness.{are_accounts, is_role_sound, is_sound, is_user_sound}}
 use Rattle.gx_history.specs.{declared.record.{Asked.Asked, RecordData.RecordData, Step.Step, Verdict.Verdict}, Asking.knows_names, Readers.reader_in, Requests.{action_of, asked, is_granted}, Verdicts.{Follows, IsLegal, next}}
-use Rattle.gx_history_laws.proofs.{Granting.legal_keeps, Judging.both, Names.{account_is, accounts_few, same_account_flip}}
-use Rattle.gx_effects.proofs.{Allowed.names_are_known, Commanding.grants_command}
+use Rattle.gx_laws.proofs.{Granting.legal_keeps, Judging.both, Names.{account_is, accounts_few, same_account_flip}, Allowed.names_are_known, Commanding.grants_command}
 use Rattle.gx_people.specs.Entitled.{account_limit, change_role, given, granted_to, has_room, people_in_force, revoked_from, role_has_room, with_account, without_account}
 use Rattle.gx_people.proofs.{Keeping.{first_users, next_users}, Spelling.both_hold}
 

@@ -4,7 +4,7 @@ use Rattle.std.specs.{Char.{to_ascii_uppercase, to_ascii_lowercase}, List.{list_
 use Rattle.gx_units.specs.{Names.{is_lower_case, has_no_lower_case}, Spelling.{is_space, is_blank}, declared.names.UserName.UserName}
 use Rattle.gx_desk.specs.{Names.is_written, declared.WrittenName.WrittenName}
 use Rattle.gx_policy.specs.{declared.policy.{PolicyData.PolicyData, User.User}, Soundness.{is_sound, is_user_sound, is_padded, is_folded, is_visible}}
-use Rattle.gx_history_laws.proofs.Judging.{both}
+use Rattle.gx_laws.proofs.Judging.{both}
 
 back_by : (low high : Bool) (c : ℕ) → nat_lt c 65 ≡ low → nat_lt c 91 ≡ high → not (is_lower_case c) ≡ true → to_ascii_uppercase (cond low c (cond high (c + 32) c)) ≡ c
 back_by true high c l h upper = grind (arith, nat_tests)

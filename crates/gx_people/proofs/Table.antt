@@ -7,7 +7,7 @@ use Rattle.gx_units.specs.{Names.same_user, declared.names.{AccountName.AccountN
 use Rattle.gx_desk.specs.{Names.is_written, declared.WrittenName.WrittenName}
 use Rattle.gx_policy.specs.{declared.policy.{Role.Role, User.User}, Lists.are_distinct, People.{is_reader, user_in, role_in}}
 use Rattle.gx_history.specs.{Logins.{password_is, same_password}, Readers.reader_in}
-use Rattle.gx_history_laws.proofs.{Adding.{user_is, user_is_itself}, Judging.both, Names.same_user_flip, Order.some_same, Tables.{changed_in_place, new_next}}
+use Rattle.gx_laws.proofs.{Adding.{user_is, user_is_itself}, Judging.both, Names.same_user_flip, Order.some_same, Tables.{changed_in_place, new_next}}
 use Rattle.gx_people.specs.{Entitled.{change_role, has_room, role_has_room}, View.{role_of_standing, user_of, users_of}, declared.person.Person.Person}
 
 -- what the person found by a name says, the user of that name says

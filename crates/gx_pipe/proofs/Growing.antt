@@ -4,7 +4,7 @@ use Rattle.std.specs.Option.{option_map_or}
 use Rattle.gx_units.specs.declared.names.UserName.{UserName}
 use Rattle.gx_soup.specs.declared.packet.{LoginRequest.LoginRequest, ClientPacket.ClientPacket}
 use Rattle.gx_history.specs.declared.record.{Asked.Asked, RecordData.RecordData}
-use Rattle.gx_effects.proofs.Settling.{settled_adds}
+use Rattle.gx_laws.proofs.Settling.{settled_adds}
 use Rattle.gx_devices.specs.Stopping.{AreFewer, AreFirst}
 use Rattle.gx_devices.proofs.Stopping.{first_same, first_then, fewer_then}
 use Rattle.gx_answers.specs.{Gates.GateData, Asking.stepped, Matches.settled_gate}

@@ -4,8 +4,7 @@ use Rattle.std.specs.{Prelude.{fold, IsFalse}, Option.option_map_or}
 use Rattle.gx_units.specs.declared.names.UserName.{UserName}
 use Rattle.gx_soup.specs.{declared.packet.{ClientPacket.ClientPacket}, Packets.packets_of}
 use Rattle.gx_history.specs.{declared.record.{Asked.Asked, RecordData.RecordData, Step.Step}, InForce.is_closed, Settling.{most_matches, settled}, Verdicts.{next, IsLegal}}
-use Rattle.gx_history_laws.proofs.Runs.{step_left}
-use Rattle.gx_effects.proofs.{Orderly.{IsOrderly, legal_is_orderly, orderly_next}, Settling.{match_is_orderly, settled_keeps, settled_ends}}
+use Rattle.gx_laws.proofs.{Runs.step_left, Orderly.{IsOrderly, legal_is_orderly, orderly_next}, Settling.{match_is_orderly, settled_keeps, settled_ends}}
 use Rattle.gx_answers.specs.{Gates.GateData, Matches.{matching_of, settled_gate}, Asking.stepped}
 use Rattle.gx_pipe.specs.{declared.connection.Connection.Connection, Transcript.{Run, opened_at, silent, on_event, answered, matched, sent, pulled, ticked, on_packet, run_of}}
 use Rattle.gx_session.specs.{declared.{session.Phase.{Phase, TheVariants.{On, Abandoned, Done}}}, Events.{is_over}, Happenings.Happening, Table.turn}

@@ -7,8 +7,7 @@ use Rattle.gx_ouch.specs.{declared.inbound.Inbound.Inbound, Reading.inbound_of}
 use Rattle.gx_soup.specs.{declared.packet.{LoginRequest.LoginRequest, ClientPacket.ClientPacket}, Packets.packets_of}
 use Rattle.gx_policy.specs.{declared.policy.PolicyData.PolicyData, Lists.where_true}
 use Rattle.gx_history.specs.{declared.record.{Asked.Asked, RecordData.RecordData, Request.Request, Step.Step, Verdict.Verdict}, InForce.{is_closed, line_by, line_of, login_or_logout_of}, Payloads.{asked_by as meant_by, request_of, unreadable}, Requests.{asked, is_granted}, Verdicts.verdict}
-use Rattle.gx_history_laws.proofs.{Logouts.logouts_are_granted, NextInForce.line_of_next, Adding.{granted_is, user_is_itself}}
-use Rattle.gx_effects.proofs.Settling.{settled_adds}
+use Rattle.gx_laws.proofs.{Logouts.logouts_are_granted, NextInForce.line_of_next, Adding.{granted_is, user_is_itself}, Settling.settled_adds}
 use Rattle.gx_answers.specs.{Gates.GateData, Asking.{asked_by, stepped}, Logins.login_answered, Matches.{settled_gate, IsSettling}, declared.outcome.LoginAnswer.LoginAnswer}
 use Rattle.gx_pipe.specs.{declared.connection.Connection.Connection, Serving.IsOnLine, Steps.{login_asked_at, login_told}, Transcript.{Run, on_event, first_told, logged_in, answered, matched, sent, pulled, ticked, on_packet, opened, run_of}}
 use Rattle.gx_session.specs.{declared.session.Phase.{Phase, TheVariants.{Fresh, Waiting, On, Abandoned, Done}}, Events.is_over, Table.turn}

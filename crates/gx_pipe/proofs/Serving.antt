@@ -5,8 +5,7 @@ use Rattle.gx_units.specs.{Spelling.folded_user, declared.names.{LoginRejection.
 use Rattle.gx_soup.specs.{declared.packet.{LoginRequest.LoginRequest, ClientPacket.ClientPacket, ServerPacket.ServerPacket}, Writing.server_bytes, Packets.packets_of}
 use Rattle.gx_policy.specs.declared.{policy.PolicyData.PolicyData, rule_name.RuleName.{RuleName, TheVariants.{L3}}}
 use Rattle.gx_history.specs.{declared.{«record».{Asked.Asked, RecordData.RecordData, Step.Step, Verdict.Verdict}, report.Report.Report}, Asking.facts, Logins.first_wanted, Payloads.request_of, Requests.asked, Rules.forbids, Streams.{stream, reports_of}, Verdicts.{next, verdict, facts_now, moment_of}, InForce.is_closed}
-use Rattle.gx_history_laws.proofs.{Granting.{left_by_request, is_no_bar}, NextReports.stream_next, Owners.all_both}
-use Rattle.gx_effects.proofs.Settling.{settled_adds}
+use Rattle.gx_laws.proofs.{Granting.{left_by_request, is_no_bar}, NextReports.stream_next, Owners.all_both, Settling.settled_adds}
 use Rattle.gx_answers.specs.{Gates.GateData, Matches.settled_gate, Logins.login_answered, declared.outcome.LoginAnswer.LoginAnswer, Asking.{asked_by, stepped}}
 use Rattle.gx_pipe.specs.{declared.connection.Connection.Connection, Serving.{owed, IsServed, HasOnlyMatched, Serves}, Steps.{login_asked_at, login_told}, Transcript.{Run, with_text, on_event, first_told, logged_in, answered, sent, matched, pulled, handled, on_packet, opened, run_of, later}}
 use Rattle.gx_session.specs.{declared.session.Phase.{Phase, TheVariants.{Fresh, Waiting, On, Abandoned}}, Table.turn, Sending.{report_packet, reports_text}}

@@ -7,8 +7,7 @@ use Rattle.gx_pipe.specs.{Faults.{fault_of_step, HasRoom, IsToldFull}, Piping.{c
 use Rattle.gx_devices.specs.Stopping.{AreFewer}
 use Rattle.gx_units.specs.{Spelling.folded_user, declared.names.UserName.UserName}
 use Rattle.gx_soup.specs.declared.packet.LoginRequest.{LoginRequest}
-use Rattle.gx_history_laws.proofs.Granting.{verdict_of_next}
-use Rattle.gx_effects.proofs.{Orderly.legal_is_orderly, Settling.{settled_adds, settled_ends, settled_idle}}
+use Rattle.gx_laws.proofs.{Granting.verdict_of_next, Orderly.legal_is_orderly, Settling.{settled_adds, settled_ends, settled_idle}}
 use Rattle.gx_answers.proofs.Stepped.{stepped_is}
 
 -- what a login is told

@@ -19,7 +19,7 @@ fn login_request<G: AccessGate>(gate: &G, login: &LoginRequest) -> Request
 }
 
 /// Makes the login's step, and says what it is told.
-#[tactic(auto, unfolding(crate::specs::Steps::login_told), using(gx_history_laws::proofs::Granting::verdict_of_next, crate::proofs::Stepping::told_full))]
+#[tactic(auto, unfolding(crate::specs::Steps::login_told), using(gx_laws::proofs::Granting::verdict_of_next, crate::proofs::Stepping::told_full))]
 pub(crate) fn login_step<G: AccessGate>(
     gate: &mut G,
     moment: u64,

@@ -6,10 +6,9 @@ use Rattle.gx_ouch.specs.declared.{inbound.EnterOrder.EnterOrder, letters.Cancel
 use Rattle.gx_desk.specs.declared.{Action.Action, AnswerCode.AnswerCode, Command.Command}
 use Rattle.gx_policy.specs.{declared.{policy.{PolicyData.PolicyData, User.User}, rule_name.RuleName.RuleName}, People.{account_of, is_trader, role_in, user_in}}
 use Rattle.gx_history.specs.{declared.{«record».{Asked.Asked, RecordData.RecordData, Request.Request, Verdict.Verdict, Step.Step}, report.Message.Message, live_order.LiveOrder.LiveOrder, moves.Move.{Move, TheVariants.{Nothing, Denies, Adds, Sizes, Replaces}}}, InForce.{line_of, kill_after}, Reasons.denial_code, Verdicts.{IsLegal, next}, Live.live_under, LiveOrders.{is_under, replacement_order, shares_open}, Requests.is_judged, Streams.{answer, canceled_of, day_end, ended_of, lift_code, rejected, replaced_of, reported, reports_of, reports_of_denial, stream, to_user}, Turns.new_order, World.{World, accepted_of, commanded, move_asked, move_by, moved, world}}
-use Rattle.gx_history_laws.proofs.{Adding.{found_passes, user_is, user_is_itself}, Granting.asked_is_judged, Judging.both, NextReports.stream_next, Runs.step_left}
+use Rattle.gx_laws.proofs.{Adding.{found_passes, user_is, user_is_itself}, Granting.asked_is_judged, Judging.both, NextReports.stream_next, Runs.step_left, ByKind.{denials_tell_who_asked, granted_world, kills_leave_the_others, logouts_put_off}, World.world_next}
 use Rattle.gx_day.proofs.Answering.{unknown_on_no_line}
 use Rattle.gx_history.specs.Turns as turns
-use Rattle.gx_effects.proofs.{ByKind.{denials_tell_who_asked, granted_world, kills_leave_the_others, logouts_put_off}, World.world_next}
 use Rattle.gx_places.specs.Places.{concerns_many, enough_places, has_kept_places, is_alive, is_on, kills_left, most_record_places, orders_held, record_places, report_places}
 use Rattle.gx_places.proofs.{Counting.{fewer_pass, most_pass, one_less_passes}, Held.{held_and_ended, held_turned, his_of}, Kills.{Kills, StayKilled, commands_lift_none, fewer_alive, fewer_kills_left, kill_finds, lifts, no_more_kills, one_kill_less, one_less_alive, was_on}}
 

@@ -5,8 +5,7 @@ use Rattle.gx_units.specs.{Names.same_account, declared.names.{AccountName.Accou
 use Rattle.gx_desk.specs.declared.{Action.Action, Command.Command}
 use Rattle.gx_policy.specs.{declared.{policy.{Account.Account, PolicyData.PolicyData, Role.Role}, rule_name.RuleName.TheVariants.G1}, People.{account_named, covers, is_officer, role_in}}
 use Rattle.gx_history.specs.{declared.record.{Asked.Asked, RecordData.RecordData, Request.Request, Step.Step, Verdict.Verdict}, Asking.{are_his, facts, has_power, is_on_line}, InForce.{is_untouched, line_of}, Rules.forbids, Verdicts.{IsLegal, facts_now, next}, World.{World, commanded, world}}
-use Rattle.gx_history_laws.proofs.{Names.{account_is, account_is_itself}, Granting.is_no_bar}
-use Rattle.gx_effects.proofs.{Allowed.{changes_something, has_the_accounts, has_the_power, names_are_known}, ByKind.kills_leave_the_others, Commanding.{GrantsCommand, grants_the_command}}
+use Rattle.gx_laws.proofs.{Names.{account_is, account_is_itself}, Granting.is_no_bar, Allowed.{changes_something, has_the_accounts, has_the_power, names_are_known}, ByKind.kills_leave_the_others, Commanding.{GrantsCommand, grants_the_command}}
 use Rattle.gx_places.specs.Places.{is_alive, is_whole, is_left_to, kills_left, may_kill, most_kills}
 use Rattle.gx_places.proofs.Counting.{fewer_pass, most_pass, one_less_passes}
 

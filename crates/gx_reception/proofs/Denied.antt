@@ -4,7 +4,7 @@ use Rattle.std.specs.{Prelude.{◌&&◌, is_some, option_map}, Option.option_map
 use Rattle.gx_units.specs.{declared.names.{LoginRejection.LoginRejection, Password.Password, SessionName.SessionName, UserName.UserName}, Spelling.{folded_password, folded_session, folded_user}}
 use Rattle.gx_policy.specs.{declared.{policy.PolicyData.PolicyData, rule_name.RuleName.RuleName}, RuleNames.rules_before}
 use Rattle.gx_history.specs.{declared.record.{Asked.Asked, Login.Login, RecordData.RecordData, Request.Request, Step.Step, Verdict.Verdict}, Asking.facts, Logins.{password_is, session_is}, Rules.{first_forbidding, written_order}, Verdicts.{IsLegal, next, step_verdict, verdict}}
-use Rattle.gx_history_laws.proofs.{NextReports.legal_before, Judging.both}
+use Rattle.gx_laws.proofs.{NextReports.legal_before, Judging.both}
 use Rattle.gx_answers.specs.{declared.outcome.{LoginAnswer.LoginAnswer, Outcome.Outcome}, Gates.left_by, Logins.login_answered}
 use Rattle.gx_pass.specs.{declared.view.Holds.Holds, Views.mine}
 use Rattle.gx_door.specs.{Acts.{AddsOwn, IsLater, login_on, LogsIn}, Callers.caller_of, declared.caller.Caller.Caller}

@@ -3,7 +3,7 @@ use Rattle.gx_policy.specs.{Kinds.limit_of, declared.{kinds.ExposureLimit.Exposu
 use Rattle.std.specs.{Prelude.{ℕ, ℤ, pos, ◌+ℤ◌, Bool, ◌&&◌, List, Option, Some, None, is_some, option_and_then, if◌then◌else◌}, List.filter}
 use Rattle.gx_units.specs.{Names.same_user, declared.names.{AccountName.AccountName, RuleId.RuleId, UserName.UserName}}
 use Rattle.gx_history.specs.{declared.{facts.StockSide.StockSide, live_order.LiveOrder.LiveOrder, «record».RecordData.RecordData}, Asking.rule_in_force, Executions.executions, Figures.{counts_account, net_done, side_live}, Live.live}
-use Rattle.gx_exposure.specs.Exposure.{gross_shares, gross_value}
+use Rattle.gx_laws.specs.Exposure.{gross_shares, gross_value}
 
 -- the user's orders, in their places
 abbrev pub of_user : UserName → List LiveOrder → List LiveOrder

@@ -8,13 +8,13 @@ mod watching;
 ghost use Rattle.std.specs.Prelude.{◌≡◌};
 
 use gx_answers::AccessGate;
-use gx_history::record::Record;
+use gx_history::records::Records;
 pub use state::ShowsState;
 pub use watching::{NoWatch, Watches};
 
 /// A gate that shows its records where they stand.
 pub trait ShowsRecords: AccessGate {
     /// All its records, the oldest first. Takes no memory.
-    fn shown_records(&self) -> &[Record]
-        ensures { result.now ≡ (Self.seen self.now).records };
+    fn shown_records(&self) -> Records<'_>
+        ensures { result ≡ (Self.seen self.now).records };
 }

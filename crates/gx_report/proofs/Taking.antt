@@ -3,7 +3,7 @@ use Rattle.std.proofs.{Common.{◌≡◌, ℕ, ◌+◌, ◌<◌, ◌≤◌, List
 use Rattle.std.specs.{Prelude.{Option, slice_get, Some, None}, List.AllByRecursion}
 use Rattle.gx_policy.specs.declared.policy.{PolicyData.PolicyData, Stock.Stock}
 use Rattle.gx_history.specs.declared.record.RecordData.{RecordData}
-use Rattle.gx_history_laws.proofs.Pushing.{all_next}
+use Rattle.gx_laws.proofs.Pushing.{all_next}
 use Rattle.gx_records.specs.Watching.{earlier_of}
 use Rattle.gx_report.specs.{declared.samples.{Samples.Samples, Seat.Seat}, Samples.{AreTaken, more_of, most_used, sample_of, samples_after, samples_at, used_in}}
 

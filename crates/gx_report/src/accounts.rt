@@ -52,7 +52,7 @@ pub(crate) fn accounts_table<G: ShowsRecords + ShowsState>(
     let mut table = Table::new(alloc, TableKind::Accounts);
     let activity = activity_rows(alloc, gate)?;
     let done = executed_rows(alloc, gate)?;
-    let commands = granted_commands(alloc, gate.shown_records())?;
+    let commands = granted_commands(alloc, &gate.shown_records())?;
     let standing = account_rows(alloc, gate, commands.as_slice())?;
     let rows = activity
         .iter()

@@ -42,7 +42,7 @@ pub(crate) fn counts_of<G: ShowsRecords>(
     let count = spans.count.min(64) as usize;
     span_rows(
         alloc,
-        gate.shown_records(),
+        &gate.shown_records(),
         spans.from,
         spans.width.max(1),
         count,

@@ -5,7 +5,7 @@ use Rattle.indexmap.specs.IndexMap.{insert_entry, set_value_at}
 use Rattle.gx_units.specs.{Names.same_account, declared.names.{AccountName.AccountName, RuleId.RuleId}}
 use Rattle.gx_history.specs.{declared.{facts.{Facts.Facts, ProposedOrder.ProposedOrder, RuleFigures.RuleFigures}, «record».Request.Request}, Rules.{figured, figured_from, first_file_rule, kind_forbids, of_proposed, proposed, rule_forbids}}
 use Rattle.gx_policy.specs.{declared.{policy.{Account.Account, FileRule.FileRule}, rule_name.RuleName.{RuleName, TheVariants.File}}, People.covers}
-use Rattle.gx_history_laws.proofs.Granting.{left_false, right_false}
+use Rattle.gx_laws.proofs.Granting.{left_false, right_false}
 use Rattle.gx_rules.specs.{declared.book_rule.BookRule.BookRule, Books.{kind_of, rule_named, rules_of}, Places.{accounts_differ, covering, covering_from, forbids_at, named_at, places_of}}
 use Rattle.gx_rules.proofs.Keeping.{none_before}
 

@@ -5,7 +5,7 @@ use Rattle.indexmap.specs.{IndexMap.insert_entry, IndexSet.{insert_key, remove_k
 use Rattle.gx_units.specs.{Names.{same_rule, same_stock}, declared.names.{RuleId.RuleId, Symbol.Symbol}}
 use Rattle.gx_policy.specs.{declared.policy.FileRule.FileRule, Lists.are_distinct}
 use Rattle.gx_history.specs.InForce.{adding, lists_stock, removing}
-use Rattle.gx_history_laws.proofs.Granting.{left_false, right_false}
+use Rattle.gx_laws.proofs.Granting.{left_false, right_false}
 use Rattle.gx_rules.specs.{declared.book_rule.BookRule.BookRule, Books.{names_differ, rule_named, rules_of}}
 
 left_true : (a b : Bool) → (not a && b) ≡ true → a ≡ false

@@ -286,7 +286,7 @@ impl RuleBook {
 
     /// The first rule of the written order that forbids the request, by the figures told for each rule of the file as it is
     /// asked; None where no rule does.
-    #[tactic(auto, using(gx_history_laws::proofs::Order::is_first_forbidding, gx_history_laws::proofs::Order::none_forbids))]
+    #[tactic(auto, using(gx_laws::proofs::Order::is_first_forbidding, gx_laws::proofs::Order::none_forbids))]
     pub fn first_forbidding<F: TellsFigures>(
         &self,
         facts: &Facts,

@@ -4,7 +4,7 @@ use Rattle.std.specs.Option.{option_map_or}
 use Rattle.gx_history.specs.{declared.record.{Asked.Asked, RecordData.RecordData}, Verdicts.{next, verdict}}
 use Rattle.gx_history.specs.declared.record.Step.TheVariants as steps
 use Rattle.gx_policy.specs.People.{user_in}
-use Rattle.gx_effects.proofs.Settling.{settled_adds}
+use Rattle.gx_laws.proofs.Settling.{settled_adds}
 use Rattle.gx_devices.specs.Stopping.{AreFirst}
 use Rattle.gx_devices.proofs.Stopping.{first_same, first_then}
 use Rattle.gx_answers.specs.{Gates.GateData, Asking.{asked_by, stepped}, Matches.next_match}

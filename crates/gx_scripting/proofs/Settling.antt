@@ -3,7 +3,7 @@ use Rattle.std.proofs.{Common.{◌≡◌, ℕ, suc, ◌+◌, ◌-◌, ◌<◌, �
 use Rattle.std.specs.Prelude.{Option, None, Some, is_none, nat_le, option_map, ◌||◌}
 use Rattle.gx_policy.specs.declared.policy.PolicyData.{PolicyData}
 use Rattle.gx_history.specs.{declared.record.{RecordData.RecordData, Verdict.Verdict}, Matching.matching, Settling.{AddsMatches, settled}, Verdicts.{IsLegal, day_limit, next, step_verdict}}
-use Rattle.gx_effects.proofs.{Orderly.legal_is_orderly, Settling.{settled_adds, settled_idle, settled_step}}
+use Rattle.gx_laws.proofs.{Orderly.legal_is_orderly, Settling.{settled_adds, settled_idle, settled_step}}
 use Rattle.gx_market.specs.Meeting.{match_record}
 use Rattle.gx_answers.specs.{Gates.GateData, Matches.{matching_of, next_match}}
 use Rattle.gx_script.specs.Printing.{idle_line, outcome_line, refused_line}

@@ -5,8 +5,7 @@ use Rattle.gx_units.specs.declared.names.{AccountName.AccountName, RuleId.RuleId
 use Rattle.gx_desk.specs.declared.{Action.Action, WrittenName.WrittenName}
 use Rattle.gx_policy.specs.{declared.{policy.{PolicyData.PolicyData, Role.Role}, rule_name.RuleName.TheVariants.G2}, People.{is_officer, role_in}}
 use Rattle.gx_history.specs.{declared.{live_order.LiveOrder.LiveOrder, «record».{Asked.Asked, RecordData.RecordData, Request.Request, Step.Step, Verdict.Verdict}}, Asking.{facts, fits_role}, Live.live, Requests.{action_of, is_granted}, Verdicts.{IsLegal, day_limit, next}}
-use Rattle.gx_history_laws.proofs.Granting.{is_no_bar}
-use Rattle.gx_positions.proofs.Sound.{live_are_few}
+use Rattle.gx_laws.proofs.{Granting.is_no_bar, Sound.live_are_few}
 use Rattle.gx_slab.specs.Slabs.{of_account}
 use Rattle.gx_answers.specs.{declared.outcome.Outcome.Outcome, Gates.left_by}
 use Rattle.gx_door.specs.{declared.ended.Ended.Ended, Endings.{ended_among, ended_by, sums_of}}

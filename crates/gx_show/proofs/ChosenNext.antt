@@ -3,7 +3,7 @@ use Rattle.std.proofs.{Common.{◌≡◌, ℕ, Bool, true, false, List, [], ◌�
 use Rattle.std.specs.{Prelude.{Option, option_to_list}, List.{cons_option, filter_map}}
 use Rattle.gx_policy.specs.{declared.policy.PolicyData.PolicyData, Lists.{each_with_earlier, where_true}}
 use Rattle.gx_history.specs.declared.record.RecordData.{RecordData}
-use Rattle.gx_history_laws.proofs.Pushing.{each_after_next}
+use Rattle.gx_laws.proofs.Pushing.{each_after_next}
 use Rattle.gx_show.specs.{declared.{choice.Choice.Choice, known_order.KnownOrder.KnownOrder}, Choosing.{chosen, is_asked_for, is_chosen}, Known.{known_orders, made}}
 use Rattle.gx_show.proofs.KnownNext.{known_next}
 

@@ -2,7 +2,7 @@
 use Rattle.std.proofs.{Common.{◌≡◌, ℕ, Bool, true, false, List, [], ◌∷◌, ◌++◌, refl, ◌∙◌, ap, sym, cond}, lemmas.List.{Elements.filter-append, Folds.find-append}}
 use Rattle.std.specs.{Prelude.{Option, Some, None}, Option.option_or, List.{filter, last_or}}
 use Rattle.gx_history.specs.declared.live_order.UserToken.{UserToken}
-use Rattle.gx_history_laws.proofs.Pushing.{last_or-append}
+use Rattle.gx_laws.proofs.Pushing.{last_or-append}
 use Rattle.gx_policy.specs.Lists.{last_such, where_true}
 use Rattle.gx_show.specs.{declared.known_order.KnownOrder.KnownOrder, Known.{has_number, is_under, numbered}, Tables.{AreFound, FindsNumber, FindsToken}}
 

@@ -4,7 +4,7 @@ use Rattle.std.specs.{Prelude.{Option, Some, None, ◌&&◌, option_and_then, op
 use Rattle.gx_units.specs.{declared.names.{AccountName.AccountName, Token.Token, UserName.UserName}, Names.{same_user, same_token}}
 use Rattle.gx_policy.specs.{declared.policy.PolicyData.PolicyData, People.account_of}
 use Rattle.gx_history.specs.{declared.record.{Asked.Asked, RecordData.RecordData, Request.Request}, Orders.{Order, entered, order_under, orders, orders_added, orders_made, replacing}, Requests.granted}
-use Rattle.gx_history_laws.proofs.NextOrders.{orders_next, orders_none}
+use Rattle.gx_laws.proofs.NextOrders.{orders_next, orders_none}
 use Rattle.gx_show.specs.{declared.known_order.KnownOrder.KnownOrder, Known.{is_under, known_of, known_orders, made, made_by, under}}
 
 pub known_none : (policy : PolicyData) → known_orders policy [] ≡ []

@@ -3,7 +3,7 @@ use Rattle.std.proofs.{Common.{◌≡◌, ℕ, ◌+◌, List, [], ◌∷◌, ◌
 use Rattle.std.specs.Prelude.{Some}
 use Rattle.gx_history.specs.declared.record.RecordData.{RecordData}
 use Rattle.gx_audit_bytes.specs.{declared.version.AuditVersion.AuditVersion, Audits.all_bytes, Reading.record_of, Records.record_bytes}
-use Rattle.gx_history_laws.proofs.Pushing.{all_next}
+use Rattle.gx_laws.proofs.Pushing.{all_next}
 use Rattle.gx_show.specs.Reading.{AreReadBack}
 use Rattle.gx_audit_bytes.proofs.Joined.{more_bytes, no_bytes}
 

@@ -1,7 +1,6 @@
 //! The table.
 
-ghost use Rattle.std.specs.Option.{option_map_or};
-ghost use Rattle.std.specs.Prelude.{◌≡◌, ◌<◌, ◌^◌, [], ◌∷◌, ◌++◌, length, None, option_copied, IsTrue, IfOk, OnOk, OnErr};
+ghost use Rattle.std.specs.{Option.option_map_or, Prelude.{◌≡◌, ◌<◌, ◌^◌, [], ◌∷◌, ◌++◌, length, None, option_copied, IsTrue, IfOk, OnOk, OnErr}};
 ghost use Rattle.gx_slab.specs.Slabs.{at_rest, first_waiting, is_open, live_numbered, numbered_of, order_of, written};
 
 use crate::live::LiveOrders;

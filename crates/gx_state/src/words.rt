@@ -391,7 +391,7 @@ pub fn state_text<G: ShowsRecords + ShowsState>(
     gate: &G,
     with_orders: bool,
 ) -> Result<Vec<u8>, OutOfMemory> {
-    let commands = granted_commands(alloc, gate.shown_records())?;
+    let commands = granted_commands(alloc, &gate.shown_records())?;
     let mut text = Vec::new(alloc);
     append_state(&mut text, alloc, gate, commands.as_slice(), with_orders)?;
     Ok(text)

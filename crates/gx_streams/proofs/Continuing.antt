@@ -2,7 +2,7 @@
 use Rattle.std.proofs.Common.{◌≡◌, ℕ, Bool, true, false, cond, List, [], ◌∷◌, refl, ◌∙◌, sym, ap, if◌then◌else◌}
 use Rattle.std.specs.{Prelude.{Option, Some, Result, Ok, Err, OnErr, OnOk, option_map}, List.find}
 use Rattle.gx_units.specs.{Names.same_user, declared.names.UserName.UserName}
-use Rattle.gx_history_laws.proofs.Order.{some_same}
+use Rattle.gx_laws.proofs.Order.{some_same}
 use Rattle.gx_streams.specs.{declared.{entry.Entry.Entry, fill.ToldFill.ToldFill}, Kept.{UserList, at_first}, Spans.{ReaderSpans, is_named}, Streams.{AllStreams, ReaderMask, entitled, mask_in, with_mask}, Table.streams_of}
 use Rattle.gx_streams.proofs.Shown.{mask_found}
 

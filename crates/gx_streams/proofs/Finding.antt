@@ -4,7 +4,7 @@ use Rattle.std.specs.{Prelude.{Option, Some, None, find, is_some}, Option.option
 use Rattle.gx_units.specs.{Names.same_user, declared.names.UserName.UserName}
 use Rattle.gx_policy.specs.{declared.policy.{PolicyData.PolicyData, User.User}, People.{is_reader, role_in, user_in}}
 use Rattle.gx_history.specs.{declared.{«record».RecordData.RecordData, report.Report.Report}, Streams.stream, Verdicts.IsLegal}
-use Rattle.gx_history_laws.proofs.{Adding.user_is, Names.same_user_flip}
+use Rattle.gx_laws.proofs.{Adding.user_is, Names.same_user_flip}
 use Rattle.gx_streams.specs.{Kept.{UserList, is_known, items_in, list_of}, Sending.KnowsReaders, Streams.{AllStreams, is_told, mask_of, reports_in}, Telling.{UserReports, shown, shown_list, told_after, told_of}}
 use Rattle.gx_streams.proofs.OnlyKnown.{only_known}
 

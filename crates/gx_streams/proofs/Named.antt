@@ -5,7 +5,7 @@ use Rattle.indexmap.specs.IndexMap.{insert_entry, set_value_at}
 use Rattle.indexmap.proofs.MapLemmas.{insert_entry-absent}
 use Rattle.gx_units.specs.{Names.same_user, declared.names.UserName.UserName}
 use Rattle.gx_policy.specs.{Lists.are_distinct, People.is_reader, declared.policy.User.User}
-use Rattle.gx_history_laws.proofs.{Names.same_user_flip, Order.some_same, Tables.new_next}
+use Rattle.gx_laws.proofs.{Names.same_user_flip, Order.some_same, Tables.new_next}
 use Rattle.gx_streams.specs.{Kept.at_first, Spans.{AreNamed, ReaderSpans, is_named, no_spans, spans_for}}
 use Rattle.gx_streams.proofs.Spanning.{item_at, one_more_changed}
 

@@ -4,7 +4,7 @@ use Rattle.std.specs.{Prelude.{Option, Some, is_some}, Option.option_map_or, Lis
 use Rattle.gx_units.specs.{Names.same_user, declared.names.UserName.UserName}
 use Rattle.gx_policy.specs.{declared.policy.{User.User, PolicyData.PolicyData}, People.is_reader}
 use Rattle.gx_history.specs.declared.report.Report.{Report}
-use Rattle.gx_history_laws.proofs.Adding.{user_is_itself}
+use Rattle.gx_laws.proofs.Adding.{user_is_itself}
 use Rattle.gx_streams.specs.{declared.{entry.Entry.Entry, fill.ToldFill.ToldFill}, Kept.{Kept, UserList, list_of, nothing_kept, nothing_told, told_nothing}, Spans.{IsSound, ReaderSpans, first_spans, is_named, no_spans, spans_for}, Streams.{AllStreams, ReaderMask, empty_streams, no_mask}, Table.{IsSoundTable, IsThere, kept_copies, list_shown, reader_mask, streams_of}}
 use Rattle.gx_streams.proofs.{Shown.{AllKnown}, Silent.silent_first}
 

@@ -5,7 +5,7 @@ use Rattle.indexmap.specs.IndexMap.{insert_entry}
 use Rattle.indexmap.proofs.MapLemmas.{insert_entry-absent}
 use Rattle.gx_units.specs.{Names.same_user, declared.names.UserName.UserName}
 use Rattle.gx_policy.specs.{declared.policy.User.User, Lists.are_distinct}
-use Rattle.gx_history_laws.proofs.{Names.same_user_flip, Tables.new_next}
+use Rattle.gx_laws.proofs.{Names.same_user_flip, Tables.new_next}
 use Rattle.gx_streams.specs.{declared.entry.Entry.Entry, Kept.{Kept, UserList, nothing_kept, told_nothing}, Table.{lists_of, user_list}}
 
 abbrev opened : List User → List (UserList Entry)

@@ -3,7 +3,7 @@ use Rattle.std.proofs.Common.{◌≡◌, ℕ, ◌+◌, ◌-◌, ◌<◌, ◌≤�
 use Rattle.std.specs.{Prelude.{Option, Some, None, is_some, filter}, Option.option_map_or}
 use Rattle.gx_units.specs.{Names.same_user, declared.names.UserName.UserName}
 use Rattle.gx_history.specs.declared.report.Report.{Report}
-use Rattle.gx_history_laws.proofs.{Adding.{user_is, user_is_itself}, Judging.both}
+use Rattle.gx_laws.proofs.{Adding.{user_is, user_is_itself}, Judging.both}
 use Rattle.gx_streams.specs.{Kept.{Kept, UserList, is_known, list_of, on_user, places_in, with_kept_last, with_last, with_places}, Streams.{AllStreams, is_told, mask_of, on_told}, Telling.{owed_to, with_all_owed, with_owed}}
 use Rattle.gx_streams.proofs.Users.{known_after}
 

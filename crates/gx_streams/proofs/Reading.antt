@@ -3,7 +3,7 @@ use Rattle.std.proofs.Common.{◌≡◌, ℕ, zero, suc, ◌+◌, ◌-◌, ◌<�
 use Rattle.std.specs.{Prelude.{Option, Some, None, is_some, Result, Ok, Err, IfOk}, Option.option_map_or, List.find}
 use Rattle.gx_units.specs.{Names.same_user, declared.names.UserName.UserName}
 use Rattle.gx_policy.specs.Lists.{slice}
-use Rattle.gx_history_laws.proofs.{Adding.user_is, Order.some_same}
+use Rattle.gx_laws.proofs.{Adding.user_is, Order.some_same}
 use Rattle.gx_history.specs.declared.report.Report.{Report}
 use Rattle.gx_streams.specs.{declared.{fill.ToldFill.ToldFill, span.Span.Span, entry.Entry.Entry}, Fills.{copies_of, copies_of_all}, Kept.{Kept, UserList, is_known, items_in, list_of, places_in}, Spans.{AreNumbered, IsSound, ReaderSpans, between, copies_before, copies_in, is_named, next_of}, Streams.{AllStreams, reports_in}, Table.{IsSoundTable, kept_copies, kept_reports, report_of, streams_of}, Windows.{Taken, after, is_full, window}}
 use Rattle.gx_history.proofs.Slicing.{slice_is}

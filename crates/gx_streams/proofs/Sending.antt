@@ -6,7 +6,7 @@ use Rattle.gx_ouch.specs.declared.{outbound.{Executed.Executed, Outbound.Outboun
 use Rattle.gx_desk.specs.declared.DropCopy.{DropCopy}
 use Rattle.gx_policy.specs.{declared.policy.PolicyData.PolicyData, People.{is_reader, role_in}}
 use Rattle.gx_history.specs.{declared.{«record».{RecordData.RecordData, Verdict.Verdict, Fill.Fill}, report.{Message.Message, Report.Report}}, Executions.{Execution, sides, side_of as side_of_fill}, Orders.{Order, order_numbered, orders}, InForce.is_entitled, Masks.mask_by, Streams.{copies_of, copy_of as drop_copy_of, executed_message, reported, reports_of, reports_of_execution, reports_of_verdict}}
-use Rattle.gx_history_laws.proofs.{Adding.user_is, Masks.has_where, NextReports.stream_next, Owners.{IsHisAccounts, all_both, orders_are_their_users}}
+use Rattle.gx_laws.proofs.{Adding.user_is, Masks.has_where, NextReports.stream_next, Owners.{IsHisAccounts, all_both, orders_are_their_users}}
 use Rattle.gx_streams.specs.{declared.fill.{Party.Party, ToldFill.ToldFill}, Fills.{copy_of, copy_report, executed_of, executed_report, executed_to, side_of}, Kept.UserList, Sending.{AreSent, IsMadeBy, IsSide}, Streams.{AllStreams, ReaderMask, told_by_fill, with_fill, with_fill_told}, Telling.{each_told, shown, shown_list, told_after, with_more}}
 use Rattle.gx_streams.specs.Fills as fills
 use Rattle.gx_streams.proofs.{OnlyKnown.{all_found, all_mapped, not_entitled}, Telling.{each_told_same, more_told}}

@@ -3,7 +3,7 @@ use Rattle.std.proofs.{Common.{◌≡◌, ℕ, zero, suc, ◌+◌, ◌-◌, ◌<
 use Rattle.std.specs.{Prelude.{Option, Some, None, is_some, option_map}, Option.option_map_or, List.{AllByRecursion, find, slice_get}}
 use Rattle.gx_units.specs.{Names.same_user, declared.names.UserName.UserName}
 use Rattle.gx_history.specs.declared.report.Report.{Report}
-use Rattle.gx_history_laws.proofs.{Adding.user_is, Order.some_same}
+use Rattle.gx_laws.proofs.{Adding.user_is, Order.some_same}
 use Rattle.gx_streams.specs.{declared.{fill.{ToldFill.ToldFill, Party.Party}, entry.Entry.Entry}, Fills.{copies_of, executed_report, side_of}, Kept.{Kept, UserList, at_first, is_known, list_of, on_user, places_in, with_kept_last, with_last, with_places}, Spans.{IsSound, ReaderSpans, counted, entitled_from, is_named}, Streams.{ReaderMask, mask_in, with_fill_told}, Table.{IsThere, kept_copies, kept_reports, list_shown, no_report, reader_mask, report_of}}
 use Rattle.gx_streams.proofs.{Spanning.{none_yet, one_more}, Users.known_after}
 

@@ -3,7 +3,7 @@ use Rattle.std.proofs.Common.{◌≡◌, ℕ, Bool, true, false, cond, List, [],
 use Rattle.std.specs.{Prelude.{Option, Some, None, is_some}, Option.option_map_or, List.{AllByRecursion, find}}
 use Rattle.gx_units.specs.{Names.same_user, declared.names.UserName.UserName}
 use Rattle.gx_policy.specs.declared.policy.User.{User}
-use Rattle.gx_history_laws.proofs.Adding.{user_is, user_is_itself}
+use Rattle.gx_laws.proofs.Adding.{user_is, user_is_itself}
 use Rattle.gx_streams.specs.{declared.{fill.ToldFill.ToldFill, entry.Entry.Entry}, Kept.{Kept, UserList, at_first, items_in, list_of, on_user, told_nothing}, Spans.{ReaderSpans, counted, entitled_from, is_named}}
 
 abbrev pub AllSilent : List (UserList Entry) → List ReaderSpans → Type 0

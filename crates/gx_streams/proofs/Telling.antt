@@ -4,7 +4,7 @@ use Rattle.std.specs.Prelude.{filter}
 use Rattle.gx_units.specs.{Names.same_user, declared.names.UserName.UserName}
 use Rattle.gx_policy.specs.declared.policy.{PolicyData.PolicyData, User.User}
 use Rattle.gx_history.specs.{declared.{«record».RecordData.RecordData, report.{Message.Message, Report.Report}}, Streams.{reported, reports_of, stream, to_user}}
-use Rattle.gx_history_laws.proofs.NextReports.{stream_next, stream_none}
+use Rattle.gx_laws.proofs.NextReports.{stream_next, stream_none}
 use Rattle.gx_streams.specs.{Kept.{Kept, UserList, on_user, told_nothing, with_kept_last, with_last, with_places}, Laws.{OwesAll, OwesNothing, OwesTo, TellsAll, TellsNobody, TellsOne}, Streams.{AllStreams, empty_streams, on_told}, Telling.{UserReports, each_told, only_to, owed_message, owed_to, shown, shown_list, told_after, told_of, told_to, with_all_owed, with_more, with_owed}}
 
 abbrev told_with : UserReports → List Report → UserReports

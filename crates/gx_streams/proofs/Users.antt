@@ -2,7 +2,7 @@
 use Rattle.std.proofs.{Common.{◌≡◌, ◌-◌, ◌+◌, ◌++◌, arith, length, take, Bool, true, false, cond, List, [], ◌∷◌, refl, ◌∙◌, sym, ap, if◌then◌else◌}, lemmas.{List.length_push, Map.Steps.set_value_same}}
 use Rattle.std.specs.{Prelude.{Some, is_some}, Option.option_map_or, List.IsDistinct, Map.{keys_of, lookup, set_value}}
 use Rattle.gx_units.specs.{Names.same_user, declared.names.UserName.UserName}
-use Rattle.gx_history_laws.proofs.{Adding.user_is, Order.some_same, Tables.changed_in_place}
+use Rattle.gx_laws.proofs.{Adding.user_is, Order.some_same, Tables.changed_in_place}
 use Rattle.gx_streams.specs.{declared.entry.Entry.Entry, Kept.{Kept, UserList, is_known, items_in, list_of, on_user, places_in, with_last, without_last}, Table.{lists_of, user_list}}
 
 -- what the list found says, the table's says

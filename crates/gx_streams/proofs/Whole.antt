@@ -3,7 +3,7 @@ use Rattle.std.proofs.Common.{◌≡◌, ℕ, ◌<◌, true, not, ◌&&◌, List
 use Rattle.std.specs.{Prelude.{Option, Some, None, Result, Ok, Err, OnOk, OnErr, is_some, option_map}, List.find}
 use Rattle.gx_units.specs.declared.names.UserName.{UserName}
 use Rattle.gx_history.specs.declared.report.Report.{Report}
-use Rattle.gx_history_laws.proofs.Judging.{both}
+use Rattle.gx_laws.proofs.Judging.{both}
 use Rattle.gx_streams.specs.{declared.{fill.{ToldFill.ToldFill, Party.Party}, entry.Entry.Entry}, Kept.{Kept, UserList, at_first, is_known, on_user, places_in, with_last}, Spans.{ReaderSpans, counted, entitled_from, is_named}, Streams.{AllStreams, ReaderMask, entitled, is_told, mask_in, on_told, with_fill, with_fill_told}, Table.{IsSoundTable, list_shown, reader_mask, streams_of}}
 use Rattle.gx_streams.proofs.{Shown.{fill_shown, fill_there, known_changed, known_counted, known_masked, known_shown, mask_found, mask_shown, no_reader, place_shown, with_sides}, Silent.{silent_changed, silent_counted, silent_masked}, Spanning.{all_masked, all_noted, masks_changed, masks_noted}}
 

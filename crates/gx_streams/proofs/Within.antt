@@ -5,7 +5,7 @@ use Rattle.indexmap.specs.IndexMap.{set_value_at}
 use Rattle.gx_units.specs.{Names.same_user, declared.names.UserName.UserName}
 use Rattle.gx_policy.specs.{People.is_reader, declared.policy.User.User}
 use Rattle.gx_history.specs.{Masks.has_account}
-use Rattle.gx_history_laws.proofs.{Judging.both, Order.some_same}
+use Rattle.gx_laws.proofs.{Judging.both, Order.some_same}
 use Rattle.gx_streams.specs.{declared.{fill.{Party.Party, ToldFill.ToldFill}, span.Span.Span}, Fills.{copies_of, copy_of, copy_report, side_of}, Spans.{AreWithin, IsWithin, ReaderSpans, counted, no_spans, spans_for}}
 
 -- no reader is told of an account at first

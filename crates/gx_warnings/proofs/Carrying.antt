@@ -4,7 +4,7 @@ use Rattle.std.specs.{Prelude.{Option, Some, None, ◌&&◌, ◌==◌, nat_le, n
 use Rattle.gx_units.specs.{Names.same_rule, declared.names.{AccountName.AccountName, RuleId.RuleId}}
 use Rattle.gx_policy.specs.{declared.policy.PolicyData.PolicyData, Soundness.is_sound}
 use Rattle.gx_history.specs.{declared.{live_order.LiveOrder.LiveOrder, «record».RecordData.RecordData}, Live.{live, live_numbered}, Verdicts.{Follows, IsLegal}}
-use Rattle.gx_history_laws.proofs.{NextReports.legal_before, Numbers.all_weaker}
+use Rattle.gx_laws.proofs.{NextReports.legal_before, Numbers.all_weaker}
 use Rattle.gx_records.specs.State.{limit_in_force}
 use Rattle.gx_peaks.specs.{declared.figure.Figure.Figure, Figures.{amount, is_counted}, Noting.{IsOfAccount, side_of}, Raising.reading_of, Touching.{gains_of, set_in, sets_limit}}
 use Rattle.gx_peaks.proofs.{Holding.gainer_is_known, Newest.account_is_known, Quiet.{counts_gain, counts_order, no_rise}, Rising.front, Sameness.{counts_it, counts_its_gain}, Settings.limit_is_kept, Sorts.{Sort, amount_is, has_sort, sort_of}}

@@ -4,7 +4,7 @@ use Rattle.std.specs.{Prelude.{Option, Some, ◌&&◌, ◌==◌, is_some}, List.
 use Rattle.gx_units.specs.{Names.same_rule, declared.names.{AccountName.AccountName, RuleId.RuleId}}
 use Rattle.gx_policy.specs.{declared.policy.{FileRule.FileRule, PolicyData.PolicyData}, People.{account_named, rule_in}}
 use Rattle.gx_history.specs.declared.{facts.StockSide.StockSide, «record».RecordData.RecordData}
-use Rattle.gx_history_laws.proofs.Judging.{both}
+use Rattle.gx_laws.proofs.Judging.{both}
 use Rattle.gx_peaks.specs.{declared.{figure.Figure.Figure, key.PeakKey.PeakKey}, Figures.{counts}, Keys.key_of, Noting.{IsOfAccount, IsSame}, Same.{rule_is, rule_is_itself}}
 use Rattle.gx_peaks.proofs.Sorts.{counted_is}
 use Rattle.gx_warnings.specs.{declared.{mark.Mark.Mark, warning.Warning.Warning}, Keeping.IsEntry, Marks.{mark_of, same_mark}, Moving.{figure_under, figures_among, figures_under, set_figure}}

@@ -3,7 +3,7 @@ use Rattle.std.proofs.{Common.{◌≡◌, ℕ, ◌+◌, ◌≤◌, ◌<◌, true
 use Rattle.std.specs.{Prelude.{Option, Some, None, ◌==◌}, List.{AllByRecursion, count_by, list_any, Sorted.IsNonDecreasingBy}, Map.lookup}
 use Rattle.gx_policy.specs.declared.policy.PolicyData.{PolicyData}
 use Rattle.gx_history.specs.declared.record.RecordData.{RecordData}
-use Rattle.gx_history_laws.proofs.Numbers.{all_weaker}
+use Rattle.gx_laws.proofs.Numbers.{all_weaker}
 use Rattle.gx_peaks.specs.{declared.figure.Figure.Figure, Figures.is_counted}
 use Rattle.gx_warnings.specs.{declared.{mark.Mark.Mark, warning.Warning.Warning}, Keeping.{IsEntry, IsKnown, Keeps}, Marks.{mark_of, same_mark}, Warnings.{AreWarnings, IsWarning, is_of, is_passed}}
 use Rattle.gx_warnings.proofs.Entries.{counts_first, one_counts}

@@ -5,7 +5,7 @@ use Rattle.std.specs.{Prelude.{Option, Some, None, option_and_then}, Option.opti
 use Rattle.gx_units.specs.{Names.same_rule, declared.names.RuleId.RuleId}
 use Rattle.gx_desk.specs.declared.Action.{Action}
 use Rattle.gx_history.specs.{declared.record.RecordData.RecordData, InForce.{change_rule, changed, rules_in_force}, Requests.granted_action}
-use Rattle.gx_history_laws.proofs.NextInForce.{rules_in_force_next}
+use Rattle.gx_laws.proofs.NextInForce.{rules_in_force_next}
 use Rattle.gx_records.specs.State.{limit_in_force}
 use Rattle.gx_peaks.specs.Touching.{set_by, sets_limit}
 use Rattle.gx_peaks.proofs.Settings.{limit_is_kept}

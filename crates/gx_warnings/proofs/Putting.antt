@@ -3,8 +3,7 @@ use Rattle.std.proofs.{Common.{◌≡◌, ℕ, ◌+◌, ◌-◌, ◌≤◌, Bool
 use Rattle.std.specs.{Prelude.{Option, Some, None, ◌&&◌, ◌||◌, ◌==◌, is_some, fold, unwrap_or}, List.{AllByRecursion, count_by, list_any, Sorted.IsNonDecreasingBy}, Map.lookup, Option.option_map_or}
 use Rattle.gx_policy.specs.declared.policy.PolicyData.{PolicyData}
 use Rattle.gx_history.specs.declared.record.RecordData.{RecordData}
-use Rattle.gx_history_laws.proofs.{Judging.both, Numbers.all_weaker}
-use Rattle.gx_effects.proofs.Apart.{all_members}
+use Rattle.gx_laws.proofs.{Judging.both, Numbers.all_weaker, Apart.all_members}
 use Rattle.gx_records.specs.State.{limit_in_force}
 use Rattle.gx_peaks.specs.{declared.{figure.Figure.Figure, key.PeakKey.PeakKey, peak.Reading.Reading}, Figures.{amount, is_counted, used_of}, Keys.{key_of, same_key}, Noting.IsSame, Raising.reading_of, Same.{key_is, key_is_itself}}
 use Rattle.gx_peaks.proofs.{Rising.whole, Sameness.amounts_same, Sorts.is_some_always}

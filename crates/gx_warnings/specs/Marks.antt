@@ -2,7 +2,7 @@
 use Rattle.std.proofs.Common.{◌≡◌, ℕ, Bool, true, List}
 use Rattle.std.specs.Prelude.{◌&&◌, ◌==◌}
 use Rattle.gx_policy.specs.declared.policy.PolicyData.{PolicyData}
-use Rattle.gx_history_laws.proofs.Judging.{both}
+use Rattle.gx_laws.proofs.Judging.{both}
 use Rattle.gx_peaks.specs.{declared.{figure.Figure.Figure}, Keys.{key_bytes, key_of, same_key}, Same.same_bytes}
 use Rattle.gx_warnings.specs.declared.mark.Mark.{Mark}
 

@@ -3,8 +3,7 @@ use Rattle.std.proofs.{Common.{◌≡◌, ℕ, suc, Bool, true, false, not, cond
 use Rattle.std.specs.{Prelude.{Option, Some, None, ◌||◌}, Option.option_map_or, List.{AllByRecursion, cons_option, filter, filter_map, find, list_any}}
 use Rattle.gx_policy.specs.declared.policy.PolicyData.{PolicyData}
 use Rattle.gx_history.specs.{declared.{live_order.LiveOrder.LiveOrder, «record».RecordData.RecordData}, Live.{live, live_numbered, waiting}, Turns.{Turn, Keeps, Adds, Sizes, Replaces, EndsAll, Fills, Rests, Ends, becomes, new_in, turned, waiting_turned}, Verdicts.{IsLegal, Follows}, World.{turn_of, world}}
-use Rattle.gx_history_laws.proofs.{NextReports.legal_before, Numbers.all_weaker, Owners.all_both}
-use Rattle.gx_effects.proofs.{Known.live_are_found, Sides.{becomes_same, new_by, waiting_next}}
+use Rattle.gx_laws.proofs.{NextReports.legal_before, Numbers.all_weaker, Owners.all_both, Known.live_are_found, Sides.{becomes_same, new_by, waiting_next}}
 use Rattle.gx_whatif.specs.{Following.{AreAllOf, waits_numbered}, Redone.{is_at_rest, is_none}}
 
 -- the order has one of these numbers

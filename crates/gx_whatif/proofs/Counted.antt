@@ -4,7 +4,7 @@ use Rattle.std.specs.Prelude.{Option, Some, None, count_by, option_and_then}
 use Rattle.gx_units.specs.{Names.{same_rule}, declared.names.{AccountName.AccountName, RuleId.RuleId}}
 use Rattle.gx_policy.specs.{declared.{policy.PolicyData.PolicyData, rule_name.RuleName.RuleName}, Lists.once, People.account_of, RuleNames.rule_id}
 use Rattle.gx_endings.specs.Commands.{denied_by}
-use Rattle.gx_history_laws.proofs.Names.{account_is, account_is_itself}
+use Rattle.gx_laws.proofs.Names.{account_is, account_is_itself}
 use Rattle.gx_overview.specs.Accounts.{capped_count}
 use Rattle.gx_overview.proofs.Passing.{map_same, map_twice}
 use Rattle.gx_activity.proofs.{Counting.one_more_is, Standing.fits, Tables.table_from}

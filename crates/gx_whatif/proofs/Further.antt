@@ -3,8 +3,7 @@ use Rattle.std.proofs.{Common.{◌≡◌, ℕ, ◌≤◌, Bool, true, false, Lis
 use Rattle.std.specs.{Prelude.{Option, Some, None, filter_map, fold, option_to_list}, Option.option_map_or, List.cons_option}
 use Rattle.gx_policy.specs.{declared.policy.PolicyData.PolicyData, Lists.each_with_earlier}
 use Rattle.gx_history.specs.{declared.record.{RecordData.RecordData, Step.Step}, Settling.settled, Verdicts.{after_step, day_limit, next}}
-use Rattle.gx_history_laws.proofs.Pushing.{each_after_next}
-use Rattle.gx_effects.proofs.Settling.{settled_adds, settled_idle}
+use Rattle.gx_laws.proofs.{Pushing.each_after_next, Settling.{settled_adds, settled_idle}}
 use Rattle.gx_answers.specs.{Gates.GateData, Matches.settled_gate, Steps.IsFull}
 use Rattle.gx_whatif.specs.{declared.change.Change.Change, Redone.{Redone, redo, settled_where, under, unmade}, Differing.{change_of, changes}}
 

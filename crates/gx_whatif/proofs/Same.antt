@@ -1,11 +1,9 @@
 -- Under its own policy a day is made again as it is.
 use Rattle.std.proofs.{Common.{◌≡◌, ℕ, zero, suc, ◌+◌, ◌-◌, Bool, true, false, ◌==◌, cond, ◌&&◌, List, [], ◌∷◌, ◌++◌, length, length-append, refl, ap, sym, ◌∙◌, subst, arith, inl, inr, ◌⊎◌}, lemmas.{Bool.{eq-eqb}, Slice.Eq.bytes_eq-Decides}}
 use Rattle.std.specs.{Prelude.{Option, Some, None, option_map, option_to_list, unwrap_or}, Option.option_map_or, List.slice_get}
-use Rattle.gx_policy.specs.declared.policy.PolicyData.{PolicyData}
-use Rattle.gx_policy.specs.RuleNames.{rule_id}
+use Rattle.gx_policy.specs.{declared.policy.PolicyData.PolicyData, RuleNames.rule_id}
 use Rattle.gx_history.specs.{declared.{live_order.LiveOrder.LiveOrder, «record».{RecordData.RecordData, Verdict.Verdict}}, Live.waiting, Verdicts.{Follows, after_step, next}}
-use Rattle.gx_history_laws.proofs.{Granting.legal_keeps, Numbers.next_number, Runs.idle_where_none_waits}
-use Rattle.gx_effects.proofs.Settling.{settled_idle}
+use Rattle.gx_laws.proofs.{Granting.legal_keeps, Numbers.next_number, Runs.idle_where_none_waits, Settling.settled_idle}
 use Rattle.gx_whatif.specs.{declared.change.Change.Change, Redone.{Redone, grown, is_at_rest, is_none, settled_where, under, with_more}, Differing.{change_of, change_where, changes, in_day, is_as_told, same_verdict, source_of, told_behind}, Laws.{NothingDiffersUnderItsOwn}}
 use Rattle.gx_whatif.proofs.Further.{changes_next, under_next}
 

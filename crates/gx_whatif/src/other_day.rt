@@ -52,7 +52,8 @@ fn last_is_askable<G: ShowsRecords>(gate: &G, left: &RecordData)
         ≡ earlier_of (G.seen gate.now).records ++ left.now ∷ [] }
     ensures { IsAskableStep left.now.step }
 {
-    if let Some(last) = gate.shown_records().last() {
+    let records = gate.shown_records();
+    if let Some(last) = records.past(records.len().saturating_sub(1)).get(0) {
         // that its step has a verdict of such a step
         last.content();
     }

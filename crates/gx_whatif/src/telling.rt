@@ -6,8 +6,7 @@
 ghost use Rattle.std.specs.Prelude.{◌≡◌, ◌++◌, OnOk, Some, codes, flat_map};
 ghost use Rattle.gx_json.specs.Parts.{member};
 ghost use Rattle.gx_text.specs.Shown.{shown_name};
-ghost use Rattle.gx_whatif.specs.Telling.{first_json, first_line, heading_json, heading_line, heading_member, heading_text, rows_json, told_json, told_text, whatif_json, whatif_members, whatif_text};
-ghost use Rattle.gx_whatif.specs.declared.heading.HeadingRow.{HeadingRow};
+ghost use Rattle.gx_whatif.specs.{Telling.{first_json, first_line, heading_json, heading_line, heading_member, heading_text, rows_json, told_json, told_text, whatif_json, whatif_members, whatif_text}, declared.heading.HeadingRow.HeadingRow};
 
 use crate::change::Change;
 use crate::comparing::WhatIf;

@@ -6,8 +6,8 @@ use Rattle.gx_activity.specs.Noting.{row_in, so_far}
 use Rattle.gx_activity.proofs.activity.note_records.Given as goal
 
 -- the orders of the records so far are known, and what these tell is counted
-abbrev pub invariant-loop-record : goal.invariant-loop-record
-invariant-loop-record l = record {
-  knows : KnowOrders l.owners (orders l.policy (take l.record-index l.records));
-  rows : (a : Account) → row_in l.table.entries a.name ≡ so_far l.policy (take l.record-index l.records) a;
+abbrev pub invariant-loop-place : goal.invariant-loop-place
+invariant-loop-place l = record {
+  knows : KnowOrders l.owners (orders l.policy (take l.place l.records));
+  rows : (a : Account) → row_in l.table.entries a.name ≡ so_far l.policy (take l.place l.records) a;
 }

@@ -1,7 +1,9 @@
+use Rattle.std.proofs.Common.{arith}
+use Rattle.gx_history.proofs.Unpacking.{item_at}
 use Rattle.gx_activity.proofs.Denied.{denials_further}
 use Rattle.gx_activity.proofs.denials.count_all.Goals as goal
 
-pub loop-record-preserved : goal.loop-record-preserved
-loop-record-preserved c =
-    denials_further c.args.policy.now c.args.records.now c.loop-record.record-index c.record-item.result c.record-item.result c.loop-record.table.entries c.count_in.new.table.entries c.loop-record-test.true c.record-item.is
-    c.loop-record.invariant c.in_ok-count_in.ensures.counted
+pub loop-place-preserved : goal.loop-place-preserved
+loop-place-preserved c =
+    denials_further c.args.policy.now c.args.records.now c.loop-place.place c.at.result c.at.result c.loop-place.table.entries c.count_in.new.table.entries (omega (arith, c.loop-place-test.true, c.len-place-end.ensures)) (item_at c.args.records.now c.loop-place.place c.at.result c.at.ensures)
+    c.loop-place.invariant c.in_ok-count_in.ensures.counted

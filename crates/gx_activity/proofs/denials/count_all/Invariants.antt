@@ -2,5 +2,5 @@ use Rattle.std.proofs.Common.{◌≡◌, take}
 use Rattle.gx_activity.specs.Denying.{denial_table}
 use Rattle.gx_activity.proofs.denials.count_all.Given as goal
 
-abbrev pub invariant-loop-record : goal.invariant-loop-record
-invariant-loop-record l = l.table.entries ≡ denial_table l.policy (take l.record-index l.records)
+abbrev pub invariant-loop-place : goal.invariant-loop-place
+invariant-loop-place l = l.table.entries ≡ denial_table l.policy (take l.place l.records)

@@ -8,7 +8,7 @@ returns g c =
     let policy = (g.G.AccessGate.seen c.args.gate.now).policy in
     let records = (g.G.AccessGate.seen c.args.gate.now).records in
     let all : map (λ (e : Denial × DenialRow). e.1) c.in_ok-table.table.entries ≡ denial_rows policy records =
-    rows_are policy c.policy.result.now records c.shown_records.result.now c.in_ok-table.table.entries c.length.result c.in_ok-table.ensures.table c.policy.ensures c.shown_records.ensures c.length.ensures.count c.length.ensures.few in
+    rows_are policy c.policy.result.now records c.shown_records.result c.in_ok-table.table.entries c.length.result c.in_ok-table.ensures.table c.policy.ensures c.shown_records.ensures c.length.ensures.count c.length.ensures.few in
     record {
       rows = of_items c.rows_in.result (λ rows. rows.items) _ (λ rows. rows.items ≡ denial_rows policy records) (λ rows is. is ∙ all) c.rows_in.ensures.rows;
       all = of_items c.rows_in.result (λ rows. rows.items) _ (λ rows. (d : Denial) → row_of rows.items d ≡ denial_row (denials policy records) d)

@@ -1,19 +1,20 @@
 use Rattle.std.proofs.{Common.{◌∙◌, List, ap, arith}, lemmas.List.take_all}
 use Rattle.std.specs.Prelude.{Some}
+use Rattle.gx_history.proofs.Unpacking.{item_at}
 use Rattle.gx_history.specs.declared.record.RecordData.{RecordData}
 use Rattle.gx_activity.specs.{declared.spans.SpanRow.SpanRow, Spanning.span_so_far}
 use Rattle.gx_activity.proofs.Timing.{span_fits, span_further}
 use Rattle.gx_activity.proofs.spans.note_all.Goals as goal
 
-pub loop-record-preserved : goal.loop-record-preserved
-loop-record-preserved c = λ k within.
-    c.note.ensures.noted k _ (c.loop-record.invariant k within)
-    ∙ ap (λ (row : SpanRow). Some row) (span_further c.args.from c.args.width k c.args.records.now c.loop-record.record-index c.record-item.result c.record-item.result c.loop-record-test.true c.record-item.is)
+pub loop-place-preserved : goal.loop-place-preserved
+loop-place-preserved c = λ k within.
+    c.note.ensures.noted k _ (c.loop-place.invariant k within)
+    ∙ ap (λ (row : SpanRow). Some row) (span_further c.args.from c.args.width k c.args.records.now c.loop-place.place c.at.result c.at.result (omega (arith, c.loop-place-test.true, c.len-place-end.ensures)) (item_at c.args.records.now c.loop-place.place c.at.result c.at.ensures))
 
 pub returns : goal.returns
 returns c = record {
   noted = λ k within.
-      c.loop-record.invariant k within
-      ∙ ap (λ (rs : List RecordData). Some (span_so_far rs c.args.from c.args.width k)) (take_all c.loop-record.record-index c.args.records.now c.loop-record-test.false)
+      c.loop-place.invariant k within
+      ∙ ap (λ (rs : List RecordData). Some (span_so_far rs c.args.from c.args.width k)) (take_all c.loop-place.place c.args.records.now (omega (arith, c.loop-place-test.false, c.len-place-end.ensures)))
       ∙ ap (λ (row : SpanRow). Some row) (span_fits c.args.from c.args.width k c.args.records.now (omega arith));
 }

@@ -3,5 +3,5 @@ use Rattle.std.specs.Prelude.{Some}
 use Rattle.gx_activity.specs.Spanning.{span_so_far}
 use Rattle.gx_activity.proofs.spans.note_all.Given as goal
 
-abbrev pub invariant-loop-record : goal.invariant-loop-record
-invariant-loop-record l = (k : ℕ) → k < length l.initial.rows → slice_get l.rows k ≡ Some (span_so_far (take l.record-index l.records) l.from l.width k)
+abbrev pub invariant-loop-place : goal.invariant-loop-place
+invariant-loop-place l = (k : ℕ) → k < length l.initial.rows → slice_get l.rows k ≡ Some (span_so_far (take l.place l.records) l.from l.width k)

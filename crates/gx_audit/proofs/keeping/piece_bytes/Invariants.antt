@@ -3,8 +3,8 @@ use Rattle.arrayvec.specs.ArrayVec.{array_vec_len}
 use Rattle.gx_audit_bytes.specs.Audits.{all_bytes}
 use Rattle.gx_audit.proofs.keeping.piece_bytes.Given as goal
 
-abbrev pub invariant-loop-given : goal.invariant-loop-given
-invariant-loop-given l = record {
-  bytes : l.bytes.items ≡ all_bytes l.version (take l.given-index l.piece);
-  size : array_vec_len l.bytes ≡ l.given-index * 128;
+abbrev pub invariant-loop-place : goal.invariant-loop-place
+invariant-loop-place l = record {
+  bytes : l.bytes.items ≡ all_bytes l.version (take l.place l.piece);
+  size : array_vec_len l.bytes ≡ l.place * 128;
 }

@@ -13,11 +13,11 @@ loop-done-init g c = record {
 pub loop-done-preserved : goal.loop-done-preserved
 loop-done-preserved g c = record {
   within = omega arith;
-  text = piece_written c.args.version _ _ _ c.args.records.now c.loop-done.done _ _ (omega arith) c.loop-done.invariant.text c.in_ok-write_piece.ensures.written;
+  text = piece_written c.args.version _ _ _ c.args.records.now _ c.loop-done.done _ _ c.part.ensures (omega arith) c.loop-done.invariant.text c.in_ok-write_piece.ensures.written;
   kept = c.in_ok-write_piece.ensures.kept ∙ c.loop-done.invariant.kept;
 }
 
 pub returns-in_err-write_piece-clause-front : goal.returns-in_err-write_piece-clause-front
 returns-in_err-write_piece-clause-front g c =
     on_err c.from_residual.result _
-    (piece_cut c.args.version _ _ _ c.args.records.now c.loop-done.done _ c.loop-done.invariant.text c.in_err-write_piece.ensures.front)
+    (piece_cut c.args.version _ _ _ c.args.records.now _ c.loop-done.done _ c.part.ensures c.loop-done.invariant.text c.in_err-write_piece.ensures.front)

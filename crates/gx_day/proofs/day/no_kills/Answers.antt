@@ -3,7 +3,7 @@ use Rattle.std.specs.Prelude.{None}
 use Rattle.gx_units.specs.Names.{same_account}
 use Rattle.gx_policy.specs.{Lists.are_distinct, declared.policy.Account.Account}
 use Rattle.gx_day.specs.{InForce.unkilled, View.kills_of}
-use Rattle.gx_history_laws.proofs.Names.{accounts_differ, same_account_flip}
+use Rattle.gx_laws.proofs.Names.{accounts_differ, same_account_flip}
 use Rattle.gx_day.proofs.Table.{added_next, kills_begin}
 use Rattle.gx_day.proofs.day.no_kills.Goals as goal
 

@@ -3,7 +3,7 @@ use Rattle.std.specs.Prelude.{None}
 use Rattle.gx_units.specs.Names.{same_user}
 use Rattle.gx_policy.specs.{Lists.are_distinct, declared.policy.User.User}
 use Rattle.gx_day.specs.{InForce.off_line, View.lines_of}
-use Rattle.gx_history_laws.proofs.Names.{same_user_flip, users_differ}
+use Rattle.gx_laws.proofs.Names.{same_user_flip, users_differ}
 use Rattle.gx_day.proofs.Table.{added_next, lines_begin}
 use Rattle.gx_day.proofs.day.no_lines.Goals as goal
 

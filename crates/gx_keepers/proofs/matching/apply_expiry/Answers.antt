@@ -3,7 +3,7 @@ use Rattle.std.specs.Prelude.{is_some}
 use Rattle.gx_history.specs.declared.moves.Move.{Move}
 use Rattle.gx_orders.specs.LiveOrders.{OrdersData, live_numbered}
 use Rattle.gx_orders.proofs.Finding.{finds_orders}
-use Rattle.gx_effects.proofs.Known.{number_found}
+use Rattle.gx_laws.proofs.Known.{number_found}
 use Rattle.gx_keepers.proofs.Carrying.{takes_so}
 use Rattle.gx_keepers.proofs.matching.apply_expiry.Goals as goal
 

@@ -3,7 +3,7 @@ use Rattle.std.specs.Prelude.{IfSome}
 use Rattle.gx_history.specs.declared.{live_order.LiveOrder.LiveOrder, moves.Move.Move}
 use Rattle.gx_orders.specs.LiveOrders.{HasOpen, filled_at, live_numbered}
 use Rattle.gx_streams.specs.declared.fill.ToldFill.{ToldFill}
-use Rattle.gx_effects.proofs.Doing.{may_do}
+use Rattle.gx_laws.proofs.Doing.{may_do}
 use Rattle.gx_keepers.proofs.{Carrying.{day_so, takes_so}, Keepings.{known_told, match_keeps}, Matches.{IsMatched, can_fill, fill_goes_on, is_matched, maker_told, taker_told}, Rooms.filling_takes_none}
 use Rattle.gx_keepers.proofs.matching.apply_fill.Goals as goal
 

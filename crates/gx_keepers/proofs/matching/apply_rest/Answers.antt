@@ -3,7 +3,7 @@ use Rattle.std.specs.Prelude.{is_some}
 use Rattle.gx_history.specs.declared.moves.Move.{Move}
 use Rattle.gx_orders.specs.LiveOrders.{OrdersData, live_numbered}
 use Rattle.gx_orders.proofs.Finding.{finds_orders}
-use Rattle.gx_effects.proofs.Doing.{may_do}
+use Rattle.gx_laws.proofs.Doing.{may_do}
 use Rattle.gx_keepers.proofs.{Carrying.{day_so, takes_so}, Keepings.{known_told, match_keeps}, Matches.{IsMatched, comes_last, is_matched, rest_goes_on}}
 use Rattle.gx_keepers.proofs.matching.apply_rest.Goals as goal
 

@@ -1,6 +1,6 @@
 use Rattle.std.proofs.Common.{arith}
 use Rattle.gx_orders.specs.LiveOrders.{is_of_user}
-use Rattle.gx_positions.proofs.Small.{few_pass}
+use Rattle.gx_laws.proofs.Small.{few_pass}
 use Rattle.gx_keepers.proofs.places.enough_places.Goals as goal
 
 pub overflow_add-result : goal.overflow_add-result

@@ -1,7 +1,7 @@
 use Rattle.std.proofs.{Common.{◌≤◌, ◌+◌, ◌∙◌, ap, arith, sym}, Math.Path.subst}
 use Rattle.gx_units.specs.declared.names.UserName.{UserName}
 use Rattle.gx_orders.specs.LiveOrders.{is_of_user}
-use Rattle.gx_positions.proofs.Small.{few_pass}
+use Rattle.gx_laws.proofs.Small.{few_pass}
 use Rattle.gx_streams.specs.{Kept.{places_in, with_places}, Streams.{AllStreams, is_told}, Telling.shown}
 use Rattle.gx_streams.proofs.{Places.users_stay, Telling.places_not_shown}
 use Rattle.gx_keepers.proofs.Keepings.{as_many_places, more_places}

@@ -1,5 +1,5 @@
 use Rattle.std.proofs.Common.{◌≤◌, ◌∙◌, ap, sym, subst, ℕ}
-use Rattle.gx_history_laws.proofs.Owners.{filtered}
+use Rattle.gx_laws.proofs.Owners.{filtered}
 use Rattle.gx_slab.specs.Slabs.{numbered_of, order_of}
 use Rattle.gx_orders.specs.Tables.{NumbersBelow, NumbersUpTo, is_live_of}
 use Rattle.gx_orders.proofs.Listing.{swept, swept_below}

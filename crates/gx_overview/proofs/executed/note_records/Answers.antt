@@ -1,18 +1,20 @@
+use Rattle.std.proofs.Common.{arith}
+use Rattle.gx_history.proofs.Unpacking.{item_at}
 use Rattle.gx_overview.proofs.Executing.{known_further, noted_further, nothing_known, nothing_noted}
 use Rattle.gx_overview.proofs.executed.note_records.Goals as goal
 
-pub loop-record-init : goal.loop-record-init
-loop-record-init c = record {
+pub loop-place-init : goal.loop-place-init
+loop-place-init c = record {
   knows = nothing_known c.args.policy.now c.new-owners.result c.new-owners.ensures.none;
   rows = nothing_noted c.args.policy.now c.args.rows.now;
 }
 
-pub loop-record-preserved : goal.loop-record-preserved
-loop-record-preserved c = record {
+pub loop-place-preserved : goal.loop-place-preserved
+loop-place-preserved c = record {
   knows =
-      known_further c.args.policy.now c.args.records.now c.loop-record.record-index c.record-item.result c.record-item.result c.loop-record.owners c.note_record.new.owners c.args.rows.now c.loop-record.rows c.note_record.new.rows
-      c.loop-record-test.true c.record-item.is c.loop-record.invariant.knows c.in_ok-note_record.ensures.noted;
+      known_further c.args.policy.now c.args.records.now c.loop-place.place c.at.result c.at.result c.loop-place.owners c.note_record.new.owners c.args.rows.now c.loop-place.rows c.note_record.new.rows
+      (omega (arith, c.loop-place-test.true, c.len-place-end.ensures)) (item_at c.args.records.now c.loop-place.place c.at.result c.at.ensures) c.loop-place.invariant.knows c.in_ok-note_record.ensures.noted;
   rows =
-      noted_further c.args.policy.now c.args.records.now c.loop-record.record-index c.record-item.result c.record-item.result c.loop-record.owners c.note_record.new.owners c.args.rows.now c.loop-record.rows c.note_record.new.rows
-      c.loop-record-test.true c.record-item.is c.loop-record.invariant.knows c.in_ok-note_record.ensures.noted c.loop-record.invariant.rows;
+      noted_further c.args.policy.now c.args.records.now c.loop-place.place c.at.result c.at.result c.loop-place.owners c.note_record.new.owners c.args.rows.now c.loop-place.rows c.note_record.new.rows
+      (omega (arith, c.loop-place-test.true, c.len-place-end.ensures)) (item_at c.args.records.now c.loop-place.place c.at.result c.at.ensures) c.loop-place.invariant.knows c.in_ok-note_record.ensures.noted c.loop-place.invariant.rows;
 }

@@ -5,8 +5,8 @@ use Rattle.gx_overview.specs.Executed.{KnowOrders, rows_after}
 use Rattle.gx_overview.proofs.executed.note_records.Given as goal
 
 -- the orders and the fills of the records so far are noted
-abbrev pub invariant-loop-record : goal.invariant-loop-record
-invariant-loop-record l = record {
-  knows : KnowOrders l.owners (orders l.policy (take l.record-index l.records));
-  rows : l.rows ≡ fold rows_after l.initial.rows (executions l.policy (take l.record-index l.records));
+abbrev pub invariant-loop-place : goal.invariant-loop-place
+invariant-loop-place l = record {
+  knows : KnowOrders l.owners (orders l.policy (take l.place l.records));
+  rows : l.rows ≡ fold rows_after l.initial.rows (executions l.policy (take l.place l.records));
 }

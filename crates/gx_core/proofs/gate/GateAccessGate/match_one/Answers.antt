@@ -1,7 +1,7 @@
 use Rattle.std.proofs.{Common.{arith, length, ◌≡◌, ◌<◌, ◌∙◌, ◌++◌, ◌∷◌, [], List, ap, sym, true, false}, Math.Path.subst}
 use Rattle.std.specs.Prelude.{is_some}
 use Rattle.gx_history.specs.{declared.record.{RecordData.RecordData, Step.Step}, Matched.AreUncrossed, Settling.most_matches, World.world, Requests.asked}
-use Rattle.gx_effects.proofs.{NeverCrossed.never_crossed, Orderly.legal_is_orderly, Settling.match_leaves_fewer, Moving.may_move, World.world_next}
+use Rattle.gx_laws.proofs.{NeverCrossed.never_crossed, Orderly.legal_is_orderly, Settling.match_leaves_fewer, Moving.may_move, World.world_next}
 use Rattle.gx_answers.specs.{Gates.{GateData, matched_by}, Effects.{MayMoveBy, moved_by}, Matches.{matches_left, matching_of, next_match, settled_gate}}
 use Rattle.gx_core.specs.{Kept.IsWhole, Known.first_of}
 use Rattle.gx_core.proofs.{Keeping.{AreCarried, as_before, keep_still, keep_within, match_fits, takes, told_then}, Matched.{first_is_known, nothing_is_met, nothing_is_next, settles_on}}

@@ -2,8 +2,7 @@ use Rattle.std.proofs.{Common.{◌≡◌, arith, true, false, length, ◌∙◌,
 use Rattle.gx_units.specs.declared.names.AccountName.{AccountName}
 use Rattle.gx_history.specs.{declared.record.{RecordData.RecordData, Step.Step}, InForce.is_killed, World.world}
 use Rattle.gx_policy.specs.declared.rule_name.RuleName.{RuleName}
-use Rattle.gx_history_laws.proofs.Granting.{denied_names_first, granted_exactly}
-use Rattle.gx_effects.proofs.{Lifting.kill_ends_by_lift, Moving.may_move, World.world_next}
+use Rattle.gx_laws.proofs.{Granting.{denied_names_first, granted_exactly}, Lifting.kill_ends_by_lift, Moving.may_move, World.world_next}
 use Rattle.std.specs.Prelude.{is_ok}
 use Rattle.gx_places.specs.Places.{has_kept_places}
 use Rattle.gx_answers.specs.{Gates.{GateData, left_by}, Steps.{IsJudged, next_of}, Effects.{MayMoveBy, moved_by}}
@@ -25,7 +24,7 @@ returns-clause-effect c =
     ap (world c.self.inside.policy)
     (c.push_reserved.ensures.records
     ∙ ap (λ (records : List RecordData). records ++ c.new.result ∷ []) c.keep_for.ensures.records
-    ∙ ap (λ (r : RecordData). c.self.inside.history.records ++ r ∷ []) (c.new.ensures ∙ c.record_of.ensures))
+    ∙ ap (λ (r : RecordData). c.self.inside.history.records ++ r ∷ []) (c.new.ensures ∙ c.record_of-entry.ensures))
     ∙ world_next c.self.inside.policy c.self.inside.history.records (Step.Asked c.args.a) (left_by c.args.a c.judge-outcome.result) c.self.invariant.kept.legal
     (ap (λ (g : GateData). next_of g c.args.a) c.self.view_is ∙ c.judge-outcome.ensures.next)
     ∙ ap (λ (g : GateData). moved_by g (left_by c.args.a c.judge-outcome.result)) c.self.view_is
@@ -45,7 +44,7 @@ returns-clause-lifted_by c =
     (ap (λ (records : List RecordData). is_killed c.self.inside.policy records account)
     (c.push_reserved.ensures.records
     ∙ ap (λ (records : List RecordData). records ++ c.new.result ∷ []) c.keep_for.ensures.records
-    ∙ ap (λ (r : RecordData). c.self.inside.history.records ++ r ∷ []) (c.new.ensures ∙ c.record_of.ensures)))
+    ∙ ap (λ (r : RecordData). c.self.inside.history.records ++ r ∷ []) (c.new.ensures ∙ c.record_of-entry.ensures)))
     ∙ lifted))
 
 pub carry_on-requires : goal.carry_on-requires
@@ -67,7 +66,7 @@ invariant_of-self-2 c =
     (sym
     (c.push_reserved.ensures.records
     ∙ ap (λ (records : List RecordData). records ++ c.new.result ∷ []) c.keep_for.ensures.records
-    ∙ ap (λ (r : RecordData). c.self.inside.history.records ++ r ∷ []) (c.new.ensures ∙ c.record_of.ensures)))
+    ∙ ap (λ (r : RecordData). c.self.inside.history.records ++ r ∷ []) (c.new.ensures ∙ c.record_of-entry.ensures)))
     (keep_asked c.self.inside.policy c.self.inside.history.records c.args.a (left_by c.args.a c.judge-outcome.result) c.self.inside.history.spare c.keep_for.new.history.spare c.push_reserved.new.self.spare c.self.inside.keepers c.carry_on.new.keepers c.self.invariant (ap (λ (g : GateData). next_of g c.args.a) c.self.view_is ∙ c.judge-outcome.ensures.next) (record { more = c.keep_for.ensures.more; own = c.in_ok-keep_for.ensures.own; room = c.in_ok-keep_for.ensures.room }) c.push_reserved.ensures.spare
     (subst (λ (records : List RecordData). AreCarried c.self.inside.policy records c.carry_on.new.keepers)
     (ap (λ (records : List RecordData). records ++ c.record_of-entry.result ∷ []) c.keep_for.ensures.records

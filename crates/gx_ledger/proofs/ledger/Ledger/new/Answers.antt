@@ -1,7 +1,7 @@
 use Rattle.std.proofs.Common.{◌≡◌, ◌∙◌, ap, sym, subst, map}
 use Rattle.gx_policy.specs.declared.policy.PolicyData.{PolicyData}
-use Rattle.gx_history_laws.proofs.Names.{accounts_differ as accounts_apart}
-use Rattle.gx_positions.specs.Changing.{nothing}
+use Rattle.gx_laws.proofs.Names.{accounts_differ as accounts_apart}
+use Rattle.gx_laws.specs.Changing.{nothing}
 use Rattle.gx_ledger.specs.{Counts.counting, Accounts.account_names, Keeping.{Kept, reference_prices}, StandsFor.StandsFor, Tables.{accounts_differ, names_differ}, Tallies.new_tally, contracts.ledger.Ledger.the_view}
 use Rattle.gx_ledger.proofs.Opening.{opened_stands, sound_stocks}
 use Rattle.gx_ledger.proofs.ledger.Ledger.new.Goals as goal

@@ -12,9 +12,9 @@ returns-clause-saw g c =
     let records = (g.G.AccessGate.seen c.args.gate.now).records in
     ok_then c.append.result
     (λ puts.
-    log_goes_on policy records (earlier_of records) c.args._left.now c.args.self.now _ c.last_of.result.now c.in_ok-lines.lines.items c.requires.last c.requires.expects
-    (c.last_of.ensures ∙ ap (λ (h : List RecordData). drop (length h - 1) h) c.shown_records.ensures)
+    log_goes_on policy records (earlier_of records) c.args._left.now c.args.self.now _ c.as_slice.result.now c.in_ok-lines.lines.items c.requires.last c.requires.expects
+    (c.as_slice.ensures.value ∙ c.in_ok-last.ensures ∙ c.last_of.ensures ∙ ap (λ (h : List RecordData). drop (length h - 1) h) c.shown_records.ensures)
     (c.in_ok-lines.ensures.lines policy (earlier_of records) c.requires.expects.known)
     (c.in_ok-lines.ensures.known policy (earlier_of records) c.requires.expects.known) c.tell.ensures.form
-    (puts ∙ ap (λ (more : List ℕ). c.args.self.now.text.items ++ more) c.as_slice.ensures.value))
+    (puts ∙ ap (λ (more : List ℕ). c.args.self.now.text.items ++ more) c.as_slice-2.ensures.value))
     c.append.ensures.appended

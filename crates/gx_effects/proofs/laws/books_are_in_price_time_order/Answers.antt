@@ -1,5 +1,0 @@
-use Rattle.gx_effects.proofs.{BookSides.{all_of_these, none_but_these}, Ordered.resting_ordered, PriceTime.rests_by_time}
-use Rattle.gx_effects.proofs.laws.books_are_in_price_time_order.Goals as goal
-
-pub returns : goal.returns
-returns c = record { price = resting_ordered; time = rests_by_time; alone = none_but_these; whole = all_of_these }

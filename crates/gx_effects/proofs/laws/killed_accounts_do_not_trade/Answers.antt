@@ -1,5 +1,0 @@
-use Rattle.gx_effects.proofs.{Killed.granted_is_not_killed, KilledAccounts.{killed_are_not_live, killed_have_no_orders}, Lifting.kill_ends_by_lift}
-use Rattle.gx_effects.proofs.laws.killed_accounts_do_not_trade.Goals as goal
-
-pub returns : goal.returns
-returns c = record { none_placed = granted_is_not_killed; none_live = killed_are_not_live; no_orders = killed_have_no_orders; until_lifted = kill_ends_by_lift }

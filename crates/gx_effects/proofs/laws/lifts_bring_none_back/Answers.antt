@@ -1,5 +1,0 @@
-use Rattle.gx_effects.proofs.ByKind.{lifts_bring_none_back}
-use Rattle.gx_effects.proofs.laws.lifts_bring_none_back.Goals as goal
-
-pub returns : goal.returns
-returns c = lifts_bring_none_back

@@ -1,5 +1,0 @@
-use Rattle.gx_effects.proofs.{Known.live_are_found, Naming.{is_the_one, totals_of_live}}
-use Rattle.gx_effects.proofs.laws.live_orders_are_named.Goals as goal
-
-pub returns : goal.returns
-returns c = record { total = totals_of_live; one = is_the_one; found = live_are_found }

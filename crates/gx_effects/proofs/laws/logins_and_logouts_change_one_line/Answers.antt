@@ -1,5 +1,0 @@
-use Rattle.gx_effects.proofs.ByKind.{logins_put_on, logouts_put_off}
-use Rattle.gx_effects.proofs.laws.logins_and_logouts_change_one_line.Goals as goal
-
-pub returns : goal.returns
-returns c = record { on = logins_put_on; off = logouts_put_off }

@@ -1,5 +1,0 @@
-use Rattle.gx_effects.proofs.ByKind.{matches_keep_in_force}
-use Rattle.gx_effects.proofs.laws.matches_keep_in_force.Goals as goal
-
-pub returns : goal.returns
-returns c = matches_keep_in_force

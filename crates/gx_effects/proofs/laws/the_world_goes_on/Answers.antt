@@ -1,5 +1,0 @@
-use Rattle.gx_effects.proofs.World.{world_next, worlds_are_runs}
-use Rattle.gx_effects.proofs.laws.the_world_goes_on.Goals as goal
-
-pub returns : goal.returns
-returns c = record { step = world_next; run = worlds_are_runs }

@@ -1,5 +1,0 @@
-use Rattle.gx_exposure.proofs.Gross.{gross_shares_are_kept, gross_values_are_kept, none_asked_none_held}
-use Rattle.gx_exposure.proofs.laws.gross_rules_are_kept.Goals as goal
-
-pub returns : goal.returns
-returns c = record { shares = gross_shares_are_kept; values = gross_values_are_kept; none = none_asked_none_held }

@@ -1,2 +1,0 @@
-pub mod Exposure
-pub mod Laws

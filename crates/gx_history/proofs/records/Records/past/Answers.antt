@@ -1,0 +1,16 @@
+use Rattle.std.proofs.{Common.{◌≡◌, drop, ap, sym, ◌∙◌}, Math.Path.subst}
+use Rattle.gx_history.specs.Rows.{AllShowable, records_in}
+use Rattle.gx_history.proofs.Unpacking.{records_past, showable_past}
+use Rattle.gx_history.proofs.records.Records.past.Goals as goal
+
+-- the rows behind so many stand for the records behind so many
+behind : (c : goal.After-past) → drop c.args.count (records_in c.self.inside.details.now.lists c.self.inside.rows.now) ≡ records_in c.self.inside.details.now.lists c.past.result.now
+behind c =
+    records_past c.self.inside.details.now.lists c.self.inside.rows.now c.args.count
+    ∙ ap (records_in c.self.inside.details.now.lists) (sym c.past.ensures)
+
+pub invariant_of-result : goal.invariant_of-result
+invariant_of-result c = subst AllShowable (behind c) (showable_past (records_in c.self.inside.details.now.lists c.self.inside.rows.now) c.args.count c.self.invariant)
+
+pub returns : goal.returns
+returns c = sym (behind c) ∙ ap (drop c.args.count) c.self.view_is

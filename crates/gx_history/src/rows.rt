@@ -1,0 +1,185 @@
+//! How a day's records lie in memory: a row for each, and what is long in lists of its own.
+
+ghost use Rattle.std.specs.Prelude.{◌≡◌, ◌+◌, ◌<◌, ◌≤◌, IsTrue, OnErr, OnOk};
+ghost use Rattle.gx_history.specs.{Rows.{IsThere, no_lists, record_in, step_at, step_in, verdict_in, with_details}, Showing.{is_verdict_of}};
+
+use crate::record::{Asked, Fill, RecordData, Step, Verdict};
+use gx_policy::RuleName;
+use gx_units::{Moment, OutOfMemory};
+use std::alloc::Global;
+use std::marker::Model;
+
+/// What happened, and what became of it. What is long is named by its place in its list.
+#[derive(Clone, Copy)]
+pub(crate) enum Event {
+    /// The request at this place was granted.
+    Granted(usize),
+    /// The request at the first place was denied, by the rule at the second.
+    Denied(usize, usize),
+    /// Two orders met: the moment that was handed in, and the place of their fill.
+    Filled(Moment, usize),
+    /// An order came to rest: the moment that was handed in, and its number.
+    Rested(Moment, u64),
+    /// An order has ended: the moment that was handed in, and its number.
+    Expired(Moment, u64),
+}
+
+/// A record.
+#[derive(Clone, Copy)]
+pub(crate) struct Row {
+    /// The number of the record.
+    pub(crate) number: u64,
+    /// The moment of the record.
+    pub(crate) moment: Moment,
+    /// All else.
+    pub(crate) event: Event,
+}
+
+/// What is long in the records, each kind in the order of its records, and places kept for more.
+#[derive(Drop)]
+pub(crate) struct Details {
+    asked: Vec<Asked>,
+    rules: Vec<RuleName>,
+    fills: Vec<Fill>,
+    spare: usize,
+}
+
+impl Model for Details {
+    ghost use Rattle.std.specs.Prelude.{◌+◌, ◌≤◌, vec_len, vec_capacity};
+    ghost use Rattle.gx_history.specs.Rows.{KeptLists};
+
+    ghost Value = { KeptLists };
+
+    ghost view = { λ d. record { lists = record { asked = d.asked.items; rules = d.rules.items; fills = d.fills.items }; spare = d.spare } };
+
+    ghost invariant = { λ d. (vec_len d.asked + d.spare ≤ vec_capacity d.asked)
+        × (vec_len d.rules + d.spare ≤ vec_capacity d.rules)
+        × (vec_len d.fills + d.spare ≤ vec_capacity d.fills) };
+}
+
+impl Details {
+    /// None, and no place kept. Takes no memory.
+    pub(crate) fn new(alloc: Global) -> Details
+        ensures lists { result.lists ≡ no_lists }
+        ensures spare { result.spare ≡ 0 }
+    {
+        Details {
+            asked: Vec::new(alloc),
+            rules: Vec::new(alloc),
+            fills: Vec::new(alloc),
+            spare: 0,
+        }
+    }
+
+    /// The records that `put` has places for.
+    pub(crate) fn spare(&self) -> usize
+        ensures { result ≡ self.now.spare }
+    {
+        self.spare
+    }
+
+    /// Keeps places for those of at least so many records. Places that are kept already count.
+    pub(crate) fn reserve(&mut self, places: usize) -> Result<(), OutOfMemory>
+        requires { self.old.spare ≤ places }
+        ensures lists { self.new.lists ≡ self.old.lists }
+        ensures few { self.new.spare ≤ places }
+        ensures ok { OnOk result (self.new.spare ≡ places) }
+        ensures err { OnErr result (self.new ≡ self.old) }
+    {
+        self.asked.reserve(places)?;
+        self.rules.reserve(places)?;
+        self.fills.reserve(places)?;
+        self.spare = places;
+        Ok(())
+    }
+
+    /// Puts what is long in them last, and names it by its place.
+    #[inline(always)]
+    #[tactic(auto, using(crate::proofs::Unpacking::get_last))]
+    pub(crate) fn put(&mut self, step: &Step, verdict: &Verdict) -> Event
+        requires of_step { IsTrue (is_verdict_of step.now verdict.now) }
+        requires room { 0 < self.old.spare }
+        ensures lists { self.new.lists ≡ with_details step.now verdict.now self.old.lists }
+        ensures spare { self.new.spare + 1 ≡ self.old.spare }
+        ensures step { step_in self.new.lists.asked result ≡ step.now }
+        ensures verdict { verdict_in self.new.lists.rules self.new.lists.fills result ≡ verdict.now }
+        ensures there { IsThere self.new.lists result }
+    {
+        self.spare -= 1;
+        match (step, verdict) {
+            (Step::Asked(asked), Verdict::Granted) => {
+                let place = self.asked.len();
+                self.asked.push_reserved(*asked);
+                Event::Granted(place)
+            }
+            (Step::Asked(asked), Verdict::Denied(rule)) => {
+                let event = Event::Denied(self.asked.len(), self.rules.len());
+                self.asked.push_reserved(*asked);
+                self.rules.push_reserved(*rule);
+                event
+            }
+            (Step::Matching(handed), Verdict::Filled(fill)) => {
+                let place = self.fills.len();
+                self.fills.push_reserved(*fill);
+                Event::Filled(*handed, place)
+            }
+            (Step::Matching(handed), Verdict::Rested(order)) => Event::Rested(*handed, *order),
+            (Step::Matching(handed), Verdict::Expired(order)) => Event::Expired(*handed, *order),
+            _ => unreachable!(),
+        }
+    }
+
+    #[inline(always)]
+    fn step_at(&self, place: usize) -> Step
+        ensures { result ≡ step_at self.now.lists.asked place }
+    {
+        match self.asked.get(place) {
+            Some(asked) => Step::Asked(*asked),
+            None => Step::Matching(0),
+        }
+    }
+
+    #[inline(always)]
+    fn step(&self, event: &Event) -> Step
+        ensures { result ≡ step_in self.now.lists.asked event.now }
+    {
+        match event {
+            Event::Granted(place) | Event::Denied(place, _) => self.step_at(*place),
+            Event::Filled(handed, _) | Event::Rested(handed, _) | Event::Expired(handed, _) => {
+                Step::Matching(*handed)
+            }
+        }
+    }
+
+    #[inline(always)]
+    fn verdict(&self, event: &Event) -> Verdict
+        ensures { result ≡ verdict_in self.now.lists.rules self.now.lists.fills event.now }
+    {
+        match event {
+            Event::Granted(_) => Verdict::Granted,
+            Event::Denied(_, place) => match self.rules.get(*place) {
+                Some(rule) => Verdict::Denied(*rule),
+                None => Verdict::Granted,
+            },
+            Event::Filled(_, place) => match self.fills.get(*place) {
+                Some(fill) => Verdict::Filled(*fill),
+                None => Verdict::Granted,
+            },
+            Event::Rested(_, order) => Verdict::Rested(*order),
+            Event::Expired(_, order) => Verdict::Expired(*order),
+        }
+    }
+
+    /// The record that this row stands for.
+    #[inline(always)]
+    pub(crate) fn record(&self, row: &Row) -> RecordData
+        ensures { result ≡ record_in self.now.lists row.now }
+    {
+        RecordData {
+            number: row.number,
+            moment: row.moment,
+            step: self.step(&row.event),
+            verdict: self.verdict(&row.event),
+        }
+    }
+}

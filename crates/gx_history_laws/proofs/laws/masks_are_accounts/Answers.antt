@@ -1,5 +1,0 @@
-use Rattle.gx_history_laws.proofs.Masks.{has_where, mask_within}
-use Rattle.gx_history_laws.proofs.laws.masks_are_accounts.Goals as goal
-
-pub returns : goal.returns
-returns c = record { exact = has_where; within = mask_within }

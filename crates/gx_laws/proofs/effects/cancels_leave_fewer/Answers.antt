@@ -1,0 +1,5 @@
+use Rattle.gx_laws.proofs.ByKind.{cancels_leave_fewer}
+use Rattle.gx_laws.proofs.effects.cancels_leave_fewer.Goals as goal
+
+pub returns : goal.returns
+returns c = cancels_leave_fewer

@@ -1,0 +1,5 @@
+use Rattle.gx_laws.proofs.ByKind.{enters_come_last}
+use Rattle.gx_laws.proofs.effects.enters_come_last.Goals as goal
+
+pub returns : goal.returns
+returns c = enters_come_last

@@ -1,0 +1,10 @@
+use Rattle.gx_laws.proofs.{Orderly.legal_is_orderly, Settling.{settled_idle, settled_step, settled_adds, settled_ends}}
+use Rattle.gx_laws.proofs.effects.matching_settles.Goals as goal
+
+pub returns : goal.returns
+returns c = record {
+  idle = settled_idle;
+  step = λ policy history moment r legal. settled_step policy history moment r (legal_is_orderly policy history legal);
+  matches = settled_adds;
+  none_left = λ policy history moment legal. settled_ends policy history moment (legal_is_orderly policy history legal);
+}

@@ -1,0 +1,5 @@
+use Rattle.gx_laws.proofs.Moving.{may_move}
+use Rattle.gx_laws.proofs.effects.moves_are_allowed.Goals as goal
+
+pub returns : goal.returns
+returns c = may_move

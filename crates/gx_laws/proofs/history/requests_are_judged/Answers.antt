@@ -1,0 +1,5 @@
+use Rattle.gx_laws.proofs.{Granting.{left_by_request, granted_where_none, denied_by_first}, Showable.next_is_showable}
+use Rattle.gx_laws.proofs.history.requests_are_judged.Goals as goal
+
+pub returns : goal.returns
+returns c = record { left = left_by_request; granted = granted_where_none; denied = denied_by_first; shown = next_is_showable }

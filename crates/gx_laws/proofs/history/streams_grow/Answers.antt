@@ -1,0 +1,5 @@
+use Rattle.gx_laws.proofs.NextReports.{stream_next}
+use Rattle.gx_laws.proofs.history.streams_grow.Goals as goal
+
+pub returns : goal.returns
+returns c = stream_next

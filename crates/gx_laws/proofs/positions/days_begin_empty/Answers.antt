@@ -1,0 +1,5 @@
+use Rattle.gx_laws.proofs.GoingOn.{days_begin_empty}
+use Rattle.gx_laws.proofs.positions.days_begin_empty.Goals as goal
+
+pub returns : goal.returns
+returns c = days_begin_empty

@@ -1,0 +1,9 @@
+pub mod HistoryLaws
+pub mod EffectLaws
+pub mod Lifts
+pub mod Kinds
+pub mod Changing
+pub mod Sound
+pub mod PositionLaws
+pub mod Exposure
+pub mod ExposureLaws

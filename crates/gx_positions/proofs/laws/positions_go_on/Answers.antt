@@ -1,5 +1,0 @@
-use Rattle.gx_positions.proofs.{Coming.records_may_come, GoingOn.positions_go_on}
-use Rattle.gx_positions.proofs.laws.positions_go_on.Goals as goal
-
-pub returns : goal.returns
-returns c = record { change = positions_go_on; may_come = records_may_come }

@@ -1,3 +1,0 @@
-pub mod Changing
-pub mod Sound
-pub mod Laws
