@@ -102,7 +102,8 @@ impl Details {
         ensures lists { self.new.lists ≡ with_details step.now verdict.now self.old.lists }
         ensures spare { self.new.spare + 1 ≡ self.old.spare }
         ensures step { step_in self.new.lists.asked result ≡ step.now }
-        ensures verdict { verdict_in self.new.lists.rules self.new.lists.fills result ≡ verdict.now }
+        ensures verdict { verdict_in self.new.lists.rules self.new.lists.fills result
+            ≡ verdict.now }
         ensures there { IsThere self.new.lists result }
     {
         self.spare -= 1;
