@@ -81,7 +81,7 @@ impl Summary {
     }
 
     /// Notes the record, but for the command that it may grant. Of most records nothing is kept but the counts: they are not
-    /// copied, since the gate's lock is held meanwhile.
+    /// copied once more, since the gate's lock is held meanwhile.
     #[inline(always)]
     #[tactic(auto, using(crate::proofs::Denying::none_counted))]
     fn note(&mut self, noted: &Record)

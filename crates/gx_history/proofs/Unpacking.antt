@@ -43,20 +43,6 @@ no_record lists [] place h = refl
 no_record lists (row ∷ rows) zero h = absurd (omega (arith, h))
 no_record lists (row ∷ rows) (suc place) h = no_record lists rows place (omega (arith, h))
 
--- ---- a part
-
-pub records_past : (lists : Lists) (rows : List Row) (count : ℕ) → drop count (records_in lists rows) ≡ records_in lists (drop count rows)
-records_past lists [] zero = refl
-records_past lists [] (suc count) = refl
-records_past lists (row ∷ rows) zero = refl
-records_past lists (row ∷ rows) (suc count) = records_past lists rows count
-
-pub records_taken : (lists : Lists) (rows : List Row) (most : ℕ) → take most (records_in lists rows) ≡ records_in lists (take most rows)
-records_taken lists [] zero = refl
-records_taken lists [] (suc most) = refl
-records_taken lists (row ∷ rows) zero = refl
-records_taken lists (row ∷ rows) (suc most) = ap (λ rest. record_in lists row ∷ rest) (records_taken lists rows most)
-
 -- ---- what can be shown
 
 pub showable_past : (records : List RecordData) (count : ℕ) → AllShowable records → AllShowable (drop count records)
@@ -82,7 +68,7 @@ showable_last (x ∷ records) r all last = (all.0, showable_last records r all.1
 
 -- ---- one more record
 
-get_before : {X : Type 0} (xs more : List X) (place : ℕ) → place < length xs → slice_get (xs ++ more) place ≡ slice_get xs place
+pub get_before : {X : Type 0} (xs more : List X) (place : ℕ) → place < length xs → slice_get (xs ++ more) place ≡ slice_get xs place
 get_before [] more place h = absurd (omega (arith, h))
 get_before (x ∷ xs) more zero h = refl
 get_before (x ∷ xs) more (suc place) h = get_before xs more place (omega (arith, h))

@@ -3,6 +3,7 @@ use Rattle.std.proofs.{Common.{◌≡◌, ℕ, zero, suc, ◌+◌, ◌-◌, ◌<
 use Rattle.std.specs.{Prelude.{Option, Some, None, is_some, option_map}, Option.option_map_or, List.{AllByRecursion, find, slice_get}}
 use Rattle.gx_units.specs.{Names.same_user, declared.names.UserName.UserName}
 use Rattle.gx_history.specs.declared.report.Report.{Report}
+use Rattle.gx_history.proofs.Unpacking.{get_before, get_last}
 use Rattle.gx_laws.proofs.{Adding.user_is, Order.some_same}
 use Rattle.gx_streams.specs.{declared.{fill.{ToldFill.ToldFill, Party.Party}, entry.Entry.Entry}, Fills.{copies_of, executed_report, side_of}, Kept.{Kept, UserList, at_first, is_known, list_of, on_user, places_in, with_kept_last, with_last, with_places}, Spans.{IsSound, ReaderSpans, counted, entitled_from, is_named}, Streams.{ReaderMask, mask_in, with_fill_told}, Table.{IsThere, kept_copies, kept_reports, list_shown, no_report, reader_mask, report_of}}
 use Rattle.gx_streams.proofs.{Spanning.{none_yet, one_more}, Users.known_after}
@@ -164,18 +165,9 @@ there_more_fills m n (l ∷ ls) h all = (there_all_more m n l.kept.items h all.0
 
 -- ---- one more fill
 
-get_before : (fills : List ToldFill) (f : ToldFill) (place : ℕ) → place < length fills → slice_get (fills ++ f ∷ []) place ≡ slice_get fills place
-get_before [] f place h = absurd (omega (arith, h))
-get_before (g ∷ fills) f zero h = refl
-get_before (g ∷ fills) f (suc place) h = get_before fills f place (omega (arith, h))
-
-get_last : (fills : List ToldFill) (f : ToldFill) → slice_get (fills ++ f ∷ []) (length fills) ≡ Some f
-get_last [] f = refl
-get_last (g ∷ fills) f = get_last fills f
-
 same_report : (fills : List ToldFill) (f : ToldFill) (e : Entry) → IsThere (length fills) e → report_of (fills ++ f ∷ []) e ≡ report_of fills e
 same_report fills f (Entry.Typed report) here = refl
-same_report fills f (Entry.Filled place party) here = ap (λ (o : Option ToldFill). option_map_or (λ (g : ToldFill). executed_report g party) o no_report) (get_before fills f place here)
+same_report fills f (Entry.Filled place party) here = ap (λ (o : Option ToldFill). option_map_or (λ (g : ToldFill). executed_report g party) o no_report) (get_before fills (f ∷ []) place here)
 
 same_reports : (fills : List ToldFill) (f : ToldFill) (items : List Entry) → AllByRecursion (IsThere (length fills)) items → map (report_of (fills ++ f ∷ [])) items ≡ map (report_of fills) items
 same_reports fills f [] all = refl

@@ -1,12 +1,12 @@
-use Rattle.std.proofs.{Common.{◌≡◌, take, ap, sym, ◌∙◌}, Math.Path.subst}
-use Rattle.gx_history.specs.Rows.{AllShowable, records_in}
-use Rattle.gx_history.proofs.Unpacking.{records_taken, showable_taken}
+use Rattle.std.proofs.{Common.{◌≡◌, take, ap, sym, ◌∙◌}, Math.Path.subst, lemmas.List.take-map}
+use Rattle.gx_history.specs.Rows.{AllShowable, record_in, records_in}
+use Rattle.gx_history.proofs.Unpacking.{showable_taken}
 use Rattle.gx_history.proofs.records.Records.at_most.Goals as goal
 
 -- the first of the rows stand for the first of the records
 first : (c : goal.After-at_most) → take c.args.most (records_in c.self.inside.details.now.lists c.self.inside.rows.now) ≡ records_in c.self.inside.details.now.lists c.at_most.result.now
 first c =
-    records_taken c.self.inside.details.now.lists c.self.inside.rows.now c.args.most
+    take-map (record_in c.self.inside.details.now.lists) c.args.most c.self.inside.rows.now
     ∙ ap (records_in c.self.inside.details.now.lists) (sym c.at_most.ensures)
 
 pub invariant_of-result : goal.invariant_of-result

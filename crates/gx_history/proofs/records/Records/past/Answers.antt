@@ -1,12 +1,12 @@
-use Rattle.std.proofs.{Common.{◌≡◌, drop, ap, sym, ◌∙◌}, Math.Path.subst}
-use Rattle.gx_history.specs.Rows.{AllShowable, records_in}
-use Rattle.gx_history.proofs.Unpacking.{records_past, showable_past}
+use Rattle.std.proofs.{Common.{◌≡◌, drop, ap, sym, ◌∙◌}, Math.Path.subst, lemmas.List.drop-map}
+use Rattle.gx_history.specs.Rows.{AllShowable, record_in, records_in}
+use Rattle.gx_history.proofs.Unpacking.{showable_past}
 use Rattle.gx_history.proofs.records.Records.past.Goals as goal
 
 -- the rows behind so many stand for the records behind so many
 behind : (c : goal.After-past) → drop c.args.count (records_in c.self.inside.details.now.lists c.self.inside.rows.now) ≡ records_in c.self.inside.details.now.lists c.past.result.now
 behind c =
-    records_past c.self.inside.details.now.lists c.self.inside.rows.now c.args.count
+    drop-map (record_in c.self.inside.details.now.lists) c.args.count c.self.inside.rows.now
     ∙ ap (records_in c.self.inside.details.now.lists) (sym c.past.ensures)
 
 pub invariant_of-result : goal.invariant_of-result
