@@ -82,19 +82,21 @@ fn write_records<W: Write>(
     ensures told { OnErr result (writer.old.failed < writer.new.failed) }
 {
     let count = records.len();
+    let mut bytes = PieceBytes::new();
     let mut done = 0;
     while done < count {
         let size = PIECE.min(count - done);
-        write_piece(version, &records.part(done, size), writer)?;
+        write_piece(version, &records.part(done, size), &mut bytes, writer)?;
         done += size;
     }
     Ok(())
 }
 
-/// Writes a few records.
+/// Writes a few records, through this room for their bytes.
 fn write_piece<W: Write>(
     version: AuditVersion,
     piece: &Records<'_>,
+    bytes: &mut PieceBytes,
     writer: &mut Counted<W>,
 ) -> Result<(), WriteFailed>
     requires few { length piece.now ≤ 64 }
@@ -108,21 +110,20 @@ fn write_piece<W: Write>(
     ensures kept { OnOk result (writer.new.failed ≡ writer.old.failed) }
     ensures told { OnErr result (writer.old.failed < writer.new.failed) }
 {
-    let bytes = piece_bytes(version, piece);
+    put_piece(version, bytes, piece);
     write_whole(writer, bytes.as_slice())
 }
 
-/// The bytes of a few records.
+/// Puts the bytes of a few records into the room, in place of what it has.
 #[inline(always)]
-fn piece_bytes(version: AuditVersion, piece: &Records<'_>) -> PieceBytes
+fn put_piece(version: AuditVersion, bytes: &mut PieceBytes, piece: &Records<'_>)
     requires { length piece.now ≤ 64 }
-    ensures { result.items ≡ all_bytes version piece.now }
+    ensures { bytes.new.items ≡ all_bytes version piece.now }
 {
-    let mut bytes = PieceBytes::new();
+    bytes.clear();
     for place in 0..piece.len() {
-        put(version, &mut bytes, &piece.at(place));
+        put(version, bytes, &piece.at(place));
     }
-    bytes
 }
 
 /// Puts the record's bytes last.

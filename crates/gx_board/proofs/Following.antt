@@ -1,13 +1,14 @@
 -- What one more record makes of a summary.
-use Rattle.std.proofs.{Common.{◌≡◌, ℕ, ◌+◌, ◌-◌, Bool, true, false, List, [], ◌∷◌, ◌++◌, length, map, drop, refl, sym, ap, ◌∙◌, subst, if◌then◌else◌, arith, append-nil}, lemmas.List.{append_assoc, drop-append-le, drop-drop, length-append, length-drop, map-append, Elements.{filter-append, filter_map-append}, Sums.{fold-append, sum_by-append}}}
-use Rattle.std.specs.Prelude.{count_by, filter, fold, max}
+use Rattle.std.proofs.{Common.{◌≡◌, ℕ, ◌+◌, ◌-◌, Bool, true, false, List, [], ◌∷◌, ◌++◌, ◌<◌, length, map, drop, take, refl, sym, ap, ◌∙◌, subst, if◌then◌else◌, arith, append-nil}, lemmas.List.{append_assoc, drop-append-le, drop-drop, length-append, length-drop, map-append, Elements.{filter-append, filter_map-append}, Sums.{fold-append, sum_by-append}}}
+use Rattle.std.specs.Prelude.{count_by, filter, fold, max, Option, Some, None, slice_get}
 use Rattle.circular_buffer.specs.Buffer.{buffer, keep_last}
 use Rattle.gx_units.specs.declared.names.RuleId.{RuleId}
 use Rattle.gx_policy.specs.declared.policy.PolicyData.{PolicyData}
 use Rattle.gx_history.specs.declared.record.RecordData.{RecordData}
+use Rattle.gx_history.proofs.Unpacking.{found_within, one_more_taken}
 use Rattle.gx_pass.specs.Views.{highest_line, line_in}
 use Rattle.gx_overview.specs.{Accounts.capped_count, Commands.{granted_command, granted_commands}}
-use Rattle.gx_board.specs.{declared.{summary.Summary.Summary}, Counting.{commands, counted, counts_of, denied_row, denies, fills, grants, is_denied_by, one_more, row_counted, rule_names}, Summaries.{Counted, Follows, IsCounted, Notes, most_recent, pushed, recent}}
+use Rattle.gx_board.specs.{declared.{summary.Summary.Summary}, Counting.{commands, counted, counts_of, denied_row, denies, fills, grants, is_denied_by, one_more, row_counted, rule_names}, Summaries.{Counted, Follows, IsCounted, IsNoted, Notes, most_recent, pushed, recent}}
 
 cap_more : (b : Bool) (n : ℕ) → capped_count (n + (if b then 1 else 0)) ≡ one_more b (capped_count n)
 cap_more true n = grind arith
@@ -73,6 +74,19 @@ pub one_further : (so_far : List RecordData) (r : RecordData) (first old new : S
 one_further so_far r first old new notes counts policy records was =
     subst (λ (all : List RecordData). IsCounted policy all new) (append_assoc records so_far (r ∷ []))
     (counted_next policy (records ++ so_far) r old new notes (counts policy records was))
+
+-- those that were counted so far, and the next
+pub next_noted : (more : List RecordData) (i : ℕ) (first old new : Summary) → i < length more → IsNoted (slice_get more i) old new
+    → Counted (take i more) first old × (old.commands.items ≡ first.commands.items)
+    → Counted (take (i + 1) more) first new × (new.commands.items ≡ first.commands.items)
+next_noted more i first old new within noted so_far = by (slice_get more i) refl noted
+  where
+    by : (found : Option RecordData) → slice_get more i ≡ found → IsNoted found old new → Counted (take (i + 1) more) first new × (new.commands.items ≡ first.commands.items)
+    by None is notes = absurd (found_within more i within is)
+    by (Some r) is notes = (
+      subst (λ (all : List RecordData). Counted all first new) (sym (one_more_taken more i r is)) (one_further (take i more) r first old new notes so_far.0),
+      notes.commands_kept ∙ so_far.1,
+    )
 
 -- with the commands that were granted too, all of them are followed
 pub all_followed : (more : List RecordData) (old middle new : Summary) → ((policy : PolicyData) (records : List RecordData) → IsCounted policy records old → IsCounted policy records middle)

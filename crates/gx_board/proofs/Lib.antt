@@ -3,3 +3,4 @@ mod Following
 mod Belonging
 pub mod Catching
 mod Trading
+pub mod Noting

@@ -2,9 +2,9 @@
 use Rattle.std.specs.{Prelude.{ℕ, ◌+◌, Bool, true, false, ◌++◌, List, count_by, length, map, max, Option, Some, None, if◌then◌else◌}, Option.option_map_or}
 use Rattle.gx_units.specs.{Names.same_rule, declared.names.RuleId.RuleId}
 use Rattle.gx_policy.specs.{RuleNames.rule_id, declared.{policy.{FileRule.FileRule, PolicyData.PolicyData}, rule_name.{RuleName.RuleName, TheConstants.BUILT_IN}}}
-use Rattle.gx_history.specs.{declared.record.{Asked.Asked, RecordData.RecordData, Verdict.Verdict}, Requests.{asked, is_command, is_granted}}
+use Rattle.gx_history.specs.{declared.record.{Asked.Asked, RecordData.RecordData, Verdict.Verdict, VerdictKind.VerdictKind}, Requests.{asked, is_command, is_granted}}
 use Rattle.gx_pass.specs.Views.{highest_line, line_in}
-use Rattle.gx_overview.specs.Accounts.{capped_count}
+use Rattle.gx_overview.specs.{Accounts.capped_count, Commands.is_grant}
 use Rattle.gx_board.specs.declared.{counts.Counts.Counts, denied.DeniedRow.DeniedRow}
 
 -- a request was granted
@@ -58,6 +58,30 @@ counted r c = record {
   denied = one_more (denies r) c.denied;
   fills = one_more (fills r) c.fills;
   highest_line = max c.highest_line (line_in r);
+}
+
+-- a request was denied
+abbrev pub is_denial : Option VerdictKind → Bool
+is_denial (Some VerdictKind.Denied) = true
+is_denial other = false
+
+-- two orders met
+abbrev pub is_meeting : Option VerdictKind → Bool
+is_meeting (Some VerdictKind.Filled) = true
+is_meeting other = false
+
+-- the line that it was asked on; 0 of a matching step
+abbrev pub line_of : Option Asked → ℕ
+line_of found = option_map_or (λ (a : Asked). a.line) found 0
+
+-- the numbers, once a record with this verdict and this request has come
+abbrev pub counted_by : Option VerdictKind → Option Asked → Counts → Counts
+counted_by kind found c = record {
+  records = capped_count (c.records + 1);
+  granted = one_more (is_grant kind) c.granted;
+  denied = one_more (is_denial kind) c.denied;
+  fills = one_more (is_meeting kind) c.fills;
+  highest_line = max c.highest_line (line_of found);
 }
 
 -- how often the rule of this name denied a request

@@ -1,5 +1,5 @@
 -- What is kept of the records that were followed.
-use Rattle.std.specs.Prelude.{◌≡◌, ◌≤◌, ℕ, Bool, List, [], ◌∷◌, ◌++◌, length, map, take, filter, if◌then◌else◌}
+use Rattle.std.specs.Prelude.{◌≡◌, ◌≤◌, ℕ, Bool, List, [], ◌∷◌, ◌++◌, length, map, take, filter, Option, IfSome, if◌then◌else◌}
 use Rattle.circular_buffer.specs.Buffer.{Buffer, buffer, keep_last}
 use Rattle.gx_policy.specs.declared.policy.PolicyData.{PolicyData}
 use Rattle.gx_history.specs.declared.record.RecordData.{RecordData}
@@ -45,6 +45,10 @@ pub record Notes (r : RecordData) (old new : Summary) : Type 0 where
   pub last_denied : new.last_denied ≡ pushed (denies r) r old.last_denied
   pub last_commands : new.last_commands ≡ pushed (commands r) r old.last_commands
   pub commands_kept : new.commands.items ≡ old.commands.items
+
+-- what the record, if there is one, changes but for the commands
+abbrev pub IsNoted : Option RecordData → Summary → Summary → Type 0
+IsNoted found old new = IfSome found (λ (r : RecordData). Notes r old new)
 
 -- it is that of the same records, whatever records these were
 abbrev pub Stays : Summary → Summary → Type 0

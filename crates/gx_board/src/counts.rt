@@ -1,10 +1,10 @@
 //! How many records there are, and what they say.
 
-ghost use Rattle.std.specs.Prelude.{◌≡◌, []};
-ghost use Rattle.gx_board.specs.Counting.{commands, counted, counts_of, denies, one_more};
+ghost use Rattle.std.specs.Prelude.{◌≡◌, [], ◌||◌, option_copied};
+ghost use Rattle.gx_overview.specs.Commands.{is_grant, is_officers};
+ghost use Rattle.gx_board.specs.Counting.{commands, counted_by, counts_of, denies, is_denial, is_meeting, line_of, one_more};
 
-use gx_history::record::{RecordData, Request, Step, Verdict};
-use gx_pass::line_in;
+use gx_history::record::{Asked, RecordData, Request, Step, Verdict, VerdictKind};
 
 /// What the records of a day say in numbers. A count stops at 64 bits: a day stays far below.
 #[derive(Clone, Copy, PartialEq, Eq)]
@@ -30,6 +30,60 @@ pub(crate) fn one_more(is_so: bool, count: u64) -> u64
         count.saturating_add(1)
     } else {
         count
+    }
+}
+
+/// Whether a request was granted.
+#[inline(always)]
+fn is_grant(kind: Option<VerdictKind>) -> bool
+    ensures { result ≡ is_grant kind }
+{
+    matches!(kind, Some(VerdictKind::Granted))
+}
+
+/// Whether a request was denied.
+#[inline(always)]
+fn is_denial(kind: Option<VerdictKind>) -> bool
+    ensures { result ≡ is_denial kind }
+{
+    matches!(kind, Some(VerdictKind::Denied))
+}
+
+/// Whether two orders met.
+#[inline(always)]
+fn is_meeting(kind: Option<VerdictKind>) -> bool
+    ensures { result ≡ is_meeting kind }
+{
+    matches!(kind, Some(VerdictKind::Filled))
+}
+
+/// Whether an officer asked for it.
+#[inline(always)]
+fn is_officers(asked: Option<&Asked>) -> bool
+    ensures { result ≡ is_officers (option_copied asked.entry) }
+{
+    match asked {
+        Some(asked) => matches!(asked.request, Request::Command(_)),
+        None => false,
+    }
+}
+
+/// Whether a record with this verdict and this request is among the last denials or the last commands.
+#[inline(always)]
+pub(crate) fn is_kept(kind: Option<VerdictKind>, asked: Option<&Asked>) -> bool
+    ensures { result ≡ (is_denial kind || is_officers (option_copied asked.entry)) }
+{
+    is_denial(kind) || is_officers(asked)
+}
+
+/// The line that it was asked on; 0 of a matching step.
+#[inline(always)]
+fn line_of(asked: Option<&Asked>) -> u16
+    ensures { result ≡ line_of (option_copied asked.entry) }
+{
+    match asked {
+        Some(asked) => asked.line,
+        None => 0,
     }
 }
 
@@ -66,17 +120,17 @@ impl Counts {
         }
     }
 
-    /// The numbers, once the record has come.
+    /// The numbers, once a record with this verdict and this request has come.
     #[inline(always)]
-    pub(crate) fn with_record(self, left: &RecordData) -> Counts
-        ensures { result ≡ counted left.now self }
+    pub(crate) fn with_parts(self, kind: Option<VerdictKind>, asked: Option<&Asked>) -> Counts
+        ensures { result ≡ counted_by kind (option_copied asked.entry) self }
     {
         Counts {
             records: self.records.saturating_add(1),
-            granted: one_more(left.verdict == Verdict::Granted, self.granted),
-            denied: one_more(denies(left), self.denied),
-            fills: one_more(matches!(left.verdict, Verdict::Filled(_)), self.fills),
-            highest_line: self.highest_line.max(line_in(left)),
+            granted: one_more(is_grant(kind), self.granted),
+            denied: one_more(is_denial(kind), self.denied),
+            fills: one_more(is_meeting(kind), self.fills),
+            highest_line: self.highest_line.max(line_of(asked)),
         }
     }
 }

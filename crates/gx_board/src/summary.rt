@@ -1,12 +1,12 @@
 //! What is kept of a day's records, so that no view walks them.
 
-ghost use Rattle.std.specs.Prelude.{◌≡◌, ◌+◌, ◌≤◌, [], drop, length, take, IfOk, IsFalse, IsTrue, OnErr, OnOk};
-ghost use Rattle.gx_board.specs.Summaries.{Counted, Follows, IsBehind, IsSummary, Notes, pushed, recent, Stays};
+ghost use Rattle.std.specs.Prelude.{◌≡◌, ◌+◌, ◌<◌, ◌≤◌, [], drop, length, slice_get, take, IfOk, IsFalse, IsTrue, OnErr, OnOk};
+ghost use Rattle.gx_board.specs.{Counting.counted, Summaries.{Counted, Follows, IsBehind, IsNoted, IsSummary, Notes, pushed, recent, Stays}};
 
-use crate::counts::{Counts, commands, denies};
+use crate::counts::{Counts, commands, denies, is_kept};
 use crate::denied::{DeniedRow, first_rows, note};
 use circular_buffer::HeapCircularBuffer;
-use gx_history::record::{Record, RecordData};
+use gx_history::record::RecordData;
 use gx_history::records::Records;
 use gx_overview::commands::{GrantedCommand, granted_commands};
 use gx_policy::Policy;
@@ -71,27 +71,30 @@ impl Summary {
     }
 
     /// Notes the record, but for the command that it may grant.
-    fn note_kept(&mut self, left: &RecordData)
+    fn note_kept(&mut self, left: &RecordData, counts: Counts)
+        requires { counts ≡ counted left.now self.old.counts }
         ensures { Notes left.now self.old self.new }
     {
-        self.counts = self.counts.with_record(left);
+        self.counts = counts;
         note(&mut self.denied, left);
         push_where(denies(left), &mut self.last_denied, left);
         push_where(commands(left), &mut self.last_commands, left);
     }
 
-    /// Notes the record, but for the command that it may grant. Of most records nothing is kept but the counts: they are not
-    /// copied once more, since the gate's lock is held meanwhile.
+    /// Notes the record at this place, but for the command that it may grant. Of most records nothing is kept but the counts:
+    /// they are not made, since the gate's lock is held meanwhile.
     #[inline(always)]
-    #[tactic(auto, using(crate::proofs::Denying::none_counted))]
-    fn note(&mut self, noted: &Record)
-        ensures { Notes noted.now self.old self.new }
+    fn note(&mut self, more: &Records<'_>, place: usize)
+        requires within { place < length more.now }
+        ensures noted { IsNoted (slice_get more.now place) self.old self.new }
     {
-        let left = noted.content();
-        if denies(&left) || commands(&left) {
-            self.note_kept(&noted.content());
+        let kind = more.kind_at(place);
+        let asked = more.asked_at(place);
+        let counts = self.counts.with_parts(kind, asked);
+        if is_kept(kind, asked) {
+            self.note_kept(&more.at(place).content(), counts);
         } else {
-            self.counts = self.counts.with_record(&left);
+            self.counts = counts;
         }
     }
 
@@ -101,7 +104,7 @@ impl Summary {
         ensures commands_kept { self.new.commands.items ≡ self.old.commands.items }
     {
         for place in 0..more.len() {
-            self.note(&more.at(place));
+            self.note(more, place);
         }
     }
 

@@ -1,13 +1,13 @@
 //! Records of a day, as a history shows them.
 
-ghost use Rattle.std.specs.{Prelude.{◌≡◌, ◌<◌, IfOk, length, take, drop}, List.slice_get};
+ghost use Rattle.std.specs.{Prelude.{◌≡◌, ◌<◌, IfOk, length, option_and_then, option_copied, option_map, take, drop}, List.slice_get};
 ghost use Rattle.gx_policy.specs.Lists.{slice};
-ghost use Rattle.gx_history.specs.Rows.{AllShowable, records_in};
+ghost use Rattle.gx_history.specs.{Requests.{asked, kind_of}, Rows.{AllShowable, records_in}};
 
-use crate::record::Record;
+use crate::record::{Asked, Record, VerdictKind};
 use crate::rows::{Details, Row};
 use crate::slices::{at_most, count_before, past};
-use gx_units::OutOfMemory;
+use gx_units::{Moment, OutOfMemory};
 use std::alloc::Global;
 use std::marker::Model;
 
@@ -66,6 +66,34 @@ impl<'a> Records<'a> {
             Some(record) => record,
             None => unreachable!(),
         }
+    }
+
+    /// Which verdict the record at this place has, from 0; None where there are no more than so many. No record is made.
+    #[inline(always)]
+    pub fn kind_at(&self, place: usize) -> Option<VerdictKind>
+        ensures { result ≡ option_map (λ r. kind_of r.verdict) (slice_get self.now place) }
+    {
+        let row = self.rows.get(place)?;
+        Some(self.details.kind(&row.event))
+    }
+
+    /// The moment of the record at this place, from 0; None where there are no more than so many. No record is made.
+    #[inline(always)]
+    pub fn moment_at(&self, place: usize) -> Option<Moment>
+        ensures { result ≡ option_map (λ r. r.moment) (slice_get self.now place) }
+    {
+        Some(self.rows.get(place)?.moment)
+    }
+
+    /// The request of the record at this place, from 0, where it lies; None of a matching step, and where there are no more
+    /// than so many. No record is made.
+    #[inline(always)]
+    pub fn asked_at(&self, place: usize) -> Option<&Asked>
+        ensures { option_copied result
+            ≡ option_and_then (λ r. asked r.step) (slice_get self.now place) }
+    {
+        let row = self.rows.get(place)?;
+        self.details.asked(&row.event)
     }
 
     /// Those behind so many.

@@ -1,9 +1,9 @@
 //! How a day's records lie in memory: a row for each, and what is long in lists of its own.
 
-ghost use Rattle.std.specs.Prelude.{◌≡◌, ◌+◌, ◌<◌, ◌≤◌, IsTrue, OnErr, OnOk};
-ghost use Rattle.gx_history.specs.{Rows.{IsThere, no_lists, record_in, step_at, step_in, verdict_in, with_details}, Showing.{is_verdict_of}};
+ghost use Rattle.std.specs.Prelude.{◌≡◌, ◌+◌, ◌<◌, ◌≤◌, option_copied, IsTrue, OnErr, OnOk};
+ghost use Rattle.gx_history.specs.{Requests.{asked, kind_of}, Rows.{IsThere, no_lists, record_in, step_at, step_in, verdict_in, with_details}, Showing.{is_verdict_of}};
 
-use crate::record::{Asked, Fill, RecordData, Step, Verdict};
+use crate::record::{Asked, Fill, RecordData, Step, Verdict, VerdictKind};
 use gx_policy::RuleName;
 use gx_units::{Moment, OutOfMemory};
 use std::alloc::Global;
@@ -168,6 +168,32 @@ impl Details {
             },
             Event::Rested(_, order) => Verdict::Rested(*order),
             Event::Expired(_, order) => Verdict::Expired(*order),
+        }
+    }
+
+    /// What was asked for in this event, where it lies, if it is no matching step.
+    #[inline(always)]
+    pub(crate) fn asked(&self, event: &Event) -> Option<&Asked>
+        ensures { option_copied result ≡ asked (step_in self.now.lists.asked event.now) }
+    {
+        match event {
+            Event::Granted(place) | Event::Denied(place, _) => self.asked.get(*place),
+            Event::Filled(_, _) | Event::Rested(_, _) | Event::Expired(_, _) => None,
+        }
+    }
+
+    /// Which verdict this event has. It looks at no rule and no fill.
+    #[inline(always)]
+    pub(crate) fn kind(&self, event: &Event) -> VerdictKind
+        ensures { result
+            ≡ kind_of (verdict_in self.now.lists.rules self.now.lists.fills event.now) }
+    {
+        match event {
+            Event::Denied(_, place) if *place < self.rules.len() => VerdictKind::Denied,
+            Event::Filled(_, place) if *place < self.fills.len() => VerdictKind::Filled,
+            Event::Granted(_) | Event::Denied(_, _) | Event::Filled(_, _) => VerdictKind::Granted,
+            Event::Rested(_, _) => VerdictKind::Rested,
+            Event::Expired(_, _) => VerdictKind::Expired,
         }
     }
 

@@ -3,3 +3,4 @@ pub mod Keeping
 pub mod Counting
 pub mod Knowing
 pub mod Executing
+pub mod Granting

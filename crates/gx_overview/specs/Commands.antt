@@ -1,9 +1,9 @@
 -- The commands that were granted, and the last of them about an account, a limit or a stock.
-use Rattle.std.specs.{Prelude.{Bool, false, ◌&&◌, List, Option, Some, option_and_then, option_map, if◌then◌else◌}, List.filter_map}
+use Rattle.std.specs.{Prelude.{Bool, true, false, ◌&&◌, List, Option, Some, option_and_then, option_map, if◌then◌else◌}, Option.option_map_or, List.filter_map}
 use Rattle.gx_units.specs.Names.{same_account, same_rule, same_stock}
 use Rattle.gx_desk.specs.declared.Action.{Action}
 use Rattle.gx_policy.specs.Lists.{last_such}
-use Rattle.gx_history.specs.{declared.record.{Asked.Asked, RecordData.RecordData}, Requests.{action_of, granted}}
+use Rattle.gx_history.specs.{declared.record.{Asked.Asked, RecordData.RecordData, VerdictKind.VerdictKind}, Requests.{action_of, granted, is_command}}
 use Rattle.gx_overview.specs.declared.commands.{GrantedCommand.GrantedCommand, Subject.Subject}
 
 -- the command that the record shows, if this is what it grants
@@ -13,6 +13,15 @@ command_by r a = option_map {U = GrantedCommand} (λ (action : Action). record {
 -- the command that the record grants, if it grants one
 abbrev pub granted_command : RecordData → Option GrantedCommand
 granted_command r = option_and_then (command_by r) (granted r)
+
+-- a request was granted
+abbrev pub is_grant : Option VerdictKind → Bool
+is_grant (Some VerdictKind.Granted) = true
+is_grant other = false
+
+-- an officer asked for it
+abbrev pub is_officers : Option Asked → Bool
+is_officers found = option_map_or (λ (a : Asked). is_command a.request) found false
 
 -- all that were granted, in their order
 abbrev pub granted_commands : List RecordData → List GrantedCommand

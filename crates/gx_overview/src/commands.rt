@@ -1,10 +1,10 @@
 //! The commands that were granted, and the last of them about an account, a limit or a stock.
 
-ghost use Rattle.std.specs.Prelude.{◌≡◌, [], ◌∷◌, ◌++◌, IfOk, OnOk};
-ghost use Rattle.gx_overview.specs.Commands.{command_by, granted_command, granted_commands, is_about, last_of, last_with};
+ghost use Rattle.std.specs.Prelude.{◌≡◌, ◌++◌, is_some, option_and_then, option_copied, option_to_list, slice_get, IfOk, OnOk};
+ghost use Rattle.gx_overview.specs.Commands.{command_by, granted_command, granted_commands, is_about, is_grant, is_officers, last_of, last_with};
 
 use gx_desk::Action;
-use gx_history::record::{Asked, Record, RecordData, Request, Step, Verdict};
+use gx_history::record::{Asked, RecordData, Request, Step, Verdict, VerdictKind};
 use gx_history::records::Records;
 use gx_units::{AccountName, Moment, OutOfMemory, RuleId, Symbol, UserName};
 use std::alloc::Global;
@@ -60,18 +60,61 @@ fn granted_command(shown: &RecordData) -> Option<GrantedCommand>
     }
 }
 
-/// Puts the record's command behind the others, if it grants one.
-fn note(commands: &mut Vec<GrantedCommand>, left: &Record) -> Result<(), OutOfMemory>
-    ensures noted { OnOk result
-        (commands.new.items ≡ commands.old.items ++ granted_commands (left.now ∷ [])) }
+/// Whether a request was granted.
+#[inline(always)]
+fn is_grant(kind: Option<VerdictKind>) -> bool
+    ensures { result ≡ is_grant kind }
 {
-    match granted_command(&left.content()) {
+    matches!(kind, Some(VerdictKind::Granted))
+}
+
+/// Whether an officer asked for it.
+#[inline(always)]
+fn is_command(asked: Option<&Asked>) -> bool
+    ensures { result ≡ is_officers (option_copied asked.entry) }
+{
+    match asked {
+        Some(asked) => matches!(asked.request, Request::Command(_)),
+        None => false,
+    }
+}
+
+/// Whether the record at this place grants a command. No record is made.
+#[inline(always)]
+#[tactic(auto, using(crate::proofs::Granting::grants_where))]
+fn grants_command(records: &Records<'_>, place: usize) -> bool
+    ensures { result ≡ is_some (option_and_then granted_command (slice_get records.now place)) }
+{
+    is_grant(records.kind_at(place)) && is_command(records.asked_at(place))
+}
+
+/// The command of the record at this place, if it grants one.
+#[inline(always)]
+fn command_at(records: &Records<'_>, place: usize) -> Option<GrantedCommand>
+    ensures { result ≡ option_and_then granted_command (slice_get records.now place) }
+{
+    if !grants_command(records, place) {
+        return None;
+    }
+    granted_command(&records.get(place)?.content())
+}
+
+/// Puts the command behind the others, if there is one.
+#[inline(always)]
+fn note(
+    commands: &mut Vec<GrantedCommand>,
+    found: Option<GrantedCommand>,
+) -> Result<(), OutOfMemory>
+    ensures noted { OnOk result
+        (commands.new.items ≡ commands.old.items ++ option_to_list found) }
+{
+    match found {
         Some(command) => Ok(commands.push(command)?),
         None => Ok(()),
     }
 }
 
-/// The commands that these records grant, in their order. It is one pass over them.
+/// The commands that these records grant, in their order. It is one pass over them, and makes no other record.
 ///
 /// # Errors
 ///
@@ -84,7 +127,7 @@ pub fn granted_commands(
 {
     let mut commands = Vec::new(alloc);
     for place in 0..records.len() {
-        note(&mut commands, &records.at(place))?;
+        note(&mut commands, command_at(records, place))?;
     }
     Ok(commands)
 }

@@ -4,7 +4,7 @@ use Rattle.std.specs.{Prelude.{IfSome, IsFalse, Some, None, nat_le, if◌then◌
 use Rattle.gx_units.specs.Spelling.{padded}
 use Rattle.gx_script.specs.Words.{is_empty, is_name, is_visible, name_of}
 
-padded_behind : (b m : ℕ) (t : List ℕ) → padded (suc m) (b ∷ t) ≡ b ∷ padded m t
+pub padded_behind : (b m : ℕ) (t : List ℕ) → padded (suc m) (b ∷ t) ≡ b ∷ padded m t
 padded_behind b m t = ap (λ k. b ∷ (t ++ replicate k 32)) (omega arith)
 
 -- the field has one more byte of the text

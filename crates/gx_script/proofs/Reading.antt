@@ -1,7 +1,7 @@
 -- Words that are cut and read at once.
-use Rattle.std.proofs.{Common.{◌≡◌, ℕ, ◌^◌, ◌<◌, ◌≤◌, Bool, true, false, not, List, [], ◌∷◌, refl, arith, eqb}, lemmas.Bool.{and_parts, and_from, leb-true, eqb-true}, Math.Nat.pow-le-pow_right}
+use Rattle.std.proofs.{Common.{◌≡◌, ◌≢◌, ◌&&◌, Some, length, take, slice_index_or, ap, ℕ, ◌^◌, ◌<◌, ◌≤◌, Bool, true, false, not, List, [], ◌∷◌, refl, arith, eqb}, lemmas.Bool.{and_parts, and_from, leb-true, eqb-true}, Math.Nat.pow-le-pow_right}
 use Rattle.std.specs.{List.list_all, Char.is_ascii_digit}
-use Rattle.gx_script.specs.Words.{has_no_space, is_visible}
+use Rattle.gx_script.specs.Words.{byte_of, has_no_space, is_visible}
 
 apart : (n low : ℕ) → n < low → (m : ℕ) → low ≤ m → not (eqb m n) ≡ true
 apart n low below m within = at (eqb m n) refl
@@ -31,3 +31,17 @@ few_digits digits number below few =
     let within : digits ≤ 18 = omega (arith, few) in
     let most : 10 ^ digits ≤ 10 ^ 18 = pow-le-pow_right (omega arith) within in
     omega (arith, below, most)
+
+-- a first byte that is no space
+pub first_clear : (text : List ℕ) → 1 ≤ length text → slice_index_or text 0 0 ≢ 32 → has_no_space (take 1 text) ≡ true
+first_clear [] some clear = absurd (omega (arith, some))
+first_clear (byte ∷ bytes) some clear = at (eqb byte 32) refl
+  where
+    at : (space : Bool) → eqb byte 32 ≡ space → (not (eqb byte 32) && true) ≡ true
+    at true is = absurd (clear (eqb-true byte 32 is))
+    at false is = ap (λ space. not space && true) is
+
+-- a first byte, taken as a word
+pub first_byte : (text : List ℕ) → 1 ≤ length text → byte_of (take 1 text) ≡ Some (slice_index_or text 0 0)
+first_byte [] some = absurd (omega (arith, some))
+first_byte (byte ∷ bytes) some = refl

@@ -1,6 +1,6 @@
 -- What a line of a script means.
 use Rattle.std.specs.Prelude.{ℕ, ◌-◌, Bool, ◌&&◌, ◌||◌, ◌==◌, nat_lt, if◌then◌else◌, List, length, take, codes, bytes_eq, slice_index, Option, Some, None, option_map, IsTrue}
-use Rattle.gx_units.specs.declared.names.{AccountName.AccountName, RuleId.RuleId, Symbol.Symbol}
+use Rattle.gx_units.specs.declared.names.{AccountName.AccountName, RuleId.RuleId, Symbol.Symbol, UserName.UserName}
 use Rattle.gx_desk.specs.declared.{Action.Action, Command.Command, Tag.Tag, WrittenName.WrittenName}
 use Rattle.gx_ouch.specs.declared.inbound.{EnterOrder.EnterOrder, ReplaceOrder.ReplaceOrder}
 use Rattle.gx_history.specs.{Payloads.request_of, Showing.has_its_first}
@@ -147,22 +147,39 @@ step_form name words =
     else (if bytes_eq name (codes "raw") then raw_form words
     else option_map ScriptStep.Command (command_form name words))))))
 
--- `USER ..`, USER being the first word: what the user asks for at this moment
-unfoldable pub asked_line : ℕ → List ℕ → List (List ℕ) → Option ScriptLine
-asked_line moment word words = do
-  user ← user_of word
+-- what the user asks for at this moment, by the words behind the name
+unfoldable pub user_line : ℕ → UserName → List (List ℕ) → Option ScriptLine
+user_line moment user words = do
   name ← first itself words
   step ← step_form name.0 name.1
   Some (Step moment user step)
 
--- `M match`, `M settle` or `M USER ..`, M being the first word; a user of either name is one where more words follow
-unfoldable pub step_line : List ℕ → List (List ℕ) → Option ScriptLine
-step_line word words = do
-  moment ← number_of 64 word
+-- `USER ..`, USER being the first word: what the user asks for at this moment
+unfoldable pub asked_line : ℕ → List ℕ → List (List ℕ) → Option ScriptLine
+asked_line moment word words = do
+  user ← user_of word
+  user_line moment user words
+
+-- `match`, `settle` or `USER ..` at this moment; a user of either name is one where more words follow
+unfoldable pub timed_line : ℕ → List (List ℕ) → Option ScriptLine
+timed_line moment words = do
   name ← first itself words
   if is_done name.1 && bytes_eq name.0 (codes "match") then Some (Match moment)
       else (if is_done name.1 && bytes_eq name.0 (codes "settle") then Some (Settle moment)
       else asked_line moment name.0 name.1)
+
+-- `M match`, `M settle` or `M USER ..`, M being the first word
+unfoldable pub step_line : List ℕ → List (List ℕ) → Option ScriptLine
+step_line word words = do
+  moment ← number_of 64 word
+  timed_line moment words
+
+-- `match` or `settle` at this moment, by the word in its field of six bytes
+unfoldable pub last_line : ℕ → List ℕ → Option ScriptLine
+last_line moment field =
+    if bytes_eq field (codes "match ") then Some (Match moment)
+    else (if bytes_eq field (codes "settle") then Some (Settle moment)
+    else None)
 
 -- `stream USER`, without its first word
 unfoldable pub stream_line : List (List ℕ) → Option ScriptLine

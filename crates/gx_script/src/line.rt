@@ -1,15 +1,21 @@
 //! Lines of a script.
 
-ghost use Rattle.std.specs.{Prelude.{◌≡◌, ◌≢◌, ◌≤◌, ◌∷◌, [], length, bytes_eq, ◌&&◌, IsTrue, IfOk, IfSome, MatchResult, option_map}, Result.result_ok};
+ghost use Rattle.std.specs.{Prelude.{Some, None, codes, ◌≡◌, ◌≢◌, ◌≤◌, ◌∷◌, [], length, bytes_eq, ◌&&◌, IsTrue, IfOk, OnOk, IfSome, MatchResult, option_map}, Result.result_ok};
 ghost use Rattle.gx_history.specs.{Payloads.request_of, Showing.has_its_first};
-ghost use Rattle.gx_script.specs.{Words.{Takes, alone, is_done, name_of, user_of, number_of, byte_of, bytes_of, itself}, ScriptLines.{login_form, plain_order, enter_form, replace_form, cancel_form, account_form, limit_form, stock_form, reader_form, close_form, command_form, raw_form, step_form, asked_line, step_line, stream_line, line_of_words, without_cr, is_too_long, is_skipped, line_of, IsAskable, IsAskableLine}};
+ghost use Rattle.gx_script.specs.{Words.{Puts, Takes, first, words_of, alone, name_of, user_of, number_of, byte_of, bytes_of, itself}, ScriptLines.{login_form, plain_order, enter_form, replace_form, cancel_form, account_form, limit_form, stock_form, reader_form, close_form, command_form, raw_form, step_form, user_line, last_line, timed_line, stream_line, line_of_words, without_cr, is_too_long, is_skipped, line_of, IsAskable, IsAskableLine}};
 
-use crate::words::{Words, byte, name, number64};
+use crate::words::Words;
 use crate::wrong::{Wanted, Wrong};
 use gx_desk::{Action, Command, Tag, WrittenName};
 use gx_history::record::Request;
 use gx_ouch::{CancelOrder, EnterOrder, ReplaceOrder};
 use gx_units::{AccountName, Firm, Password, RuleId, Symbol, Token, UserName};
+
+/// `match`, in the field of a user's name.
+const MATCH: UserName = UserName { bytes: *b"match " };
+
+/// `settle`, in the field of a user's name.
+const SETTLE: UserName = UserName { bytes: *b"settle" };
 
 /// What a line of a script asks for in a user's name.
 #[derive(Clone, Copy, PartialEq, Eq)]
@@ -48,12 +54,14 @@ pub enum ScriptLine {
 }
 
 /// The value, or that the last word taken is wrong.
+#[inline(always)]
 fn wanted<T: Drop>(words: &Words, found: Option<T>, wanted: Wanted) -> Result<T, Wrong>
     ensures { result_ok result ≡ found }
 {
     found.ok_or(Wrong::new(words.taken(), wanted))
 }
 
+#[inline(always)]
 fn take_word<'a>(words: &mut Words<'a>, wants: Wanted) -> Result<&'a [u8], Wrong>
     ensures first { MatchResult result (λ word. words.old ≡ word.now ∷ words.new)
         (λ _. words.old ≡ []) }
@@ -63,26 +71,46 @@ fn take_word<'a>(words: &mut Words<'a>, wants: Wanted) -> Result<&'a [u8], Wrong
     wanted(words, word, wants)
 }
 
+/// Takes a name, filled up with spaces, into the field.
+#[inline(always)]
+fn fill_name<const N: usize>(
+    words: &mut Words,
+    field: &mut [u8; N],
+    wants: Wanted,
+) -> Result<(), Wrong>
+    ensures { Puts (first (name_of N) words.old) (field.new, words.new) result }
+{
+    if words.name(field) {
+        return Ok(());
+    }
+    Err(Wrong::new(words.taken(), wants))
+}
+
 fn take_name<const N: usize>(words: &mut Words, wants: Wanted) -> Result<[u8; N], Wrong>
     ensures { Takes (name_of N) words.old words.new result }
 {
-    let found = words.name();
-    wanted(words, found, wants)
+    let mut field = [b' '; N];
+    fill_name(words, &mut field, wants)?;
+    Ok(field)
 }
 
-/// The user of this name, in upper case.
-fn user(word: &[u8]) -> Option<UserName>
-    ensures { result ≡ user_of word.now }
+/// The name of a user, as it is written.
+#[inline(always)]
+fn take_written(words: &mut Words) -> Result<UserName, Wrong>
+    ensures { MatchResult result
+        (λ name. first (name_of 6) words.old ≡ Some (name.bytes, words.new))
+        (λ _. first (name_of 6) words.old ≡ None) }
 {
-    let bytes = name(word)?;
-    Some(UserName { bytes }.folded())
+    let mut name = UserName { bytes: [b' '; 6] };
+    fill_name(words, &mut name.bytes, Wanted::User)?;
+    Ok(name)
 }
 
 fn take_user(words: &mut Words) -> Result<UserName, Wrong>
     ensures { Takes user_of words.old words.new result }
 {
-    let word = take_word(words, Wanted::User)?;
-    wanted(words, user(word), Wanted::User)
+    let name = take_written(words)?;
+    Ok(name.folded())
 }
 
 fn take_number64(words: &mut Words, wants: Wanted) -> Result<u64, Wrong>
@@ -92,6 +120,7 @@ fn take_number64(words: &mut Words, wants: Wanted) -> Result<u64, Wrong>
     wanted(words, found, wants)
 }
 
+#[inline(always)]
 fn take_number32(words: &mut Words, wants: Wanted) -> Result<u32, Wrong>
     ensures { Takes (number_of 32) words.old words.new result }
 {
@@ -99,47 +128,52 @@ fn take_number32(words: &mut Words, wants: Wanted) -> Result<u32, Wrong>
     wanted(words, found, wants)
 }
 
+#[inline(always)]
 fn take_byte(words: &mut Words, wants: Wanted) -> Result<u8, Wrong>
     ensures { Takes byte_of words.old words.new result }
 {
-    let word = take_word(words, wants)?;
-    wanted(words, byte(word), wants)
+    let found = words.byte();
+    wanted(words, found, wants)
 }
 
 /// That no word is left.
-fn end(words: &mut Words) -> Result<(), Wrong>
-    ensures { MatchResult result (λ _. words.old ≡ []) (λ _. words.old ≢ []) }
+#[inline(always)]
+fn end(words: &Words) -> Result<(), Wrong>
+    ensures { MatchResult result (λ _. words.now ≡ []) (λ _. words.now ≢ []) }
 {
-    match words.next() {
-        None => Ok(()),
-        Some(_) => Err(Wrong::new(words.taken(), Wanted::End)),
+    if words.is_done() {
+        return Ok(());
     }
+    Err(Wrong::new(words.taken().wrapping_add(1), Wanted::End))
 }
 
 #[tactic(auto, unfolding(crate::specs::ScriptLines::login_form))]
-fn login_form(words: &mut Words) -> Result<ScriptStep, Wrong>
-    ensures meaning { result_ok result ≡ login_form words.old }
-    ensures askable { IfOk result IsAskable }
+fn login_form(mut words: Words, step: &mut ScriptStep) -> Result<(), Wrong>
+    ensures meaning { Puts (login_form words.entry) step.new result }
+    ensures askable { OnOk result (IsAskable step.new) }
 {
-    let bytes = take_name(words, Wanted::Password)?;
-    let wanted = take_number64(words, Wanted::Number)?;
-    end(words)?;
-    Ok(ScriptStep::Login(Password { bytes }, wanted))
+    let bytes = take_name(&mut words, Wanted::Password)?;
+    let wanted = take_number64(&mut words, Wanted::Number)?;
+    end(&words)?;
+    *step = ScriptStep::Login(Password { bytes }, wanted);
+    Ok(())
 }
 
 #[tactic(auto, unfolding(crate::specs::ScriptLines::enter_form))]
-fn enter_form(words: &mut Words) -> Result<ScriptStep, Wrong>
-    ensures meaning { result_ok result ≡ enter_form words.old }
-    ensures askable { IfOk result IsAskable }
+fn enter_form(mut words: Words, step: &mut ScriptStep) -> Result<(), Wrong>
+    ensures meaning { Puts (enter_form words.entry) step.new result }
+    ensures askable { OnOk result (IsAskable step.new) }
 {
-    let token = take_name(words, Wanted::Token)?;
-    let side = take_byte(words, Wanted::Side)?;
-    let shares = take_number32(words, Wanted::Shares)?;
-    let stock = take_name(words, Wanted::Stock)?;
-    let price = take_number32(words, Wanted::Price)?;
-    let time_in_force = take_number32(words, Wanted::TimeInForce)?;
-    end(words)?;
-    Ok(ScriptStep::Enter(EnterOrder {
+    let mut token = [b' '; 14];
+    let mut stock = [b' '; 8];
+    fill_name(&mut words, &mut token, Wanted::Token)?;
+    let side = take_byte(&mut words, Wanted::Side)?;
+    let shares = take_number32(&mut words, Wanted::Shares)?;
+    fill_name(&mut words, &mut stock, Wanted::Stock)?;
+    let price = take_number32(&mut words, Wanted::Price)?;
+    let time_in_force = take_number32(&mut words, Wanted::TimeInForce)?;
+    end(&words)?;
+    *step = ScriptStep::Enter(EnterOrder {
         token: Token { bytes: token },
         side,
         shares,
@@ -153,21 +187,24 @@ fn enter_form(words: &mut Words) -> Result<ScriptStep, Wrong>
         minimum_quantity: 0,
         cross_type: b'N',
         customer_type: b'N',
-    }))
+    });
+    Ok(())
 }
 
 #[tactic(auto, unfolding(crate::specs::ScriptLines::replace_form))]
-fn replace_form(words: &mut Words) -> Result<ScriptStep, Wrong>
-    ensures meaning { result_ok result ≡ replace_form words.old }
-    ensures askable { IfOk result IsAskable }
+fn replace_form(mut words: Words, step: &mut ScriptStep) -> Result<(), Wrong>
+    ensures meaning { Puts (replace_form words.entry) step.new result }
+    ensures askable { OnOk result (IsAskable step.new) }
 {
-    let old = take_name(words, Wanted::Token)?;
-    let new = take_name(words, Wanted::Token)?;
-    let shares = take_number32(words, Wanted::Shares)?;
-    let price = take_number32(words, Wanted::Price)?;
-    let time_in_force = take_number32(words, Wanted::TimeInForce)?;
-    end(words)?;
-    Ok(ScriptStep::Replace(ReplaceOrder {
+    let mut old = [b' '; 14];
+    let mut new = [b' '; 14];
+    fill_name(&mut words, &mut old, Wanted::Token)?;
+    fill_name(&mut words, &mut new, Wanted::Token)?;
+    let shares = take_number32(&mut words, Wanted::Shares)?;
+    let price = take_number32(&mut words, Wanted::Price)?;
+    let time_in_force = take_number32(&mut words, Wanted::TimeInForce)?;
+    end(&words)?;
+    *step = ScriptStep::Replace(ReplaceOrder {
         existing_token: Token { bytes: old },
         replacement_token: Token { bytes: new },
         shares,
@@ -176,21 +213,24 @@ fn replace_form(words: &mut Words) -> Result<ScriptStep, Wrong>
         display: b'Y',
         intermarket_sweep: b'N',
         minimum_quantity: 0,
-    }))
+    });
+    Ok(())
 }
 
 #[tactic(auto, unfolding(crate::specs::ScriptLines::cancel_form))]
-fn cancel_form(words: &mut Words) -> Result<ScriptStep, Wrong>
-    ensures meaning { result_ok result ≡ cancel_form words.old }
-    ensures askable { IfOk result IsAskable }
+fn cancel_form(mut words: Words, step: &mut ScriptStep) -> Result<(), Wrong>
+    ensures meaning { Puts (cancel_form words.entry) step.new result }
+    ensures askable { OnOk result (IsAskable step.new) }
 {
-    let token = take_name(words, Wanted::Token)?;
-    let shares = take_number32(words, Wanted::Shares)?;
-    end(words)?;
-    Ok(ScriptStep::Cancel(CancelOrder {
+    let mut token = [b' '; 14];
+    fill_name(&mut words, &mut token, Wanted::Token)?;
+    let shares = take_number32(&mut words, Wanted::Shares)?;
+    end(&words)?;
+    *step = ScriptStep::Cancel(CancelOrder {
         token: Token { bytes: token },
         shares,
-    }))
+    });
+    Ok(())
 }
 
 /// The tag and the account of a command.
@@ -262,41 +302,41 @@ fn command(tag: Tag, action: Action) -> Command
 
 /// The command that the word names, of the words behind it.
 #[tactic(auto, unfolding(crate::specs::ScriptLines::command_form))]
-fn command_form(form: &[u8], words: &mut Words) -> Result<Command, Wrong>
-    ensures { result_ok result ≡ command_form form.now words.old }
+fn command_form(form: &[u8], mut words: Words) -> Result<Command, Wrong>
+    ensures { result_ok result ≡ command_form form.now words.entry }
 {
     if is(form, b"kill") {
-        let (tag, account) = account_form(words)?;
+        let (tag, account) = account_form(&mut words)?;
         return Ok(command(tag, Action::Kill(account)));
     }
     if is(form, b"lift") {
-        let (tag, account) = account_form(words)?;
+        let (tag, account) = account_form(&mut words)?;
         return Ok(command(tag, Action::Lift(account)));
     }
     if is(form, b"limit") {
-        let (tag, (rule, limit)) = limit_form(words)?;
+        let (tag, (rule, limit)) = limit_form(&mut words)?;
         return Ok(command(tag, Action::SetLimit(rule, limit)));
     }
     if is(form, b"restrict") {
-        let (tag, (rule, stock)) = stock_form(words)?;
+        let (tag, (rule, stock)) = stock_form(&mut words)?;
         return Ok(command(tag, Action::Restrict(rule, stock)));
     }
     if is(form, b"unrestrict") {
-        let (tag, (rule, stock)) = stock_form(words)?;
+        let (tag, (rule, stock)) = stock_form(&mut words)?;
         return Ok(command(tag, Action::Unrestrict(rule, stock)));
     }
     if is(form, b"grant") {
-        let (tag, (reader, account)) = reader_form(words)?;
+        let (tag, (reader, account)) = reader_form(&mut words)?;
         return Ok(command(tag, Action::Grant(reader, account)));
     }
     if is(form, b"revoke") {
-        let (tag, (reader, account)) = reader_form(words)?;
+        let (tag, (reader, account)) = reader_form(&mut words)?;
         return Ok(command(tag, Action::Revoke(reader, account)));
     }
     if is(form, b"close") {
-        return close_form(words);
+        return close_form(&mut words);
     }
-    wanted(words, None, Wanted::Form)
+    wanted(&words, None, Wanted::Form)
 }
 
 /// What the bytes that hex digits spell ask for.
@@ -317,105 +357,155 @@ fn request_of_hex(word: &[u8]) -> Option<Request>
 }
 
 #[tactic(auto, unfolding(crate::specs::ScriptLines::raw_form))]
-fn raw_form(words: &mut Words) -> Result<ScriptStep, Wrong>
-    ensures meaning { result_ok result ≡ raw_form words.old }
-    ensures askable { IfOk result IsAskable }
+fn raw_form(mut words: Words, step: &mut ScriptStep) -> Result<(), Wrong>
+    ensures meaning { Puts (raw_form words.entry) step.new result }
+    ensures askable { OnOk result (IsAskable step.new) }
 {
-    let word = take_word(words, Wanted::Hex)?;
-    let request = wanted(words, request_of_hex(word), Wanted::Hex)?;
-    end(words)?;
-    Ok(ScriptStep::Raw(request))
+    let word = take_word(&mut words, Wanted::Hex)?;
+    let request = wanted(&words, request_of_hex(word), Wanted::Hex)?;
+    end(&words)?;
+    *step = ScriptStep::Raw(request);
+    Ok(())
 }
 
+#[inline(always)]
 fn is(word: &[u8], name: &[u8]) -> bool
     ensures { result ≡ bytes_eq word.now name.now }
 {
     word.len() == name.len() && word == name
 }
 
+/// Whether the word is `enter`.
+#[inline(always)]
+fn is_enter(word: &[u8]) -> bool
+    ensures { result ≡ bytes_eq word.now (codes "enter") }
+{
+    matches!(word, [b'e', b'n', b't', b'e', b'r'])
+}
+
 /// The form that the word names, of the words behind it: a command's, where no other has this name.
 #[tactic(auto, unfolding(crate::specs::ScriptLines::step_form))]
-fn step_form(form: &[u8], words: &mut Words) -> Result<ScriptStep, Wrong>
-    ensures meaning { result_ok result ≡ step_form form.now words.old }
-    ensures askable { IfOk result IsAskable }
+#[inline(always)]
+fn step_form(form: &[u8], words: Words, step: &mut ScriptStep) -> Result<(), Wrong>
+    ensures meaning { Puts (step_form form.now words.entry) step.new result }
+    ensures askable { OnOk result (IsAskable step.new) }
 {
     if is(form, b"login") {
-        return login_form(words);
+        return login_form(words, step);
     }
     if is(form, b"logout") {
-        end(words)?;
-        return Ok(ScriptStep::Logout);
+        end(&words)?;
+        *step = ScriptStep::Logout;
+        return Ok(());
     }
-    if is(form, b"enter") {
-        return enter_form(words);
+    if is_enter(form) {
+        return enter_form(words, step);
     }
     if is(form, b"replace") {
-        return replace_form(words);
+        return replace_form(words, step);
     }
     if is(form, b"cancel") {
-        return cancel_form(words);
+        return cancel_form(words, step);
     }
     if is(form, b"raw") {
-        return raw_form(words);
+        return raw_form(words, step);
     }
-    Ok(ScriptStep::Command(command_form(form, words)?))
+    *step = ScriptStep::Command(command_form(form, words)?);
+    Ok(())
 }
 
-/// What the user of this name asks for at the moment.
-#[tactic(auto, unfolding(crate::specs::ScriptLines::asked_line))]
-fn asked_line(moment: u64, name: &[u8], words: &mut Words) -> Result<ScriptLine, Wrong>
-    ensures meaning { result_ok result ≡ asked_line moment name.now words.old }
-    ensures askable { IfOk result IsAskableLine }
+/// What the user asks for at the moment, by the words behind the name.
+#[tactic(auto, unfolding(crate::specs::ScriptLines::user_line))]
+#[inline(always)]
+fn user_line(
+    moment: u64,
+    user: UserName,
+    mut words: Words,
+    said: &mut ScriptLine,
+) -> Result<(), Wrong>
+    ensures meaning { Puts (user_line moment user words.entry) said.new result }
+    ensures askable { OnOk result (IsAskableLine said.new) }
 {
-    let user = wanted(words, user(name), Wanted::User)?;
-    let form = take_word(words, Wanted::Form)?;
-    let step = step_form(form, words)?;
-    Ok(ScriptLine::Step(moment, user, step))
+    let Some(form) = words.next() else {
+        return Err(Wrong::new(words.taken(), Wanted::Form));
+    };
+    let mut step = ScriptStep::Logout;
+    step_form(form, words, &mut step)?;
+    *said = ScriptLine::Step(moment, user, step);
+    Ok(())
 }
 
-/// Whether the word is this one, and the last of its line.
-fn is_last(word: &[u8], name: &[u8], words: &Words) -> bool
-    ensures { result ≡ (is_done words.now && bytes_eq word.now name.now) }
+/// `match` or `settle`, the last word of a line.
+#[tactic(auto, unfolding(crate::specs::ScriptLines::last_line))]
+fn last_line(moment: u64, name: UserName, words: &Words, said: &mut ScriptLine) -> Result<(), Wrong>
+    ensures meaning { Puts (last_line moment name.bytes) said.new result }
+    ensures askable { OnOk result (IsAskableLine said.new) }
 {
-    words.is_done() && is(word, name)
+    if name == MATCH {
+        *said = ScriptLine::Match(moment);
+        return Ok(());
+    }
+    if name == SETTLE {
+        *said = ScriptLine::Settle(moment);
+        return Ok(());
+    }
+    Err(Wrong::new(words.taken().wrapping_add(1), Wanted::Form))
 }
 
-#[tactic(auto, unfolding(crate::specs::ScriptLines::step_line))]
-fn step_line(moment: &[u8], words: &mut Words) -> Result<ScriptLine, Wrong>
-    ensures meaning { result_ok result ≡ step_line moment.now words.old }
-    ensures askable { IfOk result IsAskableLine }
+/// What is to be done at the moment, by the words behind it.
+#[tactic(auto, using(crate::proofs::Timing::asked_so, crate::proofs::Timing::last_so, crate::proofs::Timing::unnamed))]
+#[inline(always)]
+fn timed_line(moment: u64, mut words: Words, said: &mut ScriptLine) -> Result<(), Wrong>
+    ensures meaning { Puts (timed_line moment words.entry) said.new result }
+    ensures askable { OnOk result (IsAskableLine said.new) }
 {
-    let moment = wanted(words, number64(moment), Wanted::Moment)?;
-    let word = take_word(words, Wanted::User)?;
-    if is_last(word, b"match", words) {
-        return Ok(ScriptLine::Match(moment));
+    let name = take_written(&mut words)?;
+    if words.is_done() {
+        return last_line(moment, name, &words, said);
     }
-    if is_last(word, b"settle", words) {
-        return Ok(ScriptLine::Settle(moment));
-    }
-    asked_line(moment, word, words)
+    user_line(moment, name.folded(), words, said)
 }
 
 #[tactic(auto, unfolding(crate::specs::ScriptLines::stream_line))]
-fn stream_line(words: &mut Words) -> Result<ScriptLine, Wrong>
-    ensures meaning { result_ok result ≡ stream_line words.old }
-    ensures askable { IfOk result IsAskableLine }
+fn stream_line(words: &mut Words, said: &mut ScriptLine) -> Result<(), Wrong>
+    ensures meaning { Puts (stream_line words.old) said.new result }
+    ensures askable { OnOk result (IsAskableLine said.new) }
 {
     let user = take_user(words)?;
     end(words)?;
-    Ok(ScriptLine::Stream(user))
+    *said = ScriptLine::Stream(user);
+    Ok(())
 }
 
-#[tactic(auto, unfolding(crate::specs::ScriptLines::line_of_words))]
-fn line_of_words(words: &mut Words) -> Result<ScriptLine, Wrong>
-    ensures meaning { result_ok result ≡ line_of_words words.old }
-    ensures askable { IfOk result IsAskableLine }
+/// A line that begins with no moment.
+#[tactic(auto, unfolding(crate::specs::ScriptLines::line_of_words, crate::specs::ScriptLines::step_line))]
+fn other_line(line: &[u8], said: &mut ScriptLine) -> Result<(), Wrong>
+    requires short { length line.now ≤ 1024 }
+    requires other { first (number_of 64) (words_of line.now) ≡ None }
+    ensures meaning { Puts (line_of_words (words_of line.now)) said.new result }
+    ensures askable { OnOk result (IsAskableLine said.new) }
 {
-    let word = take_word(words, Wanted::Moment)?;
+    let mut words = Words::new(line);
+    let word = take_word(&mut words, Wanted::Moment)?;
     if is(word, b"stream") {
-        return stream_line(words);
+        return stream_line(&mut words, said);
     }
-    step_line(word, words)
+    Err(Wrong::new(words.taken(), Wanted::Moment))
+}
+
+/// What a line of at most 1,024 bytes says, by its words.
+#[tactic(auto, using(crate::proofs::Timing::timed))]
+#[inline(always)]
+fn line_of_words(line: &[u8], said: &mut ScriptLine) -> Result<(), Wrong>
+    requires { length line.now ≤ 1024 }
+    ensures meaning { Puts (line_of_words (words_of line.now)) said.new result }
+    ensures askable { OnOk result (IsAskableLine said.new) }
+{
+    let mut words = Words::new(line);
+    match words.number64() {
+        Some(moment) => timed_line(moment, words, said),
+        None => other_line(line, said),
+    }
 }
 
 /// The line without the CR that may stand at its end.
@@ -447,20 +537,35 @@ impl ScriptLine {
     /// # Errors
     ///
     /// Which word is wrong, and what was wanted there.
-    #[tactic(auto, unfolding(crate::specs::ScriptLines::line_of))]
     pub fn read(line: &[u8]) -> Result<ScriptLine, Wrong>
         ensures meaning { result_ok result ≡ line_of line.now }
         ensures askable { IfOk result IsAskableLine }
+    {
+        let mut said = ScriptLine::Skipped;
+        said.read_from(line)?;
+        Ok(said)
+    }
+
+    /// The same, put in the place of what was said before.
+    ///
+    /// # Errors
+    ///
+    /// Which word is wrong, and what was wanted there.
+    #[tactic(auto, unfolding(crate::specs::ScriptLines::line_of))]
+    pub fn read_from(&mut self, line: &[u8]) -> Result<(), Wrong>
+        ensures meaning { Puts (line_of line.now) self.new result }
+        ensures askable { OnOk result (IsAskableLine self.new) }
     {
         if is_too_long(line) {
             return Err(Wrong::new(1, Wanted::Shorter));
         }
         let line = without_cr(line);
         if is_skipped(line) {
-            return Ok(ScriptLine::Skipped);
+            *self = ScriptLine::Skipped;
+            return Ok(());
         }
-        match line_of_words(&mut Words::new(line)) {
-            Ok(said) => Ok(said),
+        match line_of_words(line, self) {
+            Ok(()) => Ok(()),
             Err(wrong) => Err(wrong.seen_in(line)),
         }
     }

@@ -197,6 +197,7 @@ pub(crate) fn take_line<G: AccessGate>(
     ensures err { IfErr result
         (Leaves (G.seen gate.old) (line_effect (G.seen gate.old) line.now) (G.seen gate.new)) }
 {
-    let line = ScriptLine::read(line)?;
-    run_line(gate, &line, text)
+    let mut said = ScriptLine::Skipped;
+    said.read_from(line)?;
+    run_line(gate, &said, text)
 }

@@ -1,11 +1,11 @@
 use Rattle.std.proofs.Common.{◌∙◌, sym, arith}
 use Rattle.gx_history.proofs.Unpacking.{item_at}
 use Rattle.gx_audit_bytes.proofs.Joined.{bytes_on, no_bytes}
-use Rattle.gx_audit.proofs.keeping.piece_bytes.Goals as goal
+use Rattle.gx_audit.proofs.keeping.put_piece.Goals as goal
 
 pub loop-place-init : goal.loop-place-init
 loop-place-init c = record {
-  bytes = c.new-bytes.ensures ∙ sym (no_bytes c.args.version);
+  bytes = c.clear.ensures ∙ sym (no_bytes c.args.version);
   size = search;
 }
 

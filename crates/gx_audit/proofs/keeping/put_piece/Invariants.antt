@@ -1,7 +1,7 @@
 use Rattle.std.proofs.Common.{◌≡◌, ◌*◌, take}
 use Rattle.arrayvec.specs.ArrayVec.{array_vec_len}
 use Rattle.gx_audit_bytes.specs.Audits.{all_bytes}
-use Rattle.gx_audit.proofs.keeping.piece_bytes.Given as goal
+use Rattle.gx_audit.proofs.keeping.put_piece.Given as goal
 
 abbrev pub invariant-loop-place : goal.invariant-loop-place
 invariant-loop-place l = record {
