@@ -34,6 +34,8 @@ LOGIN = b"\x00\x2fL" + b"ALICE apple     " + b" " * 10 + b"%20d" % 1
 LOGIN_ACCEPTED = b"\x00\x1fA" + b" " * 4 + b"GATE01" + b" " * 19 + b"1"
 LOGOUT = b"\x00\x01O"
 DEFAULT_CONNECTIONS = 64
+# How far off a time of day is at which a server is to end: farther than a busy machine needs until all have come.
+TIME_OF_DAY_SECONDS = 8
 # The user whose threads are bounded, and how many he is allowed at the most.
 NOBODY = 65534
 MOST_THREADS = 12
@@ -189,7 +191,7 @@ def tells_that_it_listens_once_it_does(gate: str) -> bool:
 
 def ends_at_a_time(gate: str) -> bool:
     """Whether a server ends at the time of day that it is told."""
-    at = time.strftime("%H:%M:%S", time.gmtime(time.time() + 2))
+    at = time.strftime("%H:%M:%S", time.gmtime(time.time() + TIME_OF_DAY_SECONDS))
     with tempfile.TemporaryDirectory() as folder:
         return ends_for(gate, Path(folder), ["--until", at], lambda: None, f"it is {at}")
 

@@ -1,10 +1,11 @@
 //! How many records there are, and what they say.
 
 ghost use Rattle.std.specs.Prelude.{◌≡◌, [], ◌||◌, option_copied};
-ghost use Rattle.gx_overview.specs.Commands.{is_grant, is_officers};
+ghost use Rattle.gx_overview.specs.Commands.{is_officers};
 ghost use Rattle.gx_board.specs.Counting.{commands, counted_by, counts_of, denies, is_denial, is_meeting, line_of, one_more};
 
 use gx_history::record::{Asked, RecordData, Request, Step, Verdict, VerdictKind};
+use gx_overview::commands::{is_command, is_grant};
 
 /// What the records of a day say in numbers. A count stops at 64 bits: a day stays far below.
 #[derive(Clone, Copy, PartialEq, Eq)]
@@ -33,14 +34,6 @@ pub(crate) fn one_more(is_so: bool, count: u64) -> u64
     }
 }
 
-/// Whether a request was granted.
-#[inline(always)]
-fn is_grant(kind: Option<VerdictKind>) -> bool
-    ensures { result ≡ is_grant kind }
-{
-    matches!(kind, Some(VerdictKind::Granted))
-}
-
 /// Whether a request was denied.
 #[inline(always)]
 fn is_denial(kind: Option<VerdictKind>) -> bool
@@ -57,23 +50,12 @@ fn is_meeting(kind: Option<VerdictKind>) -> bool
     matches!(kind, Some(VerdictKind::Filled))
 }
 
-/// Whether an officer asked for it.
-#[inline(always)]
-fn is_officers(asked: Option<&Asked>) -> bool
-    ensures { result ≡ is_officers (option_copied asked.entry) }
-{
-    match asked {
-        Some(asked) => matches!(asked.request, Request::Command(_)),
-        None => false,
-    }
-}
-
 /// Whether a record with this verdict and this request is among the last denials or the last commands.
 #[inline(always)]
 pub(crate) fn is_kept(kind: Option<VerdictKind>, asked: Option<&Asked>) -> bool
     ensures { result ≡ (is_denial kind || is_officers (option_copied asked.entry)) }
 {
-    is_denial(kind) || is_officers(asked)
+    is_denial(kind) || is_command(asked)
 }
 
 /// The line that it was asked on; 0 of a matching step.

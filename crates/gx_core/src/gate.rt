@@ -1,6 +1,7 @@
 //! The gate.
 
 ghost use Rattle.std.specs.Prelude.{◌≡◌, length};
+ghost use Rattle.gx_streams.specs.Recorded.{house_of};
 ghost use Rattle.gx_history.specs.{InForce.is_closed, Streams.stream, Verdicts.last_moment};
 
 use crate::login::{login_answered, login_asked};
@@ -16,13 +17,15 @@ use gx_history::moves::Move;
 use gx_history::record::{Asked, Record, Request, Verdict};
 use gx_history::records::Records;
 use gx_history::report::Report;
+use gx_index::Near;
 use gx_keepers::apply::carry_on;
 use gx_keepers::keepers::Keepers;
+use gx_keepers::listed::house_of;
 use gx_keepers::matching::carry_match;
 use gx_keepers::next_record::NextRecord;
 use gx_policy::Policy;
 use gx_records::ShowsRecords;
-use gx_units::{AccountName, Moment, OutOfMemory, Password, SessionName, UserName};
+use gx_units::{AccountName, Firm, Moment, OutOfMemory, Password, SessionName, UserName};
 use std::alloc::Global;
 use std::marker::Model;
 
@@ -181,7 +184,17 @@ impl AccessGate for Gate {
         most: u64,
         list: &mut Vec<Report>,
     ) -> Result<Reached, OutOfMemory> {
-        put_pull(&self.keepers, user, near, from, most, list)
+        let asker = self.keepers.people.near(user);
+        put_pull(
+            &self.keepers,
+            &self.history.records(),
+            self.house_of(user, asker),
+            user,
+            near,
+            from,
+            most,
+            list,
+        )
     }
 
     #[tactic(auto, using(crate::proofs::Judged::passwords_are_known))]
@@ -228,6 +241,18 @@ impl Gate {
         ensures { result ≡ last_moment self.now.records }
     {
         self.keepers.day.last_moment()
+    }
+
+    /// The firm of the account that the user trades for.
+    #[tactic(auto, using(crate::proofs::Judged::accounts_are_known))]
+    fn house_of(&self, user: UserName, near: Near) -> Option<Firm>
+        ensures { result ≡ house_of self.now.policy user }
+    {
+        house_of(
+            &self.policy,
+            self.keepers.people.account_near(user, near.user),
+            near.account,
+        )
     }
 
     /// How many reports the user was owed.

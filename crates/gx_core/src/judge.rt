@@ -21,6 +21,28 @@ use gx_orders::request_tokens::{named_token, new_token};
 use gx_people::power::Power;
 use gx_units::{AccountName, Moment, UserName};
 
+/// Facts of which none holds. Those of a request are put into it one by one: a value of a struct that is written whole is
+/// copied, with all the room of the order that it may name.
+const NO_FACTS: Facts = Facts {
+    may_log_in: false,
+    is_logged_in: false,
+    session_is_available: false,
+    is_on_this_line: false,
+    role_fits: false,
+    token_is_used: false,
+    named: None,
+    day_is_closed: false,
+    account_is_killed: false,
+    firm_fits: false,
+    stock_is_listed: false,
+    names_are_known: false,
+    has_power: false,
+    accounts_are_his: false,
+    would_change: false,
+    account: None,
+    moment: 0,
+};
+
 fn is_on_line(on: Option<u16>, line: u16) -> bool
     ensures { result ≡ is_on_line on line }
 {
@@ -139,25 +161,27 @@ impl Gate {
         let account = self.account_of(a.user, near.user);
         let on = self.line_near(a.user, near.user);
         let command = self.command_facts(a);
-        Facts {
-            may_log_in: self.knows_who_asks(a),
-            is_logged_in: on.is_some(),
-            session_is_available: self.is_available(a),
-            is_on_this_line: is_on_line(on, a.line),
-            role_fits: self.fits_role(a, account),
-            token_is_used: self.token_is_used(a),
-            named: None,
-            day_is_closed: self.is_closed(),
-            account_is_killed: account.is_some_and(|name| self.is_killed_near(name, near.account)),
-            firm_fits: fits_firm(&self.policy, account, near.account, &a.request),
-            stock_is_listed: self.lists_its_stock(&a.request, near.stock),
-            names_are_known: command.names_are_known,
-            has_power: command.has_power,
-            accounts_are_his: command.accounts_are_his,
-            would_change: command.would_change,
-            account,
-            moment: self.moment_of(a),
-        }
+        let mut known = NO_FACTS;
+        known.may_log_in = self.knows_who_asks(a);
+        known.is_logged_in = on.is_some();
+        known.session_is_available = self.is_available(a);
+        known.is_on_this_line = is_on_line(on, a.line);
+        known.role_fits = self.fits_role(a, account);
+        known.token_is_used = self.token_is_used(a);
+        known.day_is_closed = self.is_closed();
+        known.account_is_killed = account.is_some_and(|name| self.is_killed_near(
+            name,
+            near.account,
+        ));
+        known.firm_fits = fits_firm(&self.policy, account, near.account, &a.request);
+        known.stock_is_listed = self.lists_its_stock(&a.request, near.stock);
+        known.names_are_known = command.names_are_known;
+        known.has_power = command.has_power;
+        known.accounts_are_his = command.accounts_are_his;
+        known.would_change = command.would_change;
+        known.account = account;
+        known.moment = self.moment_of(a);
+        known
     }
 
     /// Puts the order that the request names to the facts, which have none. One that is returned with them would be copied

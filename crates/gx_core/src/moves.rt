@@ -1,7 +1,7 @@
 //! What a record does, by what was found to judge its step.
 
 ghost use Rattle.std.specs.{Option.option_map_or, Prelude.{◌≡◌, ℕ}};
-ghost use Rattle.gx_history.specs.{declared.{moves.Move.TheVariants.{Adds, Nothing, Replaces, Sizes}, «record».RecordData.RecordData}, LiveOrders.replacement_order, Turns.new_order, World.{move_by, World}};
+ghost use Rattle.gx_history.specs.{declared.{moves.Move.TheVariants.{Adds, Denies, Nothing, Replaces, Sizes}, «record».RecordData.RecordData}, LiveOrders.replacement_order, Turns.new_order, World.{move_by, World}};
 ghost use Rattle.gx_history.specs.declared.record.Step.TheVariants as steps;
 ghost use Rattle.gx_policy.specs.{declared.policy.PolicyData.PolicyData, People.account_of};
 ghost use Rattle.gx_core.specs.{Known.order_asked, Moves.{done_by, granted_move}};
@@ -14,7 +14,7 @@ use gx_history::record::{Asked, RecordData, Request, Verdict};
 use gx_index::Near;
 use gx_keepers::listed::firm_of;
 use gx_ouch::{EnterOrder, OrderTerms, ReplaceOrder};
-use gx_policy::Policy;
+use gx_policy::{Policy, RuleName};
 use gx_units::{AccountName, UserName};
 
 /// The order of an Enter that the record grants, for this account, which is looked for at this place first.
@@ -89,8 +89,10 @@ fn put_cancel(moves: &mut Move, named: &Option<LiveOrder>, size: u32)
     }
 }
 
-/// Puts there what a granted request does, by the account that its user trades for and the live order that it names.
-fn put_granted(
+/// Puts there what a granted request does, by the account that its user trades for and the live order that it names. It is
+/// a call of its own: most requests are Enters, and `put_granted` has those.
+#[inline(never)]
+fn put_granted_apart(
     moves: &mut Move,
     policy: &Policy,
     left: &RecordData,
@@ -110,6 +112,33 @@ fn put_granted(
         Request::Cancel(m) => put_cancel(moves, &known.named, m.shares),
         Request::Command(c) => *moves = Move::Commands(a.user, *c),
     }
+}
+
+/// Puts there what a granted request does.
+#[inline(always)]
+fn put_granted(
+    moves: &mut Move,
+    policy: &Policy,
+    left: &RecordData,
+    a: &Asked,
+    near: usize,
+    known: &Facts,
+)
+    ensures { moves.new ≡ granted_move
+        policy.now left.now a.now known.now.account known.now.named a.now.request }
+{
+    match &a.request {
+        Request::Enter(m) => put_enter(moves, policy, left, a.user, known.account, near, m),
+        _ => put_granted_apart(moves, policy, left, a, near, known),
+    }
+}
+
+/// Puts there that the request was denied by this rule.
+#[inline(never)]
+fn put_denial(moves: &mut Move, a: &Asked, rule: RuleName)
+    ensures { moves.new ≡ Denies a.now rule }
+{
+    *moves = Move::Denies(*a, rule);
 }
 
 /// What the record of a matching step does.
@@ -144,7 +173,7 @@ impl Gate {
     {
         match left.verdict {
             Verdict::Granted => put_granted(moves, &self.policy, left, a, near.account, known),
-            Verdict::Denied(rule) => *moves = Move::Denies(*a, rule),
+            Verdict::Denied(rule) => put_denial(moves, a, rule),
             Verdict::Filled(f) => *moves = Move::Fills(f),
             Verdict::Rested(number) => *moves = Move::Rests(number),
             Verdict::Expired(number) => *moves = Move::Expires(number),

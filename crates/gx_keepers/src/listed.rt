@@ -1,6 +1,6 @@
 //! What the policy says of accounts, each looked for at a place first.
 
-ghost use Rattle.std.specs.Prelude.{◌≡◌, position, IsTrue};
+ghost use Rattle.std.specs.Prelude.{◌≡◌, option_and_then, option_map, position, IsTrue};
 ghost use Rattle.gx_units.specs.Names.{same_account};
 ghost use Rattle.gx_history.specs.{Asking.fits_firm, Orders.firm_of};
 ghost use Rattle.gx_policy.specs.People.{account_named};
@@ -54,6 +54,27 @@ pub fn place_of(policy: &Policy, name: AccountName, near: usize) -> usize
     match find_place_near(accounts, near, name) {
         Some(place) => place,
         None => accounts.len(),
+    }
+}
+
+/// The firm of the account, if it is one of the policy. It is looked for at this place first.
+fn house_of_account(policy: &Policy, account: AccountName, near: usize) -> Option<Firm>
+    ensures { result ≡ option_map (λ a. a.firm) (account_named policy.now account) }
+{
+    match account_near(policy, near, account) {
+        Some(found) => Some(found.firm),
+        None => None,
+    }
+}
+
+/// The firm of the account that a user trades for, if he trades for this one.
+pub fn house_of(policy: &Policy, account: Option<AccountName>, near: usize) -> Option<Firm>
+    ensures { result ≡ option_and_then
+        (λ name. option_map (λ a. a.firm) (account_named policy.now name)) account }
+{
+    match account {
+        Some(name) => house_of_account(policy, name, near),
+        None => None,
     }
 }
 

@@ -61,6 +61,7 @@ fn entered_as(order: &LiveOrder) -> Entered
 }
 
 /// Takes note of the moment of an order that comes.
+#[inline(always)]
 fn note_moment(moments: &mut Moments, change: &Change<'_>)
     ensures { moments.new ≡ noted_moments change.now.kind moments.old }
 {

@@ -241,6 +241,7 @@ impl Ledger {
         place_near(&self.accounts, near, account)
     }
 
+    #[inline(always)]
     fn note(&mut self, order: &LiveOrder, near: Near, kind: ChangeKind)
         ensures { self.new ≡ kept_noted (record { order = order.now; kind = kind }) self.old }
     {
@@ -250,6 +251,7 @@ impl Ledger {
 
     /// Takes note of a change of an order of the account that has this place in the policy. Its stock is
     /// looked for at `near` first.
+    #[inline(always)]
     fn note_at(&mut self, place: Option<usize>, near: usize, change: &Change<'_>)
         requires { place ≡ account_place self.old.accounts change.now.order.account }
         ensures { self.new ≡ kept_noted change.now self.old }

@@ -84,6 +84,7 @@ impl Moments {
     }
 
     /// Keeps the moment in place of the oldest where there is no room for more.
+    #[inline(always)]
     pub fn push(&mut self, moment: u64)
         ensures { self.new ≡ pushed moment self.old }
     {

@@ -62,6 +62,7 @@ impl Sums {
     }
 
     /// The shares, once an order of the accounts has changed.
+    #[inline(always)]
     pub fn of_shares_after(self, change: &Change<'_>) -> Sums
         ensures { result ≡ changed_sums counted_singly change.now.order change.now.kind self }
     {
@@ -75,6 +76,7 @@ impl Sums {
     }
 
     /// Their value, once an order of the accounts has changed.
+    #[inline(always)]
     pub fn of_value_after(self, change: &Change<'_>) -> Sums
         ensures { result ≡ changed_sums value change.now.order change.now.kind self }
     {

@@ -60,17 +60,17 @@ fn granted_command(shown: &RecordData) -> Option<GrantedCommand>
     }
 }
 
-/// Whether a request was granted.
+/// Whether a record of this kind grants its request.
 #[inline(always)]
-fn is_grant(kind: Option<VerdictKind>) -> bool
+pub fn is_grant(kind: Option<VerdictKind>) -> bool
     ensures { result ≡ is_grant kind }
 {
     matches!(kind, Some(VerdictKind::Granted))
 }
 
-/// Whether an officer asked for it.
+/// Whether the request is an officer's command; a matching step has no request.
 #[inline(always)]
-fn is_command(asked: Option<&Asked>) -> bool
+pub fn is_command(asked: Option<&Asked>) -> bool
     ensures { result ≡ is_officers (option_copied asked.entry) }
 {
     match asked {

@@ -16,3 +16,6 @@ pub mod OnlyKnown
 pub mod Finding
 pub mod Sending
 mod Within
+pub mod Slotting
+pub mod Recording
+pub mod Crossing

@@ -7,7 +7,7 @@ use Rattle.gx_laws.proofs.{Adding.user_is, Order.some_same}
 use Rattle.gx_history.specs.declared.report.Report.{Report}
 use Rattle.gx_streams.specs.{declared.{fill.ToldFill.ToldFill, span.Span.Span, entry.Entry.Entry}, Fills.{copies_of, copies_of_all}, Kept.{Kept, UserList, is_known, items_in, list_of, places_in}, Spans.{AreNumbered, IsSound, ReaderSpans, between, copies_before, copies_in, is_named, next_of}, Streams.{AllStreams, reports_in}, Table.{IsSoundTable, kept_copies, kept_reports, report_of, streams_of}, Windows.{Taken, after, is_full, window}}
 use Rattle.gx_history.proofs.Slicing.{slice_is}
-use Rattle.gx_streams.proofs.{Shown.{found_reader, found_shown}, Windows.{after_both, after_full}}
+use Rattle.gx_streams.proofs.{Slotting.mapped_slice, Shown.{found_reader, found_shown}, Windows.{after_both, after_full}}
 
 -- a reader reads his copies
 pub read_copies : (fills : List ToldFill) (told : List (UserList Entry)) (readers : List ReaderSpans) (self : AllStreams) (user : UserName) (r : ReaderSpans)
@@ -81,23 +81,10 @@ pub told_count : (fills : List ToldFill) (told : List (UserList Entry)) (readers
     → None ≡ find (is_named user) readers → streams_of fills told readers ≡ self → length (items_in told user) ≡ length (reports_in self user)
 told_count fills told readers self user none view = length_map (report_of fills) (items_in told user) ∙ ap length (read_told fills told readers self user none view)
 
-map_take : {X Y : Type 0} (f : X → Y) (n : ℕ) (xs : List X) → map f (take n xs) ≡ take n (map f xs)
-map_take f zero xs = refl
-map_take f (suc n) [] = refl
-map_take f (suc n) (x ∷ xs) = ap (λ rest. f x ∷ rest) (map_take f n xs)
-
-map_drop : {X Y : Type 0} (f : X → Y) (n : ℕ) (xs : List X) → map f (drop n xs) ≡ drop n (map f xs)
-map_drop f zero xs = refl
-map_drop f (suc n) [] = refl
-map_drop f (suc n) (x ∷ xs) = map_drop f n xs
-
 pub told_slice : (fills : List ToldFill) (told : List (UserList Entry)) (readers : List ReaderSpans) (self : AllStreams) (user : UserName) (from most : ℕ)
     → None ≡ find (is_named user) readers → streams_of fills told readers ≡ self → map (report_of fills) (slice (items_in told user) from most) ≡ slice (reports_in self user) from most
 told_slice fills told readers self user from most none view =
-    ap (map (report_of fills)) (sym (slice_is (items_in told user) from most))
-    ∙ map_take (report_of fills) most (drop (from - 1) (items_in told user))
-    ∙ ap (take most) (map_drop (report_of fills) (from - 1) (items_in told user))
-    ∙ slice_is (map (report_of fills) (items_in told user)) from most
+    mapped_slice (report_of fills) (items_in told user) from most
     ∙ ap (λ (l : List Report). slice l from most) (read_told fills told readers self user none view)
 
 pub taken_is : (reports : List Report) (from most : ℕ) → (after reports (window (from - 1) most)).taken ≡ slice reports from most

@@ -1,6 +1,6 @@
 -- The lists that entries and spans stand for.
-use Rattle.std.proofs.{Common.{◌≡◌, ℕ, zero, suc, ◌+◌, ◌-◌, ◌<◌, ◌≤◌, Bool, true, false, cond, not, List, [], ◌∷◌, ◌++◌, length, map, refl, ◌∙◌, sym, ap, subst, arith, true≢false, append_assoc, if◌then◌else◌}, lemmas.List.{append-nil, length-append, map-append}}
-use Rattle.std.specs.{Prelude.{Option, Some, None, is_some, option_map}, Option.option_map_or, List.{AllByRecursion, find, slice_get}}
+use Rattle.std.proofs.{Common.{◌≡◌, ℕ, ◌+◌, ◌-◌, ◌<◌, ◌≤◌, Bool, true, false, cond, not, List, [], ◌∷◌, ◌++◌, length, map, refl, ◌∙◌, sym, ap, subst, arith, true≢false, append_assoc, if◌then◌else◌}, lemmas.List.{append-nil, length-append, map-append}}
+use Rattle.std.specs.{Prelude.{Option, Some, None, is_some, option_map}, Option.option_map_or, List.{AllByRecursion, find}}
 use Rattle.gx_units.specs.{Names.same_user, declared.names.UserName.UserName}
 use Rattle.gx_history.specs.declared.report.Report.{Report}
 use Rattle.gx_history.proofs.Unpacking.{get_before, get_last}

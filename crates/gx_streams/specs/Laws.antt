@@ -1,10 +1,10 @@
 -- What the streams show, beside what a day's records tell each user.
-use Rattle.std.specs.Prelude.{◌≡◌, ◌-◌, ◌<◌, ◌≤◌, ℕ, max, IsTrue, IsFalse, is_some, length, take, List, [], ◌∷◌, ◌++◌, map, filter, None, ◌&&◌, not, false}
+use Rattle.std.specs.{Prelude.{◌≡◌, ◌-◌, ◌<◌, ◌≤◌, ℕ, max, IsTrue, IsFalse, is_some, length, take, List, [], ◌∷◌, ◌++◌, map, filter, None, ◌&&◌, not, false}, List.AllByRecursion}
 use Rattle.gx_units.specs.{Names.same_user, declared.names.UserName.UserName}
 use Rattle.gx_desk.specs.declared.Action.{Action}
-use Rattle.gx_policy.specs.{declared.policy.PolicyData.PolicyData, People.{is_reader, role_in, user_in}}
+use Rattle.gx_policy.specs.{declared.policy.PolicyData.PolicyData, Lists.slice, People.{is_reader, role_in, user_in}}
 use Rattle.gx_history.specs.{declared.{«record».RecordData.RecordData, report.{Message.Message, Report.Report}, live_order.LiveOrder.LiveOrder}, Live.live, Orders.ends_account, Streams.{copies, ended_of, reported, reports_of, stream, to_user}, Verdicts.IsLegal}
-use Rattle.gx_streams.specs.{Kept.{Kept, places_in, with_kept_last, with_last, with_places}, declared.fill.ToldFill.ToldFill, Sending.{AreSent, IsMadeBy, KnowsReaders, is_fill}, Streams.{AllStreams, empty_streams, is_told, on_told, reports_in, told_by_fill, with_fill}, Telling.{each_told, owed_for_ended, owed_message, owed_to, shown, told_after, told_to, with_all_owed, with_owed}}
+use Rattle.gx_streams.specs.{Kept.{Kept, places_in, with_kept_last, with_last, with_places}, Recorded.{IsRecorded, house_of}, declared.fill.ToldFill.ToldFill, Sending.{AreSent, IsMadeBy, KnowsReaders, is_fill}, Streams.{AllStreams, empty_streams, is_told, on_told, reports_in, told_by_fill, with_fill}, Telling.{each_told, owed_for_ended, owed_message, owed_to, shown, told_after, told_to, with_all_owed, with_owed}}
 
 -- the record owes messages to one user alone
 abbrev pub OwesTo : PolicyData → List RecordData → RecordData → UserName → List Message → Type 0
@@ -217,6 +217,16 @@ abbrev pub StaysToldByFill : Type 0
 StaysToldByFill = (policy : PolicyData) (history : List RecordData) (r : RecordData) (streams : AllStreams) (f : ToldFill)
     → length policy.accounts ≤ 64 → shown streams ≡ told_after policy history → AreSent policy history streams → IsMadeBy policy history r f
     → shown (with_fill f streams) ≡ told_after policy (history ++ r ∷ [])
+
+-- in a legal day each Accepted that a user is told is what the record of its order tells
+abbrev pub AcceptedAreRecorded : Type 0
+AcceptedAreRecorded = (policy : PolicyData) (history : List RecordData) (user : UserName)
+    → IsLegal policy history → AllByRecursion (IsRecorded (house_of policy user) history) (stream policy history user)
+
+-- and so is each of a part of what he is told
+abbrev pub PartsAreRecorded : Type 0
+PartsAreRecorded = (policy : PolicyData) (history : List RecordData) (user : UserName) (from most : ℕ)
+    → IsLegal policy history → AllByRecursion (IsRecorded (house_of policy user) history) (slice (stream policy history user) from most)
 
 -- a reader is told exactly the drop copies of the fills of accounts then his
 abbrev pub ReadersAreSentCopies : Type 0

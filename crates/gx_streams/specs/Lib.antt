@@ -7,3 +7,5 @@ pub mod Windows
 pub mod Telling
 pub mod Sending
 pub mod Laws
+pub mod Recorded
+pub mod Slots

@@ -1,4 +1,4 @@
-//! What is kept of one report.
+//! One report of a user, as it is put into his stream.
 
 use crate::fill::Party;
 use gx_history::report::Report;

@@ -1,6 +1,6 @@
 //! Laws of the definitions, each as what a function without a body ensures.
 
-ghost use Rattle.gx_streams.specs.Laws.{AllAreTold, AllOwedAreShown, AllOwedAreTold, EachHasAPlace, EndedAndAnswerAreTold, EndedAreCounted, EndedAreOwed, EndedAreTold, FirstNothingIsTold, KeptLastIsShown, KnownAreThePolicys, LastIsShown, NoPlaceIsTaken, NoneForOneIsNone, NobodyIsTold, NothingOwedIsTold, OneOwedIsTold, OnePlaceIsTaken, OneIsAmongAll, OneIsTold, OnlyKnownAreTold, OthersKeepPlaces, OwedGoOn, OwedTakePlaces, PlacesAreKept, PlacesAreNotShown, ReportsAreStreams, StaysToldByAll, StaysToldByNone, StaysToldByOne, TellingGoesOn, TwoAreAmongAll, UsersStay, FillsAloneAreSent, FillsAreShown, ReadersAreSentCopies, SentIsKept, StaysToldByFill};
+ghost use Rattle.gx_streams.specs.Laws.{AcceptedAreRecorded, AllAreTold, AllOwedAreShown, AllOwedAreTold, EachHasAPlace, EndedAndAnswerAreTold, EndedAreCounted, EndedAreOwed, EndedAreTold, FirstNothingIsTold, KeptLastIsShown, KnownAreThePolicys, LastIsShown, NoPlaceIsTaken, NoneForOneIsNone, NobodyIsTold, NothingOwedIsTold, OneOwedIsTold, OnePlaceIsTaken, OneIsAmongAll, OneIsTold, OnlyKnownAreTold, OthersKeepPlaces, OwedGoOn, OwedTakePlaces, PartsAreRecorded, PlacesAreKept, PlacesAreNotShown, ReportsAreStreams, StaysToldByAll, StaysToldByNone, StaysToldByOne, TellingGoesOn, TwoAreAmongAll, UsersStay, FillsAloneAreSent, FillsAreShown, ReadersAreSentCopies, SentIsKept, StaysToldByFill};
 
 /// What a day's records tell each user goes on record by record: each adds what it owes to the end.
 pub fn streams_go_on()
@@ -71,4 +71,11 @@ pub fn readers_are_sent_copies()
     ensures copies { ReadersAreSentCopies }
     ensures kept { SentIsKept }
     ensures alone { FillsAloneAreSent }
+{}
+
+/// An Accepted need not be kept: in a legal day each that a user is told is what the record of its order tells, and so is each of
+/// a part of what he is told.
+pub fn accepted_are_recorded()
+    ensures all { AcceptedAreRecorded }
+    ensures part { PartsAreRecorded }
 {}

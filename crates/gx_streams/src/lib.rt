@@ -2,11 +2,15 @@
 //! are owed can always be put there; and each fill once, for all who are told of it.
 #![tactic(auto)]
 
+mod details;
+mod entries;
 mod entry;
 pub mod fill;
 pub mod laws;
 mod reader;
 mod readers;
+mod recorded;
+mod slot;
 mod span;
 mod stream;
 pub mod streams;

@@ -1,20 +1,22 @@
 //! The streams of all users.
 
-ghost use Rattle.std.specs.{Prelude.{◌≡◌, ◌<◌, ◌^◌, ◌≤◌, [], ◌∷◌, ◌++◌, is_some, length, map, option_map, IsTrue, IfOk, IsOk, OnOk, OnErr}, List.find};
+ghost use Rattle.std.specs.{Prelude.{◌≡◌, ◌<◌, ◌^◌, ◌≤◌, [], ◌∷◌, ◌++◌, is_some, length, map, option_map, IsTrue, IfOk, IsOk, OnOk, OnErr}, List.{AllByRecursion, find}};
 ghost use Rattle.gx_policy.specs.Lists.{slice};
-ghost use Rattle.gx_streams.specs.{Kept.{places_in, with_kept_last, with_last, with_places}, Spans.{copies_in, is_named, AreNumbered}, Streams.{empty_streams, entitled, is_told, on_told, reports_in, with_fill}, Table.{no_report, report_of}};
+ghost use Rattle.gx_streams.specs.{Kept.{places_in, with_kept_last, with_last, with_places}, Recorded.IsRecorded, Spans.{copies_in, is_named, AreNumbered}, Streams.{empty_streams, entitled, is_told, on_told, reports_in, with_fill}};
 
+use crate::entries::Entries;
 use crate::entry::Entry;
 use crate::fill::{Party, ToldFill};
 use crate::reader::Reader;
 use crate::readers::Readers;
-use crate::told::Told;
+use crate::recorded::Source;
+use crate::told::{Found, Told};
 use crate::window::Window;
-use gx_history::report::{Message, Report};
-use gx_history::slices::{count_before, slice};
-use gx_ouch::{EventCode, Outbound};
+use gx_history::records::Records;
+use gx_history::report::Report;
+use gx_history::slices::count_before;
 use gx_policy::Policy;
-use gx_units::{OutOfMemory, UserName};
+use gx_units::{Firm, OutOfMemory, UserName};
 use std::alloc::Global;
 use std::marker::Model;
 
@@ -56,54 +58,14 @@ impl Model for Streams {
     ghost invariant = { λ s. IsSoundTable s.fills.items s.told s.readers };
 }
 
-/// Stands for a fill that is not there; no entry names such a fill.
-fn no_report() -> Report
-    ensures { result ≡ no_report }
-{
-    Report {
-        timestamp: 0,
-        message: Message::Order(Outbound::SystemEvent(EventCode::EndOfDay)),
-    }
-}
-
-/// The report that the entry stands for.
-#[inline(always)]
-fn report_of(fills: &[ToldFill], entry: &Entry) -> Report
-    ensures { result ≡ report_of fills.now entry.now }
-{
-    match entry {
-        Entry::Typed(report) => *report,
-        Entry::Filled(place, party) => match fills.get(*place) {
-            Some(fill) => fill.report(*party),
-            None => no_report(),
-        },
-    }
-}
-
-/// Puts the reports of these entries into the list, in place of those there. Its room is kept.
-fn put_reports_of(
-    fills: &[ToldFill],
-    entries: &[Entry],
-    reports: &mut Vec<Report>,
-) -> Result<(), OutOfMemory>
-    ensures { OnOk result (reports.new.items ≡ map (report_of fills.now) entries.now) }
-{
-    reports.clear();
-    reports.reserve(entries.len())?;
-    for entry in entries {
-        reports.push_reserved(report_of(fills, entry));
-    }
-    Ok(())
-}
-
 /// The reader of this name, who has these entries. A reader has none, so whoever has some is not
 /// looked for.
 #[inline(always)]
-fn reader_of<'a>(readers: &'a Readers, user: UserName, entries: &[Entry]) -> Option<&'a Reader>
+fn reader_of<'a>(readers: &'a Readers, user: UserName, entries: &Entries<'_>) -> Option<&'a Reader>
     requires { IsTrue (is_some (find (is_named user) readers.now)) → entries.now ≡ [] }
     ensures { option_map (λ r. r.now) result ≡ find (is_named user) readers.now }
 {
-    if !entries.is_empty() {
+    if entries.len() > 0 {
         return None;
     }
     readers.find(user)
@@ -283,6 +245,9 @@ impl Streams {
     /// list, in place of what stands there, and answers how many reports he has. He is looked for at
     /// this place of the policy's users first.
     ///
+    /// An Accepted is read off the record of its order, by the firm of the account that the user trades for: each that is
+    /// asked for has to be what these records tell.
+    ///
     /// The list's room is kept, so that a user who is no reader is told without memory while it is
     /// enough. Of a reader it looks at each span, and at the fills of those that it gives something
     /// of, at most 1,024 of each, up to the last report that is asked for.
@@ -290,33 +255,38 @@ impl Streams {
     /// `OutOfMemory`: there was no memory for the copy, and what the list has is nothing to go by.
     pub fn put_slice(
         &self,
+        records: &Records<'_>,
+        house: Option<Firm>,
         user: UserName,
         near: usize,
         from: u64,
         most: u64,
         reports: &mut Vec<Report>,
     ) -> Result<Owed, OutOfMemory>
+        requires recorded { AllByRecursion (IsRecorded house records.now)
+            (slice (reports_in self.now user) from most) }
         ensures part { OnOk result
             (reports.new.items ≡ slice (reports_in self.now user) from most) }
         ensures count { IfOk result (λ o. o.count ≡ length (reports_in self.now user)) }
         ensures few { IfOk result (λ o. o.count < 2 ^ 63) }
     {
         let fills = self.fills.as_slice();
-        let found = self.told.find(user, near);
-        match reader_of(&self.readers, user, found.entries) {
+        let Found { entries, place } = self.told.find(user, near);
+        match reader_of(&self.readers, user, &entries) {
             Some(reader) => {
                 *reports = copies(self.alloc, fills, reader, from, most)?;
                 Ok(Owed {
                     count: reader.count(),
-                    place: found.place,
+                    place,
                 })
             }
             None => {
-                put_reports_of(fills, slice(found.entries, from, most), reports)?;
-                Ok(Owed {
-                    count: found.entries.len(),
-                    place: found.place,
-                })
+                let count = entries.len();
+                let source = Source { house, records };
+                entries
+                    .slice(from, most)
+                    .put_reports(fills, &source, reports)?;
+                Ok(Owed { count, place })
             }
         }
     }
@@ -325,12 +295,21 @@ impl Streams {
     /// makes `put_slice` in its place, into a list that is kept.
     ///
     /// `OutOfMemory`: there was no memory for the list.
-    pub fn slice(&self, user: UserName, from: u64, most: u64) -> Result<Vec<Report>, OutOfMemory>
+    pub fn slice(
+        &self,
+        records: &Records<'_>,
+        house: Option<Firm>,
+        user: UserName,
+        from: u64,
+        most: u64,
+    ) -> Result<Vec<Report>, OutOfMemory>
+        requires recorded { AllByRecursion (IsRecorded house records.now)
+            (slice (reports_in self.now user) from most) }
         ensures part { IfOk result
             (λ part. part.items ≡ slice (reports_in self.now user) from most) }
     {
         let mut reports = Vec::new(self.alloc);
-        let _ = self.put_slice(user, 0, from, most, &mut reports)?;
+        let _ = self.put_slice(records, house, user, 0, from, most, &mut reports)?;
         Ok(reports)
     }
 

@@ -3,6 +3,7 @@
 ghost use Rattle.std.specs.Prelude.{◌≡◌, ◌<◌, ◌≤◌, IsTrue, IfOk, IsOk, OnOk, OnErr};
 ghost use Rattle.gx_streams.specs.Kept.{is_known, items_in, nothing_told, on_user, places_in, with_kept_last, with_last, with_places, without_last};
 
+use crate::entries::Entries;
 use crate::entry::Entry;
 use crate::stream::Stream;
 use gx_index::{get_mut_near, index_near};
@@ -23,9 +24,9 @@ pub(crate) struct Told {
 
 /// A user's entries, in order, and where he stands among the policy's users: a look-up that tries this place first finds
 /// him there.
-#[derive(Clone, Copy)]
+#[derive(Drop)]
 pub(crate) struct Found<'a> {
-    pub(crate) entries: &'a [Entry],
+    pub(crate) entries: Entries<'a>,
     pub(crate) place: usize,
 }
 
@@ -162,15 +163,15 @@ impl Told {
     #[inline(always)]
     #[tactic(auto, using(crate::proofs::Users::items_found))]
     pub(crate) fn find(&self, user: UserName, near: usize) -> Found<'_>
-        ensures { result.entries.now ≡ items_in self.now user }
+        ensures { result.entries ≡ items_in self.now user }
     {
         match index_near(&self.by_user, near, user) {
             Some(place) => Found {
-                entries: self.by_user[place].as_slice(),
+                entries: self.by_user[place].entries(),
                 place,
             },
             None => Found {
-                entries: &[],
+                entries: Entries::none(),
                 place: near,
             },
         }

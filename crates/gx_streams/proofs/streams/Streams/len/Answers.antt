@@ -9,7 +9,7 @@ returns-in-Some-clause-count c =
 
 pub returns-in-None-clause-count : goal.returns-in-None-clause-count
 returns-in-None-clause-count c =
-    ap length c.find-in-None.ensures ∙ told_count c.self.inside.fills.items c.self.inside.told c.self.inside.readers c.args.self.now c.args.user c.in-None.ensures c.self.view_is
+    c.len.ensures ∙ ap length c.find-in-None.ensures ∙ told_count c.self.inside.fills.items c.self.inside.told c.self.inside.readers c.args.self.now c.args.user c.in-None.ensures c.self.view_is
 
 pub returns-in-Some-clause-few : goal.returns-in-Some-clause-few
 returns-in-Some-clause-few c =

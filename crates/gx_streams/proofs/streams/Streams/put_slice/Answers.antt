@@ -1,13 +1,14 @@
 use Rattle.std.proofs.Common.{◌≡◌, List, ◌∙◌, ap, length, map, subst, sym, arith}
 use Rattle.gx_policy.specs.Lists.{slice}
 use Rattle.gx_history.specs.declared.report.Report.{Report}
-use Rattle.gx_streams.specs.{declared.{entry.Entry.Entry, fill.ToldFill.ToldFill}, Spans.{AreNumbered, copies_in}, Table.report_of}
+use Rattle.std.specs.List.{AllByRecursion}
+use Rattle.gx_streams.specs.{declared.{entry.Entry.Entry, fill.ToldFill.ToldFill}, Recorded.IsRecorded, Spans.{AreNumbered, copies_in}, Table.report_of}
 use Rattle.gx_streams.proofs.{Reading.{count_read, read_copies, sound_reader, told_count, told_slice}, Silent.found_silent}
 use Rattle.gx_streams.proofs.streams.Streams.put_slice.Goals as goal
 
 pub reader_of-requires : goal.reader_of-requires
 reader_of-requires c = λ some.
-    c.find-found.ensures ∙ found_silent c.self.inside.told c.args.user c.self.inside.readers (c.self.invariant).silent some
+    c.find-entries.ensures ∙ found_silent c.self.inside.told c.args.user c.self.inside.readers (c.self.invariant).silent some
 
 pub copies-requires : goal.copies-requires
 copies-requires c =
@@ -34,13 +35,24 @@ returns-in_ok-reports-in-Some-clause-few c =
     let few = (sound_reader c.self.inside.fills.items c.self.inside.told c.self.inside.readers c.args.user c.in-Some.reader.now c.in-Some.ensures c.self.invariant).few in
     omega (arith, room.0, room.1, same, few, c.count.ensures)
 
-pub returns-in_ok-put_reports_of-in-None-clause-part : goal.returns-in_ok-put_reports_of-in-None-clause-part
-returns-in_ok-put_reports_of-in-None-clause-part c =
-    c.in_ok-put_reports_of-in-None.ensures
-    ∙ (ap (λ (f : List ToldFill). map (report_of f) c.slice.result.now) c.as_slice-fills.ensures.value
-    ∙ (ap (map (report_of c.self.inside.fills.items)) (c.slice.ensures ∙ ap (λ (l : List Entry). slice l c.args.from c.args.most) c.find-found.ensures)
+pub put_reports-requires : goal.put_reports-requires
+put_reports-requires c =
+    record {
+      recorded =
+          subst (λ (l : List Report). AllByRecursion (IsRecorded c.args.house c.args.records.now) l)
+          (sym (ap (λ (f : List ToldFill). map (report_of f) c.slice.result) c.as_slice-fills.ensures.value
+          ∙ (ap (map (report_of c.self.inside.fills.items)) (c.slice.ensures ∙ ap (λ (l : List Entry). slice l c.args.from c.args.most) c.find-entries.ensures)
+          ∙ told_slice c.self.inside.fills.items c.self.inside.told c.self.inside.readers c.args.self.now c.args.user c.args.from c.args.most c.in-None.ensures c.self.view_is)))
+          c.requires.recorded;
+    }
+
+pub returns-in_ok-put_reports-in-None-clause-part : goal.returns-in_ok-put_reports-in-None-clause-part
+returns-in_ok-put_reports-in-None-clause-part c =
+    c.in_ok-put_reports-in-None.ensures
+    ∙ (ap (λ (f : List ToldFill). map (report_of f) c.slice.result) c.as_slice-fills.ensures.value
+    ∙ (ap (map (report_of c.self.inside.fills.items)) (c.slice.ensures ∙ ap (λ (l : List Entry). slice l c.args.from c.args.most) c.find-entries.ensures)
     ∙ told_slice c.self.inside.fills.items c.self.inside.told c.self.inside.readers c.args.self.now c.args.user c.args.from c.args.most c.in-None.ensures c.self.view_is))
 
-pub returns-in_ok-put_reports_of-in-None-clause-count : goal.returns-in_ok-put_reports_of-in-None-clause-count
-returns-in_ok-put_reports_of-in-None-clause-count c =
-    ap length c.find-found.ensures ∙ told_count c.self.inside.fills.items c.self.inside.told c.self.inside.readers c.args.self.now c.args.user c.in-None.ensures c.self.view_is
+pub returns-in_ok-put_reports-in-None-clause-count : goal.returns-in_ok-put_reports-in-None-clause-count
+returns-in_ok-put_reports-in-None-clause-count c =
+    c.len-count.ensures ∙ ap length c.find-entries.ensures ∙ told_count c.self.inside.fills.items c.self.inside.told c.self.inside.readers c.args.self.now c.args.user c.in-None.ensures c.self.view_is

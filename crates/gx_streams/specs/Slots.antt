@@ -1,0 +1,69 @@
+-- How a user's entries lie in memory.
+use Rattle.std.specs.{Prelude.{◌≡◌, ℕ, ◌+◌, ◌<◌, ◌≤◌, ⊤, List, [], length, map, slice_get}, Option.option_map_or, List.AllByRecursion}
+use Rattle.gx_ouch.specs.declared.outbound.{Outbound.Outbound}
+use Rattle.gx_history.specs.declared.report.{Message.Message, Report.Report}
+use Rattle.gx_streams.specs.{declared.{entries.Lists.Lists, entry.Entry.Entry, fill.{Party.Party, ToldFill.ToldFill}, slot.{AcceptedAt.AcceptedAt, CanceledAt.CanceledAt, Slot.Slot}}, Table.{no_report, report_of}}
+
+-- what is long in a user's entries, each kind in their order
+pub record DetailLists : Type 0 where
+  pub canceled : List CanceledAt
+  pub others : List Report
+
+-- the lists, where they lie
+abbrev pub lists_of : Lists → DetailLists
+lists_of l = record { canceled = l.canceled.now; others = l.others.now }
+
+-- none of any kind
+abbrev pub no_details : DetailLists
+no_details = record { canceled = []; others = [] }
+
+-- such lists, and of how many more entries they can take what is long without memory
+pub record KeptDetails : Type 0 where
+  pub lists : DetailLists
+  pub spare : ℕ
+
+-- the Accepted
+abbrev pub accepted_report : AcceptedAt → Report
+accepted_report a = a.told.value
+
+-- Canceled, as a report
+abbrev pub canceled_report : CanceledAt → Report
+canceled_report c = record { timestamp = c.moment; message = Message.Order (Outbound.Canceled c.canceled) }
+
+-- the entry of a slot
+abbrev pub entry_in : DetailLists → Slot → Entry
+entry_in lists (Slot.Accepted a) = Entry.Typed (accepted_report a)
+entry_in lists (Slot.Canceled place) = Entry.Typed (option_map_or canceled_report (slice_get lists.canceled place) no_report)
+entry_in lists (Slot.Other place) = Entry.Typed (option_map_or (λ (r : Report). r) (slice_get lists.others place) no_report)
+entry_in lists (Slot.Taker place) = Entry.Filled place Party.Taker
+entry_in lists (Slot.Maker place) = Entry.Filled place Party.Maker
+
+-- the entries of slots
+abbrev pub entries_in : DetailLists → List Slot → List Entry
+entries_in lists slots = map (entry_in lists) slots
+
+-- the report of a slot's entry
+abbrev pub reported : List ToldFill → DetailLists → Slot → Report
+reported fills lists slot = report_of fills (entry_in lists slot)
+
+-- what the slot names is there
+abbrev pub IsThere : DetailLists → Slot → Type 0
+IsThere lists (Slot.Accepted a) = ⊤
+IsThere lists (Slot.Canceled place) = place < length lists.canceled
+IsThere lists (Slot.Other place) = place < length lists.others
+IsThere lists (Slot.Taker place) = ⊤
+IsThere lists (Slot.Maker place) = ⊤
+
+-- what the slots name is there
+abbrev pub AllThere : DetailLists → List Slot → Type 0
+AllThere lists slots = AllByRecursion (IsThere lists) slots
+
+-- what was there is there still, and stands for the same
+pub record Widens (before after : DetailLists) : Type 0 where
+  pub there : (s : Slot) → IsThere before s → IsThere after s
+  pub same : (s : Slot) → IsThere before s → entry_in after s ≡ entry_in before s
+
+-- what each slot names is there, and there is room for the slots of those entries that places are kept for
+pub record AreKept (kept : KeptDetails) (slots : List Slot) (used capacity : ℕ) : Type 0 where
+  pub there : AllThere kept.lists slots
+  pub room : used + kept.spare ≤ capacity
