@@ -3,3 +3,4 @@ pub mod Keyed
 pub mod Stocks
 pub mod Opening
 pub mod Shown
+pub mod TakenOut

@@ -4,7 +4,7 @@ use Rattle.std.specs.List.{list_any}
 use Rattle.indexmap.specs.IndexMap.{insert_entry}
 use Rattle.gx_units.specs.{Names.same_stock, declared.names.Symbol.Symbol}
 use Rattle.gx_policy.specs.{declared.policy.{Stock.Stock, PolicyData.PolicyData}, Lists.are_distinct, Soundness.{is_sound, names_differ}}
-use Rattle.gx_book.specs.{declared.{resting.Resting.Resting, sides.Sides.Sides}, Books.{StockOrders, is_same_stock, is_sound_book, without_orders}, Table.{book_of, stock_of}}
+use Rattle.gx_book.specs.{declared.sides.Sides.Sides, Resting.RestingData, Books.{StockOrders, is_same_stock, is_sound_book, without_orders}, Table.{book_of, stock_of}}
 use Rattle.gx_book.proofs.{Order.is_false, Stocks.stocks_equiv}
 
 -- a stock of a new name goes last
@@ -56,7 +56,7 @@ pub listed_next : (es : List (Symbol × Sides)) (sides : Sides) (stocks : List S
     → book_of (insert_entry same_stock es (get_or stocks i d).name sides) ≡ take (i + 1) (map without_orders stocks)
 listed_next es sides stocks i d differ are within buys sells =
     let s : Stock = get_or stocks i d in
-    let row : List Resting → List Resting → StockOrders = λ (b c : List Resting). record { stock = s.name; buys = b; sells = c } in
+    let row : List RestingData → List RestingData → StockOrders = λ (b c : List RestingData). record { stock = s.name; buys = b; sells = c } in
     added_next es s.name sides (map without_orders stocks) i (rows_differ stocks differ) are (subst (λ n. i < n) (sym (length-map stocks without_orders)) within)
     (ap (λ b. row b sides.sells) buys ∙ ap (λ c. row [] c) sells ∙ sym (get_or-map without_orders stocks i d (stock_of (s.name, sides)) within))
 

@@ -1,10 +1,13 @@
 -- A side stays in the order of its prices, whatever is done to it.
-use Rattle.std.proofs.{Common.{◌≡◌, Bool, true, false, cond, not, List, [], ◌∷◌, ◌++◌, refl, ◌∙◌, sym, ap, true≢false, arith}, lemmas.{Bool.{and_from, and_parts}, List.{Elements.All-filter, Folds.list_all-append, Sums.{AllPass-from_list_all, list_all-from_AllPass}}}}
-use Rattle.std.specs.List.{filter, list_all}
+use Rattle.std.proofs.{Common.{◌≡◌, ◌-◌, ℕ, Bool, true, false, cond, not, ◌&&◌, List, [], ◌∷◌, ◌++◌, map, refl, ◌∙◌, sym, ap, true≢false, arith}, lemmas.{Bool.{and_from, and_parts}, List.{Elements.All-filter, Folds.list_all-append, Sums.{AllPass-from_list_all, list_all-from_AllPass}}}}
+use Rattle.std.specs.{Prelude.{Option, Some, None, if◌then◌else◌, nat_lt}, List.{filter, list_all}}
 use Rattle.gx_policy.specs.Lists.{placed}
-use Rattle.gx_book.specs.{declared.resting.Resting.Resting, Queue.{is_better, is_in_order, with_order}}
+use Rattle.gx_book.specs.{Resting.RestingData, Queue.{is_better, is_in_order, is_same, left_with, taken_from_first, with_order, with_shares, without_order}}
 
 -- ---- any list
+
+pub some_is : {X : Type 0} {x y : X} → Some x ≡ Some y → x ≡ y
+some_is {X} {x} h = ap (λ (o : Option X). elim o [ None ↦ x | Some z ↦ z ]) h
 
 pub is_false : (b : Bool) → not b ≡ true → b ≡ false
 is_false true h = absurd (true≢false (sym h))
@@ -45,15 +48,15 @@ all_placed q better r xs all here =
 -- ---- a side
 
 -- who betters an order betters whoever doesn't better that one
-betters_next : (buy : Bool) (r x y : Resting) → is_better buy r x ≡ true → not (is_better buy y x) ≡ true → is_better buy r y ≡ true
+betters_next : (buy : Bool) (r x y : RestingData) → is_better buy r x ≡ true → not (is_better buy y x) ≡ true → is_better buy r y ≡ true
 betters_next true r x y better later = grind arith
 betters_next false r x y better later = grind arith
 
-not_both : (buy : Bool) (r y : Resting) → is_better buy r y ≡ true → not (is_better buy y r) ≡ true
+not_both : (buy : Bool) (r y : RestingData) → is_better buy r y ≡ true → not (is_better buy y r) ≡ true
 not_both true r y better = grind arith
 not_both false r y better = grind arith
 
-pub in_order_filter : (buy : Bool) (p : Resting → Bool) (xs : List Resting) → is_in_order buy xs ≡ true → is_in_order buy (filter p xs) ≡ true
+pub in_order_filter : (buy : Bool) (p : RestingData → Bool) (xs : List RestingData) → is_in_order buy xs ≡ true → is_in_order buy (filter p xs) ≡ true
 in_order_filter buy p [] sorted = refl
 in_order_filter buy p (x ∷ xs) sorted =
     let parts = and_parts (list_all (λ y. not (is_better buy y x)) xs) (is_in_order buy xs) sorted in
@@ -62,7 +65,7 @@ in_order_filter buy p (x ∷ xs) sorted =
       | false ↦ in_order_filter buy p xs parts.1
     ]
 
-pub in_order_placed : (buy : Bool) (r : Resting) (xs : List Resting) → is_in_order buy xs ≡ true → is_in_order buy (with_order buy r xs) ≡ true
+pub in_order_placed : (buy : Bool) (r : RestingData) (xs : List RestingData) → is_in_order buy xs ≡ true → is_in_order buy (with_order buy r xs) ≡ true
 in_order_placed buy r [] sorted = refl
 in_order_placed buy r (x ∷ xs) sorted = by (is_better buy r x) refl (and_parts (list_all (λ y. not (is_better buy y x)) xs) (is_in_order buy xs) sorted) (λ rest. in_order_placed buy r xs rest)
   where
@@ -76,3 +79,29 @@ in_order_placed buy r (x ∷ xs) sorted = by (is_better buy r x) refl (and_parts
     by false is parts later =
         ap (is_in_order buy) (behind_first (is_better buy) r x xs is)
         ∙ and_from _ _ (all_placed (λ y. not (is_better buy y x)) (is_better buy) r xs parts.0 (ap not is)) (later parts.1)
+
+-- an order with other shares has its price
+abbrev sized : RestingData → ℕ → RestingData → RestingData
+sized r shares x = if is_same r x then record x { shares = shares } else x
+
+keeps_price : (r : RestingData) (shares : ℕ) (x : RestingData) → (sized r shares x).price ≡ x.price
+keeps_price r shares x = elim (is_same r x) as (λ (b : Bool). (if b then record x { shares = shares } else x).price ≡ x.price) [ true ↦ refl | false ↦ refl ]
+
+none_betters : (buy : Bool) (r : RestingData) (shares : ℕ) (x : RestingData) (xs : List RestingData)
+    → list_all (λ y. not (is_better buy y (sized r shares x))) (map (sized r shares) xs) ≡ list_all (λ y. not (is_better buy y x)) xs
+none_betters buy r shares x [] = refl
+none_betters buy r shares x (y ∷ xs) = λ i. not (if buy then nat_lt (keeps_price r shares x i) (keeps_price r shares y i) else nat_lt (keeps_price r shares y i) (keeps_price r shares x i)) && none_betters buy r shares x xs i
+
+shared_in_order : (buy : Bool) (r : RestingData) (shares : ℕ) (xs : List RestingData) → is_in_order buy (with_shares r shares xs) ≡ is_in_order buy xs
+shared_in_order buy r shares [] = refl
+shared_in_order buy r shares (x ∷ xs) = λ i. none_betters buy r shares x xs i && shared_in_order buy r shares xs i
+
+pub in_order_left : (buy : Bool) (r : RestingData) (shares : ℕ) (xs : List RestingData) → is_in_order buy xs ≡ true → is_in_order buy (left_with r shares xs) ≡ true
+in_order_left buy r shares xs sorted = elim (nat_lt 0 shares) as (λ (b : Bool). is_in_order buy (if b then with_shares r shares xs else without_order r xs) ≡ true) [
+  | true ↦ shared_in_order buy r shares xs ∙ sorted
+  | false ↦ in_order_filter buy (λ x. not (is_same r x)) xs sorted
+]
+
+pub in_order_taken : (buy : Bool) (shares : ℕ) (xs : List RestingData) → is_in_order buy xs ≡ true → is_in_order buy (taken_from_first shares xs) ≡ true
+in_order_taken buy shares [] sorted = refl
+in_order_taken buy shares (x ∷ xs) sorted = in_order_left buy x (x.shares - shares) (x ∷ xs) sorted

@@ -2,17 +2,17 @@
 use Rattle.std.proofs.Common.{◌≡◌, Bool, true, false, cond, not, List, [], ◌∷◌, map, refl, ◌∙◌, sym, ap, true≢false, if◌then◌else◌}
 use Rattle.std.specs.{Prelude.{Option, Some, None, is_some}, Option.option_map_or}
 use Rattle.gx_units.specs.{Names.same_stock, declared.names.Symbol.Symbol}
-use Rattle.gx_book.specs.{declared.resting.Resting.Resting, Books.{StockOrders, resting_in, side_of, stock_in, with_side}, Laws.{EachSideShows, OtherSideStays, OtherStocksStay, OwnSideShows}}
+use Rattle.gx_book.specs.{Resting.RestingData, Books.{StockOrders, resting_in, side_of, stock_in, with_side}, Laws.{EachSideShows, OtherSideStays, OtherStocksStay, OwnSideShows}}
 use Rattle.gx_book.proofs.Stocks.{stock_is}
 
 -- what a change of every row makes of one side of a stock
-shows : (g : StockOrders → StockOrders) (stock : Symbol) (way : Bool) (h : List Resting → List Resting) → ((s : StockOrders) → (g s).stock ≡ s.stock)
+shows : (g : StockOrders → StockOrders) (stock : Symbol) (way : Bool) (h : List RestingData → List RestingData) → ((s : StockOrders) → (g s).stock ≡ s.stock)
     → ((s : StockOrders) → same_stock stock s.stock ≡ true → side_of way (g s) ≡ h (side_of way s))
     → (book : List StockOrders) → (stock_in book stock ≡ None → [] ≡ h []) → resting_in (map g book) stock way ≡ h (resting_in book stock way)
 shows g stock way h named side [] none = none refl
 shows g stock way h named side (s ∷ ss) none = by (same_stock stock s.stock) refl (λ rest. shows g stock way h named side ss rest)
   where
-    seen : StockOrders → Option StockOrders → Bool → List Resting
+    seen : StockOrders → Option StockOrders → Bool → List RestingData
     seen t rest b = option_map_or (side_of way) (cond b (Some t) rest) []
 
     by : (b : Bool) → same_stock stock s.stock ≡ b → ((stock_in ss stock ≡ None → [] ≡ h []) → resting_in (map g ss) stock way ≡ h (resting_in ss stock way))
@@ -24,10 +24,10 @@ shows g stock way h named side (s ∷ ss) none = by (same_stock stock s.stock) r
         ∙ later (λ missing. none (ap (λ b. cond b (Some s) (stock_in ss stock)) is ∙ missing))
         ∙ sym (ap (λ b. h (seen s (stock_in ss stock) b)) is)
 
-abbrev row : Symbol → Bool → (List Resting → List Resting) → StockOrders → StockOrders
+abbrev row : Symbol → Bool → (List RestingData → List RestingData) → StockOrders → StockOrders
 row stock buy f s = if same_stock stock s.stock then with_side buy f s else s
 
-row_named : (stock : Symbol) (buy : Bool) (f : List Resting → List Resting) (s : StockOrders) → (row stock buy f s).stock ≡ s.stock
+row_named : (stock : Symbol) (buy : Bool) (f : List RestingData → List RestingData) (s : StockOrders) → (row stock buy f s).stock ≡ s.stock
 row_named stock buy f s = elim (same_stock stock s.stock) as (λ b. (if b then with_side buy f s else s).stock ≡ s.stock) [ true ↦ refl | false ↦ refl ]
 
 pub each_side_shows : EachSideShows

@@ -2,20 +2,20 @@
 use Rattle.std.specs.{Prelude.{ℕ, Bool, true, false, IsTrue, ◌&&◌, List, [], ◌++◌, Option, map, slice_get, if◌then◌else◌}, Option.option_map_or, List.{find, flat_map, list_all}}
 use Rattle.gx_units.specs.{Names.same_stock, declared.names.Symbol.Symbol}
 use Rattle.gx_policy.specs.{Lists.are_distinct, declared.policy.{Stock.Stock, PolicyData.PolicyData}}
-use Rattle.gx_book.specs.{declared.resting.Resting.Resting, Queue.{is_in_order, is_numbered, with_order}}
+use Rattle.gx_book.specs.{Resting.RestingData, Queue.{is_in_order, is_numbered, with_order}}
 
 -- the orders that rest in one stock, each side with the better price first
 pub record StockOrders : Type 0 where
   pub stock : Symbol
-  pub buys : List Resting
-  pub sells : List Resting
+  pub buys : List RestingData
+  pub sells : List RestingData
 
 -- one side, true for buys
-abbrev pub side_of : Bool → StockOrders → List Resting
+abbrev pub side_of : Bool → StockOrders → List RestingData
 side_of buy s = if buy then s.buys else s.sells
 
 -- one side changed, true for buys
-abbrev pub with_side : Bool → (List Resting → List Resting) → StockOrders → StockOrders
+abbrev pub with_side : Bool → (List RestingData → List RestingData) → StockOrders → StockOrders
 with_side buy change s = record {
   stock = s.stock;
   buys = if buy then change s.buys else s.buys;
@@ -27,35 +27,35 @@ abbrev pub stock_in : List StockOrders → Symbol → Option StockOrders
 stock_in book stock = find (λ (s : StockOrders). same_stock stock s.stock) book
 
 -- the orders that rest on one side of a stock, in price-time priority; none in a stock that is not listed
-abbrev pub resting_in : List StockOrders → Symbol → Bool → List Resting
+abbrev pub resting_in : List StockOrders → Symbol → Bool → List RestingData
 resting_in book stock buy = option_map_or (side_of buy) (stock_in book stock) []
 
 -- the best order on one side of a stock
-abbrev pub best_in : List StockOrders → Symbol → Bool → Option Resting
+abbrev pub best_in : List StockOrders → Symbol → Bool → Option RestingData
 best_in book stock buy = slice_get (resting_in book stock buy) 0
 
 -- the book with one side of one stock changed, and all else as it was
-abbrev pub on_side : Symbol → Bool → (List Resting → List Resting) → List StockOrders → List StockOrders
+abbrev pub on_side : Symbol → Bool → (List RestingData → List RestingData) → List StockOrders → List StockOrders
 on_side stock buy change book = map (λ (s : StockOrders). if same_stock stock s.stock then with_side buy change s else s) book
 
 -- the book with one more order on one side of a stock
-abbrev pub with_rested : Symbol → Bool → Resting → List StockOrders → List StockOrders
+abbrev pub with_rested : Symbol → Bool → RestingData → List StockOrders → List StockOrders
 with_rested stock buy r book = on_side stock buy (with_order buy r) book
 
 -- the book with each side changed
-abbrev pub on_each_side : (List Resting → List Resting) → List StockOrders → List StockOrders
+abbrev pub on_each_side : (List RestingData → List RestingData) → List StockOrders → List StockOrders
 on_each_side change book = map (λ (s : StockOrders). record { stock = s.stock; buys = change s.buys; sells = change s.sells }) book
 
 -- all orders of a stock
-abbrev pub both_sides : StockOrders → List Resting
+abbrev pub both_sides : StockOrders → List RestingData
 both_sides s = s.buys ++ s.sells
 
 -- all orders
-abbrev pub all_orders : List StockOrders → List Resting
+abbrev pub all_orders : List StockOrders → List RestingData
 all_orders book = flat_map both_sides book
 
 -- the order of this number
-abbrev pub order_in : List StockOrders → ℕ → Option Resting
+abbrev pub order_in : List StockOrders → ℕ → Option RestingData
 order_in book number = find (is_numbered number) (all_orders book)
 
 -- a listed stock without an order

@@ -1,21 +1,21 @@
 -- The book that a table of stocks stands for.
 use Rattle.std.specs.Prelude.{Bool, List, map, if◌then◌else◌}
 use Rattle.gx_units.specs.declared.names.Symbol.{Symbol}
-use Rattle.gx_book.specs.{declared.{resting.Resting.Resting, sides.Sides.Sides}, Books.StockOrders}
+use Rattle.gx_book.specs.{declared.sides.Sides.Sides, Resting.RestingData, Books.StockOrders}
 
 -- one of two sides, true for buys
-abbrev pub side_in : Bool → Sides → List Resting
+abbrev pub side_in : Bool → Sides → List RestingData
 side_in buy s = if buy then s.buys else s.sells
 
 -- one of two sides changed, true for buys
-abbrev pub changed : Bool → (List Resting → List Resting) → Sides → Sides
+abbrev pub changed : Bool → (List RestingData → List RestingData) → Sides → Sides
 changed buy change s = record {
   buys = if buy then change s.buys else s.buys;
   sells = if buy then s.sells else change s.sells;
 }
 
 -- both sides changed
-abbrev pub both_changed : (List Resting → List Resting) → Sides → Sides
+abbrev pub both_changed : (List RestingData → List RestingData) → Sides → Sides
 both_changed change s = record { buys = change s.buys; sells = change s.sells }
 
 -- the stock of an entry

@@ -1,15 +1,17 @@
 //! The book.
 
-ghost use Rattle.std.specs.Prelude.{◌≡◌, is_some, IfOk, OnOk, OnErr};
+ghost use Rattle.std.specs.Prelude.{◌≡◌, ◌+◌, is_some, length, min, IfOk, OnOk, OnErr, if◌then◌else◌};
 ghost use Rattle.gx_history.specs.Book.{is_buy};
-ghost use Rattle.gx_book.specs.{Books.{IsSound, best_in, empty_book, on_each_side, on_side, resting_in, stock_in, with_rested}, Queue.{IsLatest, is_among, no_orders, without_order}};
+ghost use Rattle.gx_book.specs.{Account.{AreAllOf, count_of}, Books.{IsSound, all_orders, best_in, empty_book, on_each_side, stock_in}, Changes.{found_in, own_side, put_to_rest, reduced, taken_from_best, taken_out}, Queue.{IsLatest, no_orders, without_account}, Resting.resting_of};
 
 use crate::resting::{Resting, is_buy};
 use crate::sides::Sides;
+use gx_history::live_order::LiveOrder;
 use gx_index::{get_mut_near, get_near, index_near};
 use gx_policy::{Policy, Stock};
+use gx_slab::live::LiveOrders;
 use gx_slots::Slots;
-use gx_units::{OutOfMemory, Symbol};
+use gx_units::{AccountName, OutOfMemory, Symbol};
 use indexmap::IndexMap;
 use std::alloc::Global;
 use std::marker::Model;
@@ -102,42 +104,76 @@ impl Book {
         sides.first(is_buy(side))
     }
 
-    /// Puts the order on a side of the stock, behind all of equal or better price. It has the highest number of its
-    /// price there, as orders come to rest in the order of their numbers. In a stock that is not listed nothing rests.
+    /// Puts the order on its side of its stock, behind all of equal or better price, with all that is open of it. It has
+    /// the highest number of its price there, as orders come to rest in the order of their numbers. In a stock that is not
+    /// listed nothing rests.
     ///
     /// # Errors
     ///
     /// `OutOfMemory` where there is no memory for one more; then nothing has changed.
     #[tactic(auto, using(crate::proofs::Stocks::side_found))]
-    pub fn rest(
-        &mut self,
-        stock: Symbol,
-        near: usize,
-        side: u8,
-        added: Resting,
-    ) -> Result<(), OutOfMemory>
-        requires latest { IsLatest added (resting_in self.old stock (is_buy side)) }
-        ensures ok { OnOk result (self.new ≡ with_rested stock (is_buy side) added self.old) }
+    pub fn rest(&mut self, order: &LiveOrder, near: usize) -> Result<(), OutOfMemory>
+        requires latest { IsLatest (resting_of order.now) (own_side self.old order.now) }
+        ensures ok { OnOk result (self.new ≡ put_to_rest order.now self.old) }
         ensures err { OnErr result (self.new ≡ self.old) }
     {
-        let Some(sides) = get_mut_near(&mut self.by_stock, near, stock) else {
+        let Some(sides) = get_mut_near(&mut self.by_stock, near, order.terms.stock) else {
             return Ok(());
         };
-        sides.put(is_buy(side), added)?;
+        sides.put(is_buy(order.terms.side), order)?;
         Ok(())
     }
 
-    /// Takes the order out of a side of the stock; whether it was there.
-    #[tactic(auto, using(crate::proofs::Stocks::side_found, crate::proofs::Stocks::none_found))]
-    pub fn remove(&mut self, stock: Symbol, near: usize, side: u8, gone: &Resting) -> bool
-        ensures found { result ≡ is_among gone.now (resting_in self.old stock (is_buy side)) }
-        ensures removed { self.new
-            ≡ on_side stock (is_buy side) (without_order gone.now) self.old }
+    /// Takes so many shares from the best order on a side of the stock. It stays where it stands, or goes where none are
+    /// left of it.
+    pub fn take_from_best(&mut self, stock: Symbol, near: usize, side: u8, shares: u32)
+        ensures { self.new ≡ taken_from_best stock (is_buy side) shares self.old }
     {
         let Some(sides) = get_mut_near(&mut self.by_stock, near, stock) else {
-            return false;
+            return;
         };
-        sides.remove(is_buy(side), gone)
+        sides.take_from_first(is_buy(side), shares);
+    }
+
+    /// Takes so many shares from the order, of which all rests that is open, if it rests. It stays where it stands, or
+    /// goes where none are left.
+    pub fn reduce(&mut self, order: &LiveOrder, near: usize, shares: u32)
+        ensures { self.new ≡ reduced order.now shares self.old }
+    {
+        let Some(sides) = get_mut_near(&mut self.by_stock, near, order.terms.stock) else {
+            return;
+        };
+        sides.reduce(is_buy(order.terms.side), order, shares);
+    }
+
+    /// Takes the order out, and answers what rested of it; `None` where it does not rest.
+    #[tactic(auto, using(crate::proofs::Stocks::side_found, crate::proofs::Stocks::none_found))]
+    pub fn remove(&mut self, order: &LiveOrder, near: usize) -> Option<Resting>
+        ensures given { result ≡ found_in self.old order.now }
+        ensures removed { self.new ≡ taken_out order.now self.old }
+        ensures counted { length (all_orders self.new) + (if is_some result then 1 else 0)
+            ≡ length (all_orders self.old) }
+    {
+        let sides = get_mut_near(&mut self.by_stock, near, order.terms.stock)?;
+        sides.remove(is_buy(order.terms.side), order)
+    }
+
+    /// Takes the account's orders out, and answers how many rested; all others stay in their order. Its live orders are
+    /// named one by one, of which it looks for no other. The count ends at the greatest number of its type.
+    pub fn remove_account(&mut self, account: AccountName, orders: LiveOrders<'_>) -> u64
+        requires all { AreAllOf account orders self.old }
+        ensures removed { self.new ≡ on_each_side (without_account account) self.old }
+        ensures counted { result ≡ min (count_of account self.old) 18446744073709551615 }
+    {
+        // The account is there for contracts alone: what is named is its.
+        let _ = account;
+        let mut count: u64 = 0;
+        for order in orders {
+            if self.remove(order, 0).is_some() {
+                count = count.saturating_add(1);
+            }
+        }
+        count
     }
 
     /// Takes all orders out; the stocks stay.

@@ -1,19 +1,93 @@
 //! An order that rests.
 
 ghost use Rattle.std.specs.Prelude.{◌≡◌};
-ghost use Rattle.gx_history.specs.Book.{is_buy};
+ghost use Rattle.gx_history.specs.{Book.is_buy, LiveOrders.shares_open};
+ghost use Rattle.gx_book.specs.Keys.{held};
 
-use gx_units::AccountName;
+use gx_history::live_order::LiveOrder;
+use std::marker::Model;
+use std::snapshot::Snapshot;
 
-/// What the book holds of an order: its number, whose it is, and its limit.
-#[derive(Clone, Copy)]
+/// What a side of the book keeps of an order, under its price and its number.
+#[derive(Drop)]
+pub(crate) struct Kept {
+    /// The shares that may still be executed.
+    pub(crate) shares: u32,
+    /// The order as it came to rest. It is there for contracts alone, and takes no memory.
+    pub(crate) order: Snapshot<LiveOrder>,
+}
+
+impl Kept {
+    /// All that is open of the order.
+    pub(crate) fn of(order: &LiveOrder) -> Kept
+        ensures shares { result.shares ≡ shares_open order.now }
+        ensures order { result.order.value ≡ order.now }
+    {
+        Kept {
+            shares: order.open(),
+            order: Snapshot::of(order),
+        }
+    }
+}
+
+/// An order that rests: its number, its limit and the shares open of it. Contracts see beside these whose it is; the live
+/// order of its number tells that.
+#[derive(Drop)]
 pub struct Resting {
+    order: u64,
+    price: u32,
+    shares: u32,
+    /// It is there for contracts alone, and takes no memory.
+    kept: Snapshot<Kept>,
+}
+
+impl Model for Resting {
+    ghost use Rattle.gx_book.specs.Resting.{RestingData};
+
+    ghost Value = { RestingData };
+
+    ghost view = { λ r. record {
+      order = r.order;
+      account = r.kept.value.order.value.account;
+      user = r.kept.value.order.value.user;
+      price = r.price;
+      shares = r.shares;
+    } };
+}
+
+impl Resting {
+    /// The order of this number and this limit of which that is kept.
+    pub(crate) fn of(order: u64, price: u32, kept: &Kept) -> Resting
+        ensures { result ≡ held order price kept.now }
+    {
+        Resting {
+            order,
+            price,
+            shares: kept.shares,
+            kept: Snapshot::of(kept),
+        }
+    }
+
     /// The number of the record that granted it.
-    pub number: u64,
-    /// The account that it trades for.
-    pub account: AccountName,
-    /// In ten-thousandths of a dollar.
-    pub price: u32,
+    pub fn order(&self) -> u64
+        ensures { result ≡ self.now.order }
+    {
+        self.order
+    }
+
+    /// Its limit, in ten-thousandths of a dollar.
+    pub fn price(&self) -> u32
+        ensures { result ≡ self.now.price }
+    {
+        self.price
+    }
+
+    /// The shares that may still be executed.
+    pub fn shares(&self) -> u32
+        ensures { result ≡ self.now.shares }
+    {
+        self.shares
+    }
 }
 
 /// Whether the side is that of buys.

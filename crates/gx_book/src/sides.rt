@@ -1,10 +1,12 @@
 //! The two sides of a stock.
 
-ghost use Rattle.std.specs.Prelude.{◌≡◌, [], OnOk, OnErr, slice_get};
-ghost use Rattle.gx_book.specs.{Queue.{IsLatest, is_among, no_orders, with_order, without_order}, Table.{both_changed, changed, side_in}};
+ghost use Rattle.std.specs.{Prelude.{◌≡◌, ◌-◌, ◌+◌, [], OnOk, OnErr, slice_get, length, is_some, if◌then◌else◌}, List.find};
+ghost use Rattle.gx_history.specs.LiveOrders.{shares_open};
+ghost use Rattle.gx_book.specs.{Resting.resting_of, Queue.{IsLatest, is_same, left_with, no_orders, taken_from_first, with_order, without_order}, Table.{both_changed, changed, side_in}};
 
 use crate::resting::Resting;
 use crate::side::Side;
+use gx_history::live_order::LiveOrder;
 use gx_units::OutOfMemory;
 use std::alloc::Global;
 
@@ -39,27 +41,55 @@ impl Sides {
     }
 
     /// Puts the order on this side, behind all of equal or better price.
-    pub(crate) fn put(&mut self, buy: bool, added: Resting) -> Result<(), OutOfMemory>
-        requires { IsLatest added (side_in buy self.old) }
-        ensures ok { OnOk result (self.new ≡ changed buy (with_order buy added) self.old) }
+    pub(crate) fn put(&mut self, buy: bool, order: &LiveOrder) -> Result<(), OutOfMemory>
+        requires { IsLatest (resting_of order.now) (side_in buy self.old) }
+        ensures ok { OnOk result
+            (self.new ≡ changed buy (with_order buy (resting_of order.now)) self.old) }
         ensures err { OnErr result (self.new ≡ self.old) }
     {
         if buy {
-            self.buys.put(added)
+            self.buys.put(order)
         } else {
-            self.sells.put(added)
+            self.sells.put(order)
         }
     }
 
-    /// Takes the order out of this side; whether it was there.
-    pub(crate) fn remove(&mut self, buy: bool, gone: &Resting) -> bool
-        ensures found { result ≡ is_among gone.now (side_in buy self.old) }
-        ensures removed { self.new ≡ changed buy (without_order gone.now) self.old }
+    /// Takes so many shares from the best order of this side; it goes where none are left.
+    pub(crate) fn take_from_first(&mut self, buy: bool, shares: u32)
+        ensures { self.new ≡ changed buy (taken_from_first shares) self.old }
     {
         if buy {
-            self.buys.remove(gone)
+            self.buys.take_from_first(shares);
         } else {
-            self.sells.remove(gone)
+            self.sells.take_from_first(shares);
+        }
+    }
+
+    /// Takes so many shares from the order, where it is on this side; it goes where none are left.
+    pub(crate) fn reduce(&mut self, buy: bool, order: &LiveOrder, shares: u32)
+        ensures { self.new
+            ≡ changed buy (left_with (resting_of order.now) (shares_open order.now - shares))
+            self.old }
+    {
+        if buy {
+            self.buys.reduce(order, shares);
+        } else {
+            self.sells.reduce(order, shares);
+        }
+    }
+
+    /// Takes the order out of this side, and answers what it was; `None` where it is not there.
+    pub(crate) fn remove(&mut self, buy: bool, order: &LiveOrder) -> Option<Resting>
+        ensures given { result ≡ find (is_same (resting_of order.now)) (side_in buy self.old) }
+        ensures removed { self.new
+            ≡ changed buy (without_order (resting_of order.now)) self.old }
+        ensures counted { length (side_in buy self.new) + (if is_some result then 1 else 0)
+            ≡ length (side_in buy self.old) }
+    {
+        if buy {
+            self.buys.remove(order)
+        } else {
+            self.sells.remove(order)
         }
     }
 

@@ -22,7 +22,7 @@ met_by_kept policy history k kept =
 -- where no order waits there is nothing to match
 pub nothing_is_met : (policy : PolicyData) (history : List RecordData) (k : Keepers) → IsKept policy history k → first_waiting k.orders.live ≡ None → matching policy history ≡ None
 nothing_is_met policy history k kept none =
-    sym (met_by_kept policy history k kept) ∙ ap (option_map (λ (o : LiveOrder). met o (best_against k.book k.orders.live o))) none
+    sym (met_by_kept policy history k kept) ∙ ap (option_map (λ (o : LiveOrder). met o (best_against k.book o))) none
 
 pub nothing_is_next : (policy : PolicyData) (history : List RecordData) (handed : ℕ) (k : Keepers) → IsKept policy history k → first_waiting k.orders.live ≡ None
     → next policy history (Step.Matching handed) ≡ None
@@ -31,9 +31,9 @@ nothing_is_next policy history handed k kept none = ap (option_map (match_record
 
 -- else it is the first that waits
 pub first_is_met : (policy : PolicyData) (history : List RecordData) (k : Keepers) (first : LiveOrder) → IsKept policy history k → first_waiting k.orders.live ≡ Some first
-    → matching policy history ≡ Some (met first (best_against k.book k.orders.live first))
+    → matching policy history ≡ Some (met first (best_against k.book first))
 first_is_met policy history k first kept waits =
-    sym (met_by_kept policy history k kept) ∙ ap (option_map (λ (o : LiveOrder). met o (best_against k.book k.orders.live o))) waits
+    sym (met_by_kept policy history k kept) ∙ ap (option_map (λ (o : LiveOrder). met o (best_against k.book o))) waits
 
 -- the first that waits is the one that is kept
 pub first_is_known : (policy : PolicyData) (history : List RecordData) (k : Keepers) → IsKept policy history k

@@ -32,10 +32,7 @@ impl Gate {
         Outcome {
             number: self.length() + 1,
             moment: handed.max(self.last_moment()),
-            verdict: met(
-                first,
-                best_against(&self.keepers.book, &self.keepers.orders, first, near),
-            ),
+            verdict: met(first, best_against(&self.keepers.book, first, near)),
         }
     }
 }

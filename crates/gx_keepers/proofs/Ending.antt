@@ -9,9 +9,9 @@ use Rattle.gx_ledger.specs.{Following.ClosesAll, StandsFor.Closes, Keeping.Kept}
 use Rattle.gx_ledger.proofs.Following.{none_closes, one_more_closes}
 use Rattle.gx_streams.specs.{Streams.AllStreams, Telling.{with_all_owed, with_owed}}
 use Rattle.gx_orders.specs.LiveOrders.{OrdersData, of_account}
-use Rattle.gx_book.specs.Books.{StockOrders}
-use Rattle.gx_market.specs.{BookInForce.book_in_force, Changes.{each_taken_out, ended_by}, Standing.IsLiveBook}
-use Rattle.gx_market.proofs.{Living.books_are_live, TakenOut.kill_takes_live_orders}
+use Rattle.gx_book.specs.{Books.StockOrders, Account.AreAllOf}
+use Rattle.gx_market.specs.{BookInForce.book_in_force, Standing.IsLiveBook}
+use Rattle.gx_market.proofs.Living.{books_are_live}
 use Rattle.gx_keepers.specs.{declared.keepers.Keepers.Keepers, Ends.{HaveOwedPlaces, is_ended}, Keepers.Takes, Ledgers.ended_orders}
 use Rattle.gx_keepers.proofs.Commanded.{rest_have_places}
 
@@ -56,11 +56,9 @@ next_told owe o rest left streams now all left_is now_is enough telling =
       ap (with_all_owed more) now_is ∙ sym (ap (λ (owed : List (UserName × Report)). with_all_owed owed streams) owed_are) ∙ telling,
     )
 
--- a Kill takes the account's orders out, where all that rests is live
-pub kill_takes_out : (action : Action) (account : AccountName) (live ending : List LiveOrder) (book now : List StockOrders) → action ≡ Action.Kill account → IsLiveBook live book
-    → ending ≡ of_account account live → now ≡ each_taken_out ending book → now ≡ ended_by action book
-kill_takes_out action account live ending book now is whole his taken =
-    taken ∙ ap (λ (os : List LiveOrder). each_taken_out os book) his ∙ kill_takes_live_orders live book account whole ∙ ap (λ (a : Action). ended_by a book) (sym is)
+-- the account's live orders are all that rests of it
+pub all_are_his : (account : AccountName) (live ending : List LiveOrder) (book : List StockOrders) → IsLiveBook live book → ending ≡ of_account account live → AreAllOf account ending book
+all_are_his account live ending book whole his = subst (λ (os : List LiveOrder). AreAllOf account os book) (sym his) (whole account)
 
 -- and it is before each record
 pub book_is_live : (policy : PolicyData) (history : List RecordData) (m : Move) (r : RecordData) (k : Keepers) → Takes policy history m r k → IsLiveBook k.orders.live k.book

@@ -1,12 +1,12 @@
 -- What a matching step makes of the keepers.
-use Rattle.std.proofs.{Common.{◌≡◌, ℕ, ◌-◌, ◌<◌, arith, Bool, true, false, not, zero, suc, ◌+◌, cond, get_or, if◌then◌else◌, List, [], ◌∷◌, ◌++◌, refl, ◌∙◌, ap, sym, map}, Math.Path.subst, lemmas.{List.{append-nil, Quantifiers.position-Some}, Iterator.Adapters.position_from-zero}}
+use Rattle.std.proofs.{Common.{◌≡◌, ℕ, ◌<◌, arith, Bool, true, false, not, zero, suc, ◌+◌, cond, get_or, if◌then◌else◌, List, [], ◌∷◌, ◌++◌, refl, ◌∙◌, ap, sym, map}, Math.Path.subst, lemmas.{List.{append-nil, Quantifiers.position-Some}, Iterator.Adapters.position_from-zero}}
 use Rattle.std.specs.{Prelude.{Option, Some, None, is_some, length, find, position, unwrap_or, option_and_then, option_map, option_to_list, ◌&&◌}, List.{AllByRecursion, flat_map, position_from, slice_get}, Option.option_map_or}
 use Rattle.gx_units.specs.{Names.same_account, declared.names.AccountName.AccountName}
 use Rattle.gx_ouch.specs.declared.letters.{CancelReason.CancelReason, Liquidity.Liquidity}
 use Rattle.gx_policy.specs.{declared.policy.{Account.Account, PolicyData.PolicyData, Role.Role, User.User}, People.{account_of, account_of_role, is_reader, role_in, user_in}, Soundness.is_sound}
 use Rattle.gx_history.specs.{declared.{«record».{Fill.Fill, RecordData.RecordData, Step.Step, Verdict.Verdict}, report.Message.Message, live_order.LiveOrder.LiveOrder, moves.Move.Move}, Book.is_buy, Executions.{Execution, sides}, InForce.is_entitled, Streams.{reported, stream, to_user, canceled_of}, LiveOrders.shares_open, Live.{live, live_numbered}, Requests.asked, Verdicts.next, World.Does}
 use Rattle.gx_laws.proofs.{Masks.same_mask, Names.{account_is, accounts_few}, Order.some_same, Owners.IsHisAccounts, Accounts.accounts_are_known, Orderly.legal_is_orderly, Fills.{IsFill, both_sides, is_fill, maker_side, sides_are, taker_side}, Naming.IsOfKnown, Doing.{expiry_does, fill_does, matches_at, may_do}}
-use Rattle.gx_book.specs.{Books.{StockOrders, resting_in}, Queue.IsLatest}
+use Rattle.gx_book.specs.{Resting.resting_of, Books.{StockOrders, resting_in}, Changes.put_to_rest, Queue.IsLatest}
 use Rattle.gx_orders.specs.{Laws.{CanFill, ComesFirst}, Changes.orders_moved, LiveOrders.{OrdersData, first_waiting}}
 use Rattle.gx_market.proofs.Latest.{first_is_latest}
 use Rattle.gx_streams.specs.{declared.fill.{FillSide.FillSide, Party.Party, ToldFill.ToldFill}, Fills.{liquidity_of, side_of}, Kept.places_in, Laws.TellsOne, Sending.{AreSent, IsMadeBy, IsSide, is_fill as makes_fill}, Streams.{AllStreams, is_told, with_fill}, Telling.shown}
@@ -16,7 +16,7 @@ use Rattle.gx_people.proofs.Entitling as entitling
 use Rattle.gx_ledger.specs.StandsFor.{Fills}
 use Rattle.gx_day.specs.{DayData.at_moment, InForce.day_moved}
 use Rattle.gx_orders.proofs.Finding.{finds_orders}
-use Rattle.gx_market.specs.Changes.{left_with, put_to_rest, resting_of}
+use Rattle.gx_market.specs.Changes.{taken_beside}
 use Rattle.gx_keepers.specs.{declared.keepers.Keepers.Keepers, Keepers.{AreCarriedOn, AreInForce, HasEnough, HaveAllPlaces, HavePlaces, KnowTheSame, Takes}, Matching.{place_of, told_side}}
 use Rattle.gx_keepers.proofs.{Carrying.{goes_on, has_place, still_sent, told_by}, Figuring.{fill_figured, held_numbered, legal_after, quiet_figured}, Keepings.{Makes, all_are_placed, known_told, match_fits, one_finds}}
 
@@ -153,20 +153,19 @@ sent_by_records policy history k sound kept_is user =
     (same_mask (sees k.people user) (is_entitled policy history user)
     (λ account. ap (λ (us : List User). sees us user account) kept_is.people ∙ entitling.kept policy history user account sound) policy.accounts)
 
-pub fill_goes_on : (policy : PolicyData) (history : List RecordData) (r : RecordData) (before k : Keepers) (f : Fill) (taker maker : LiveOrder) (left : ℕ) (taken kept_side : FillSide) (made : ToldFill)
+pub fill_goes_on : (policy : PolicyData) (history : List RecordData) (r : RecordData) (before k : Keepers) (f : Fill) (taker maker : LiveOrder) (taken kept_side : FillSide) (made : ToldFill)
     → Takes policy history (Move.Fills f) r before → live_numbered before.orders.live f.taker ≡ Some taker → live_numbered before.orders.live f.maker ≡ Some maker
-    → left ≡ (maker.total - maker.done) - f.shares → is_sound policy ≡ true
+    → is_sound policy ≡ true
     → taken ≡ told_side policy taker → kept_side ≡ told_side policy maker
     → made ≡ record { match_number = r.number; moment = r.moment; shares = f.shares; price = f.price; taker = taken; maker = kept_side }
     → k.people ≡ before.people → k.rules ≡ before.rules → k.day ≡ at_moment r.moment (day_moved (Move.Fills f) before.day)
     → k.orders ≡ orders_moved (Move.Fills f) before.orders
-    → k.book ≡ left_with maker left before.book → Fills taker maker f.shares f.price before.ledger k.ledger
+    → k.book ≡ taken_beside f.shares before.book maker → Fills taker maker f.shares f.price before.ledger k.ledger
     → k.streams ≡ with_fill made before.streams
     → AreCarriedOn policy history r k
-fill_goes_on policy history r before k f taker maker left taken kept_side made t takes makes left_is sound taken_is kept_is made_is people_are rules_are day_is orders_are book_is carries streams_are =
+fill_goes_on policy history r before k f taker maker taken kept_side made t takes makes sound taken_is kept_is made_is people_are rules_are day_is orders_are book_is carries streams_are =
     goes_on policy history (Move.Fills f) r before k t people_are rules_are day_is orders_are
-    (book_is ∙ ap (λ (n : ℕ). left_with maker n before.book) left_is
-    ∙ ap (λ (found : Option LiveOrder). option_map_or (λ (o : LiveOrder). left_with o ((o.total - o.done) - f.shares) before.book) found before.book) (sym makes))
+    (book_is ∙ ap (λ (found : Option LiveOrder). option_map_or (taken_beside f.shares before.book) found before.book) (sym makes))
     (fill_figured policy history r f taker maker before k.ledger t takes makes carries)
     (ap shown streams_are
     ∙ stays_by_fill policy history r before.streams made (accounts_few policy sound) t.in_force.streams (sent_by_records policy history before sound t.in_force) is_made)

@@ -16,7 +16,6 @@ use crate::reports::{accepted, canceled, replaced, reports_of_denial, tell};
 use gx_history::live_order::LiveOrder;
 use gx_history::moves::Move;
 use gx_history::record::Asked;
-use gx_market::standing::{leave, take_out};
 use gx_ouch::CancelReason;
 use gx_policy::RuleName;
 use gx_units::OutOfMemory;
@@ -87,8 +86,8 @@ fn cut_from(order: &LiveOrder, total: u32) -> u32
         .saturating_sub(total.saturating_sub(order.done))
 }
 
-/// A Cancel: its order has another size, the ledger so many shares less of it, and its user is told.
-/// An order with nothing open is gone, out of the book too.
+/// A Cancel: its order has another size, the book and the ledger so many shares less of it, and its
+/// user is told. An order with nothing open is gone, out of the book too.
 fn apply_cancel(keepers: &mut Keepers, next: NextRecord<'_>, cut: &LiveOrder, size: u32)
     requires takes { IsNext next keepers.old }
     requires places { IsPlaced next keepers.old }
@@ -98,12 +97,7 @@ fn apply_cancel(keepers: &mut Keepers, next: NextRecord<'_>, cut: &LiveOrder, si
 {
     let fewer = cut_from(cut, size);
     keepers.orders.cut(cut.number, next.near.user, size);
-    leave(
-        &mut keepers.book,
-        cut,
-        next.near.stock,
-        size.saturating_sub(cut.done),
-    );
+    keepers.book.reduce(cut, next.near.stock, fewer);
     keepers.ledger.cut(cut, next.near, fewer);
     let message = canceled(cut, fewer, CancelReason::UserRequested);
     tell(
@@ -133,7 +127,7 @@ fn apply_replace(
 {
     keepers.orders.enter(*new, next.near)?;
     keepers.orders.end(old.number, next.near.user);
-    take_out(&mut keepers.book, old, next.near.stock);
+    drop(keepers.book.remove(old, next.near.stock));
     keepers.ledger.close(old, next.near);
     keepers
         .ledger

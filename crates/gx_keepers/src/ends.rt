@@ -2,7 +2,7 @@
 
 ghost use Rattle.std.specs.Prelude.{◌≡◌, true, map, MatchOption};
 ghost use Rattle.gx_ledger.specs.Following.{ClosesAll};
-ghost use Rattle.gx_market.specs.{Changes.{each_taken_out, ended_by}, Standing.IsLiveBook};
+ghost use Rattle.gx_market.specs.{Changes.ended_by, Standing.IsLiveBook};
 ghost use Rattle.gx_orders.specs.Changes.{is_lasting, live_left, with_live};
 ghost use Rattle.gx_keepers.specs.{Ends.{owed_by_end, owed_by_ends, told_of_ends, HaveOwedPlaces}, Ledgers.ended_orders};
 ghost use Rattle.gx_streams.specs.Telling.{with_all_owed};
@@ -13,7 +13,6 @@ use gx_desk::Action;
 use gx_history::report::Report;
 use gx_index::Near;
 use gx_ledger::ledger::Ledger;
-use gx_market::standing::take_out;
 use gx_orders::orders::Orders;
 use gx_people::people::People;
 use gx_slab::live::LiveOrders;
@@ -88,15 +87,6 @@ fn close_each(ledger: &mut Ledger, ending: LiveOrders<'_>, near: Near)
     }
 }
 
-/// Takes each of these orders out of the book, if it rests.
-fn take_each_out(book: &mut Book, ending: LiveOrders<'_>)
-    ensures { book.new ≡ each_taken_out ending.entry book.old }
-{
-    for order in ending {
-        take_out(book, order, 0);
-    }
-}
-
 /// Ends the live orders that the command is for: they leave the book, and are counted no more. It
 /// takes no memory. A Kill goes through its account's orders alone.
 pub fn end_orders(
@@ -114,7 +104,7 @@ pub fn end_orders(
     match *action {
         Action::Kill(account) => {
             close_each(ledger, orders.live_of(account), near);
-            take_each_out(book, orders.live_of(account));
+            book.remove_account(account, orders.live_of(account));
             orders.end_account(account, near.user);
         }
         Action::CloseDay => {

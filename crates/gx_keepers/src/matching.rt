@@ -17,7 +17,6 @@ use gx_history::live_order::LiveOrder;
 use gx_history::moves::Move;
 use gx_history::record::Fill;
 use gx_index::Near;
-use gx_market::standing::{leave, put_to_rest};
 use gx_orders::orders::Orders;
 use gx_ouch::CancelReason;
 use gx_policy::Policy;
@@ -50,7 +49,8 @@ fn order_numbered(orders: &Orders, number: u64) -> LiveOrder
 }
 
 /// A fill: both users are told, and each reader of either account; both orders execute its shares,
-/// the one that rested leaves the book where nothing of it is left, and the ledger counts it.
+/// which are taken from the best of the book on the side of the one that rested, and the ledger
+/// counts it.
 fn apply_fill(keepers: &mut Keepers, next: NextRecord<'_>, f: Fill) -> Result<(), OutOfMemory>
     requires takes { IsNext next keepers.old }
     requires fills { next.moves.now ≡ moves.Fills f }
@@ -86,8 +86,12 @@ fn apply_fill(keepers: &mut Keepers, next: NextRecord<'_>, f: Fill) -> Result<()
     )?;
     keepers.orders.fill(f.taker, near_taker.user, f.shares);
     keepers.orders.fill(f.maker, near_maker.user, f.shares);
-    let left = maker.open().saturating_sub(f.shares);
-    leave(&mut keepers.book, &maker, near_maker.stock, left);
+    keepers.book.take_from_best(
+        maker.terms.stock,
+        near_maker.stock,
+        maker.terms.side,
+        f.shares,
+    );
     keepers
         .ledger
         .fill(&taker, near_taker, &maker, near_maker, f.shares, f.price);
@@ -106,7 +110,7 @@ fn apply_rest(keepers: &mut Keepers, next: NextRecord<'_>, number: u64) -> Resul
     ensures kept_before { OnErr result (KeepPlacesBefore next.entry keepers.new) }
 {
     let order = order_numbered(&keepers.orders, number);
-    put_to_rest(&mut keepers.book, &order, next.near.stock)?;
+    keepers.book.rest(&order, next.near.stock)?;
     keepers.orders.rest(number);
     keepers.day.apply(next.moves, next.left.moment);
     Ok(())

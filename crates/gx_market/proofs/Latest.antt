@@ -6,8 +6,8 @@ use Rattle.gx_history.specs.{declared.{live_order.LiveOrder.LiveOrder, «record�
 use Rattle.gx_laws.proofs.{Granting.legal_keeps, NextReports.{legal_next, legal_none}, Numbers.{all_weaker, number_left}, Order.some_same, Owners.all_both, Entered.{all_mapped, all_found_of}, Known.{RestsThere, all_resting}, Live.live_next, Moving.may_by, NewOrders.found_is, Resting.{IsLiving, all_living}, Sides.{AreNew, becomes_same, goes, new_by, puts_to_rest}, Orderly.legal_is_orderly}
 use Rattle.gx_orders.specs.LiveOrders.{OrdersData, first_waiting}
 use Rattle.gx_orders.proofs.{Staying.{live_within, none_at_first}, Finding.comes_first}
-use Rattle.gx_book.specs.declared.resting.Resting.{Resting}
-use Rattle.gx_market.specs.{Changes.resting_of, Laws.FirstIsLatest}
+use Rattle.gx_book.specs.Resting.{RestingData, resting_of}
+use Rattle.gx_market.specs.Laws.{FirstIsLatest}
 use Rattle.gx_market.proofs.Booked.{resting_found}
 
 never : {X : Type 0} {b : Bool} → b ≡ true → b ≡ false → X
@@ -127,8 +127,8 @@ pub first_is_latest : FirstIsLatest
 first_is_latest policy history o legal waits =
     let lives : IsLiving policy history o = found_is (IsLiving policy history) (λ (x : LiveOrder). x.waits) (live policy history) o (all_living policy history legal) waits in
     let sides : AllByRecursion (IsParted o) (live policy history) = parted o (live policy history) (live_ascend policy history legal) waits in
-    subst (AllByRecursion (λ (r : Resting). r.price ≡ o.terms.price → r.number < o.number)) (sym (resting_found policy history o.terms.stock (is_buy o.terms.side) lives.listed))
-    (all_mapped (λ (r : Resting). r.price ≡ o.terms.price → r.number < o.number) resting_of (side policy history o.terms.stock (is_buy o.terms.side))
+    subst (AllByRecursion (λ (r : RestingData). r.price ≡ o.terms.price → r.order < o.number)) (sym (resting_found policy history o.terms.stock (is_buy o.terms.side) lives.listed))
+    (all_mapped (λ (r : RestingData). r.price ≡ o.terms.price → r.order < o.number) resting_of (side policy history o.terms.stock (is_buy o.terms.side))
     (all_weaker (RestsThere policy history o.terms.stock (is_buy o.terms.side)) (λ (x : LiveOrder). x.terms.price ≡ o.terms.price → x.number < o.number)
     (λ x there price. (found_is (IsParted o) (λ (y : LiveOrder). y.number == x.number) (live policy history) x sides there.known.is_found).1 there.rests) (side policy history o.terms.stock (is_buy o.terms.side))
     (all_resting policy history o.terms.stock (is_buy o.terms.side) (legal_is_orderly policy history legal))))

@@ -5,4 +5,3 @@ pub mod Latest
 pub mod Crossing
 pub mod Sound
 pub mod Living
-pub mod TakenOut

@@ -1,19 +1,20 @@
 -- The book has the live orders that do not wait, and no other.
 use Rattle.std.proofs.{Common.{◌≡◌, Bool, true, false, not, List, [], ◌∷◌, refl, ◌∙◌, ap, sym, map, cond}, Math.Path.subst, lemmas.{Bool.{and_from, and_parts, eq-eqb, eqb-true}, Slice.Eq.bytes_eq-Decides}}
 use Rattle.std.specs.{Prelude.{Option, Some, None, ◌==◌, ◌&&◌, ◌||◌, option_map}, Option.option_map_or, List.{AllByRecursion, filter, find, list_any}}
-use Rattle.gx_units.specs.{Names.{same_account, same_stock}, declared.names.Symbol.Symbol}
+use Rattle.gx_units.specs.{Names.{same_account, same_stock}, declared.names.{AccountName.AccountName, Symbol.Symbol}}
 use Rattle.gx_policy.specs.declared.policy.{PolicyData.PolicyData, Stock.Stock}
 use Rattle.gx_history.specs.{declared.{live_order.LiveOrder.LiveOrder, «record».RecordData.RecordData}, Book.{is_buy, is_on, rested}, Live.{has_come, is_there, live, live_numbered, side}, Verdicts.IsLegal}
 use Rattle.gx_laws.proofs.{Names.same_account_flip, Numbers.all_weaker, Order.{IsFirstSuch, first_such, none_such, some_same}, Owners.all_both, Granting.none_pass, Entered.all_mapped, NewOrders.found_is, Ordered.all_parted, Resting.{IsLiving, all_living, same_order}, Known.{RestsThere, all_resting}, BookSides.side_has, Orderly.legal_is_orderly}
-use Rattle.gx_book.specs.{declared.resting.Resting.Resting, Books.{StockOrders, all_orders, both_sides, order_in, resting_in, side_of, stock_in}, Queue.{is_numbered, is_same}}
-use Rattle.gx_market.specs.{BookInForce.{book_in_force, rested_in, stock_in_force}, Changes.resting_of, Laws.{BooksAreLive, LiveWaitOrRest, RestingAreLive}, Standing.{IsLiveBook, IsLiveThere, rests_as}}
+use Rattle.gx_book.specs.{Resting.{RestingData, resting_of}, Account.{AreAllOf, IsOneOf, rests_as}, Books.{StockOrders, all_orders, both_sides, order_in, resting_in, side_of, stock_in}, Queue.{is_numbered, is_same}}
+use Rattle.gx_orders.specs.LiveOrders.{of_account}
+use Rattle.gx_market.specs.{BookInForce.{book_in_force, rested_in, stock_in_force}, Laws.{BooksAreLive, LiveWaitOrRest, RestingAreLive}}
 use Rattle.gx_market.proofs.Booked.{resting_found}
 
 clash : {b : Bool} → b ≡ true → b ≡ false → ⊥
 clash h k = cc
 
 -- an order of the book is a live one that waits no more
-record IsHome (policy : PolicyData) (history : List RecordData) (r : Resting) : Type 0 where
+record IsHome (policy : PolicyData) (history : List RecordData) (r : RestingData) : Type 0 where
   order : LiveOrder
   is : r ≡ resting_of order
   found : live_numbered (live policy history) order.number ≡ Some order
@@ -36,7 +37,7 @@ all_home policy history legal = by policy.stocks
         (all_both (IsHome policy history) (rested_in policy history s.name true) (rested_in policy history s.name false) (on_side s.name true) (on_side s.name false)) (by ss)
 
 -- what holds of all orders of a book holds on each side of each stock
-part_of : (P : Resting → Type 0) (book : List StockOrders) (stock : Symbol) (buy : Bool) → AllByRecursion P (all_orders book) → AllByRecursion P (resting_in book stock buy)
+part_of : (P : RestingData → Type 0) (book : List StockOrders) (stock : Symbol) (buy : Bool) → AllByRecursion P (all_orders book) → AllByRecursion P (resting_in book stock buy)
 part_of P [] stock buy h = tt
 part_of P (s ∷ book) stock buy h = at (same_stock stock s.stock) (part_of P book stock buy halves.1)
   where
@@ -59,10 +60,10 @@ waits_or_rests : (policy : PolicyData) (history : List RecordData) (o : LiveOrde
     → order_in (book_in_force policy history) o.number ≡ cond o.waits None (Some (resting_of o))
 waits_or_rests policy history o legal is = at (order_in (book_in_force policy history) o.number) refl
   where
-    numbered : Resting → Bool
+    numbered : RestingData → Bool
     numbered = is_numbered o.number
 
-    all : List Resting
+    all : List RestingData
     all = all_orders (book_in_force policy history)
 
     stock : Symbol
@@ -89,32 +90,32 @@ waits_or_rests policy history o legal is = at (order_in (book_in_force policy hi
         absurd
         (clash (eq-eqb o.number o.number refl)
         (side_has policy history (λ (x : LiveOrder). (x.number == o.number) ≡ false) stock buy o
-        (unmapped (λ (r : Resting). numbered r ≡ false) resting_of (side policy history stock buy)
-        (subst (AllByRecursion (λ (r : Resting). numbered r ≡ false)) (resting_found policy history stock buy is.listed)
-        (part_of (λ (r : Resting). numbered r ≡ false) (book_in_force policy history) stock buy (none_pass numbered all (none_such numbered all e)))))
+        (unmapped (λ (r : RestingData). numbered r ≡ false) resting_of (side policy history stock buy)
+        (subst (AllByRecursion (λ (r : RestingData). numbered r ≡ false)) (resting_found policy history stock buy is.listed)
+        (part_of (λ (r : RestingData). numbered r ≡ false) (book_in_force policy history) stock buy (none_pass numbered all (none_such numbered all e)))))
         is.found (was_true (has_come (rested history) o.number) (sym is.waits ∙ rests)) there))
 
-    at : (found : Option Resting) → find numbered all ≡ found → found ≡ cond o.waits None (Some (resting_of o))
+    at : (found : Option RestingData) → find numbered all ≡ found → found ≡ cond o.waits None (Some (resting_of o))
     at None e = none_there e o.waits refl
     at (Some r) e =
         let home : IsHome policy history r = found_is (IsHome policy history) numbered all r (all_home policy history legal) e in
         let such : IsFirstSuch numbered all r = first_such numbered all r e in
-        let it : home.order ≡ o = same_order policy history o home.order is.found home.found (sym (ap (λ (x : Resting). x.number) home.is) ∙ eqb-true r.number o.number such.3) in
-        ap (λ (x : Resting). Some x) (home.is ∙ ap resting_of it)
-        ∙ sym (ap (λ (b : Bool). cond {A = Option Resting} b None (Some (resting_of o))) (ap (λ (x : LiveOrder). x.waits) (sym it) ∙ home.rests))
+        let it : home.order ≡ o = same_order policy history o home.order is.found home.found (sym (ap (λ (x : RestingData). x.order) home.is) ∙ eqb-true r.order o.number such.3) in
+        ap (λ (x : RestingData). Some x) (home.is ∙ ap resting_of it)
+        ∙ sym (ap (λ (b : Bool). cond {A = Option RestingData} b None (Some (resting_of o))) (ap (λ (x : LiveOrder). x.waits) (sym it) ∙ home.rests))
 
 pub live_wait_or_rest : LiveWaitOrRest
 live_wait_or_rest policy history legal =
     all_weaker (IsLiving policy history) (λ (o : LiveOrder). order_in (book_in_force policy history) o.number ≡ cond o.waits None (Some (resting_of o))) (λ o is. waits_or_rests policy history o legal is)
     (live policy history) (all_living policy history legal)
 
-resting_is_live : (policy : PolicyData) (history : List RecordData) (r : Resting) → IsHome policy history r → option_map resting_of (live_numbered (live policy history) r.number) ≡ Some r
+resting_is_live : (policy : PolicyData) (history : List RecordData) (r : RestingData) → IsHome policy history r → option_map resting_of (live_numbered (live policy history) r.order) ≡ Some r
 resting_is_live policy history r home =
-    ap (λ (x : Resting). option_map resting_of (live_numbered (live policy history) x.number)) home.is ∙ ap (option_map resting_of) home.found ∙ ap (λ (x : Resting). Some x) (sym home.is)
+    ap (λ (x : RestingData). option_map resting_of (live_numbered (live policy history) x.order)) home.is ∙ ap (option_map resting_of) home.found ∙ ap (λ (x : RestingData). Some x) (sym home.is)
 
 pub resting_are_live : RestingAreLive
 resting_are_live policy history legal =
-    all_weaker (IsHome policy history) (λ (r : Resting). option_map resting_of (live_numbered (live policy history) r.number) ≡ Some r) (resting_is_live policy history)
+    all_weaker (IsHome policy history) (λ (r : RestingData). option_map resting_of (live_numbered (live policy history) r.order) ≡ Some r) (resting_is_live policy history)
     (all_orders (book_in_force policy history)) (all_home policy history legal)
 
 -- ---- whose it is
@@ -154,7 +155,7 @@ any_found p test x (o ∷ os) found passes = at (test o) found (λ later. any_fo
 
 -- an order that rests is one of its account, and of no other
 live_there : (policy : PolicyData) (history : List RecordData) (stock : Symbol) (buy : Bool) (x : LiveOrder) → IsLegal policy history → RestsThere policy history stock buy x
-    → IsLiveThere (live policy history) stock buy (resting_of x)
+    → (account : AccountName) → IsOneOf (of_account account (live policy history)) account stock buy (resting_of x)
 live_there policy history stock buy x legal rests account =
     any_of_one as_it (λ (o : LiveOrder). same_account account o.account) x (live policy history)
     (all_weaker (IsLiving policy history) (λ (o : LiveOrder). as_it o ≡ true → o ≡ x) it_alone (live policy history) (all_living policy history legal))
@@ -180,14 +181,17 @@ live_there policy history stock buy x legal rests account =
 
 pub books_are_live : BooksAreLive
 unfolding book_in_force
-books_are_live policy history legal = by policy.stocks
+books_are_live policy history legal account = by policy.stocks
   where
-    on_side : (stock : Symbol) (buy : Bool) → AllByRecursion (IsLiveThere (live policy history) stock buy) (rested_in policy history stock buy)
+    his : List LiveOrder
+    his = of_account account (live policy history)
+
+    on_side : (stock : Symbol) (buy : Bool) → AllByRecursion (IsOneOf his account stock buy) (rested_in policy history stock buy)
     on_side stock buy =
-        all_mapped (IsLiveThere (live policy history) stock buy) resting_of (side policy history stock buy)
-        (all_weaker (RestsThere policy history stock buy) (λ (o : LiveOrder). IsLiveThere (live policy history) stock buy (resting_of o)) (λ o rests. live_there policy history stock buy o legal rests)
+        all_mapped (IsOneOf his account stock buy) resting_of (side policy history stock buy)
+        (all_weaker (RestsThere policy history stock buy) (λ (o : LiveOrder). IsOneOf his account stock buy (resting_of o)) (λ o rests. live_there policy history stock buy o legal rests account)
         (side policy history stock buy) (all_resting policy history stock buy (legal_is_orderly policy history legal)))
 
-    by : (ss : List Stock) → IsLiveBook (live policy history) (map (stock_in_force policy history) ss)
+    by : (ss : List Stock) → AreAllOf account his (map (stock_in_force policy history) ss)
     by [] = tt
     by (s ∷ ss) = (record { buys = on_side s.name true; sells = on_side s.name false }, by ss)

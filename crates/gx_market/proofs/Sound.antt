@@ -5,8 +5,8 @@ use Rattle.gx_units.specs.{Names.same_stock, declared.names.Symbol.Symbol}
 use Rattle.gx_policy.specs.{declared.policy.{PolicyData.PolicyData, Stock.Stock}, Lists.IsInOrder}
 use Rattle.gx_history.specs.{declared.{live_order.LiveOrder.LiveOrder, «record».RecordData.RecordData}, Book.rested, Matching.crosses, Live.{ahead, is_buy_order, is_there, live, live_numbered, side}, Verdicts.IsLegal}
 use Rattle.gx_laws.proofs.{Judging.both, Numbers.all_weaker, Entered.all_mapped, Known.{RestsThere, all_resting}, NeverCrossed.never_crossed, Among.all_and, Ordered.ordered_by, Orderly.legal_is_orderly, Sides.prices_rank}
-use Rattle.gx_book.specs.{declared.resting.Resting.Resting, Books.is_sound_stock, Queue.{is_better, is_in_order}}
-use Rattle.gx_market.specs.{BookInForce.{book_in_force, rested_in, stock_in_force}, Changes.resting_of, Laws.{BooksAreSound, BooksAreUncrossed, IsUncrossed}}
+use Rattle.gx_book.specs.{Resting.{RestingData, resting_of}, Books.is_sound_stock, Queue.{is_better, is_in_order}}
+use Rattle.gx_market.specs.{BookInForce.{book_in_force, rested_in, stock_in_force}, Laws.{BooksAreSound, BooksAreUncrossed, IsUncrossed}}
 
 both_are : (a b : Bool) → a ≡ true → b ≡ true → (a && b) ≡ true
 both_are a b h k = ap (λ (c : Bool). c && b) h ∙ k
@@ -21,14 +21,14 @@ unfolding side
 side_ordered policy history stock buy =
     ordered_by (ahead buy) (prices_rank buy) (not_ahead buy) [] (filter (is_there stock buy) (filter_map (live_numbered (live policy history)) (rested history))) tt
 
-none_better : (buy : Bool) (o : LiveOrder) (os : List LiveOrder) → AllByRecursion (λ (x : LiveOrder). ahead buy x o ≡ false) os → list_all (λ (later : Resting). not (is_better buy later (resting_of o))) (map resting_of os) ≡ true
+none_better : (buy : Bool) (o : LiveOrder) (os : List LiveOrder) → AllByRecursion (λ (x : LiveOrder). ahead buy x o ≡ false) os → list_all (λ (later : RestingData). not (is_better buy later (resting_of o))) (map resting_of os) ≡ true
 none_better buy o [] h = refl
-none_better buy o (x ∷ os) h = both_are (not (ahead buy x o)) (list_all (λ (later : Resting). not (is_better buy later (resting_of o))) (map resting_of os)) (ap not h.0) (none_better buy o os h.1)
+none_better buy o (x ∷ os) h = both_are (not (ahead buy x o)) (list_all (λ (later : RestingData). not (is_better buy later (resting_of o))) (map resting_of os)) (ap not h.0) (none_better buy o os h.1)
 
 in_order : (buy : Bool) (os : List LiveOrder) → IsInOrder (ahead buy) os → is_in_order buy (map resting_of os) ≡ true
 in_order buy [] h = refl
 in_order buy (o ∷ os) h =
-    both_are (list_all (λ (later : Resting). not (is_better buy later (resting_of o))) (map resting_of os)) (is_in_order buy (map resting_of os)) (none_better buy o os h.0) (in_order buy os h.1)
+    both_are (list_all (λ (later : RestingData). not (is_better buy later (resting_of o))) (map resting_of os)) (is_in_order buy (map resting_of os)) (none_better buy o os h.0) (in_order buy os h.1)
 
 pub books_sound : BooksAreSound
 unfolding book_in_force
@@ -70,8 +70,8 @@ books_uncrossed policy history legal = all_mapped IsUncrossed (stock_in_force po
     by : (ss : List Stock) → AllByRecursion (λ (s : Stock). IsUncrossed (stock_in_force policy history s)) ss
     by [] = tt
     by (s ∷ ss) = (
-      all_mapped (λ (buy : Resting). AllByRecursion (λ (sell : Resting). buy.price < sell.price) (rested_in policy history s.name false)) resting_of (side policy history s.name true)
-          (all_weaker (IsBelowAll (side policy history s.name false)) (λ (b : LiveOrder). AllByRecursion (λ (sell : Resting). b.terms.price < sell.price) (rested_in policy history s.name false))
-          (λ b h. all_mapped (λ (sell : Resting). b.terms.price < sell.price) resting_of (side policy history s.name false) h) (side policy history s.name true) (sides_apart policy history s.name legal)),
+      all_mapped (λ (buy : RestingData). AllByRecursion (λ (sell : RestingData). buy.price < sell.price) (rested_in policy history s.name false)) resting_of (side policy history s.name true)
+          (all_weaker (IsBelowAll (side policy history s.name false)) (λ (b : LiveOrder). AllByRecursion (λ (sell : RestingData). b.terms.price < sell.price) (rested_in policy history s.name false))
+          (λ b h. all_mapped (λ (sell : RestingData). b.terms.price < sell.price) resting_of (side policy history s.name false) h) (side policy history s.name true) (sides_apart policy history s.name legal)),
       by ss,
     )

@@ -1,24 +1,24 @@
 -- What becomes of the book by a turn of the live orders.
 use Rattle.std.proofs.{Common.{◌≡◌, ℕ, Bool, true, false, not, List, [], ◌∷◌, ◌++◌, refl, ◌∙◌, ap, sym, map, cond}, Math.Path.subst, lemmas.{Bool.{eq-eqb, eqb-true, ne_eqb}, List.map-append}}
-use Rattle.std.specs.{Prelude.{Option, Some, None, option_map, ◌==◌, ◌&&◌, ◌||◌, nat_lt}, Option.option_map_or, List.{AllByRecursion, cons_option, filter, filter_map}}
+use Rattle.std.specs.{Prelude.{Option, Some, None, option_map, ◌==◌, ◌&&◌, nat_lt}, Option.option_map_or, List.{AllByRecursion, cons_option, filter, filter_map}}
 use Rattle.gx_units.specs.{Names.same_account, declared.names.Symbol.Symbol}
 use Rattle.gx_desk.specs.declared.Action.{Action}
 use Rattle.gx_policy.specs.{declared.policy.PolicyData.PolicyData, Lists.{placed, where_true}}
-use Rattle.gx_history.specs.{declared.{live_order.LiveOrder.LiveOrder, «record».RecordData.RecordData}, Live.{ahead, is_there, live, live_numbered, side}, Turns.{EndsAll, Rests, becomes, side_turned, while_open}, Verdicts.IsLegal}
+use Rattle.gx_history.specs.{declared.{live_order.LiveOrder.LiveOrder, «record».RecordData.RecordData}, Book.is_buy, Live.{ahead, is_there, live, live_numbered, side}, Turns.{EndsAll, Rests, becomes, side_turned, while_open}, Verdicts.IsLegal}
 use Rattle.gx_laws.proofs.{Names.same_account_flip, Numbers.all_weaker, Resting.same_order, Known.{RestsThere, all_resting}, Orderly.legal_is_orderly}
-use Rattle.gx_book.specs.{declared.resting.Resting.Resting, Queue.{is_same, no_orders, with_order, without_account, without_order}}
+use Rattle.gx_book.specs.{Resting.{RestingData, resting_of}, Books.on_side, Changes.{left_with, put_to_rest, taken_out}, Queue.{is_same, no_orders, with_order, with_shares, without_account, without_order}}
 use Rattle.gx_book.specs.Queue as queue
-use Rattle.gx_market.specs.{BookInForce.{book_in_force, rested_in}, Changes.{ended_by, left_with, put_to_rest, resting_of, taken_out}}
+use Rattle.gx_market.specs.{BookInForce.{book_in_force, rested_in}, Changes.ended_by}
 use Rattle.gx_market.proofs.Booked.{each_side, no_side, one_side}
 
 clash : {b : Bool} → b ≡ true → b ≡ false → ⊥
 clash h k = cc
 
 -- where each goes, or the book holds of it what it held, the others stay in their order
-those_left : (f : LiveOrder → Option LiveOrder) (p : Resting → Bool) (os : List LiveOrder) → AllByRecursion (λ (o : LiveOrder). option_map resting_of (f o) ≡ where_true (p (resting_of o)) (resting_of o)) os
+those_left : (f : LiveOrder → Option LiveOrder) (p : RestingData → Bool) (os : List LiveOrder) → AllByRecursion (λ (o : LiveOrder). option_map resting_of (f o) ≡ where_true (p (resting_of o)) (resting_of o)) os
     → map resting_of (filter_map f os) ≡ filter p (map resting_of os)
 those_left f p [] h = refl
-those_left f p (o ∷ os) h = mapped (f o) ∙ ap (λ (found : Option Resting). cons_option found (map resting_of (filter_map f os))) h.0 ∙ ap (cons_option (where_true (p (resting_of o)) (resting_of o))) (those_left f p os h.1) ∙ at (p (resting_of o))
+those_left f p (o ∷ os) h = mapped (f o) ∙ ap (λ (found : Option RestingData). cons_option found (map resting_of (filter_map f os))) h.0 ∙ ap (cons_option (where_true (p (resting_of o)) (resting_of o))) (those_left f p os h.1) ∙ at (p (resting_of o))
   where
     mapped : (found : Option LiveOrder) → map resting_of (cons_option found (filter_map f os)) ≡ cons_option (option_map resting_of found) (map resting_of (filter_map f os))
     mapped None = refl
@@ -28,11 +28,11 @@ those_left f p (o ∷ os) h = mapped (f o) ∙ ap (λ (found : Option Resting). 
     at true = refl
     at false = refl
 
-all_left : (rs : List Resting) → filter (λ (r : Resting). true) rs ≡ rs
+all_left : (rs : List RestingData) → filter (λ (r : RestingData). true) rs ≡ rs
 all_left [] = refl
-all_left (r ∷ rs) = ap (λ (more : List Resting). r ∷ more) (all_left rs)
+all_left (r ∷ rs) = ap (λ (more : List RestingData). r ∷ more) (all_left rs)
 
-none_left : (rs : List Resting) → filter (λ (r : Resting). false) rs ≡ []
+none_left : (rs : List RestingData) → filter (λ (r : RestingData). false) rs ≡ []
 none_left [] = refl
 none_left (r ∷ rs) = none_left rs
 
@@ -40,7 +40,7 @@ none_left (r ∷ rs) = none_left rs
 abbrev pub SidesTurn : PolicyData → List RecordData → List RecordData → (LiveOrder → Option LiveOrder) → Type 0
 SidesTurn policy before after f = (stock : Symbol) (buy : Bool) → side policy after stock buy ≡ filter_map f (side policy before stock buy)
 
-sides_left : (policy : PolicyData) (before after : List RecordData) (f : LiveOrder → Option LiveOrder) (p : Resting → Bool) (stock : Symbol) (buy : Bool) → IsLegal policy before → SidesTurn policy before after f
+sides_left : (policy : PolicyData) (before after : List RecordData) (f : LiveOrder → Option LiveOrder) (p : RestingData → Bool) (stock : Symbol) (buy : Bool) → IsLegal policy before → SidesTurn policy before after f
     → ((o : LiveOrder) → RestsThere policy before stock buy o → option_map resting_of (f o) ≡ where_true (p (resting_of o)) (resting_of o)) → rested_in policy after stock buy ≡ filter p (rested_in policy before stock buy)
 sides_left policy before after f p stock buy legal turn each =
     ap (map resting_of) (turn stock buy)
@@ -53,19 +53,41 @@ pub book_stays : (policy : PolicyData) (before after : List RecordData) (f : Liv
 book_stays policy before after f legal turn each =
     no_side policy before after (λ stock buy. sides_left policy before after f (λ r. true) stock buy legal turn (λ o there. each o there.known.is_found there.rests) ∙ all_left (rested_in policy before stock buy))
 
--- one order stays where it stands, or goes, and all others stay
-pub one_left : (policy : PolicyData) (before after : List RecordData) (f : LiveOrder → Option LiveOrder) (o : LiveOrder) (stays : Bool) → IsLegal policy before → SidesTurn policy before after f
-    → live_numbered (live policy before) o.number ≡ Some o → option_map resting_of (f o) ≡ where_true stays (resting_of o)
-    → ((x : LiveOrder) → live_numbered (live policy before) x.number ≡ Some x → x.waits ≡ false → (x.number == o.number) ≡ false → f x ≡ Some x)
-    → book_in_force policy after ≡ cond stays (book_in_force policy before) (taken_out o (book_in_force policy before))
-one_left policy before after f o stays legal turn found itself others = by stays refl
+-- what becomes of each order that rests is what becomes of what the book holds of it
+those_turned : (f : LiveOrder → Option LiveOrder) (g : RestingData → Option RestingData) (os : List LiveOrder) → AllByRecursion (λ (o : LiveOrder). option_map resting_of (f o) ≡ g (resting_of o)) os
+    → map resting_of (filter_map f os) ≡ filter_map g (map resting_of os)
+those_turned f g [] h = refl
+those_turned f g (o ∷ os) h = mapped (f o) ∙ ap (λ (found : Option RestingData). cons_option found (map resting_of (filter_map f os))) h.0 ∙ ap (cons_option (g (resting_of o))) (those_turned f g os h.1)
   where
+    mapped : (found : Option LiveOrder) → map resting_of (cons_option found (filter_map f os)) ≡ cons_option (option_map resting_of found) (map resting_of (filter_map f os))
+    mapped None = refl
+    mapped (Some x) = refl
+
+-- one order turned so, and all others as they were
+abbrev one_so : RestingData → (RestingData → Option RestingData) → RestingData → Option RestingData
+one_so order k r = cond (is_same order r) (k r) (Some r)
+
+one_turned : (policy : PolicyData) (before after : List RecordData) (f : LiveOrder → Option LiveOrder) (o : LiveOrder) (k : RestingData → Option RestingData) → IsLegal policy before → SidesTurn policy before after f
+    → live_numbered (live policy before) o.number ≡ Some o → option_map resting_of (f o) ≡ k (resting_of o)
+    → ((x : LiveOrder) → live_numbered (live policy before) x.number ≡ Some x → x.waits ≡ false → (x.number == o.number) ≡ false → f x ≡ Some x)
+    → book_in_force policy after ≡ on_side o.terms.stock (is_buy o.terms.side) (filter_map (one_so (resting_of o) k)) (book_in_force policy before)
+one_turned policy before after f o k legal turn found itself others =
+    one_side policy before after o.terms.stock o.terms.side (λ buy. filter_map (one_so (resting_of o) k)) (λ stock buy.
+    ap (map resting_of) (turn stock buy)
+    ∙ those_turned f (there_so stock buy) (side policy before stock buy)
+    (all_weaker (RestsThere policy before stock buy) (λ (x : LiveOrder). option_map resting_of (f x) ≡ there_so stock buy (resting_of x)) (each stock buy) (side policy before stock buy)
+    (all_resting policy before stock buy (legal_is_orderly policy before legal)))
+    ∙ home (rested_in policy before stock buy) (is_there stock buy o))
+  where
+    there_so : Symbol → Bool → RestingData → Option RestingData
+    there_so stock buy r = cond (is_there stock buy o && is_same (resting_of o) r) (k r) (Some r)
+
     it : (x : LiveOrder) → live_numbered (live policy before) x.number ≡ Some x → (x.number == o.number) ≡ true → x ≡ o
     it x also same = same_order policy before o x found also (eqb-true x.number o.number same)
 
-    becomes_so : (x : LiveOrder) → live_numbered (live policy before) x.number ≡ Some x → x.waits ≡ false → (b : Bool) → (x.number == o.number) ≡ b → option_map resting_of (f x) ≡ where_true (not b || stays) (resting_of x)
-    becomes_so x also rests true same = subst (λ (y : LiveOrder). option_map resting_of (f y) ≡ where_true stays (resting_of y)) (sym (it x also same)) itself
-    becomes_so x also rests false other = ap (option_map resting_of) (others x also rests other)
+    never : (b : Bool) → (b && false) ≡ false
+    never true = refl
+    never false = refl
 
     -- an order of one side is told from others by its number
     told : (stock : Symbol) (buy : Bool) (x : LiveOrder) → RestsThere policy before stock buy x → (b : Bool) → (x.number == o.number) ≡ b → (is_there stock buy o && is_same (resting_of o) (resting_of x)) ≡ b
@@ -77,42 +99,68 @@ one_left policy before after f o stays legal turn found itself others = by stays
     told stock buy x there false other =
         ap (λ (b : Bool). is_there stock buy o && (b && (o.terms.price == x.terms.price))) (ne_eqb o.number x.number (λ same. clash (eq-eqb x.number o.number (sym same)) other))
         ∙ never (is_there stock buy o)
-      where
-        never : (b : Bool) → (b && false) ≡ false
-        never true = refl
-        never false = refl
 
-    by : (b : Bool) → stays ≡ b → book_in_force policy after ≡ cond b (book_in_force policy before) (taken_out o (book_in_force policy before))
-    by true e =
-        book_stays policy before after f legal turn
-        (λ x also rests. becomes_so x also rests (x.number == o.number) refl ∙ ap (λ (b : Bool). where_true (not (x.number == o.number) || b) (resting_of x)) e ∙ ap (λ (b : Bool). where_true b (resting_of x)) (always (not (x.number == o.number))))
-      where
-        always : (b : Bool) → (b || true) ≡ true
-        always true = refl
-        always false = refl
-    by false e =
-        one_side policy before after o.terms.stock o.terms.side (λ buy. without_order (resting_of o)) (λ stock buy.
-        sides_left policy before after f (λ r. not (is_there stock buy o && is_same (resting_of o) r)) stock buy legal turn (λ x there.
+    becomes_so : (x : LiveOrder) → live_numbered (live policy before) x.number ≡ Some x → x.waits ≡ false → (b : Bool) → (x.number == o.number) ≡ b → option_map resting_of (f x) ≡ cond b (k (resting_of x)) (Some (resting_of x))
+    becomes_so x also rests true same = subst (λ (y : LiveOrder). option_map resting_of (f y) ≡ k (resting_of y)) (sym (it x also same)) itself
+    becomes_so x also rests false other = ap (option_map resting_of) (others x also rests other)
+
+    each : (stock : Symbol) (buy : Bool) (x : LiveOrder) → RestsThere policy before stock buy x → option_map resting_of (f x) ≡ there_so stock buy (resting_of x)
+    each stock buy x there =
         becomes_so x there.known.is_found there.rests (x.number == o.number) refl
-        ∙ ap (λ (b : Bool). where_true (not (x.number == o.number) || b) (resting_of x)) e
-        ∙ ap (λ (b : Bool). where_true b (resting_of x)) (or_not (not (x.number == o.number)) ∙ ap not (sym (told stock buy x there (x.number == o.number) refl))))
-        ∙ home (rested_in policy before stock buy) (is_there stock buy o))
-      where
-        or_not : (b : Bool) → (b || false) ≡ b
-        or_not true = refl
-        or_not false = refl
+        ∙ ap (λ (b : Bool). cond b (k (resting_of x)) (Some (resting_of x))) (sym (told stock buy x there (x.number == o.number) refl))
 
-        home : (rs : List Resting) (b : Bool) → filter (λ r. not (b && is_same (resting_of o) r)) rs ≡ cond b (without_order (resting_of o) rs) rs
-        home rs true = refl
-        home rs false = all_left rs
+    as_they_were : (rs : List RestingData) → filter_map (λ (r : RestingData). Some r) rs ≡ rs
+    as_they_were [] = refl
+    as_they_were (r ∷ rs) = ap (λ (more : List RestingData). r ∷ more) (as_they_were rs)
+
+    home : (rs : List RestingData) (b : Bool) → filter_map (λ r. cond (b && is_same (resting_of o) r) (k r) (Some r)) rs ≡ cond b (filter_map (one_so (resting_of o) k) rs) rs
+    home rs true = refl
+    home rs false = as_they_were rs
+
+-- turned to nothing, it goes
+goes_so : (order : RestingData) (rs : List RestingData) → filter_map (one_so order (λ r. None)) rs ≡ without_order order rs
+goes_so order [] = refl
+goes_so order (r ∷ rs) = at (is_same order r) (goes_so order rs)
+  where
+    at : (b : Bool) → filter_map (one_so order (λ x. None)) rs ≡ without_order order rs
+        → cons_option (cond b None (Some r)) (filter_map (one_so order (λ x. None)) rs) ≡ cond (not b) (r ∷ without_order order rs) (without_order order rs)
+    at true more = more
+    at false more = ap (λ (xs : List RestingData). r ∷ xs) more
+
+-- with other shares, it stays
+stays_so : (order : RestingData) (shares : ℕ) (rs : List RestingData) → filter_map (one_so order (λ r. Some (record r { shares = shares }))) rs ≡ with_shares order shares rs
+stays_so order shares [] = refl
+stays_so order shares (r ∷ rs) = at (is_same order r) (stays_so order shares rs)
+  where
+    at : (b : Bool) → filter_map (one_so order (λ x. Some (record x { shares = shares }))) rs ≡ with_shares order shares rs
+        → cons_option (cond b (Some (record r { shares = shares })) (Some r)) (filter_map (one_so order (λ x. Some (record x { shares = shares }))) rs) ≡ cond b (record r { shares = shares }) r ∷ with_shares order shares rs
+    at true more = ap (λ (xs : List RestingData). record r { shares = shares } ∷ xs) more
+    at false more = ap (λ (xs : List RestingData). r ∷ xs) more
+
+-- with so many shares it stays where it stands, or goes where none are left
+left_so : (order : RestingData) (shares : ℕ) (b : Bool) (rs : List RestingData) → nat_lt 0 shares ≡ b
+    → filter_map (one_so order (λ r. where_true b (record r { shares = shares }))) rs ≡ queue.left_with order shares rs
+left_so order shares true rs is = stays_so order shares rs ∙ ap (λ (b : Bool). cond b (with_shares order shares rs) (without_order order rs)) (sym is)
+left_so order shares false rs is = goes_so order rs ∙ ap (λ (b : Bool). cond b (with_shares order shares rs) (without_order order rs)) (sym is)
+
+-- one order goes, and all others stay
+pub one_goes : (policy : PolicyData) (before after : List RecordData) (f : LiveOrder → Option LiveOrder) (o : LiveOrder) → IsLegal policy before → SidesTurn policy before after f
+    → live_numbered (live policy before) o.number ≡ Some o → f o ≡ None
+    → ((x : LiveOrder) → live_numbered (live policy before) x.number ≡ Some x → x.waits ≡ false → (x.number == o.number) ≡ false → f x ≡ Some x)
+    → book_in_force policy after ≡ taken_out o (book_in_force policy before)
+one_goes policy before after f o legal turn found ends others =
+    one_turned policy before after f o (λ r. None) legal turn found (ap (option_map resting_of) ends) others
+    ∙ (λ i. on_side o.terms.stock (is_buy o.terms.side) (λ rs. goes_so (resting_of o) rs i) (book_in_force policy before))
 
 -- so many shares of an order are left that is changed in size or fills alone
 pub order_left : (policy : PolicyData) (before after : List RecordData) (f : LiveOrder → Option LiveOrder) (o x : LiveOrder) (shares : ℕ) → IsLegal policy before → SidesTurn policy before after f
-    → live_numbered (live policy before) o.number ≡ Some o → f o ≡ while_open x → resting_of x ≡ resting_of o → nat_lt x.done x.total ≡ nat_lt 0 shares
+    → live_numbered (live policy before) o.number ≡ Some o → f o ≡ while_open x → resting_of x ≡ record (resting_of o) { shares = shares } → nat_lt x.done x.total ≡ nat_lt 0 shares
     → ((y : LiveOrder) → live_numbered (live policy before) y.number ≡ Some y → y.waits ≡ false → (y.number == o.number) ≡ false → f y ≡ Some y)
     → book_in_force policy after ≡ left_with o shares (book_in_force policy before)
-order_left policy before after f o x shares legal turn found becomes_so same some others =
-    one_left policy before after f o (nat_lt 0 shares) legal turn found (ap (option_map resting_of) becomes_so ∙ at (nat_lt x.done x.total) ∙ ap (λ (r : Resting). where_true (nat_lt x.done x.total) r) same ∙ ap (λ (b : Bool). where_true b (resting_of o)) some) others
+order_left policy before after f o x shares legal turn found becomes_so is some others =
+    one_turned policy before after f o (λ r. where_true (nat_lt 0 shares) (record r { shares = shares })) legal turn found
+    (ap (option_map resting_of) becomes_so ∙ at (nat_lt x.done x.total) ∙ ap (λ (r : RestingData). where_true (nat_lt x.done x.total) r) is ∙ ap (λ (b : Bool). where_true b (record (resting_of o) { shares = shares })) some) others
+    ∙ (λ i. on_side o.terms.stock (is_buy o.terms.side) (λ rs. left_so (resting_of o) shares (nat_lt 0 shares) rs refl i) (book_in_force policy before))
   where
     at : (b : Bool) → option_map resting_of (cond b (Some x) None) ≡ where_true b (resting_of x)
     at true = refl
@@ -155,7 +203,7 @@ book_rests policy before after number o found turn =
     at : (buy : Bool) (os : List LiveOrder) (b : Bool) → map resting_of (cond b (placed (ahead buy) os (record o { waits = false })) os) ≡ cond b (with_order buy (resting_of o) (map resting_of os)) (map resting_of os)
     at buy os true = placed_mapped (ahead buy) (queue.is_better buy) (λ x. refl) os (record o { waits = false })
       where
-        placed_mapped : (p : LiveOrder → LiveOrder → Bool) (q : Resting → Resting → Bool) → ((x : LiveOrder) → p x ≡ (λ (y : LiveOrder). q (resting_of x) (resting_of y))) → (os : List LiveOrder) (x : LiveOrder)
+        placed_mapped : (p : LiveOrder → LiveOrder → Bool) (q : RestingData → RestingData → Bool) → ((x : LiveOrder) → p x ≡ (λ (y : LiveOrder). q (resting_of x) (resting_of y))) → (os : List LiveOrder) (x : LiveOrder)
             → map resting_of (placed p os x) ≡ placed q (map resting_of os) (resting_of x)
         placed_mapped p q same os x =
             ap (λ (test : LiveOrder → Bool). map resting_of (filter (λ y. not (test y)) os ++ x ∷ filter test os)) (same x)

@@ -3,11 +3,10 @@ use Rattle.std.specs.Prelude.{Bool, true, false, List, map}
 use Rattle.gx_units.specs.declared.names.Symbol.{Symbol}
 use Rattle.gx_policy.specs.declared.policy.{PolicyData.PolicyData, Stock.Stock}
 use Rattle.gx_history.specs.{declared.record.RecordData.RecordData, Live.side}
-use Rattle.gx_book.specs.{declared.resting.Resting.Resting, Books.StockOrders}
-use Rattle.gx_market.specs.Changes.{resting_of}
+use Rattle.gx_book.specs.{Resting.{RestingData, resting_of}, Books.StockOrders}
 
 -- what the book holds on one side of a stock, true for buys
-abbrev pub rested_in : PolicyData → List RecordData → Symbol → Bool → List Resting
+abbrev pub rested_in : PolicyData → List RecordData → Symbol → Bool → List RestingData
 rested_in policy history stock buy = map resting_of (side policy history stock buy)
 
 -- both sides of a stock

@@ -1,12 +1,10 @@
 -- What the definitions say of every legal history, in the words of the orders and the book that are kept.
 use Rattle.std.specs.{Prelude.{◌≡◌, ℕ, ◌<◌, IsTrue, List, [], ◌∷◌, ◌++◌, Some, None, option_map, if◌then◌else◌}, List.AllByRecursion}
-use Rattle.gx_units.specs.declared.names.AccountName.{AccountName}
-use Rattle.gx_desk.specs.declared.Action.{Action}
 use Rattle.gx_policy.specs.declared.policy.PolicyData.{PolicyData}
 use Rattle.gx_history.specs.{declared.{live_order.LiveOrder.LiveOrder, moves.Move.Move, «record».{RecordData.RecordData, Step.Step}}, Book.is_buy, Live.live, Matching.matching, Verdicts.{IsLegal, next}, World.Does}
-use Rattle.gx_book.specs.{declared.resting.Resting.Resting, Books.{StockOrders, all_orders, empty_book, is_sound_book, order_in, resting_in}, Queue.IsLatest}
-use Rattle.gx_orders.specs.{InForce.orders_in_force, LiveOrders.{first_waiting, live_numbered, of_account}}
-use Rattle.gx_market.specs.{BookInForce.book_in_force, Changes.{book_moved, each_taken_out, ended_by, resting_of}, Standing.IsLiveBook, Meeting.{match_record, next_met}}
+use Rattle.gx_book.specs.{Resting.{RestingData, resting_of}, Books.{StockOrders, all_orders, empty_book, is_sound_book, order_in, resting_in}, Queue.IsLatest}
+use Rattle.gx_orders.specs.{InForce.orders_in_force, LiveOrders.{first_waiting, live_numbered}}
+use Rattle.gx_market.specs.{BookInForce.book_in_force, Changes.book_moved, Standing.IsLiveBook, Meeting.{match_record, next_met}}
 
 -- before any record nothing rests
 abbrev pub NoneRestsAtFirst : Type 0
@@ -37,7 +35,7 @@ NextRecordIsMet = (policy : PolicyData) (history : List RecordData) (handed : �
 
 -- each buy that rests in the stock is for less than each sell
 abbrev pub IsUncrossed : StockOrders → Type 0
-IsUncrossed s = AllByRecursion (λ (buy : Resting). AllByRecursion (λ (sell : Resting). buy.price < sell.price) s.sells) s.buys
+IsUncrossed s = AllByRecursion (λ (buy : RestingData). AllByRecursion (λ (sell : RestingData). buy.price < sell.price) s.sells) s.buys
 
 -- no book is crossed
 abbrev pub BooksAreUncrossed : Type 0
@@ -58,14 +56,9 @@ LiveWaitOrRest = (policy : PolicyData) (history : List RecordData)
 abbrev pub RestingAreLive : Type 0
 RestingAreLive = (policy : PolicyData) (history : List RecordData)
     → IsLegal policy history
-    → AllByRecursion (λ (r : Resting). option_map resting_of (live_numbered (live policy history) r.number) ≡ Some r)
+    → AllByRecursion (λ (r : RestingData). option_map resting_of (live_numbered (live policy history) r.order) ≡ Some r)
     (all_orders (book_in_force policy history))
 
 -- where it rests, and as one of its own account and of no other
 abbrev pub BooksAreLive : Type 0
 BooksAreLive = (policy : PolicyData) (history : List RecordData) → IsLegal policy history → IsLiveBook (live policy history) (book_in_force policy history)
-
--- the live orders of an account taken out one after the other: that is what a Kill does
-abbrev pub KillTakesLiveOrders : Type 0
-KillTakesLiveOrders = (live : List LiveOrder) (book : List StockOrders) (account : AccountName)
-    → IsLiveBook live book → each_taken_out (of_account account live) book ≡ ended_by (Action.Kill account) book

@@ -1,15 +1,16 @@
 //! Laws of the definitions, each as what a function without a body ensures.
 
-ghost use Rattle.gx_market.specs.Laws.{BooksAreLive, BooksAreSound, BooksAreUncrossed, BooksGoOn, FirstIsLatest, KillTakesLiveOrders, LiveWaitOrRest, NextIsMet, NextRecordIsMet, NoneRestsAtFirst, RestingAreLive};
+ghost use Rattle.gx_market.specs.Laws.{BooksAreLive, BooksAreSound, BooksAreUncrossed, BooksGoOn, FirstIsLatest, LiveWaitOrRest, NextIsMet, NextRecordIsMet, NoneRestsAtFirst, RestingAreLive};
 
 /// Before any record nothing rests.
 pub fn book_at_first()
     ensures { NoneRestsAtFirst }
 {}
 
-/// What one more record does is done to the book: a Cancel or a fill takes an order out where nothing of it is left, a
-/// Replace the old one, a Kill or Close Day those that it ends; an order that comes to rest is put behind all of equal or
-/// better price. Nothing else changes it.
+/// What one more record does is done to the book: a Cancel takes so many shares from its order and a fill from the best on
+/// the other side, which stay where they stand, or go where none are left; a Replace takes the old order out, a Kill or
+/// Close Day those that it ends; an order that comes to rest is put behind all of equal or better price. Nothing else
+/// changes it.
 pub fn books_go_on()
     ensures { BooksGoOn }
 {}
@@ -35,8 +36,7 @@ pub fn live_orders_wait_or_rest()
 /// the account's live orders out, one after the other, takes out all that rests of the account,
 /// and nothing else.
 pub fn a_kill_takes_live_orders()
-    ensures live { BooksAreLive }
-    ensures taken { KillTakesLiveOrders }
+    ensures { BooksAreLive }
 {}
 
 /// Each side has the better price first.

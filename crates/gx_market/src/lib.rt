@@ -3,4 +3,3 @@
 
 pub mod laws;
 pub mod meeting;
-pub mod standing;

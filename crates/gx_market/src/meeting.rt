@@ -1,43 +1,36 @@
 //! The next execution: the first order that waits, against the best that rests on the other side of its stock.
 
 ghost use Rattle.std.specs.Prelude.{◌≡◌, not};
-ghost use Rattle.gx_history.specs.{Book.is_buy, Matching.{crosses, unmatched}};
-ghost use Rattle.gx_market.specs.Meeting.{best_against, met};
+ghost use Rattle.gx_history.specs.{Book.is_buy, Matching.unmatched};
+ghost use Rattle.gx_market.specs.Meeting.{best_against, meets, met};
 
 use gx_book::book::Book;
-use gx_book::resting::is_buy;
+use gx_book::resting::{Resting, is_buy};
 use gx_history::live_order::LiveOrder;
 use gx_history::record::{Fill, Verdict};
-use gx_orders::orders::Orders;
 
 /// The time in force of an order that does not rest.
 const IMMEDIATE_OR_CANCEL: u32 = 0;
 
 /// The best that rests on the other side of the order's stock, which is looked for at this place of the policy's stocks
 /// first.
-pub fn best_against(
-    book: &Book,
-    orders: &Orders,
-    order: &LiveOrder,
-    near: usize,
-) -> Option<LiveOrder>
-    ensures { result ≡ best_against book.now orders.now.live order.now }
+pub fn best_against(book: &Book, order: &LiveOrder, near: usize) -> Option<Resting>
+    ensures { result ≡ best_against book.now order.now }
 {
-    let best = book.best(order.terms.stock, near, opposite(order.terms.side))?;
-    orders.numbered(best.number)
+    book.best(order.terms.stock, near, opposite(order.terms.side))
 }
 
 /// What becomes of an order that waits, over the best on the other side: a fill at the price of the one that rests
 /// where they meet; else it comes to rest, or ends where it is immediate-or-cancel.
-pub fn met(order: &LiveOrder, best: Option<LiveOrder>) -> Verdict
+pub fn met(order: &LiveOrder, best: Option<Resting>) -> Verdict
     ensures { result ≡ met order.now best }
 {
     match best {
         Some(best) if meets(order, &best) => Verdict::Filled(Fill {
             taker: order.number,
-            maker: best.number,
-            shares: order.open().min(best.open()),
-            price: best.terms.price,
+            maker: best.order(),
+            shares: order.open().min(best.shares()),
+            price: best.price(),
         }),
         _ => unmet(order),
     }
@@ -50,13 +43,13 @@ fn opposite(side: u8) -> u8
     if is_buy(side) { b'S' } else { b'B' }
 }
 
-fn meets(order: &LiveOrder, best: &LiveOrder) -> bool
-    ensures { result ≡ crosses order.now best.now }
+fn meets(order: &LiveOrder, best: &Resting) -> bool
+    ensures { result ≡ meets order.now best.now }
 {
     if is_buy(order.terms.side) {
-        best.terms.price <= order.terms.price
+        best.price() <= order.terms.price
     } else {
-        order.terms.price <= best.terms.price
+        order.terms.price <= best.price()
     }
 }
 

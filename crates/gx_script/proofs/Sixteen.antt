@@ -1,9 +1,7 @@
 -- Sixteen bytes of a line at once.
 use Rattle.std.proofs.{Common.{◌≡◌, ◌≢◌, ℕ, suc, zero, ◌+◌, ◌-◌, ◌%◌, ◌^◌, ◌≤◌, ◌<◌, Bool, true, false, not, ◌&&◌, ◌||◌, cond, List, [], ◌∷◌, ◌++◌, length, take, slice_get, slice_index_or, replicate, map, leb, ltb, eqb, bit_or, w8, subst, refl, sym, ap, ◌∙◌, arith}, lemmas.{Bool.{and_from, eqb-true, le-ltb, lt-ltb}, List.{length-map, length-take, take-replicate}, Simd.{bitmask_splat, first_set_mask_l, mask_l-mod, map-map, tops_compared, zip2_of_maps, zip2_splat, zip2_splat_left}}}
-use Rattle.std.specs.List.{prefix_len, range_with_len}
-use Rattle.std.specs.{Prelude.{IfSome, IsFalse}, List.list_all}
+use Rattle.std.specs.{List.{prefix_len, range_with_len, list_all}, Prelude.{IfSome, IsFalse}, Simd.Lanes.{mask_l, sel_l, top, zip2}}
 use lib.Count.{count_trailing_zeros}
-use Rattle.std.specs.Simd.Lanes.{mask_l, sel_l, top, zip2}
 use Rattle.gx_units.specs.Spelling.{is_space, padded}
 use Rattle.gx_script.specs.Words.{is_visible}
 

@@ -3,8 +3,7 @@ use Rattle.std.proofs.{Common.{◌≡◌, ℕ, zero, suc, ◌-◌, ◌≤◌, Bo
 use Rattle.std.specs.{Prelude.{Option, Some, None, option_map, bytes_eq, codes, nat_le, if◌then◌else◌}}
 use Rattle.gx_units.specs.Spelling.{is_space, padded, folded_user}
 use Rattle.gx_script.specs.{declared.line.ScriptLine.{ScriptLine, TheVariants.{Match, Settle}}, Words.{◌>>=◌, first, has_no_space, is_done, is_name, name_of, number_of}, ScriptLines.{asked_line, last_line, line_of_words, step_line, stream_line, timed_line, user_line}}
-use Rattle.gx_script.proofs.Fronts.{padded_behind}
-use Rattle.gx_script.proofs.Reading.{visible_clear}
+use Rattle.gx_script.proofs.{Fronts.padded_behind, Reading.visible_clear}
 
 abbrev got : {A : Type 0} → A → Option A → A
 got d None = d

@@ -1,7 +1,6 @@
 //! Sixteen bytes of a line at once.
 
-ghost use Rattle.std.specs.{Prelude.{◌≡◌, ◌≤◌, not, map, length, take, replicate, ◌++◌, ◌-◌}, List.prefix_len};
-ghost use Rattle.std.specs.Simd.Lanes.{mask_l};
+ghost use Rattle.std.specs.{Prelude.{◌≡◌, ◌≤◌, not, map, length, take, replicate, ◌++◌, ◌-◌}, List.prefix_len, Simd.Lanes.mask_l};
 ghost use Rattle.gx_units.specs.Spelling.{is_space};
 ghost use Rattle.gx_script.specs.Words.{is_visible};
 

@@ -2,7 +2,7 @@ use Rattle.std.proofs.{Common.{ℕ, refl, sym, ap, ◌∙◌, ◌∷◌, [], ◌
 use Rattle.std.specs.Prelude.{Some}
 use Rattle.gx_ouch.specs.declared.letters.CancelReason.{CancelReason}
 use Rattle.gx_history.specs.{declared.moves.Move.Move, Streams.canceled_of}
-use Rattle.gx_market.specs.Changes.{left_with}
+use Rattle.gx_book.specs.Changes.{reduced}
 use Rattle.gx_streams.specs.Laws.{TellsOne}
 use Rattle.gx_keepers.proofs.{Carrying.{cancel_tells, day_so, has_place, one_goes_on, takes_so}, Figuring.cancel_figured, Rooms.telling_keeps_room}
 use Rattle.gx_keepers.proofs.apply.apply_cancel.Goals as goal
@@ -19,7 +19,7 @@ returns-clause-after c =
     (sym (c.canceled-message.ensures ∙ ap (λ (n : ℕ). canceled_of CancelReason.UserRequested n c.args.cut.now) c.cut_from-fewer.ensures))
     (cancel_tells c.args.next.policy.now c.args.next.history.now.records c.args.next.left.now c.args.cut.now c.args.size t.does))
     refl refl refl (day_so c.args.next.left.now c.args.next.moves.now (Move.Sizes c.args.cut.now c.args.size) c.args.keepers.now.day _ c.requires.sizes c.apply.ensures) (λ i. record { live = c.cut.ensures.live i; used = c.cut.ensures.used i })
-    (c.leave.ensures ∙ ap (λ (n : ℕ). left_with c.args.cut.now n c.args.keepers.now.book) c.saturating_sub.ensures)
+    (c.reduce.ensures ∙ ap (λ (n : ℕ). reduced c.args.cut.now n c.args.keepers.now.book) c.cut_from-fewer.ensures)
     (cancel_figured c.args.next.policy.now c.args.next.history.now.records c.args.next.left.now c.args.cut.now c.args.size c.args.keepers.now c.cut_from-fewer.result _ t c.cut_from-fewer.ensures c.cut-2.ensures.cut) c.tell.ensures
 
 pub returns-clause-room : goal.returns-clause-room

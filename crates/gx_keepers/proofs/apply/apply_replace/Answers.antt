@@ -30,7 +30,7 @@ returns-clause-ok c =
     one_goes_on c.args.next.policy.now c.args.next.history.now.records (Move.Replaces c.args.old.now c.args.new.now) c.args.next.left.now c.args.keepers.now _ c.args.old.now.user (Some c.replaced-message.result) t
     (subst (TellsOne c.args.next.policy.now c.args.next.history.now.records (c.args.next.history.now.records ++ c.args.next.left.now ∷ []) c.args.next.left.now c.args.old.now.user) (sym c.replaced-message.ensures) (replace_tells c.args.next.policy.now c.args.next.history.now.records c.args.next.left.now c.args.old.now c.args.new.now t.does))
     refl refl refl (day_so c.args.next.left.now c.args.next.moves.now (Move.Replaces c.args.old.now c.args.new.now) c.args.keepers.now.day _ c.requires.replaces c.apply.ensures)
-    (λ i. record { live = (c.end.ensures.live ∙ ap (without c.args.old.now.number) c.in_ok-enter.ensures.live) i; used = (c.end.ensures.used ∙ c.in_ok-enter.ensures.used) i }) c.take_out.ensures
+    (λ i. record { live = (c.end.ensures.live ∙ ap (without c.args.old.now.number) c.in_ok-enter.ensures.live) i; used = (c.end.ensures.used ∙ c.in_ok-enter.ensures.used) i }) c.remove.ensures.removed
     (replace_figured c.args.next.policy.now c.args.next.history.now.records c.args.next.left.now c.args.old.now c.args.new.now c.args.keepers.now _ t
     (ended_then_accepted c.args.old.now c.args.new.now c.args.next.left.now.moment c.args.keepers.now.ledger c.close.new.self c.accept.new.self c.close.ensures.closed c.accept.ensures.accepted)) c.tell.ensures
 

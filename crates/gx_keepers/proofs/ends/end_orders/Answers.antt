@@ -1,7 +1,9 @@
-use Rattle.std.proofs.Common.{List, subst}
+use Rattle.std.proofs.Common.{List, ap, sym, subst, ◌∙◌}
 use Rattle.gx_history.specs.declared.live_order.LiveOrder.{LiveOrder}
+use Rattle.gx_desk.specs.declared.Action.{Action}
+use Rattle.gx_market.specs.Changes.{ended_by}
 use Rattle.gx_ledger.specs.Following.{ClosesAll}
-use Rattle.gx_keepers.proofs.{Commanded.none_ends_by_default, Ending.{close_day_closes, kill_closes, kill_takes_out}, Figuring.none_to_close}
+use Rattle.gx_keepers.proofs.{Commanded.none_ends_by_default, Ending.{close_day_closes, all_are_his, kill_closes}, Figuring.none_to_close}
 use Rattle.gx_keepers.proofs.ends.end_orders.Goals as goal
 
 pub returns-in-Kill-clause-closed : goal.returns-in-Kill-clause-closed
@@ -9,9 +11,11 @@ returns-in-Kill-clause-closed c =
     kill_closes c.args.action.now c.in-Kill.account c.args.orders.now.live c.args.ledger.now c.close_each.new.ledger c.in-Kill.is
     (subst (λ (os : List LiveOrder). ClosesAll os c.args.ledger.now c.close_each.new.ledger) c.live_of.ensures c.close_each.ensures)
 
+pub remove_account-requires : goal.remove_account-requires
+remove_account-requires c = record { all = all_are_his c.in-Kill.account c.args.orders.now.live c.live_of-in-Kill.result c.args.book.now c.requires c.live_of-in-Kill.ensures }
+
 pub returns-in-Kill-clause-taken : goal.returns-in-Kill-clause-taken
-returns-in-Kill-clause-taken c =
-    kill_takes_out c.args.action.now c.in-Kill.account c.args.orders.now.live c.live_of-in-Kill.result c.args.book.now c.take_each_out.new.book c.in-Kill.is c.requires c.live_of-in-Kill.ensures c.take_each_out.ensures
+returns-in-Kill-clause-taken c = c.remove_account.ensures.removed ∙ ap (λ (a : Action). ended_by a c.args.book.now) (sym c.in-Kill.is)
 
 pub returns-in-CloseDay-clause-closed : goal.returns-in-CloseDay-clause-closed
 returns-in-CloseDay-clause-closed c =

@@ -1,4 +1,4 @@
-use Rattle.std.proofs.{Common.{◌-◌, ℕ, List, refl, ◌∙◌, ap, sym}, Math.Path.subst}
+use Rattle.std.proofs.{Common.{List, refl, ◌∙◌, ap, sym}, Math.Path.subst}
 use Rattle.std.specs.Prelude.{IfSome}
 use Rattle.gx_history.specs.declared.{live_order.LiveOrder.LiveOrder, moves.Move.Move}
 use Rattle.gx_orders.specs.LiveOrders.{HasOpen, filled_at, live_numbered}
@@ -29,14 +29,14 @@ fill-requires-2 c =
 
 pub returns-clause-ok : goal.returns-clause-ok
 returns-clause-ok c =
-    fill_goes_on c.args.next.policy.now c.args.next.history.now.records c.args.next.left.now c.args.keepers.now _ c.args.f c.order_numbered-taker.result c.order_numbered-maker.result _ c.side_of.result c.side_of-2.result _
-    (takes_so c.args.next.policy.now c.args.next.history.now.records c.args.next.moves.now (Move.Fills c.args.f) c.args.next.left.now c.args.keepers.now c.requires.fills c.requires.takes) c.order_numbered-taker.ensures.found c.order_numbered-maker.ensures.found (c.saturating_sub-left.ensures ∙ ap (λ (n : ℕ). n - c.args.f.shares) c.open.ensures) c.rules.ensures.sound
+    fill_goes_on c.args.next.policy.now c.args.next.history.now.records c.args.next.left.now c.args.keepers.now _ c.args.f c.order_numbered-taker.result c.order_numbered-maker.result c.side_of.result c.side_of-2.result _
+    (takes_so c.args.next.policy.now c.args.next.history.now.records c.args.next.moves.now (Move.Fills c.args.f) c.args.next.left.now c.args.keepers.now c.requires.fills c.requires.takes) c.order_numbered-taker.ensures.found c.order_numbered-maker.ensures.found c.rules.ensures.sound
     c.side_of.ensures c.side_of-2.ensures refl refl refl (day_so c.args.next.left.now c.args.next.moves.now (Move.Fills c.args.f) c.args.keepers.now.day _ c.requires.fills c.apply.ensures)
     (λ i. record {
       live = (c.fill-2.ensures.live ∙ ap (filled_at c.args.f.maker c.args.f.shares) c.fill.ensures.live) i;
       used = (c.fill-2.ensures.used ∙ c.fill.ensures.used) i;
     })
-    c.leave.ensures c.fill-3.ensures.filled c.in_ok-append_fill.ensures.ok
+    c.take_from_best.ensures c.fill-3.ensures.filled c.in_ok-append_fill.ensures.ok
 
 abbrev told : goal.After-apply → ToldFill
 told c = record {

@@ -13,14 +13,14 @@ order_numbered-order-requires c = record {
       ap (λ (d : OrdersData). is_some (live_numbered d.live c.args.number)) t.in_force.orders ∙ ap is_some (finds_orders c.args.next.policy.now c.args.next.history.now.records c.args.next.left.now (Move.Rests c.args.number) t.does).is_found;
 }
 
-pub put_to_rest-requires : goal.put_to_rest-requires
-put_to_rest-requires c = record { latest = comes_last c.args.next.policy.now c.args.next.history.now.records c.args.next.left.now c.args.keepers.now c.args.number c.order_numbered-order.result (takes_so c.args.next.policy.now c.args.next.history.now.records c.args.next.moves.now (Move.Rests c.args.number) c.args.next.left.now c.args.keepers.now c.requires.rests c.requires.takes) c.order_numbered-order.ensures.found }
+pub rest-requires : goal.rest-requires
+rest-requires c = record { latest = comes_last c.args.next.policy.now c.args.next.history.now.records c.args.next.left.now c.args.keepers.now c.args.number c.order_numbered-order.result (takes_so c.args.next.policy.now c.args.next.history.now.records c.args.next.moves.now (Move.Rests c.args.number) c.args.next.left.now c.args.keepers.now c.requires.rests c.requires.takes) c.order_numbered-order.ensures.found }
 
 pub returns-clause-ok : goal.returns-clause-ok
 returns-clause-ok c =
     rest_goes_on c.args.next.policy.now c.args.next.history.now.records c.args.next.left.now c.args.keepers.now _ c.args.number c.order_numbered-order.result (takes_so c.args.next.policy.now c.args.next.history.now.records c.args.next.moves.now (Move.Rests c.args.number) c.args.next.left.now c.args.keepers.now c.requires.rests c.requires.takes) c.order_numbered-order.ensures.found
     refl refl (day_so c.args.next.left.now c.args.next.moves.now (Move.Rests c.args.number) c.args.keepers.now.day _ c.requires.rests c.apply.ensures)
-    (λ i. record { live = c.rest.ensures.live i; used = c.rest.ensures.used i }) c.in_ok-put_to_rest.ensures.ok refl refl
+    (λ i. record { live = c.rest-2.ensures.live i; used = c.rest-2.ensures.used i }) c.in_ok-rest.ensures.ok refl refl
 
 pub returns-clause-kept_after : goal.returns-clause-kept_after
 returns-clause-kept_after c =
