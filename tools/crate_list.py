@@ -17,6 +17,19 @@ def crates(text: str | None = None) -> dict[str, list[str]]:
     return found
 
 
+def layers(text: str | None = None) -> dict[str, str]:
+    """The heading that stands above the first crate of each layer of crates.txt, by that crate."""
+    found: dict[str, str] = {}
+    heading = ""
+    for line in (TOP / "crates.txt").read_text().splitlines() if text is None else text.splitlines():
+        if line.startswith("#"):
+            heading = line.strip("# ")
+        elif heading and ":" in line:
+            found[line.split(":")[0].split()[0]] = heading
+            heading = ""
+    return found
+
+
 def in_order(every: dict[str, list[str]]) -> list[str]:
     """The crates, each behind those that it stands on."""
     done: list[str] = []
