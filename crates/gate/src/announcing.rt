@@ -1,6 +1,6 @@
 //! That a server listens, told on standard output once it takes connections.
 
-use gx_lobby::Lobby;
+use gx_control::ServerControl;
 use gx_program::{Ended, Place};
 use gx_units::OutOfMemory;
 use std::alloc::Global;
@@ -11,45 +11,50 @@ use std::{io, thread};
 /// Who tells that a server listens, in a thread of his own.
 #[derive(Drop)]
 pub(crate) struct Announcer {
-    lobby: Arc<Lobby, Global>,
+    control: Arc<ServerControl, Global>,
     telling: JoinHandle<Option<io::Error>>,
 }
 
 /// Tells that the server listens, once it takes connections; nothing where it never does. Where that can't be told the
 /// server ends. Answers what the system said then.
-fn announce<R: Wait>(rt: &R, host: &HostRuntime, lobby: &Lobby, port: u16) -> Option<io::Error> {
-    if !lobby.begun.is_so(rt) {
+fn announce<R: Wait>(
+    rt: &R,
+    host: &HostRuntime,
+    control: &ServerControl,
+    port: u16,
+) -> Option<io::Error> {
+    if !control.begun.is_so(rt) {
         return None;
     }
     match println!(host; "listening {port}") {
         Ok(()) => None,
         Err(error) => {
-            lobby.end();
+            control.end();
             Some(error)
         }
     }
 }
 
 impl Announcer {
-    /// Has it told that the server of this lobby listens on the port.
+    /// Has it told that the server listens on the port.
     pub(crate) fn begin<R: Threads + Wait + Copy + Send + 'static>(
         rt: R,
         host: HostRuntime,
-        lobby: &Arc<Lobby, Global>,
+        control: &Arc<ServerControl, Global>,
         port: u16,
     ) -> Result<Announcer, OutOfMemory> {
-        let theirs = Arc::try_clone(lobby)?;
-        let lobby = Arc::try_clone(lobby)?;
+        let theirs = Arc::try_clone(control)?;
+        let control = Arc::try_clone(control)?;
         match thread::spawn(&rt, move || announce(&rt, &host, &theirs, port)) {
-            Ok(telling) => Ok(Announcer { lobby, telling }),
+            Ok(telling) => Ok(Announcer { control, telling }),
             Err(_) => Err(OutOfMemory),
         }
     }
 
     /// The server has ended: whether it was told that it listened, where it did.
     pub(crate) fn end<'a, R: Threads + Wait>(self, rt: &R) -> Result<(), Ended<'a>> {
-        let Announcer { lobby, telling } = self;
-        lobby.begun.end(rt);
+        let Announcer { control, telling } = self;
+        control.begun.end(rt);
         match telling.join(rt) {
             Some(error) => Err(Ended::unwritten(Place::Output, error)),
             None => Ok(()),

@@ -29,7 +29,7 @@ fn serve_on<'a, G: ShowsRecords + ShowsState + Send, R: ServerRuntime>(
     let Entrance {
         listener,
         page,
-        lobby,
+        control,
         announcer,
     } = open_lobby(rt, host, serving, start, NO_MOMENT, log)?;
     let connections = connections_of(serving.ends);
@@ -37,7 +37,7 @@ fn serve_on<'a, G: ShowsRecords + ShowsState + Send, R: ServerRuntime>(
         rt,
         host.alloc(),
         policy,
-        &lobby,
+        &control,
         page,
         listener,
         connections,

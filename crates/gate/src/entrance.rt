@@ -5,8 +5,8 @@ use crate::limits::places_for;
 use crate::page::{listen, open_page};
 use crate::runtime::ServerRuntime;
 use gx_command_line::Serving;
+use gx_control::ServerControl;
 use gx_listen::{Ending, PagePort, ServeFault};
-use gx_lobby::Lobby;
 use gx_log::Log;
 use gx_program::Ended;
 use gx_runs::{Start, await_ends};
@@ -16,17 +16,17 @@ use std::alloc::Global;
 use std::net::TcpListener;
 use std::sync::Arc;
 
-/// Where connections come in: who listens for them, where the risk desk's page is served, the lobby of the server, and who tells
+/// Where connections come in: who listens for them, where the risk desk's page is served, what its threads share, and who tells
 /// that it listens.
 #[derive(Drop)]
 pub(crate) struct Entrance {
     pub(crate) listener: TcpListener,
     pub(crate) page: Option<PagePort>,
-    pub(crate) lobby: Arc<Lobby, Global>,
+    pub(crate) control: Arc<ServerControl, Global>,
     pub(crate) announcer: Announcer,
 }
 
-/// Listens for connections, which is told once they are taken. The server of the lobby ends as was asked for, and its clock
+/// Listens for connections, which is told once they are taken. The server ends as was asked for, and its clock
 /// has begun at the start, no earlier than at the moment `last`.
 pub(crate) fn open_lobby<'a, R: ServerRuntime>(
     rt: &R,
@@ -44,16 +44,16 @@ pub(crate) fn open_lobby<'a, R: ServerRuntime>(
     let Ok(log) = Arc::try_clone(log) else {
         return Err(OutOfMemory.into());
     };
-    let lobby = Lobby::new(alloc, clock, places, u64::from(serving.login_within), log);
-    let Ok(lobby) = Arc::new(alloc, lobby) else {
+    let control = ServerControl::new(alloc, clock, places, u64::from(serving.login_within), log);
+    let Ok(control) = Arc::new(alloc, control) else {
         return Err(OutOfMemory.into());
     };
-    await_ends(*rt, *host, serving.ends, &lobby)?;
-    let announcer = Announcer::begin(*rt, *host, &lobby, serving.port)?;
+    await_ends(*rt, *host, serving.ends, &control)?;
+    let announcer = Announcer::begin(*rt, *host, &control, serving.port)?;
     Ok(Entrance {
         listener,
         page,
-        lobby,
+        control,
         announcer,
     })
 }

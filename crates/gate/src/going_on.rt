@@ -43,7 +43,7 @@ fn go_on<'a, G: ShowsRecords + ShowsState + Send, R: ServerRuntime>(
             Entrance {
                 listener,
                 page,
-                lobby,
+                control,
                 announcer,
             },
         ) => {
@@ -58,7 +58,7 @@ fn go_on<'a, G: ShowsRecords + ShowsState + Send, R: ServerRuntime>(
                 version,
                 count,
                 device,
-                &lobby,
+                &control,
                 page,
                 listener,
                 connections,

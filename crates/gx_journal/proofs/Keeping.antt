@@ -9,18 +9,18 @@ use Rattle.gx_audit_bytes.specs.declared.version.AuditVersion.{AuditVersion}
 use Rattle.gx_pass.specs.declared.view.Holds.{Holds}
 use Rattle.gx_pass.proofs.Fronts.{prefix_length}
 use Rattle.gx_door.specs.Acts.{IsLater}
-use Rattle.gx_journal.specs.Journals.{added, is_broken, journal_bytes, known, IsGrown, IsKept, JournalData, TapeData}
+use Rattle.gx_journal.specs.Journals.{added, is_broken, journal_bytes, known, IsGrown, IsKept, JournalData, JournalWriterData}
 use Rattle.gx_journal.proofs.Rolling.{added_later, cut_there, cut_written, more_written, none_added, piece_size}
 
 clash : {X : Type 0} (b : Bool) → b ≡ true → b ≡ false → X
 clash true t f = absurd (cc f)
 clash false t f = absurd (cc t)
 
-pub sound_of : (tape : TapeData) → tape.fault ≡ None → is_broken tape ≡ false
-sound_of tape none = ap (λ (f : Option WriteFault). is_some f) none
+pub sound_of : (writer : JournalWriterData) → writer.fault ≡ None → is_broken writer ≡ false
+sound_of writer none = ap (λ (f : Option WriteFault). is_some f) none
 
-abbrev pub journal : Holds → TapeData → JournalData
-journal met tape = record { met = met; tape = tape }
+abbrev pub journal : Holds → JournalWriterData → JournalData
+journal met writer = record { met = met; writer = writer }
 
 -- the earlier records are a beginning of those that were met
 pub earlier_begin : (earlier records : List RecordData) → take (length earlier) records ≡ earlier → IsPrefix earlier records
@@ -32,43 +32,43 @@ begins_later earlier was is begins later =
     ap (take (length earlier)) (sym later.1) ∙ take-append-le (length earlier) was later.0 longer ∙ begins
 
 -- nothing is written yet
-pub kept_begun : (begun : Option (List ℕ)) (count : ℕ) (earlier : List RecordData) (version : AuditVersion) (met : Holds) (tape : TapeData) → met.front ≡ earlier → count ≤ length earlier → tape.contents ≡ begun → tape.done ≡ count → tape.fault ≡ None → tape.version ≡ version → IsKept begun count earlier version (journal met tape)
-kept_begun begun count earlier version met tape same within held done none is = record {
+pub kept_begun : (begun : Option (List ℕ)) (count : ℕ) (earlier : List RecordData) (version : AuditVersion) (met : Holds) (writer : JournalWriterData) → met.front ≡ earlier → count ≤ length earlier → writer.contents ≡ begun → writer.done ≡ count → writer.fault ≡ None → writer.version ≡ version → IsKept begun count earlier version (journal met writer)
+kept_begun begun count earlier version met writer same within held done none is = record {
   version_is = is;
   begins = ap (take (length earlier)) same ∙ take_all (length earlier) earlier (omega arith);
   first = omega (arith, done);
   met = omega (arith, done, within, ap (λ (rs : List RecordData). length rs) same);
   whole = λ sound.
-      subst (λ (o : Option (List ℕ)). IsGrown begun o (journal_bytes version (added count tape.done met.front))) (sym held)
+      subst (λ (o : Option (List ℕ)). IsGrown begun o (journal_bytes version (added count writer.done met.front))) (sym held)
       (subst (λ (n : ℕ). IsGrown begun begun (journal_bytes version (added count n met.front))) (sym done) (none_added version begun count met.front));
-  cut = λ broken. clash (is_broken tape) broken (sound_of tape none);
+  cut = λ broken. clash (is_broken writer) broken (sound_of writer none);
 }
 
 -- the pass has met more
-pub kept_later : (begun : Option (List ℕ)) (count : ℕ) (earlier : List RecordData) (version : AuditVersion) (was is : Holds) (tape : TapeData) → is_broken tape ≡ false → IsPrefix was.front is.front → IsKept begun count earlier version (journal was tape) → IsKept begun count earlier version (journal is tape)
-kept_later begun count earlier version was is tape sound begins kept = record {
+pub kept_later : (begun : Option (List ℕ)) (count : ℕ) (earlier : List RecordData) (version : AuditVersion) (was is : Holds) (writer : JournalWriterData) → is_broken writer ≡ false → IsPrefix was.front is.front → IsKept begun count earlier version (journal was writer) → IsKept begun count earlier version (journal is writer)
+kept_later begun count earlier version was is writer sound begins kept = record {
   version_is = kept.version_is;
   begins = begins_later earlier was.front is.front kept.begins begins;
   first = kept.first;
   met = omega (arith, kept.met, prefix_length was.front is.front begins);
   whole = λ s.
-      subst (λ (rs : List RecordData). IsGrown begun tape.contents (journal_bytes version rs)) (sym (added_later count tape.done was.front is.front kept.met begins)) (kept.whole s);
-  cut = λ broken. clash (is_broken tape) broken sound;
+      subst (λ (rs : List RecordData). IsGrown begun writer.contents (journal_bytes version rs)) (sym (added_later count writer.done was.front is.front kept.met begins)) (kept.whole s);
+  cut = λ broken. clash (is_broken writer) broken sound;
 }
 
 -- the pass was told how many records there are
-pub kept_told : (begun : Option (List ℕ)) (count : ℕ) (earlier : List RecordData) (version : AuditVersion) (was is : Holds) (tape : TapeData) → is.front ≡ was.front → IsKept begun count earlier version (journal was tape) → IsKept begun count earlier version (journal is tape)
-kept_told begun count earlier version was is tape same kept = record {
+pub kept_told : (begun : Option (List ℕ)) (count : ℕ) (earlier : List RecordData) (version : AuditVersion) (was is : Holds) (writer : JournalWriterData) → is.front ≡ was.front → IsKept begun count earlier version (journal was writer) → IsKept begun count earlier version (journal is writer)
+kept_told begun count earlier version was is writer same kept = record {
   version_is = kept.version_is;
   begins = ap (take (length earlier)) same ∙ kept.begins;
   first = kept.first;
-  met = subst (λ (rs : List RecordData). tape.done ≤ length rs) (sym same) kept.met;
-  whole = subst (λ (rs : List RecordData). is_broken tape ≡ false → IsGrown begun tape.contents (journal_bytes version (added count tape.done rs))) (sym same) kept.whole;
-  cut = subst (λ (rs : List RecordData). is_broken tape ≡ true → ∥ IsFront begun tape.contents (journal_bytes version (drop count rs)) ∥₁) (sym same) kept.cut;
+  met = subst (λ (rs : List RecordData). writer.done ≤ length rs) (sym same) kept.met;
+  whole = subst (λ (rs : List RecordData). is_broken writer ≡ false → IsGrown begun writer.contents (journal_bytes version (added count writer.done rs))) (sym same) kept.whole;
+  cut = subst (λ (rs : List RecordData). is_broken writer ≡ true → ∥ IsFront begun writer.contents (journal_bytes version (drop count rs)) ∥₁) (sym same) kept.cut;
 }
 
 -- nothing is written any more
-pub kept_stopped : (begun : Option (List ℕ)) (count : ℕ) (earlier : List RecordData) (version : AuditVersion) (met : Holds) (was is : TapeData) → is_broken was ≡ false → is_broken is ≡ true → is.contents ≡ was.contents → is.done ≡ was.done → is.version ≡ was.version
+pub kept_stopped : (begun : Option (List ℕ)) (count : ℕ) (earlier : List RecordData) (version : AuditVersion) (met : Holds) (was is : JournalWriterData) → is_broken was ≡ false → is_broken is ≡ true → is.contents ≡ was.contents → is.done ≡ was.done → is.version ≡ was.version
     → IsKept begun count earlier version (journal met was) → IsKept begun count earlier version (journal met is)
 kept_stopped begun count earlier version met was is sound broken same done goes kept = record {
   version_is = goes ∙ kept.version_is;
@@ -80,7 +80,7 @@ kept_stopped begun count earlier version met was is sound broken same done goes 
 }
 
 -- of a put of records, by its answer
-pub record WasPut (answer : Bool) (records : List RecordData) (was is : TapeData) : Type 0 where
+pub record WasPut (answer : Bool) (records : List RecordData) (was is : JournalWriterData) : Type 0 where
   pub sound : answer ≡ true → is.fault ≡ None
   pub whole : answer ≡ true → Appends was.contents is.contents (journal_bytes was.version records)
   pub done : answer ≡ true → is.done ≡ was.done + length records
@@ -95,7 +95,7 @@ next_fit records all done next met =
     omega (arith, size, met)
 
 -- the next records were put on the device, or a front of them
-pub kept_put : (begun : Option (List ℕ)) (count : ℕ) (earlier : List RecordData) (version : AuditVersion) (met : Holds) (answer : Bool) (records : List RecordData) (was is : TapeData) → is_broken was ≡ false
+pub kept_put : (begun : Option (List ℕ)) (count : ℕ) (earlier : List RecordData) (version : AuditVersion) (met : Holds) (answer : Bool) (records : List RecordData) (was is : JournalWriterData) → is_broken was ≡ false
     → records ≡ take (length records) (drop was.done met.front) → WasPut answer records was is → IsKept begun count earlier version (journal met was) → IsKept begun count earlier version (journal met is)
 kept_put begun count earlier version met true records was is sound next put kept =
     let done = put.done refl in

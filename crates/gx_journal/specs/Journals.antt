@@ -6,7 +6,7 @@ use Rattle.gx_audit_bytes.specs.{declared.version.AuditVersion.AuditVersion, Aud
 use Rattle.gx_pass.specs.{declared.view.Holds.Holds, Views.holds}
 
 -- what a device holds, as far as that is known, in which version records are put there, how many of the day's records are on it, and why no more are put there
-pub record TapeData : Type 0 where
+pub record JournalWriterData : Type 0 where
   pub contents : Option (List ℕ)
   pub version : AuditVersion
   pub done : ℕ
@@ -15,10 +15,10 @@ pub record TapeData : Type 0 where
 -- what the journal's pass has met, and the device
 pub record JournalData : Type 0 where
   pub met : Holds
-  pub tape : TapeData
+  pub writer : JournalWriterData
 
-abbrev pub is_broken : TapeData → Bool
-is_broken tape = is_some tape.fault
+abbrev pub is_broken : JournalWriterData → Bool
+is_broken writer = is_some writer.fault
 
 -- the bytes of records, as a journal of this version has them
 abbrev pub journal_bytes : AuditVersion → List RecordData → List ℕ
@@ -49,9 +49,9 @@ known h = max h.told (length h.front)
 -- The day begins with its earlier records. The device holds what it held at first, and behind it the bytes of the records that are done; once it is broken, a
 -- front of the bytes of all records that the pass has met.
 pub record IsKept (begun : Option (List ℕ)) (count : ℕ) (earlier : List RecordData) (version : AuditVersion) (j : JournalData) : Type 0 where
-  pub version_is : j.tape.version ≡ version
+  pub version_is : j.writer.version ≡ version
   pub begins : take (length earlier) j.met.front ≡ earlier
-  pub first : count ≤ j.tape.done
-  pub met : j.tape.done ≤ length j.met.front
-  pub whole : IsFalse (is_broken j.tape) → IsGrown begun j.tape.contents (journal_bytes version (added count j.tape.done j.met.front))
-  pub cut : IsTrue (is_broken j.tape) → ∥ IsFront begun j.tape.contents (journal_bytes version (drop count j.met.front)) ∥₁
+  pub first : count ≤ j.writer.done
+  pub met : j.writer.done ≤ length j.met.front
+  pub whole : IsFalse (is_broken j.writer) → IsGrown begun j.writer.contents (journal_bytes version (added count j.writer.done j.met.front))
+  pub cut : IsTrue (is_broken j.writer) → ∥ IsFront begun j.writer.contents (journal_bytes version (drop count j.met.front)) ∥₁

@@ -9,7 +9,7 @@ ghost use Rattle.gx_door.specs.Acts.{IsLater};
 ghost use Rattle.gx_journal.specs.Journals.{added, is_broken, journal_bytes, known, IsGrown, IsKept};
 
 use crate::name::JournalName;
-use crate::tape::Tape;
+use crate::writer::JournalWriter;
 use gx_audit_bytes::AuditVersion;
 use gx_devices::WriteFault;
 use gx_door::Door;
@@ -28,7 +28,7 @@ const PIECE: u64 = 4_096;
 pub struct Journal<D: Door, W: Write, J: JournalName> {
     /// Taken out for each call of the door.
     pass: Option<D::Ticket>,
-    tape: Tape<W>,
+    writer: JournalWriter<W>,
     of: PhantomData<J>,
 }
 
@@ -38,11 +38,11 @@ impl<D: Door, W: Write, J: JournalName> Model for Journal<D, W, J> {
 
     ghost Value = { JournalData };
 
-    ghost view = { λ j. record { met = met_by D.held j.pass; tape = j.tape } };
+    ghost view = { λ j. record { met = met_by D.held j.pass; writer = j.writer } };
 
     ghost invariant = { λ j. IsTrue (is_some j.pass) × (added_by D.added j.pass ≡ 0)
         × IsKept J.begun J.count J.earlier J.version
-        (record { met = met_by D.held j.pass; tape = j.tape }) };
+        (record { met = met_by D.held j.pass; writer = j.writer }) };
 }
 
 impl<D: Door, W: Write, J: JournalName> Journal<D, W, J> {
@@ -61,14 +61,14 @@ impl<D: Door, W: Write, J: JournalName> Journal<D, W, J> {
         requires none_added { D.added pass ≡ 0 }
         requires within { count ≤ length J.earlier }
         ensures met { result.met ≡ D.held pass }
-        ensures contents { result.tape.contents ≡ J.begun }
-        ensures version { result.tape.version ≡ version }
-        ensures done { result.tape.done ≡ count }
-        ensures fault { result.tape.fault ≡ None }
+        ensures contents { result.writer.contents ≡ J.begun }
+        ensures version { result.writer.version ≡ version }
+        ensures done { result.writer.done ≡ count }
+        ensures fault { result.writer.fault ≡ None }
     {
         Journal {
             pass: Some(pass),
-            tape: Tape::new(alloc, version, count, device),
+            writer: JournalWriter::new(alloc, version, count, device),
             of: PhantomData,
         }
     }
@@ -76,12 +76,12 @@ impl<D: Door, W: Write, J: JournalName> Journal<D, W, J> {
     /// Writes what records there are, and answers whether they are all on the device: at least as many as the pass has
     /// met, or was told of. Once it is broken it writes nothing, and the answer is no.
     pub fn keep<R: Wait>(&mut self, rt: &R, door: &D) -> bool
-        ensures kept { IsTrue result → known self.old.met ≤ self.new.tape.done }
-        ensures sound { IsTrue result → self.new.tape.fault ≡ None }
-        ensures broken { IsFalse result → IsTrue (is_broken self.new.tape) }
+        ensures kept { IsTrue result → known self.old.met ≤ self.new.writer.done }
+        ensures sound { IsTrue result → self.new.writer.fault ≡ None }
+        ensures broken { IsFalse result → IsTrue (is_broken self.new.writer) }
         ensures met { IsPrefix self.old.met.front self.new.met.front }
-        ensures refused { IsTrue (is_broken self.old.tape) → IsFalse result }
-        ensures over { IsTrue (is_broken self.old.tape) → self.new.tape ≡ self.old.tape }
+        ensures refused { IsTrue (is_broken self.old.writer) → IsFalse result }
+        ensures over { IsTrue (is_broken self.old.writer) → self.new.writer ≡ self.old.writer }
     {
         let count = self.length(door);
         self.write_up_to(rt, door, count)
@@ -92,7 +92,7 @@ impl<D: Door, W: Write, J: JournalName> Journal<D, W, J> {
         ensures told { self.new.met ≡ retold self.old.met result }
         ensures more { self.old.met.told ≤ result }
         ensures front { length self.old.met.front ≤ result }
-        ensures tape { self.new.tape ≡ self.old.tape }
+        ensures writer { self.new.writer ≡ self.old.writer }
     {
         let Some(mut pass) = self.pass.take() else {
             unreachable!()
@@ -105,17 +105,17 @@ impl<D: Door, W: Write, J: JournalName> Journal<D, W, J> {
     /// Writes records until so many are on the device. Answers whether they are.
     fn write_up_to<R: Wait>(&mut self, rt: &R, door: &D, count: u64) -> bool
         requires known { count ≤ known self.old.met }
-        ensures written { IsTrue result → count ≤ self.new.tape.done }
-        ensures sound { IsTrue result → self.new.tape.fault ≡ None }
-        ensures broken { IsFalse result → IsTrue (is_broken self.new.tape) }
+        ensures written { IsTrue result → count ≤ self.new.writer.done }
+        ensures sound { IsTrue result → self.new.writer.fault ≡ None }
+        ensures broken { IsFalse result → IsTrue (is_broken self.new.writer) }
         ensures met { IsPrefix self.old.met.front self.new.met.front }
-        ensures refused { IsTrue (is_broken self.old.tape) → IsFalse result }
-        ensures over { IsTrue (is_broken self.old.tape) → self.new.tape ≡ self.old.tape }
+        ensures refused { IsTrue (is_broken self.old.writer) → IsFalse result }
+        ensures over { IsTrue (is_broken self.old.writer) → self.new.writer ≡ self.old.writer }
     {
-        if self.tape.is_broken() {
+        if self.writer.is_broken() {
             return false;
         }
-        while self.tape.done() < count {
+        while self.writer.done() < count {
             if !self.write_piece(rt, door, count) {
                 return false;
             }
@@ -126,15 +126,15 @@ impl<D: Door, W: Write, J: JournalName> Journal<D, W, J> {
     /// Writes the next records, at most up to so many. Answers whether it did.
     fn write_piece<R: Wait>(&mut self, rt: &R, door: &D, count: u64) -> bool
         requires known { count ≤ known self.old.met }
-        requires left { self.old.tape.done < count }
-        requires sound { IsFalse (is_broken self.old.tape) }
+        requires left { self.old.writer.done < count }
+        requires sound { IsFalse (is_broken self.old.writer) }
         ensures known { count ≤ known self.new.met }
         ensures met { IsPrefix self.old.met.front self.new.met.front }
-        ensures more { IsTrue result → self.old.tape.done < self.new.tape.done }
-        ensures sound { IsTrue result → IsFalse (is_broken self.new.tape) }
-        ensures broken { IsFalse result → IsTrue (is_broken self.new.tape) }
+        ensures more { IsTrue result → self.old.writer.done < self.new.writer.done }
+        ensures sound { IsTrue result → IsFalse (is_broken self.new.writer) }
+        ensures broken { IsFalse result → IsTrue (is_broken self.new.writer) }
     {
-        let most = PIECE.min(count - self.tape.done());
+        let most = PIECE.min(count - self.writer.done());
         match self.fetch(rt, door, most) {
             Ok(records) => self.put(records.as_slice()),
             Err(_) => self.give_up(WriteFault::OutOfMemory),
@@ -143,18 +143,18 @@ impl<D: Door, W: Write, J: JournalName> Journal<D, W, J> {
 
     /// The records behind those that are on the device, at most so many.
     fn fetch<R: Wait>(&mut self, rt: &R, door: &D, most: u64) -> Result<Vec<Record>, OutOfMemory>
-        requires sound { IsFalse (is_broken self.old.tape) }
+        requires sound { IsFalse (is_broken self.old.writer) }
         requires some { 0 < most }
-        requires room { self.old.tape.done + most < 2 ^ 64 }
+        requires room { self.old.writer.done + most < 2 ^ 64 }
         ensures later { IsLater D.policy self.old.met self.new.met }
-        ensures tape { self.new.tape ≡ self.old.tape }
+        ensures writer { self.new.writer ≡ self.old.writer }
         ensures records { IfOk result (λ v.
-            v.items ≡ slice self.new.met.front (self.new.tape.done + 1) most) }
+            v.items ≡ slice self.new.met.front (self.new.writer.done + 1) most) }
     {
         let Some(pass) = self.pass.take() else {
             unreachable!()
         };
-        let (pass, records) = door.records(rt, pass, self.tape.done() + 1, most);
+        let (pass, records) = door.records(rt, pass, self.writer.done() + 1, most);
         self.pass = Some(pass);
         records
     }
@@ -162,38 +162,42 @@ impl<D: Door, W: Write, J: JournalName> Journal<D, W, J> {
     /// Puts the next of the records that the pass has met on the device. Answers whether it did.
     fn put(&mut self, records: &[Record]) -> bool
         requires next { records.now
-            ≡ take (length records.now) (drop self.old.tape.done self.old.met.front) }
-        requires room { self.old.tape.done + length records.now < 2 ^ 64 }
-        requires sound { IsFalse (is_broken self.old.tape) }
+            ≡ take (length records.now) (drop self.old.writer.done self.old.met.front) }
+        requires room { self.old.writer.done + length records.now < 2 ^ 64 }
+        requires sound { IsFalse (is_broken self.old.writer) }
         ensures met { self.new.met ≡ self.old.met }
         ensures done { IsTrue result
-            → self.new.tape.done ≡ self.old.tape.done + length records.now }
-        ensures sound { IsTrue result → IsFalse (is_broken self.new.tape) }
-        ensures broken { IsFalse result → IsTrue (is_broken self.new.tape) }
+            → self.new.writer.done ≡ self.old.writer.done + length records.now }
+        ensures sound { IsTrue result → IsFalse (is_broken self.new.writer) }
+        ensures broken { IsFalse result → IsTrue (is_broken self.new.writer) }
     {
-        self.tape.put(records)
+        self.writer.put(records)
     }
 
     /// Writes nothing any more.
     fn give_up(&mut self, fault: WriteFault) -> bool
-        requires sound { IsFalse (is_broken self.old.tape) }
+        requires sound { IsFalse (is_broken self.old.writer) }
         ensures answer { IsFalse result }
         ensures met { self.new.met ≡ self.old.met }
-        ensures broken { IsTrue (is_broken self.new.tape) }
+        ensures broken { IsTrue (is_broken self.new.writer) }
     {
-        self.tape.give_up(fault);
+        self.writer.give_up(fault);
         false
     }
 
     /// The pass, and the device with the day's records that are on it.
-    pub fn into_parts(self) -> (D::Ticket, Tape<W>)
+    pub fn into_parts(self) -> (D::Ticket, JournalWriter<W>)
         ensures met { D.held result.0 ≡ self.met }
         ensures none_added { D.added result.0 ≡ 0 }
-        ensures tape { result.1 ≡ self.tape }
+        ensures writer { result.1 ≡ self.writer }
         ensures kept { IsKept J.begun J.count J.earlier J.version self }
     {
-        let Journal { pass, tape, of: _ } = self;
+        let Journal {
+            pass,
+            writer,
+            of: _,
+        } = self;
         let Some(pass) = pass else { unreachable!() };
-        (pass, tape)
+        (pass, writer)
     }
 }

@@ -9,9 +9,9 @@
 mod journal;
 mod journaled;
 mod name;
-mod tape;
+mod writer;
 
 pub use journal::Journal;
 pub use journaled::Journaled;
 pub use name::JournalName;
-pub use tape::Tape;
+pub use writer::JournalWriter;

@@ -1,11 +1,11 @@
-//! Connections are taken, and each has a place.
+//! Connections are taken, and each has a slot.
 
 ghost use Rattle.std.specs.Prelude.{IfErr};
 ghost use Rattle.gx_listen.specs.Endings.{IsHalted};
 
 use crate::ending::Halt;
 use crate::fault::ServeFault;
-use gx_lobby::{Lobby, Mishap, Peer, Place};
+use gx_control::{ConnectionSlot, Mishap, Peer, ServerControl};
 use std::io::ErrorKind;
 use std::net::TcpListener;
 use std::sync::Wait;
@@ -13,53 +13,64 @@ use std::time::{Clock, Duration};
 use std::{io, thread};
 
 /// So often an accept may fail in a row before the server gives up.
-const FAILURES: u32 = 50;
+const MOST_FAILURES: u32 = 50;
 
 /// So many milliseconds lie between a failed accept and the next.
-const PAUSE: u64 = 100;
+const AFTER_FAILURE_MILLIS: u64 = 100;
 
 /// After so many milliseconds the server looks for a new peer, and whether it is to end.
-const POLL: u64 = 5;
+const ACCEPT_POLL_MILLIS: u64 = 5;
 
 /// After so many looks in a row that found nobody, a second, it looks less often,
-const QUIET: u32 = 200;
+const QUIET_LOOKS: u32 = 200;
 
 /// each so many milliseconds.
-const REST: u64 = 50;
+const QUIET_POLL_MILLIS: u64 = 50;
 
 /// What the system answers where descriptors or memory are wanting: ENOMEM, ENFILE, EMFILE, ENOBUFS.
-const WANTS: [i32; 4] = [12, 23, 24, 105];
+const WANTING_ERRNOS: [i32; 4] = [12, 23, 24, 105];
 
 /// Whether an accept failed for want of descriptors or memory: it is tried again for as long as it takes.
 fn is_want(error: &io::Error) -> bool {
     match error.raw_os_error() {
-        Some(code) => WANTS.contains(&code),
+        Some(code) => WANTING_ERRNOS.contains(&code),
         None => false,
     }
 }
 
 /// Hangs up on those who came first and have not logged in, and waits until one is gone, or a while has passed. Answers on
 /// how many.
-fn make_room<R: Wait + Clock>(rt: &R, lobby: &Lobby) -> u64 {
-    let count = lobby.newcomers.cut_oldest(rt);
-    lobby.places.await_one(rt, Duration::from_millis(POLL));
+fn make_room<R: Wait + Clock>(rt: &R, control: &ServerControl) -> u64 {
+    let count = control.newcomers.cut_oldest(rt);
+    control
+        .slots
+        .await_one(rt, Duration::from_millis(ACCEPT_POLL_MILLIS));
     count
 }
 
 /// Waits behind an accept that failed, and so many looks in a row before: for a want that ends once somebody is hung up on,
 /// for the next connection, or longer for what is wrong. Answers whether the failure counts.
-fn wait_behind<R: Wait + Clock>(rt: &R, lobby: &Lobby, error: &io::Error, looks: u32) -> bool {
+fn wait_behind<R: Wait + Clock>(
+    rt: &R,
+    control: &ServerControl,
+    error: &io::Error,
+    looks: u32,
+) -> bool {
     if is_want(error) {
-        lobby.tally.note(Mishap::Wanting, 1);
-        make_room(rt, lobby);
+        control.tally.note(Mishap::Wanting, 1);
+        make_room(rt, control);
         return false;
     }
     if error.kind() == ErrorKind::WouldBlock {
-        let pause = if looks < QUIET { POLL } else { REST };
+        let pause = if looks < QUIET_LOOKS {
+            ACCEPT_POLL_MILLIS
+        } else {
+            QUIET_POLL_MILLIS
+        };
         thread::sleep(rt, Duration::from_millis(pause));
         return false;
     }
-    thread::sleep(rt, Duration::from_millis(PAUSE));
+    thread::sleep(rt, Duration::from_millis(AFTER_FAILURE_MILLIS));
     true
 }
 
@@ -67,16 +78,16 @@ fn wait_behind<R: Wait + Clock>(rt: &R, lobby: &Lobby, error: &io::Error, looks:
 /// passed over. Where descriptors are wanting, those who came first and have not logged in are hung up on.
 pub(crate) fn accept<R: Wait + Clock>(
     rt: &R,
-    lobby: &Lobby,
+    control: &ServerControl,
     listener: &TcpListener,
     number: u64,
 ) -> Result<Peer, Halt>
     ensures { IfErr result IsHalted }
 {
-    let mut left = FAILURES;
+    let mut left = MOST_FAILURES;
     let mut looks = 0u32;
     for _ in rt.forever() {
-        let asked = lobby.stop.is_asked();
+        let asked = control.shutdown.is_requested();
         if asked.is_yes() {
             return Err(Halt::Asked(asked));
         }
@@ -89,7 +100,7 @@ pub(crate) fn accept<R: Wait + Clock>(
                 });
             }
             Err(error) => {
-                if wait_behind(rt, lobby, &error, looks) {
+                if wait_behind(rt, control, &error, looks) {
                     left = left.saturating_sub(1);
                 }
                 looks = looks.saturating_add(1);
@@ -102,22 +113,22 @@ pub(crate) fn accept<R: Wait + Clock>(
     unreachable!()
 }
 
-/// Takes a place. Where none is free, those who came first and have not logged in are hung up on, until one is.
-pub(crate) fn take_place<'x, R: Wait + Clock>(
+/// Takes a slot. Where none is free, those who came first and have not logged in are hung up on, until one is.
+pub(crate) fn acquire_slot<'x, R: Wait + Clock>(
     rt: &'x R,
-    lobby: &'x Lobby,
-) -> Result<Place<'x, R>, Halt>
+    control: &'x ServerControl,
+) -> Result<ConnectionSlot<'x, R>, Halt>
     ensures { IfErr result IsHalted }
 {
     for _ in rt.forever() {
-        let asked = lobby.stop.is_asked();
+        let asked = control.shutdown.is_requested();
         if asked.is_yes() {
             return Err(Halt::Asked(asked));
         }
-        if let Some(place) = lobby.places.take(rt) {
-            return Ok(place);
+        if let Some(slot) = control.slots.acquire(rt) {
+            return Ok(slot);
         }
-        lobby.tally.note(Mishap::Crowded, make_room(rt, lobby));
+        control.tally.note(Mishap::Crowded, make_room(rt, control));
     }
     unreachable!()
 }

@@ -5,8 +5,8 @@ ghost use Rattle.gx_clock.specs.Moments.{last_shown};
 
 use crate::announcing::tell_ended;
 use gx_clock::DayClock;
+use gx_control::ServerControl;
 use gx_door::Dial;
-use gx_lobby::Lobby;
 use gx_log::Log;
 use gx_serve::{Announces, EndedOrders};
 use gx_units::Moment;
@@ -25,13 +25,13 @@ pub(crate) struct Dated<'x, R> {
 }
 
 impl<'x, R> Dated<'x, R> {
-    /// The runtime, by the clock of this lobby's day, and with its log.
-    pub(crate) fn new(rt: &'x R, alloc: Global, lobby: &'x Lobby) -> Dated<'x, R> {
+    /// The runtime, by the clock of this server's day, and with its log.
+    pub(crate) fn new(rt: &'x R, alloc: Global, control: &'x ServerControl) -> Dated<'x, R> {
         Dated {
             rt,
             alloc,
-            clock: &lobby.clock,
-            log: &lobby.log,
+            clock: &control.clock,
+            log: &control.log,
         }
     }
 }

@@ -4,14 +4,14 @@ ghost use Rattle.std.specs.Prelude.{◌≡◌, None, Some};
 ghost use Rattle.gx_listen.specs.Endings.{fault_of, IsHalted};
 
 use crate::fault::ServeFault;
-use gx_lobby::Asked;
+use gx_control::ShutdownAsked;
 use std::marker::Model;
 
 /// Why a server takes no connection any more, before it has taken as many as it was to.
 #[derive(Drop)]
 pub(crate) enum Halt {
     /// The end was asked for.
-    Asked(Asked),
+    Asked(ShutdownAsked),
     /// The server gave up.
     Fault(ServeFault),
 }

@@ -5,8 +5,8 @@ ghost use Rattle.std.specs.Prelude.{◌≡◌};
 use crate::dated::Dated;
 use crate::fault::ServeFault;
 use gx_button::Secret;
+use gx_control::{ServerControl, ShutdownFlag};
 use gx_door::{Door, Issuer};
-use gx_lobby::{Lobby, Stop};
 use gx_lookout::{Board, Lookout};
 use gx_page::{PageServer, serve_page};
 use gx_policy::Policy;
@@ -48,7 +48,7 @@ pub(crate) fn open_page<
     gate: &'x L,
     door: &'x D,
     policy: &'x Policy,
-    lobby: &'x Lobby,
+    control: &'x ServerControl,
     issuer: &mut I,
     page: Option<PagePort>,
 ) -> Result<Option<Paging<'x, T, D, L>>, ServeFault>
@@ -65,7 +65,7 @@ pub(crate) fn open_page<
         secret,
         is_journaled,
     } = page;
-    let server = PageServer::new(door, gate, policy, secret, is_journaled, lobby);
+    let server = PageServer::new(door, gate, policy, secret, is_journaled, control);
     Ok(Some(Paging {
         server,
         board,
@@ -76,17 +76,29 @@ pub(crate) fn open_page<
 /// What goes on beside a server, until its end is asked for.
 pub(crate) trait Aside {
     /// Goes on.
-    fn go_on<R: Wait + Clock>(self, rt: &R, alloc: Global, lobby: &Lobby, closing: &Stop);
+    fn go_on<R: Wait + Clock>(
+        self,
+        rt: &R,
+        alloc: Global,
+        control: &ServerControl,
+        closing: &ShutdownFlag,
+    );
 }
 
 impl<T: Drop, D: Door<Ticket = T>, L: Lookout<Pass = T>> Aside for Paging<'_, T, D, L> {
-    fn go_on<R: Wait + Clock>(self, rt: &R, alloc: Global, lobby: &Lobby, closing: &Stop) {
+    fn go_on<R: Wait + Clock>(
+        self,
+        rt: &R,
+        alloc: Global,
+        control: &ServerControl,
+        closing: &ShutdownFlag,
+    ) {
         let Paging {
             server,
             board,
             listener,
         } = self;
-        let rt = &Dated::new(rt, alloc, lobby);
+        let rt = &Dated::new(rt, alloc, control);
         serve_page(rt, alloc, &server, board, &listener, closing);
     }
 }

@@ -4,16 +4,16 @@ ghost use Rattle.std.specs.Prelude.{◌≡◌, [], IfErr, IfSome};
 ghost use Rattle.gx_events.specs.Known.{known_of};
 ghost use Rattle.gx_listen.specs.Endings.{IsHalted};
 
-use crate::accepting::{accept, take_place};
+use crate::accepting::{accept, acquire_slot};
 use crate::dated::Dated;
 use crate::ending::{Ending, Halt, Unserved};
 use crate::fault::ServeFault;
 use crate::paging::{Aside, PagePort, open_page};
 use crate::telling::{Telling, tell_records};
 use crate::visiting::{Hall, serve_stream, tell_gone};
+use gx_control::{ConnectionSlot, Mishap, Peer, ServerControl, ShutdownFlag};
 use gx_door::{Door, Issuer};
 use gx_events::EventLog;
-use gx_lobby::{Lobby, Mishap, Peer, Place, Stop};
 use gx_logging::RecordLog;
 use gx_lookout::Lookout;
 use gx_pass::PassFault;
@@ -28,19 +28,19 @@ use std::thread::Threads;
 use std::time::{Clock, Duration};
 
 /// After so many milliseconds a watcher looks after those who have not logged in.
-const LOOK: u64 = 100;
+const NEWCOMERS_POLL_MILLIS: u64 = 100;
 
 /// After so many looks it tells what went wrong.
-const TURNS: u64 = 10;
+const LOOKS_UNTIL_TOLD: u64 = 10;
 
-/// A peer, and the place that he has.
+/// A peer, and the slot that he has.
 #[derive(Drop)]
 struct Guest<'x, R: Wait> {
     peer: Arc<Peer, Global>,
-    place: Place<'x, R>,
+    slot: ConnectionSlot<'x, R>,
 }
 
-/// Serves a peer to his end, and tells why it ended, where that is told. His place is given back.
+/// Serves a peer to his end, and tells why it ended, where that is told. His slot is given back.
 fn serve_peer<D: Door + Sync, A: Admits<D>, R: Threads + Wait + Clock + Sync>(
     hall: &Hall<'_, D, A, R>,
     guest: Guest<'_, R>,
@@ -48,15 +48,15 @@ fn serve_peer<D: Door + Sync, A: Admits<D>, R: Threads + Wait + Clock + Sync>(
 where
     D::Ticket: Send,
 {
-    let Guest { peer, place } = guest;
+    let Guest { peer, slot } = guest;
     let gone = serve_stream(hall, &peer);
-    hall.lobby.newcomers.leave(hall.rt, peer.number);
-    tell_gone(hall.rt, hall.alloc, hall.lobby, &peer, gone);
+    hall.control.newcomers.leave(hall.rt, peer.number);
+    tell_gone(hall.rt, hall.alloc, hall.control, &peer, gone);
     drop(peer);
-    drop(place);
+    drop(slot);
 }
 
-/// The peer of this number, with a place; `None` where there is no memory for him. He is hung up on then.
+/// The peer of this number, with a slot; `None` where there is no memory for him. He is hung up on then.
 fn next_guest<'x, T: Drop + Send, D: Door<Ticket = T> + Sync, A, R: Threads + Wait + Clock + Sync>(
     hall: &'x Hall<'x, D, A, R>,
     listener: &TcpListener,
@@ -64,47 +64,47 @@ fn next_guest<'x, T: Drop + Send, D: Door<Ticket = T> + Sync, A, R: Threads + Wa
 ) -> Result<Option<Guest<'x, R>>, Halt>
     ensures { IfErr result IsHalted }
 {
-    let peer = accept(hall.rt, hall.lobby, listener, number)?;
-    let place = take_place(hall.rt, hall.lobby)?;
+    let peer = accept(hall.rt, hall.control, listener, number)?;
+    let slot = acquire_slot(hall.rt, hall.control)?;
     let Ok(peer) = Arc::new(hall.alloc, peer) else {
         return Ok(None);
     };
     let Ok(theirs) = Arc::try_clone(&peer) else {
         return Ok(None);
     };
-    match hall.lobby.newcomers.come(hall.rt, theirs) {
-        Ok(()) => Ok(Some(Guest { peer, place })),
+    match hall.control.newcomers.come(hall.rt, theirs) {
+        Ok(()) => Ok(Some(Guest { peer, slot })),
         Err(_) => Ok(None),
     }
 }
 
 /// What a watcher does each time that it looks: it hangs up on each who has not logged in in time, and on all of them once the
 /// end was asked for.
-fn look_after<R: Wait + Clock>(rt: &R, lobby: &Lobby) {
-    lobby.newcomers.cut_late(rt, &lobby.tally);
-    if lobby.stop.is_asked().is_yes() {
-        lobby.newcomers.cut_all(rt);
+fn look_after<R: Wait + Clock>(rt: &R, control: &ServerControl) {
+    control.newcomers.cut_late(rt, &control.tally);
+    if control.shutdown.is_requested().is_yes() {
+        control.newcomers.cut_all(rt);
     }
 }
 
 /// Looks after newcomers until their door is closed, and tells each second what went wrong.
-fn watch_newcomers<R: Wait + Clock>(rt: &R, alloc: Global, lobby: &Lobby) {
+fn watch_newcomers<R: Wait + Clock>(rt: &R, alloc: Global, control: &ServerControl) {
     for turn in 0..u64::MAX {
-        look_after(rt, lobby);
-        if turn % TURNS == 0 || lobby.newcomers.is_closed() {
-            lobby.tell_mishaps(rt, alloc);
+        look_after(rt, control);
+        if turn % LOOKS_UNTIL_TOLD == 0 || control.newcomers.is_closed() {
+            control.tell_mishaps(rt, alloc);
         }
-        if lobby.newcomers.is_closed() {
+        if control.newcomers.is_closed() {
             return;
         }
-        thread::sleep(rt, Duration::from_millis(LOOK));
+        thread::sleep(rt, Duration::from_millis(NEWCOMERS_POLL_MILLIS));
     }
 }
 
-/// Keeps what is done until the bell of that is closed, and tells at once where it can't be kept.
-fn keep_all<D: Door, R: Wait + Clock>(rt: &R, alloc: Global, door: &D, lobby: &Lobby) {
-    if !keep_on(rt, door, lobby) {
-        lobby.tell(
+/// Keeps what is done until the wakeup for that is closed, and tells at once where it can't be kept.
+fn keep_all<D: Door, R: Wait + Clock>(rt: &R, alloc: Global, door: &D, control: &ServerControl) {
+    if !keep_on(rt, door, control) {
+        control.tell(
             rt,
             alloc,
             "journal",
@@ -115,10 +115,10 @@ fn keep_all<D: Door, R: Wait + Clock>(rt: &R, alloc: Global, door: &D, lobby: &L
 
 /// There was no thread or no memory for the connection of this number: it is hung up on, and so is the one who came first
 /// and has not logged in.
-fn go_without<R: Wait>(rt: &R, lobby: &Lobby, number: u64) {
-    lobby.newcomers.leave(rt, number);
-    lobby.newcomers.cut_first(rt);
-    lobby.tally.note(Mishap::Unserved, 1);
+fn go_without<R: Wait>(rt: &R, control: &ServerControl, number: u64) {
+    control.newcomers.leave(rt, number);
+    control.newcomers.cut_first(rt);
+    control.tally.note(Mishap::Unserved, 1);
 }
 
 /// Takes connections, each in a thread of its own, and waits until all have ended: how this ended. One for which there is
@@ -131,21 +131,21 @@ fn take_guests<
     R: Threads + Wait + Clock + Sync,
 >(hall: &'x Hall<'x, D, A, R>, listener: TcpListener, connections: u64) -> Ending {
     let rt = hall.rt;
-    hall.lobby.begun.begin(rt);
+    hall.control.begun.begin(rt);
     thread::scope(thread::scope_env(), rt, |scope| {
         for before in 0..connections {
             match next_guest(hall, &listener, before + 1) {
                 Ok(Some(guest)) => {
                     if (&*scope).spawn(move || serve_peer(hall, guest)).is_err() {
-                        go_without(rt, hall.lobby, before + 1);
+                        go_without(rt, hall.control, before + 1);
                     }
                 }
-                Ok(None) => go_without(rt, hall.lobby, before + 1),
+                Ok(None) => go_without(rt, hall.control, before + 1),
                 Err(halt) => return Ending::of_halt(halt),
             }
         }
         drop(listener);
-        hall.lobby.note(
+        hall.control.note(
             rt,
             hall.alloc,
             "end",
@@ -166,7 +166,7 @@ fn take_connections<
     alloc: Global,
     door: &D,
     reception: &A,
-    lobby: &Lobby,
+    control: &ServerControl,
     listener: TcpListener,
     connections: u64,
 ) -> Ending {
@@ -175,7 +175,7 @@ fn take_connections<
         alloc,
         door,
         reception,
-        lobby,
+        control,
     };
     take_guests(&hall, listener, connections)
 }
@@ -219,21 +219,21 @@ fn take_told<
     alloc: Global,
     door: &'x D,
     reception: &A,
-    lobby: &'x Lobby,
+    control: &'x ServerControl,
     telling: Option<Telling<D>>,
     listener: TcpListener,
     connections: u64,
 ) -> Result<Ending, Unserved> {
     let Some(telling) = telling else {
-        return Ok(take_connections(rt, alloc, door, reception, lobby, listener, connections));
+        return Ok(take_connections(rt, alloc, door, reception, control, listener, connections));
     };
     thread::scope(thread::scope_env(), rt, |scope| {
-        let Ok(_telling) = (&*scope).spawn(move || tell_records(rt, alloc, door, lobby, telling))
+        let Ok(_telling) = (&*scope).spawn(move || tell_records(rt, alloc, door, control, telling))
         else {
             return Err(Unserved::of_fault(ServeFault::OutOfMemory));
         };
-        let taken = take_connections(rt, alloc, door, reception, lobby, listener, connections);
-        lobby.newcomers.close();
+        let taken = take_connections(rt, alloc, door, reception, control, listener, connections);
+        control.newcomers.close();
         Ok(taken)
     })
 }
@@ -251,17 +251,17 @@ fn take_watched<
     alloc: Global,
     door: &'x D,
     reception: &A,
-    lobby: &'x Lobby,
+    control: &'x ServerControl,
     telling: Option<Telling<D>>,
     listener: TcpListener,
     connections: u64,
 ) -> Result<Ending, Unserved> {
     thread::scope(thread::scope_env(), rt, |scope| {
-        let Ok(_watching) = (&*scope).spawn(move || watch_newcomers(rt, alloc, lobby)) else {
+        let Ok(_watching) = (&*scope).spawn(move || watch_newcomers(rt, alloc, control)) else {
             return Err(Unserved::of_fault(ServeFault::OutOfMemory));
         };
-        let Ok(_keeping) = (&*scope).spawn(move || keep_all(rt, alloc, door, lobby)) else {
-            lobby.newcomers.close();
+        let Ok(_keeping) = (&*scope).spawn(move || keep_all(rt, alloc, door, control)) else {
+            control.newcomers.close();
             return Err(Unserved::of_fault(ServeFault::OutOfMemory));
         };
         let taken = take_told(
@@ -269,13 +269,13 @@ fn take_watched<
             alloc,
             door,
             reception,
-            lobby,
+            control,
             telling,
             listener,
             connections,
         );
-        lobby.newcomers.close();
-        lobby.keeping.close(rt);
+        control.newcomers.close();
+        control.keeper.close(rt);
         taken
     })
 }
@@ -293,7 +293,7 @@ fn run<
     alloc: Global,
     door: &'x D,
     reception: &A,
-    lobby: &'x Lobby,
+    control: &'x ServerControl,
     pass: T,
     telling: Option<Telling<D>>,
     listener: TcpListener,
@@ -301,9 +301,9 @@ fn run<
 ) -> Result<(T, Ending), Unserved> {
     thread::scope(thread::scope_env(), rt, |scope| {
         let Ok(matcher) = (&*scope).spawn(move || match_on(
-            &Dated::new(rt, alloc, lobby),
+            &Dated::new(rt, alloc, control),
             door,
-            lobby,
+            control,
             pass,
         )) else {
             return Err(Unserved::of_fault(ServeFault::OutOfMemory));
@@ -313,12 +313,12 @@ fn run<
             alloc,
             door,
             reception,
-            lobby,
+            control,
             telling,
             listener,
             connections,
         );
-        lobby.bell.close(rt);
+        control.matcher.close(rt);
         let pass = matcher.join(rt);
         match taken {
             Ok(ending) => Ok((pass, ending)),
@@ -341,8 +341,8 @@ fn run_paged<
     alloc: Global,
     door: &'x D,
     reception: &A,
-    lobby: &'x Lobby,
-    closing: &'x Stop,
+    control: &'x ServerControl,
+    closing: &'x ShutdownFlag,
     pass: T,
     telling: Option<Telling<D>>,
     paging: Option<P>,
@@ -355,7 +355,7 @@ fn run_paged<
             alloc,
             door,
             reception,
-            lobby,
+            control,
             pass,
             telling,
             listener,
@@ -363,7 +363,7 @@ fn run_paged<
         );
     };
     thread::scope(thread::scope_env(), rt, |scope| {
-        let Ok(_paging) = (&*scope).spawn(move || paging.go_on(rt, alloc, lobby, closing)) else {
+        let Ok(_paging) = (&*scope).spawn(move || paging.go_on(rt, alloc, control, closing)) else {
             return Err(Unserved::of_fault(ServeFault::OutOfMemory));
         };
         let ran = run(
@@ -371,22 +371,22 @@ fn run_paged<
             alloc,
             door,
             reception,
-            lobby,
+            control,
             pass,
             telling,
             listener,
             connections,
         );
-        closing.ask();
+        closing.request();
         ran
     })
 }
 
 /// Serves at any door, with passes of its gate: takes connections, each in threads of its own, and makes matching steps,
-/// until so many were served, or the lobby was asked to end. All threads have ended then.
+/// until so many were served, or the server was asked to end. All threads have ended then.
 ///
 /// A connection has a line from its login on, if its user has the right password. The log of the records, if one is asked
-/// for, is told in the lobby's. The risk desk's page, if it has a port, is served beside it, of this gate and by this policy: it
+/// for, is told in the server's. The risk desk's page, if it has a port, is served beside it, of this gate and by this policy: it
 /// has two lines of the day.
 ///
 /// Gives back a pass, and how the server ended.
@@ -408,7 +408,7 @@ pub fn serve_door<
     door: &D,
     policy: &Policy,
     issuer: I,
-    lobby: &Lobby,
+    control: &ServerControl,
     log: Option<DayLog>,
     page: Option<PagePort>,
     listener: TcpListener,
@@ -428,7 +428,7 @@ pub fn serve_door<
         Ok(telling) => telling,
         Err(fault) => return Err(Unserved::of_fault(fault.into())),
     };
-    let paging = match open_page(rt, alloc, gate, door, policy, lobby, &mut issuer, page) {
+    let paging = match open_page(rt, alloc, gate, door, policy, control, &mut issuer, page) {
         Ok(paging) => paging,
         Err(fault) => return Err(Unserved::of_fault(fault)),
     };
@@ -440,15 +440,15 @@ pub fn serve_door<
         let halt = Halt::Fault(ServeFault::ListenFailed(error));
         return Ok((pass, Ending::of_halt(halt)));
     }
-    lobby.bell.open(rt);
-    lobby.keeping.open(rt);
-    let closing = Stop::new();
+    control.matcher.open(rt);
+    control.keeper.open(rt);
+    let closing = ShutdownFlag::new();
     run_paged(
         rt,
         alloc,
         door,
         &reception,
-        lobby,
+        control,
         &closing,
         pass,
         telling,

@@ -1,7 +1,7 @@
 //! The log of the day's records, as they are made.
 
+use gx_control::ServerControl;
 use gx_door::Door;
-use gx_lobby::Lobby;
 use gx_log::piece_size;
 use gx_logging::RecordLog;
 use std::alloc::Global;
@@ -11,10 +11,10 @@ use std::thread;
 use std::time::{Clock, Duration};
 
 /// So many milliseconds lie between two looks for records.
-const LOOK: u64 = 20;
+const RECORDS_POLL_MILLIS: u64 = 20;
 
 /// So many milliseconds a text waits for room before it is seen whether the server has ended.
-const PATIENCE: u64 = 500;
+const LOG_WAIT_MILLIS: u64 = 500;
 
 /// The log of the records of a door, and how many of them an earlier run has told.
 #[derive(Drop)]
@@ -34,17 +34,17 @@ impl<D: Door> Model for Telling<D> {
 
 /// Tells a text, once there is room for each of its lines. Answers whether all is told: where nobody reads them when the
 /// server has ended, the others are let go.
-fn put<R: Wait + Clock>(rt: &R, lobby: &Lobby, text: &[u8]) -> bool {
-    let patience = Duration::from_millis(PATIENCE);
+fn put<R: Wait + Clock>(rt: &R, control: &ServerControl, text: &[u8]) -> bool {
+    let patience = Duration::from_millis(LOG_WAIT_MILLIS);
     let mut rest = text;
     for _ in rt.forever() {
         if rest.is_empty() {
             return true;
         }
         let (piece, behind) = rest.split_at(piece_size(rest));
-        if lobby.log.put(rt, piece, patience) {
+        if control.log.put(rt, piece, patience) {
             rest = behind;
-        } else if lobby.newcomers.is_closed() {
+        } else if control.newcomers.is_closed() {
             return false;
         }
     }
@@ -55,7 +55,7 @@ fn put<R: Wait + Clock>(rt: &R, lobby: &Lobby, text: &[u8]) -> bool {
 fn skip<D: Door, R: Wait + Clock>(
     rt: &R,
     door: &D,
-    lobby: &Lobby,
+    control: &ServerControl,
     log: &mut RecordLog<D>,
     earlier: u64,
 ) {
@@ -63,8 +63,8 @@ fn skip<D: Door, R: Wait + Clock>(
         match log.skip_next(rt, door, earlier) {
             Ok(true) => {}
             Ok(false) => return,
-            Err(_) if lobby.newcomers.is_closed() => return,
-            Err(_) => thread::sleep(rt, Duration::from_millis(LOOK)),
+            Err(_) if control.newcomers.is_closed() => return,
+            Err(_) => thread::sleep(rt, Duration::from_millis(RECORDS_POLL_MILLIS)),
         }
     }
 }
@@ -74,13 +74,13 @@ fn tell_new<D: Door, R: Wait + Clock>(
     rt: &R,
     alloc: Global,
     door: &D,
-    lobby: &Lobby,
+    control: &ServerControl,
     log: &mut RecordLog<D>,
 ) -> bool {
     for _ in rt.forever() {
         match log.next_lines(rt, alloc, door) {
             Ok(Some(text)) => {
-                if !put(rt, lobby, text.as_slice()) {
+                if !put(rt, control, text.as_slice()) {
                     return false;
                 }
             }
@@ -91,12 +91,17 @@ fn tell_new<D: Door, R: Wait + Clock>(
 }
 
 /// Tells what is left behind the lines of all records.
-fn tell_close<D: Door, R: Wait + Clock>(rt: &R, alloc: Global, lobby: &Lobby, log: &RecordLog<D>) {
+fn tell_close<D: Door, R: Wait + Clock>(
+    rt: &R,
+    alloc: Global,
+    control: &ServerControl,
+    log: &RecordLog<D>,
+) {
     match log.close(alloc) {
         Ok(text) => {
-            put(rt, lobby, text.as_slice());
+            put(rt, control, text.as_slice());
         }
-        Err(_) => lobby.log.leave_out(rt),
+        Err(_) => control.log.leave_out(rt),
     }
 }
 
@@ -106,20 +111,20 @@ pub(crate) fn tell_records<D: Door, R: Wait + Clock>(
     rt: &R,
     alloc: Global,
     door: &D,
-    lobby: &Lobby,
+    control: &ServerControl,
     telling: Telling<D>,
 ) {
     let Telling { mut log, earlier } = telling;
-    skip(rt, door, lobby, &mut log, earlier);
+    skip(rt, door, control, &mut log, earlier);
     for _ in rt.forever() {
-        let is_last = lobby.newcomers.is_closed();
-        if !tell_new(rt, alloc, door, lobby, &mut log) {
+        let is_last = control.newcomers.is_closed();
+        if !tell_new(rt, alloc, door, control, &mut log) {
             return;
         }
         if is_last {
-            tell_close(rt, alloc, lobby, &log);
+            tell_close(rt, alloc, control, &log);
             return;
         }
-        thread::sleep(rt, Duration::from_millis(LOOK));
+        thread::sleep(rt, Duration::from_millis(RECORDS_POLL_MILLIS));
     }
 }

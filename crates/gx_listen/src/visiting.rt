@@ -5,13 +5,14 @@ ghost use Rattle.gx_door.specs.Callers.{caller_of};
 ghost use Rattle.gx_door.specs.declared.caller.Caller.TheVariants as callers;
 
 use crate::dated::Dated;
+use gx_control::{Mishap, Peer, ServerControl, WriterWakeup, words_of};
 use gx_devices::Counted;
 use gx_door::{Caller, Door};
-use gx_lobby::{Chime, Lobby, Mishap, Peer, words_of};
 use gx_pass::PassFault;
 use gx_reception::{Admits, LineFault, NoLine, Opening};
 use gx_serve::{
-    Cut, Exclusion, Farewell, Gone, HangUp, Link, Received, converse, let_go_of, receive, turn_away,
+    Cut, Exclusion, Farewell, Gone, HangUp, Received, SharedConnection, let_go_of, receive,
+    run_connection, turn_away,
 };
 use gx_soup::LoginRequest;
 use gx_units::OutOfMemory;
@@ -24,18 +25,18 @@ use std::thread::Threads;
 use std::time::{Clock, Duration, Instant};
 
 /// A write of which a peer takes nothing for so many milliseconds fails.
-const WRITE_PATIENCE: u64 = 5_000;
+const WRITE_TIMEOUT_MILLIS: u64 = 5_000;
 
 /// So many milliseconds a writer rests at most.
-const LONGEST: u64 = 1_000;
+const WRITER_REST_MILLIS: u64 = 1_000;
 
 /// A wrong password that is one too many is answered so many milliseconds later.
-const DELAY: u64 = 1_000;
+const WRONG_PASSWORD_DELAY_MILLIS: u64 = 1_000;
 
 /// Sets a stream up: small packets go out at once, and a write ends in time.
 fn set_up(stream: &TcpStream) -> io::Result<()> {
     stream.set_nodelay(true)?;
-    stream.set_write_timeout(Some(Duration::from_millis(WRITE_PATIENCE)))
+    stream.set_write_timeout(Some(Duration::from_millis(WRITE_TIMEOUT_MILLIS)))
 }
 
 /// What the threads of connections share.
@@ -45,14 +46,14 @@ pub(crate) struct Hall<'x, D, A, R> {
     pub(crate) alloc: Global,
     pub(crate) door: &'x D,
     pub(crate) reception: &'x A,
-    pub(crate) lobby: &'x Lobby,
+    pub(crate) control: &'x ServerControl,
 }
 
 /// Whether the wait is over: so much time has passed, or the clock can't be read.
 fn has_waited<R: Clock>(rt: &R, began: &io::Result<Instant>) -> bool {
     match began {
         Ok(began) => match began.elapsed(rt) {
-            Ok(since) => since >= Duration::from_millis(DELAY),
+            Ok(since) => since >= Duration::from_millis(WRONG_PASSWORD_DELAY_MILLIS),
             Err(_) => true,
         },
         Err(_) => true,
@@ -62,7 +63,7 @@ fn has_waited<R: Clock>(rt: &R, began: &io::Result<Instant>) -> bool {
 /// Lets a second pass, and lets go of what comes meanwhile. Answers whether the peer is still there: he is not once he has
 /// ended, or was hung up on.
 fn stays<R: Wait + Clock>(rt: &R, stream: &TcpStream) -> bool {
-    let _ = stream.set_read_timeout(Some(Duration::from_millis(DELAY)));
+    let _ = stream.set_read_timeout(Some(Duration::from_millis(WRONG_PASSWORD_DELAY_MILLIS)));
     let began = Instant::now(rt);
     let mut reader = stream;
     let mut buffer = [0u8; 4096];
@@ -85,15 +86,15 @@ fn turn_stranger_away<D: Door, A: Admits<D>, R: Wait + Clock>(
     requires stranger { caller_of D.policy login.now.user login.now.password ≡ callers.Stranger }
 {
     let stream = &peer.stream;
-    let attempts = &hall.lobby.attempts;
+    let attempts = &hall.control.attempts;
     if attempts.is_one_too_many(hall.rt, login.user, peer.address.ip()) && !stays(hall.rt, stream) {
         return Gone::Quietly;
     }
     turn_away(
-        &Dated::new(hall.rt, hall.alloc, hall.lobby),
+        &Dated::new(hall.rt, hall.alloc, hall.control),
         hall.alloc,
         hall.door,
-        &hall.lobby.stop,
+        &hall.control.shutdown,
         hall.reception,
         login,
         &mut Counted::new(stream),
@@ -103,24 +104,24 @@ fn turn_stranger_away<D: Door, A: Admits<D>, R: Wait + Clock>(
 /// Serves a user who has a line to his end. What his commands ended is told in the log. Answers why he was cut off, if he was.
 fn serve_user<D: Door + Sync, A, R: Threads + Wait + Clock + Sync>(
     hall: &Hall<'_, D, A, R>,
-    link: &Link<D::Ticket>,
+    shared: &SharedConnection<D::Ticket>,
     opening: Opening,
     stream: &TcpStream,
-    chime: &Chime,
+    wakeup: &WriterWakeup,
 ) -> Option<Cut>
 where
     D::Ticket: Send,
 {
-    let rt = &Dated::new(hall.rt, hall.alloc, hall.lobby);
-    let (_hung_up, listening) = converse(
+    let rt = &Dated::new(hall.rt, hall.alloc, hall.control);
+    let (_hung_up, listening) = run_connection(
         rt,
         hall.alloc,
         hall.door,
-        &hall.lobby.bell,
-        chime,
-        &hall.lobby.stop,
-        &hall.lobby.answers,
-        link,
+        &hall.control.matcher,
+        wakeup,
+        &hall.control.shutdown,
+        &hall.control.answers,
+        shared,
         opening,
         Counted::new(stream),
         stream,
@@ -129,11 +130,16 @@ where
     listening.cut()
 }
 
-/// The chime of the connection of this number, which is rung from now on for what others do.
-fn hang_chime<D, A, R: Wait>(hall: &Hall<'_, D, A, R>, number: u64) -> Result<Chime, OutOfMemory> {
-    let chime = Chime::new(hall.alloc, LONGEST)?;
-    hall.lobby.chimes.hang(hall.rt, number, chime.try_clone()?)?;
-    Ok(chime)
+/// The wakeup of the writer of the connection of this number, which is notified from now on of what others do.
+fn register_wakeup<D, A, R: Wait>(
+    hall: &Hall<'_, D, A, R>,
+    number: u64,
+) -> Result<WriterWakeup, OutOfMemory> {
+    let wakeup = WriterWakeup::new(hall.alloc, WRITER_REST_MILLIS)?;
+    hall.control
+        .writers
+        .register(hall.rt, number, wakeup.try_clone()?)?;
+    Ok(wakeup)
 }
 
 /// Serves a user who has a line to his end, once his writer can be woken. Answers why it ended.
@@ -147,20 +153,24 @@ fn serve_admitted<D: Door + Sync, A, R: Threads + Wait + Clock + Sync>(
 where
     D::Ticket: Send,
 {
-    let Ok(chime) = hang_chime(hall, peer.number) else {
+    let Ok(wakeup) = register_wakeup(hall, peer.number) else {
         return Gone::Quietly;
     };
-    let link = Link::new(&Dated::new(hall.rt, hall.alloc, hall.lobby), pass, caller);
-    let cut = serve_user(hall, &link, opening, &peer.stream, &chime);
-    let farewell = link.farewell(hall.rt);
-    hall.lobby.chimes.take_down(hall.rt, peer.number);
+    let shared = SharedConnection::new(
+        &Dated::new(hall.rt, hall.alloc, hall.control),
+        pass,
+        caller,
+    );
+    let cut = serve_user(hall, &shared, opening, &peer.stream, &wakeup);
+    let farewell = shared.farewell(hall.rt);
+    hall.control.writers.remove(hall.rt, peer.number);
     match cut {
         Some(cut) => Gone::Cut(cut),
         None => {
             tell_of(
                 hall.rt,
                 hall.alloc,
-                hall.lobby,
+                hall.control,
                 peer,
                 "ended",
                 farewell.words(),
@@ -193,9 +203,9 @@ where
     let mut reader = Counted::new(stream);
     match receive(hall.rt, hall.alloc, hall.door, hall.reception, &mut reader) {
         Received::Admitted(pass, caller, opening) => {
-            hall.lobby.newcomers.leave(hall.rt, peer.number);
+            hall.control.newcomers.leave(hall.rt, peer.number);
             let line = hall.door.line_of(&pass);
-            tell_line(hall.rt, hall.alloc, hall.lobby, peer, line);
+            tell_line(hall.rt, hall.alloc, hall.control, peer, line);
             serve_admitted(hall, peer, pass, caller, opening)
         }
         Received::Stranger(login) => {
@@ -210,18 +220,18 @@ where
 fn tell_of<R: Wait + Clock>(
     rt: &R,
     alloc: Global,
-    lobby: &Lobby,
+    control: &ServerControl,
     peer: &Peer,
     kind: &str,
     words: &str,
     is_owed: bool,
 ) {
-    if !is_owed && lobby.log.form().is_none() {
+    if !is_owed && control.log.form().is_none() {
         return;
     }
     match peer.words(alloc, kind, words) {
-        Ok(words) => lobby.tell(rt, alloc, kind, words.as_str()),
-        Err(_) => lobby.log.leave_out(rt),
+        Ok(words) => control.tell(rt, alloc, kind, words.as_str()),
+        Err(_) => control.log.leave_out(rt),
     }
 }
 
@@ -234,34 +244,60 @@ fn words_of_exclusion(why: Exclusion) -> &'static str {
 }
 
 /// Tells that a connection was cut off, and why.
-fn tell_cut<R: Wait + Clock>(rt: &R, alloc: Global, lobby: &Lobby, peer: &Peer, cut: Cut) {
+fn tell_cut<R: Wait + Clock>(
+    rt: &R,
+    alloc: Global,
+    control: &ServerControl,
+    peer: &Peer,
+    cut: Cut,
+) {
     match cut {
-        Cut::Broken(fault) => tell_of(rt, alloc, lobby, peer, "no packets", words_of(fault), true),
+        Cut::Broken(fault) => tell_of(
+            rt,
+            alloc,
+            control,
+            peer,
+            "no packets",
+            words_of(fault),
+            true,
+        ),
         Cut::Excluded(why) => {
             let words = words_of_exclusion(why);
-            tell_of(rt, alloc, lobby, peer, "put out", words, true);
+            tell_of(rt, alloc, control, peer, "put out", words, true);
         }
     }
 }
 
 /// Tells that a connection's user has no line, and why.
-fn tell_no_line<R: Wait + Clock>(rt: &R, alloc: Global, lobby: &Lobby, peer: &Peer, why: NoLine) {
+fn tell_no_line<R: Wait + Clock>(
+    rt: &R,
+    alloc: Global,
+    control: &ServerControl,
+    peer: &Peer,
+    why: NoLine,
+) {
     let words = match why.why() {
         LineFault::Kept => "the day's last lines and records are for officers and readers",
         LineFault::Unissued(PassFault::NoLines) => "the day has none left",
         LineFault::Unissued(PassFault::OutOfMemory) => "there is no memory for one",
     };
-    tell_of(rt, alloc, lobby, peer, "no line", words, true);
+    tell_of(rt, alloc, control, peer, "no line", words, true);
 }
 
 /// Tells on which line of the day a connection's user is, where a log is asked for.
-fn tell_line<R: Wait + Clock>(rt: &R, alloc: Global, lobby: &Lobby, peer: &Peer, line: u16) {
-    if lobby.log.form().is_none() {
+fn tell_line<R: Wait + Clock>(
+    rt: &R,
+    alloc: Global,
+    control: &ServerControl,
+    peer: &Peer,
+    line: u16,
+) {
+    if control.log.form().is_none() {
         return;
     }
     match format!(in alloc; "{line}") {
-        Ok(words) => tell_of(rt, alloc, lobby, peer, "line", words.as_str(), false),
-        Err(_) => lobby.log.leave_out(rt),
+        Ok(words) => tell_of(rt, alloc, control, peer, "line", words.as_str(), false),
+        Err(_) => control.log.leave_out(rt),
     }
 }
 
@@ -269,15 +305,23 @@ fn tell_line<R: Wait + Clock>(rt: &R, alloc: Global, lobby: &Lobby, peer: &Peer,
 pub(crate) fn tell_gone<R: Wait + Clock>(
     rt: &R,
     alloc: Global,
-    lobby: &Lobby,
+    control: &ServerControl,
     peer: &Peer,
     gone: Gone,
 ) {
     match gone {
-        Gone::Cut(cut) => tell_cut(rt, alloc, lobby, peer, cut),
-        Gone::NoLine(why) => tell_no_line(rt, alloc, lobby, peer, why),
-        Gone::Spared => lobby.tally.note(Mishap::Spared, 1),
-        Gone::Denied => tell_of(rt, alloc, lobby, peer, "ended", "no user's password", false),
+        Gone::Cut(cut) => tell_cut(rt, alloc, control, peer, cut),
+        Gone::NoLine(why) => tell_no_line(rt, alloc, control, peer, why),
+        Gone::Spared => control.tally.note(Mishap::Spared, 1),
+        Gone::Denied => tell_of(
+            rt,
+            alloc,
+            control,
+            peer,
+            "ended",
+            "no user's password",
+            false,
+        ),
         Gone::Quietly => {}
     }
 }

@@ -5,9 +5,9 @@ ghost use Rattle.std.specs.Prelude.{◌≡◌};
 use crate::answer::{Answer, answer_to};
 use crate::guest::Guest;
 use gx_button::Secret;
+use gx_control::{ServerControl, ShutdownFlag};
 use gx_door::{Dial, Door};
 use gx_http::{Asked, Request};
-use gx_lobby::{Lobby, Stop};
 use gx_lookout::{Board, Lookout};
 use gx_policy::Policy;
 use gx_serve::Announces;
@@ -42,7 +42,7 @@ pub struct PageServer<'x, T: Drop, D: Door<Ticket = T>, L: Lookout<Pass = T>> {
     policy: &'x Policy,
     secret: Secret,
     is_journaled: bool,
-    lobby: &'x Lobby,
+    control: &'x ServerControl,
     ghost policies: { L.policy ≡ D.policy },
     ghost held: { L.held ≡ D.held },
     ghost same: { policy.now ≡ D.policy },
@@ -56,7 +56,7 @@ impl<'x, T: Drop, D: Door<Ticket = T>, L: Lookout<Pass = T>> PageServer<'x, T, D
         policy: &'x Policy,
         secret: Secret,
         is_journaled: bool,
-        lobby: &'x Lobby,
+        control: &'x ServerControl,
     ) -> PageServer<'x, T, D, L>
         requires policies { L.policy ≡ D.policy }
         requires held { L.held ≡ D.held }
@@ -68,7 +68,7 @@ impl<'x, T: Drop, D: Door<Ticket = T>, L: Lookout<Pass = T>> PageServer<'x, T, D
             policy,
             secret,
             is_journaled,
-            lobby,
+            control,
         }
     }
 }
@@ -155,7 +155,7 @@ impl Guests {
     fn give<R: Wait + Clock>(
         &mut self,
         rt: &R,
-        lobby: &Lobby,
+        control: &ServerControl,
         place: usize,
         request: &Request,
         answer: Result<Answer, OutOfMemory>,
@@ -167,7 +167,7 @@ impl Guests {
         };
         match answer {
             Ok(Answer { text, is_stranger }) => {
-                let is_late = is_stranger && is_one_too_many(rt, lobby, guest, request);
+                let is_late = is_stranger && is_one_too_many(rt, control, guest, request);
                 guest.answer(Ok(text), is_late, now);
             }
             Err(refused) => guest.answer(Err(refused), false, now),
@@ -178,20 +178,22 @@ impl Guests {
 /// Whether a password was given that is one too many of those that were wrong.
 fn is_one_too_many<R: Wait + Clock>(
     rt: &R,
-    lobby: &Lobby,
+    control: &ServerControl,
     guest: &Guest,
     request: &Request,
 ) -> bool {
     match request.caller {
-        Some(who) => lobby.attempts.is_one_too_many(rt, who.user, guest.address),
+        Some(who) => control
+            .attempts
+            .is_one_too_many(rt, who.user, guest.address),
         None => false,
     }
 }
 
 /// Wakes those whom a kill concerns.
-fn tell_others<R: Wait>(rt: &R, lobby: &Lobby, request: &Request) {
+fn tell_others<R: Wait>(rt: &R, control: &ServerControl, request: &Request) {
     if let Asked::Kill(_) = request.asked {
-        lobby.bell.ring(rt);
+        control.matcher.notify(rt);
     }
 }
 
@@ -216,9 +218,9 @@ fn answer_next<
     };
     let about = ServerFigures {
         is_journaled: server.is_journaled,
-        connections: server.lobby.places.count(rt),
-        journal: server.lobby.journal.counts(),
-        answers: server.lobby.answers.counts(),
+        connections: server.control.slots.count(rt),
+        journal: server.control.journal.counts(),
+        answers: server.control.answers.counts(),
     };
     let (board, answer) = answer_to(
         rt,
@@ -231,8 +233,8 @@ fn answer_next<
         board,
         &request,
     );
-    tell_others(rt, server.lobby, &request);
-    guests.give(rt, server.lobby, place, &request, answer);
+    tell_others(rt, server.control, &request);
+    guests.give(rt, server.control, place, &request, answer);
     board
 }
 
@@ -258,7 +260,7 @@ pub fn serve_page<
     server: &PageServer<'_, T, D, L>,
     board: Board<L>,
     listener: &TcpListener,
-    closing: &Stop,
+    closing: &ShutdownFlag,
 ) {
     if listener.set_nonblocking(true).is_err() {
         return;
@@ -269,7 +271,7 @@ pub fn serve_page<
         answered: Duration::ZERO,
     };
     for _ in rt.forever() {
-        if closing.is_asked().is_yes() {
+        if closing.is_requested().is_yes() {
             return;
         }
         let now = time(rt);

@@ -6,12 +6,13 @@ use crate::directing::{Director, Guest, Vain};
 use crate::holding::Holds;
 use crate::house::{House, Script, Stage};
 use crate::wire::Wire;
+use gx_control::WriterWakeup;
 use gx_devices::Counted;
 use gx_door::{Caller, Dial, Door, Issuer};
-use gx_lobby::Chime;
 use gx_reception::{Admits, Opening, Reception};
 use gx_serve::{
-    Announces, Cut, Gone, HangUp, Link, Received, converse, let_go_of, match_on, receive, turn_away,
+    Announces, Cut, Gone, HangUp, Received, SharedConnection, let_go_of, match_on, receive,
+    run_connection, turn_away,
 };
 use std::alloc::Global;
 use std::sync::Wait;
@@ -39,18 +40,18 @@ fn attend_user<
 where
     D::Ticket: Send,
 {
-    let chime = Chime::new(house.alloc, PATIENCE).ok()?;
-    let link = Link::new(rt, pass, caller);
+    let wakeup = WriterWakeup::new(house.alloc, PATIENCE).ok()?;
+    let shared = SharedConnection::new(rt, pass, caller);
     let door = &Holds::new(house.rt, house.door, wire);
-    let (_hung_up, listening) = converse(
+    let (_hung_up, listening) = run_connection(
         rt,
         house.alloc,
         door,
-        &house.lobby.bell,
-        &chime,
-        &house.lobby.stop,
-        &house.lobby.answers,
-        &link,
+        &house.control.matcher,
+        &wakeup,
+        &house.control.shutdown,
+        &house.control.answers,
+        &shared,
         opening,
         Counted::new(WireReader::new(house.rt, wire)),
         WireWriter::new(house.rt, wire),
@@ -81,7 +82,7 @@ where
                 rt,
                 house.alloc,
                 door,
-                &house.lobby.stop,
+                &house.control.shutdown,
                 reception,
                 &login,
                 writer,
@@ -128,7 +129,7 @@ fn conduct<
     })
 }
 
-/// Makes matching steps until the bell is closed. Gives the pass back.
+/// Makes matching steps until its wakeup is closed. Gives the pass back.
 fn make_matches<
     'x,
     T: Drop + Send,
@@ -137,7 +138,7 @@ fn make_matches<
     R: Threads + Wait + Clock + Sync,
 >(house: &'x House<'x, D, A, R>, pass: T) -> T {
     let rt = &Timed::new(house.rt, &house.clock, &house.looks);
-    match_on(rt, house.door, &house.lobby, pass)
+    match_on(rt, house.door, &house.control, pass)
 }
 
 /// Performs the cues beside a matcher, which has this pass. Answers what was waited for in vain; `None` where no thread
@@ -155,7 +156,7 @@ fn play_with<
             return None;
         };
         let vain = conduct(stage, director);
-        house.lobby.bell.close(house.rt);
+        house.control.matcher.close(house.rt);
         let _pass = matcher.join(house.rt);
         Some(vain)
     })

@@ -34,7 +34,7 @@ pub(crate) enum Cue<'a> {
     /// There are so many records.
     Records(u64),
     /// The server is asked to end.
-    Stop,
+    ShutdownFlag,
 }
 
 /// The cue that begins with a word of its own.
@@ -43,7 +43,7 @@ fn read_common<'a>(word: &'a str, rest: &'a str) -> Option<Cue<'a>> {
         "clock" => Some(Cue::Clock(rest.parse().ok()?)),
         "open" => Some(Cue::Open(rest)),
         "records" => Some(Cue::Records(rest.parse().ok()?)),
-        "stop" => Some(Cue::Stop),
+        "stop" => Some(Cue::ShutdownFlag),
         _ => None,
     }
 }

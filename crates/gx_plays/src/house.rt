@@ -3,7 +3,7 @@
 use crate::clock::{Looks, PlayClock};
 use crate::peer::Peer;
 use gx_clock::{DayClock, UtcOffset};
-use gx_lobby::Lobby;
+use gx_control::ServerControl;
 use gx_log::Log;
 use gx_units::OutOfMemory;
 use std::alloc::Global;
@@ -15,7 +15,7 @@ const PLACES: u16 = 100;
 /// So many seconds a peer has for his login; nobody hangs up on those of a play.
 const LOGIN_WITHIN: u64 = 10;
 
-/// What the threads of a play share: the door, who is given a line, the clock, and the lobby.
+/// What the threads of a play share: the door, who is given a line, the clock, and what else threads share.
 #[derive(Drop)]
 pub(crate) struct House<'x, D, A, R> {
     pub(crate) rt: &'x R,
@@ -25,7 +25,7 @@ pub(crate) struct House<'x, D, A, R> {
     pub(crate) clock: PlayClock,
     /// How often the matcher has looked at the clock.
     pub(crate) looks: Looks,
-    pub(crate) lobby: Lobby,
+    pub(crate) control: ServerControl,
 }
 
 impl<'x, D, A, R> House<'x, D, A, R> {
@@ -44,7 +44,7 @@ impl<'x, D, A, R> House<'x, D, A, R> {
             reception,
             clock: PlayClock::new(),
             looks: Looks::new(),
-            lobby: Lobby::new(
+            control: ServerControl::new(
                 alloc,
                 DayClock::at(UtcOffset::UTC, None, None, 0),
                 PLACES,

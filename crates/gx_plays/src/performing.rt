@@ -171,9 +171,11 @@ impl<'x, D: Door, A, R: Wait + Clock> Stage<'x, D, A, R> {
             Cue::Hears(_, count) => self.hear(pass, wire, *count),
             Cue::IsFinished(_) => self.wait(pass, Until::Finished(wire)),
             Cue::IsCut(_) => self.wait(pass, Until::Cut(wire)),
-            Cue::Open(_) | Cue::Clock(_) | Cue::Both(_, _, _) | Cue::Records(_) | Cue::Stop => {
-                false
-            }
+            Cue::Open(_)
+            | Cue::Clock(_)
+            | Cue::Both(_, _, _)
+            | Cue::Records(_)
+            | Cue::ShutdownFlag => { false }
         }
     }
 
@@ -195,7 +197,7 @@ impl<'x, D: Door, A, R: Wait + Clock> Stage<'x, D, A, R> {
 
     /// The server is asked to end.
     fn ask_to_stop(&self) -> bool {
-        self.house.lobby.stop.ask();
+        self.house.control.shutdown.request();
         true
     }
 
@@ -205,7 +207,7 @@ impl<'x, D: Door, A, R: Wait + Clock> Stage<'x, D, A, R> {
             Cue::Clock(moment) => self.set_clock(pass, *moment),
             Cue::Both(one, other, hex) => self.perform_both(pass, one, other, hex),
             Cue::Records(count) => self.wait(pass, Until::Records(*count)),
-            Cue::Stop => self.ask_to_stop(),
+            Cue::ShutdownFlag => self.ask_to_stop(),
             Cue::Open(name)
             | Cue::Gives(name, _)
             | Cue::Repeats(name, _, _)
@@ -234,7 +236,7 @@ impl<'x, D: Door, A, R: Wait + Clock> Stage<'x, D, A, R> {
 
     /// Lets all threads end, whatever they wait for.
     pub(crate) fn give_up(&self) {
-        self.house.lobby.stop.ask();
+        self.house.control.shutdown.request();
         self.house.clock.let_go();
         for peer in &self.script.peers {
             peer.wire.end(self.house.rt);

@@ -5,7 +5,7 @@ use crate::directing::Vain;
 use crate::house::Script;
 use crate::peer::Peer;
 use crate::wire::{first_packet, packets_in};
-use gx_lobby::words_of;
+use gx_control::words_of;
 use gx_serve::{Cut, Exclusion};
 use gx_trials::{Told, put_hex};
 use gx_units::OutOfMemory;

@@ -5,7 +5,7 @@ ghost use Rattle.gx_clock.specs.Moments.{last_shown};
 
 use gx_clock::{DayClock, TimeOfDay};
 use gx_command_line::Ends;
-use gx_lobby::Lobby;
+use gx_control::ServerControl;
 use gx_log::Log;
 use gx_shortened::Shortened;
 use gx_units::{Moment, OutOfMemory};
@@ -31,7 +31,12 @@ pub fn connections_of(ends: Ends) -> u64 {
 }
 
 /// Asks for the end of a server once the reader's input has ended or fails.
-fn await_input<I: Read, R: Wait + Clock>(rt: &R, alloc: Global, reader: &mut I, lobby: &Lobby) {
+fn await_input<I: Read, R: Wait + Clock>(
+    rt: &R,
+    alloc: Global,
+    reader: &mut I,
+    control: &ServerControl,
+) {
     let mut room = [0u8; 256];
     for _ in 0..u64::MAX {
         match reader.read(&mut room) {
@@ -39,13 +44,13 @@ fn await_input<I: Read, R: Wait + Clock>(rt: &R, alloc: Global, reader: &mut I, 
             _ => break,
         }
     }
-    lobby.note(
+    control.note(
         rt,
         alloc,
         "end",
         "gate: the server ends: standard input has ended",
     );
-    lobby.end();
+    control.end();
 }
 
 /// What a server is ended for.
@@ -119,11 +124,16 @@ pub(crate) fn tell_why<R: Wait + Clock>(
 }
 
 /// Ends the server once what is awaited has come.
-fn await_end<R: Wait + Clock>(rt: &R, host: &HostRuntime, lobby: &Lobby, awaited: &Awaited) {
+fn await_end<R: Wait + Clock>(
+    rt: &R,
+    host: &HostRuntime,
+    control: &ServerControl,
+    awaited: &Awaited,
+) {
     for _ in rt.forever() {
-        if let Some(why) = awaited.why(host, &lobby.clock) {
-            tell_why(rt, host.alloc(), &lobby.log, &lobby.clock, why);
-            lobby.end();
+        if let Some(why) = awaited.why(host, &control.clock) {
+            tell_why(rt, host.alloc(), &control.log, &control.clock, why);
+            control.end();
             return;
         }
         thread::sleep(rt, Duration::from_millis(LOOK));
@@ -134,9 +144,9 @@ fn await_end<R: Wait + Clock>(rt: &R, host: &HostRuntime, lobby: &Lobby, awaited
 fn end_with_input<R: Threads + Wait + Clock + Copy + Send + 'static>(
     rt: R,
     host: HostRuntime,
-    lobby: &Arc<Lobby, Global>,
+    control: &Arc<ServerControl, Global>,
 ) -> Result<(), OutOfMemory> {
-    let theirs = Arc::try_clone(lobby)?;
+    let theirs = Arc::try_clone(control)?;
     let alloc = host.alloc();
     match thread::spawn(
         &rt,
@@ -151,10 +161,10 @@ fn end_with_input<R: Threads + Wait + Clock + Copy + Send + 'static>(
 fn end_when_come<R: Threads + Wait + Clock + Copy + Send + 'static>(
     rt: R,
     host: HostRuntime,
-    lobby: &Arc<Lobby, Global>,
+    control: &Arc<ServerControl, Global>,
     awaited: Awaited,
 ) -> Result<(), OutOfMemory> {
-    let theirs = Arc::try_clone(lobby)?;
+    let theirs = Arc::try_clone(control)?;
     match thread::spawn(&rt, move || await_end(&rt, &host, &theirs, &awaited)) {
         Ok(_) => Ok(()),
         Err(_) => Err(OutOfMemory),
@@ -185,14 +195,14 @@ pub fn await_ends<R: Threads + Wait + Clock + Copy + Send + 'static>(
     rt: R,
     host: HostRuntime,
     ends: Ends,
-    lobby: &Arc<Lobby, Global>,
+    control: &Arc<ServerControl, Global>,
 ) -> Result<(), OutOfMemory> {
     if ends.with_input {
-        end_with_input(rt, host, lobby)?;
+        end_with_input(rt, host, control)?;
     }
     if ends.at.is_none() && ends.stop_file.is_none() {
         return Ok(());
     }
-    let awaited = awaited_of(&host, ends, lobby.clock.now(&host))?;
-    end_when_come(rt, host, lobby, awaited)
+    let awaited = awaited_of(&host, ends, control.clock.now(&host))?;
+    end_when_come(rt, host, control, awaited)
 }

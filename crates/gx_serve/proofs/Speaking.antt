@@ -7,7 +7,7 @@ use Rattle.gx_answers.specs.declared.outcome.LoginAnswer.{LoginAnswer}
 use Rattle.gx_devices.specs.Devices.{IsFront}
 use Rattle.gx_session.specs.{declared.event.{Control.Control, Sign.Sign}, Sending.{control_bytes, reports_text}}
 use Rattle.gx_devices.proofs.Known.{front_behind, front_longer}
-use Rattle.gx_serve.specs.declared.seat.outgoing.{Due.Due, Greeted.Greeted, Finished.Finished}
+use Rattle.gx_serve.specs.declared.state.outgoing.{NextWrite.NextWrite, LoginOutcome.LoginOutcome, Finished.Finished}
 use Rattle.gx_serve.specs.Speech
 
 -- parts that go on where others ended
@@ -28,20 +28,20 @@ pub nothing_spoken : (policy : PolicyData) (user : UserName) (from : ℕ) → Sp
 nothing_spoken policy user from = record { parts = []; go_on = refl; whole = refl }
 
 -- what is due and not the last is a part
-due_spoken : (policy : PolicyData) (user : UserName) (from : ℕ) (due : Due) → Speech.IsDue policy user from due → Speech.is_last due ≡ false → Speech.IsSpoken policy user from (Speech.due_text due) (Speech.next_after due from)
-due_spoken policy user from (Due.Sign Sign.Heartbeat) d e = record { parts = Speech.Beat ∷ []; go_on = refl; whole = sym (append-nil (control_bytes (Control.Sign Sign.Heartbeat))) }
-due_spoken policy user from (Due.Sign Sign.EndOfSession) d e = cc
-due_spoken policy user from (Due.Reports fetched) d e = record { parts = Speech.Shown fetched.pulled ∷ []; go_on = (d, refl); whole = sym (append-nil (reports_text fetched.pulled.reports)) }
-due_spoken policy user from Due.Nothing d e = record { parts = []; go_on = refl; whole = refl }
-due_spoken policy user from (Due.Over finished) d e = cc
+due_spoken : (policy : PolicyData) (user : UserName) (from : ℕ) (due : NextWrite) → Speech.IsDue policy user from due → Speech.is_last due ≡ false → Speech.IsSpoken policy user from (Speech.due_text due) (Speech.next_after due from)
+due_spoken policy user from (NextWrite.Sign Sign.Heartbeat) d e = record { parts = Speech.Beat ∷ []; go_on = refl; whole = sym (append-nil (control_bytes (Control.Sign Sign.Heartbeat))) }
+due_spoken policy user from (NextWrite.Sign Sign.EndOfSession) d e = cc
+due_spoken policy user from (NextWrite.Reports fetched) d e = record { parts = Speech.Shown fetched.pulled ∷ []; go_on = (d, refl); whole = sym (append-nil (reports_text fetched.pulled.reports)) }
+due_spoken policy user from NextWrite.Nothing d e = record { parts = []; go_on = refl; whole = refl }
+due_spoken policy user from (NextWrite.Over finished) d e = cc
 
 -- what is due and the last is an ending
-due_ends : (due : Due) → Speech.is_last due ≡ true → Speech.IsEnding (Speech.due_text due)
-due_ends (Due.Sign Sign.Heartbeat) e = cc
-due_ends (Due.Sign Sign.EndOfSession) e = inr refl
-due_ends (Due.Reports fetched) e = cc
-due_ends Due.Nothing e = cc
-due_ends (Due.Over finished) e = inl refl
+due_ends : (due : NextWrite) → Speech.is_last due ≡ true → Speech.IsEnding (Speech.due_text due)
+due_ends (NextWrite.Sign Sign.Heartbeat) e = cc
+due_ends (NextWrite.Sign Sign.EndOfSession) e = inr refl
+due_ends (NextWrite.Reports fetched) e = cc
+due_ends NextWrite.Nothing e = cc
+due_ends (NextWrite.Over finished) e = inl refl
 
 -- of what the writer has come to
 pub record Says (policy : PolicyData) (user : UserName) (from to : ℕ) (before after : Option (List ℕ)) : Type 0 where
@@ -52,7 +52,7 @@ pub record Says (policy : PolicyData) (user : UserName) (from to : ℕ) (before 
 pub says_nothing : (policy : PolicyData) (user : UserName) (from : ℕ) (output : Option (List ℕ)) → Says policy user from from output output
 says_nothing policy user from output = record { spoken = []; speech = nothing_spoken policy user from; written = Appends-nil output }
 
-says_more : (policy : PolicyData) (user : UserName) (from to : ℕ) (before mid after : Option (List ℕ)) (due : Due) → Speech.IsDue policy user to due → Speech.is_last due ≡ false → Says policy user from to before mid → Appends mid after (Speech.due_text due) → Says policy user from (Speech.next_after due to) before after
+says_more : (policy : PolicyData) (user : UserName) (from to : ℕ) (before mid after : Option (List ℕ)) (due : NextWrite) → Speech.IsDue policy user to due → Speech.is_last due ≡ false → Says policy user from to before mid → Appends mid after (Speech.due_text due) → Says policy user from (Speech.next_after due to) before after
 says_more policy user from to before mid after due d e s w = record {
   spoken = s.spoken ++ Speech.due_text due;
   speech = spoken_on policy user from to (Speech.next_after due to) s.spoken (Speech.due_text due) s.speech (due_spoken policy user to due d e);
@@ -64,7 +64,7 @@ behind : (whole : Bool) (front text : List ℕ) (before mid after : Option (List
 behind true front text before mid after f w = Appends-trans before mid after front text f w
 behind false front text before mid after f w = front_behind front text before mid after f w
 
-says_last : (whole : Bool) (policy : PolicyData) (user : UserName) (from to : ℕ) (before mid after : Option (List ℕ)) (due : Due) → Speech.is_last due ≡ true → Says policy user from to before mid → Speech.Writes whole mid after (Speech.due_text due) → Speech.WasSpoken whole policy user from before after
+says_last : (whole : Bool) (policy : PolicyData) (user : UserName) (from to : ℕ) (before mid after : Option (List ℕ)) (due : NextWrite) → Speech.is_last due ≡ true → Says policy user from to before mid → Speech.Writes whole mid after (Speech.due_text due) → Speech.WasSpoken whole policy user from before after
 says_last whole policy user from to before mid after due e s w = record {
   to = to;
   spoken = s.spoken;
@@ -77,16 +77,16 @@ says_last whole policy user from to before mid after due e s w = record {
 -- the same, of what the functions answered
 
 -- the user is the one from the beginning
-pub due_still : (policy : PolicyData) (user user' : UserName) (from : ℕ) (due : Due) → user' ≡ user → Speech.IsDue policy user' from due → Speech.IsDue policy user from due
+pub due_still : (policy : PolicyData) (user user' : UserName) (from : ℕ) (due : NextWrite) → user' ≡ user → Speech.IsDue policy user' from due → Speech.IsDue policy user from due
 due_still policy user user' from due same d = subst (λ u. Speech.IsDue policy u from due) same d
 
-pub goes_further : (policy : PolicyData) (user : UserName) (from to next : ℕ) (before mid after : Option (List ℕ)) (due : Due) (last : Bool) → Speech.IsDue policy user to due → last ≡ Speech.is_last due → last ≡ false → next ≡ Speech.next_after due to → Says policy user from to before mid → Appends mid after (Speech.due_text due) → Says policy user from next before after
+pub goes_further : (policy : PolicyData) (user : UserName) (from to next : ℕ) (before mid after : Option (List ℕ)) (due : NextWrite) (last : Bool) → Speech.IsDue policy user to due → last ≡ Speech.is_last due → last ≡ false → next ≡ Speech.next_after due to → Says policy user from to before mid → Appends mid after (Speech.due_text due) → Says policy user from next before after
 goes_further policy user from to next before mid after due last d l e n s w = subst (λ k. Says policy user from k before after) (sym n) (says_more policy user from to before mid after due d (sym l ∙ e) s w)
 
-pub ends_there : (policy : PolicyData) (user : UserName) (from to : ℕ) (before mid after : Option (List ℕ)) (due : Due) (last : Bool) → last ≡ Speech.is_last due → last ≡ true → Says policy user from to before mid → Appends mid after (Speech.due_text due) → Speech.WasSpoken true policy user from before after
+pub ends_there : (policy : PolicyData) (user : UserName) (from to : ℕ) (before mid after : Option (List ℕ)) (due : NextWrite) (last : Bool) → last ≡ Speech.is_last due → last ≡ true → Says policy user from to before mid → Appends mid after (Speech.due_text due) → Speech.WasSpoken true policy user from before after
 ends_there policy user from to before mid after due last l e s w = says_last true policy user from to before mid after due (sym l ∙ e) s w
 
-pub is_cut_off : (policy : PolicyData) (user : UserName) (from to : ℕ) (before mid after : Option (List ℕ)) (due : Due) → Speech.IsDue policy user to due → Says policy user from to before mid → IsFront mid after (Speech.due_text due) → Speech.WasSpoken false policy user from before after
+pub is_cut_off : (policy : PolicyData) (user : UserName) (from to : ℕ) (before mid after : Option (List ℕ)) (due : NextWrite) → Speech.IsDue policy user to due → Says policy user from to before mid → IsFront mid after (Speech.due_text due) → Speech.WasSpoken false policy user from before after
 is_cut_off policy user from to before mid after due d s f = elim (Speech.is_last due) as (λ b. Speech.is_last due ≡ b → Speech.WasSpoken false policy user from before after) [
   | true ↦ λ e. says_last false policy user from to before mid after due e s f
   | false ↦ λ e. record {
@@ -101,17 +101,17 @@ is_cut_off policy user from to before mid after due d s f = elim (Speech.is_last
 
 -- The whole of it, by what came of the login.
 
-pub is_said : (policy : PolicyData) (finished : Finished) (before after : Option (List ℕ)) → Speech.IsGreeted before after (Greeted.Over finished) → Speech.WasSaid true policy before after
+pub is_said : (policy : PolicyData) (finished : Finished) (before after : Option (List ℕ)) → Speech.IsGreeted before after (LoginOutcome.Over finished) → Speech.WasSaid true policy before after
 is_said policy finished before after (inl w) = record { text = []; said = inl refl; written = w }
 is_said policy finished before after (inr (reason, w)) = record { text = control_bytes (Control.Answer (LoginAnswer.Rejected reason)); said = inr (inl (reason, refl)); written = w }
 
-pub is_greeted : (user : UserName) (login : ℕ) (answer : LoginAnswer) (greeted : Greeted) (before after : Option (List ℕ)) → Appends before after (control_bytes (Control.Answer answer)) → Speech.Begins user login answer greeted → Speech.IsGreeted before after greeted
-is_greeted user login (LoginAnswer.Accepted session next) (Greeted.On m) before after w b = (session, subst (λ n. Appends before after (control_bytes (Control.Answer (LoginAnswer.Accepted session n)))) (sym (ap (λ k. k.next) b)) w)
-is_greeted user login (LoginAnswer.Accepted session next) (Greeted.Over finished) before after w b = absurd b
-is_greeted user login (LoginAnswer.Accepted session next) Greeted.Cut before after w b = absurd b
-is_greeted user login (LoginAnswer.Rejected reason) (Greeted.On m) before after w b = absurd b
-is_greeted user login (LoginAnswer.Rejected reason) (Greeted.Over finished) before after w b = inr (reason, w)
-is_greeted user login (LoginAnswer.Rejected reason) Greeted.Cut before after w b = absurd b
+pub is_greeted : (user : UserName) (login : ℕ) (answer : LoginAnswer) (greeted : LoginOutcome) (before after : Option (List ℕ)) → Appends before after (control_bytes (Control.Answer answer)) → Speech.Begins user login answer greeted → Speech.IsGreeted before after greeted
+is_greeted user login (LoginAnswer.Accepted session next) (LoginOutcome.On m) before after w b = (session, subst (λ n. Appends before after (control_bytes (Control.Answer (LoginAnswer.Accepted session n)))) (sym (ap (λ k. k.next) b)) w)
+is_greeted user login (LoginAnswer.Accepted session next) (LoginOutcome.Over finished) before after w b = absurd b
+is_greeted user login (LoginAnswer.Accepted session next) LoginOutcome.Cut before after w b = absurd b
+is_greeted user login (LoginAnswer.Rejected reason) (LoginOutcome.On m) before after w b = absurd b
+is_greeted user login (LoginAnswer.Rejected reason) (LoginOutcome.Over finished) before after w b = inr (reason, w)
+is_greeted user login (LoginAnswer.Rejected reason) LoginOutcome.Cut before after w b = absurd b
 
 blank_user : UserName
 blank_user = record { bytes = codes "      " }
@@ -130,7 +130,7 @@ answer_said policy (LoginAnswer.Accepted session next) = inr (inr (record {
   whole = sym (append-nil (control_bytes (Control.Answer (LoginAnswer.Accepted session next)) ++ []) ∙ append-nil (control_bytes (Control.Answer (LoginAnswer.Accepted session next))));
 }))
 
-pub answer_cut : (policy : PolicyData) (before after : Option (List ℕ)) → Speech.IsGreeted before after Greeted.Cut → Speech.WasSaid false policy before after
+pub answer_cut : (policy : PolicyData) (before after : Option (List ℕ)) → Speech.IsGreeted before after LoginOutcome.Cut → Speech.WasSaid false policy before after
 answer_cut policy before after (answer, f) = record { text = control_bytes (Control.Answer answer); said = answer_said policy answer; written = f }
 
 welcome : (policy : PolicyData) (user : UserName) (session : SessionName) (first to : ℕ) (spoken ending : List ℕ) → Speech.IsSpoken policy user first spoken to → Speech.IsEnding ending → Speech.IsConversation policy (control_bytes (Control.Answer (LoginAnswer.Accepted session first)) ++ (spoken ++ ending))

@@ -8,7 +8,7 @@ use Rattle.gx_answers.specs.declared.outcome.Outcome.{Outcome}
 use Rattle.gx_pass.specs.declared.view.Holds.{Holds}
 use Rattle.gx_door.specs.{Acts.asked_on, declared.ended.Ended.Ended}
 use Rattle.gx_session.specs.{declared.event.Next.{Next, TheVariants.Act}, Table.SessionData}
-use Rattle.gx_serve.specs.{declared.announcing.{EndedBy.EndedBy, EndedOrders.EndedOrders}, Seats.{WasGivenUp, WasTurned}}
+use Rattle.gx_serve.specs.{declared.announcing.{EndedBy.EndedBy, EndedOrders.EndedOrders}, States.{WasGivenUp, WasTurned}}
 
 -- what a command ends, if it ends live orders
 abbrev pub ended_by : Action → Option EndedBy

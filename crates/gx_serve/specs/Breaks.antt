@@ -1,7 +1,7 @@
 -- What breaks a session off.
 use Rattle.gx_session.specs.Happenings.{Happening}
 use Rattle.gx_session.specs.Happenings as happens
-use Rattle.gx_serve.specs.declared.seat.Break.{Break}
+use Rattle.gx_serve.specs.declared.state.Break.{Break}
 
 -- what the session is told
 abbrev pub break_of : Break → Happening

@@ -4,7 +4,7 @@ pub mod Conducts
 pub mod Marks
 pub mod Readings
 pub mod Receptions
-pub mod Seats
+pub mod States
 pub mod Seeking
 pub mod Speech
 pub mod Takings

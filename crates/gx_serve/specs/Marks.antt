@@ -1,8 +1,8 @@
--- What a seat gives its writer: whose reports he sends, an answer, reports.
+-- What a state gives its writer: whose reports he sends, an answer, reports.
 use Rattle.std.specs.Prelude.{ℕ, length, nat_le}
 use Rattle.gx_units.specs.declared.names.UserName.{UserName}
 use Rattle.gx_answers.specs.declared.{outcome.LoginAnswer.LoginAnswer, pulled.Pulled.Pulled}
-use Rattle.gx_lobby.specs.Watches.{watch_of, WatchData}
+use Rattle.gx_control.specs.PullCursors.{pull_cursor, PullCursorData}
 
 -- the user whose reports are sent, when he asked to log in, and the number of the next
 pub record Mark : Type 0 where
@@ -35,5 +35,5 @@ abbrev pub mark_sent : Mark → FetchedData → Mark
 mark_sent m f = mark m.user m.login f.pulled.next
 
 -- and as many records were seen as there were; where all were pulled that one pull may give, there may be more
-abbrev pub watch_sent : FetchedData → WatchData
-watch_sent f = watch_of f.count (nat_le 256 (length f.pulled.reports))
+abbrev pub cursor_sent : FetchedData → PullCursorData
+cursor_sent f = pull_cursor f.count (nat_le 256 (length f.pulled.reports))

@@ -6,10 +6,10 @@ use Rattle.gx_history.specs.InForce.{line_of}
 use Rattle.gx_answers.specs.declared.{outcome.{LoginAnswer.LoginAnswer, StepFault.StepFault}, pulled.Pulled.Pulled}
 use Rattle.gx_pass.specs.{declared.view.Holds.Holds, Views.retold}
 use Rattle.gx_door.specs.Acts.{IsLater}
-use Rattle.gx_lobby.specs.Watches.{has_news, watch_of, WatchData}
+use Rattle.gx_control.specs.PullCursors.{may_have_more, pull_cursor, PullCursorData}
 use Rattle.gx_session.specs.{declared.{event.Sign.Sign, outbox.Outbox.Outbox}, Events.{is_on, is_over}, Outboxes.left_after, Table.{SessionData, turn}}
 use Rattle.gx_session.specs.Happenings as happens
-use Rattle.gx_serve.specs.{declared.seat.outgoing.{Due.Due, Finished.Finished}, Marks.{fetched, given, FetchedData, Given, Mark}, Seats.{HasLooked, WasTold, WasToldRefusal}, Speech.IsShown}
+use Rattle.gx_serve.specs.{declared.state.outgoing.{NextWrite.NextWrite, Finished.Finished}, Marks.{fetched, given, FetchedData, Given, Mark}, States.{HasLooked, WasTold, WasToldRefusal}, Speech.IsShown}
 
 -- there is nothing to greet with: for good where the session is over, else for now
 abbrev pub IsQuiet : Bool → Option (Result Given Finished) → Type 0
@@ -31,91 +31,91 @@ WasGreeted None policy user login moment session was session' is greeting =
     Ticks (is_over session.phase) policy user moment session was session' is × IsQuiet (is_over session'.phase) greeting
 
 -- the session is over, and nothing is left to be sent
-abbrev pub IsOver : Due → Type 0
-IsOver (Due.Sign sign) = ⊥
-IsOver (Due.Reports found) = ⊥
-IsOver Due.Nothing = ⊥
-IsOver (Due.Over finished) = Unit {0}
+abbrev pub IsOver : NextWrite → Type 0
+IsOver (NextWrite.Sign sign) = ⊥
+IsOver (NextWrite.Reports found) = ⊥
+IsOver NextWrite.Nothing = ⊥
+IsOver (NextWrite.Over finished) = Unit {0}
 
 -- a pull brought nothing, and more may come
 abbrev pub is_bare : FetchedData → Bool
 is_bare f = (length f.pulled.reports == 0) && not f.pulled.ended
 
 -- what a pull brought is due, unless it is nothing
-abbrev pub due_of : FetchedData → Due
-due_of f = cond (is_bare f) Due.Nothing (Due.Reports f)
+abbrev pub due_of : FetchedData → NextWrite
+due_of f = cond (is_bare f) NextWrite.Nothing (NextWrite.Reports f)
 
 -- and in the latter case all records were seen
-abbrev pub watch_after : WatchData → FetchedData → WatchData
-watch_after watch f = cond (is_bare f) (watch_of f.count false) watch
+abbrev pub cursor_after : PullCursorData → FetchedData → PullCursorData
+cursor_after cursor f = cond (is_bare f) (pull_cursor f.count false) cursor
 
 -- as many records were told as had been seen, and there is nothing to be looked for
-pub record WasIdle (session : SessionData) (was : Holds) (watch : WatchData) (session' : SessionData) (is : Holds) (watch' : WatchData) (due : Due) : Type 0 where
+pub record WasIdle (session : SessionData) (was : Holds) (cursor : PullCursorData) (session' : SessionData) (is : Holds) (cursor' : PullCursorData) (due : NextWrite) : Type 0 where
   pub told : is ≡ retold was is.told
-  pub idle : IsFalse (has_news watch is.told)
+  pub idle : IsFalse (may_have_more cursor is.told)
   pub same : session' ≡ session
-  pub seen : watch' ≡ watch
-  pub nothing : due ≡ Due.Nothing
+  pub seen : cursor' ≡ cursor
+  pub nothing : due ≡ NextWrite.Nothing
 
 -- there was news, and the user's reports were pulled, as they stood once so many records were told
-pub record WasFetched (policy : PolicyData) (m : Mark) (session : SessionData) (was : Holds) (watch : WatchData) (session' : SessionData) (is : Holds) (watch' : WatchData) (due : Due) : Type 0 where
+pub record WasFetched (policy : PolicyData) (m : Mark) (session : SessionData) (was : Holds) (cursor : PullCursorData) (session' : SessionData) (is : Holds) (cursor' : PullCursorData) (due : NextWrite) : Type 0 where
   pub pulled : Pulled
   pub count : ℕ
-  pub news : IsTrue (has_news watch count)
+  pub news : IsTrue (may_have_more cursor count)
   pub later : IsLater policy (retold was count) is
   pub looked : HasLooked was is
   pub shown : IsShown policy m.user m.next pulled
   pub same : session' ≡ session
-  pub seen : watch' ≡ watch_after watch (fetched pulled count)
+  pub seen : cursor' ≡ cursor_after cursor (fetched pulled count)
   pub brought : due ≡ due_of (fetched pulled count)
 
 -- the pull was refused, and the session was told so: for want of memory, or since the user is not logged in on the line
-pub record WasUnfetched (policy : PolicyData) (user : UserName) (m : Mark) (moment : ℕ) (session : SessionData) (was : Holds) (watch : WatchData) (session' : SessionData) (is : Holds) (watch' : WatchData) (due : Due) : Type 0 where
+pub record WasUnfetched (policy : PolicyData) (user : UserName) (m : Mark) (moment : ℕ) (session : SessionData) (was : Holds) (cursor : PullCursorData) (session' : SessionData) (is : Holds) (cursor' : PullCursorData) (due : NextWrite) : Type 0 where
   pub between : Holds
   pub looked : HasLooked was between
   pub told : WasToldRefusal policy user StepFault.OutOfMemory moment session between session' is
       ⊎ ((line_of between.front (folded_user m.user) ≢ Some was.line) × WasTold policy user happens.Fault moment session between session' is)
-  pub seen : watch' ≡ watch
-  pub nothing : due ≡ Due.Nothing
+  pub seen : cursor' ≡ cursor
+  pub nothing : due ≡ NextWrite.Nothing
 
 -- what came of looking for the user's reports
-abbrev pub WasPulled : PolicyData → UserName → Mark → ℕ → SessionData → Holds → WatchData → SessionData → Holds → WatchData → Due → Type 0
-WasPulled policy user m moment session was watch session' is watch' due =
-    WasIdle session was watch session' is watch' due
-    ⊎ (WasFetched policy m session was watch session' is watch' due
-    ⊎ WasUnfetched policy user m moment session was watch session' is watch' due)
+abbrev pub WasPulled : PolicyData → UserName → Mark → ℕ → SessionData → Holds → PullCursorData → SessionData → Holds → PullCursorData → NextWrite → Type 0
+WasPulled policy user m moment session was cursor session' is cursor' due =
+    WasIdle session was cursor session' is cursor' due
+    ⊎ (WasFetched policy m session was cursor session' is cursor' due
+    ⊎ WasUnfetched policy user m moment session was cursor session' is cursor' due)
 
 -- nothing else was done
-abbrev pub Stays : SessionData → Holds → WatchData → SessionData → Holds → WatchData → Type 0
-Stays session was watch session' is watch' = ((session' ≡ session) × (is ≡ was)) × (watch' ≡ watch)
+abbrev pub Stays : SessionData → Holds → PullCursorData → SessionData → Holds → PullCursorData → Type 0
+Stays session was cursor session' is cursor' = ((session' ≡ session) × (is ≡ was)) × (cursor' ≡ cursor)
 
 -- reports are looked for while a user is logged in
-abbrev pub LooksWhere : Bool → PolicyData → UserName → Mark → ℕ → SessionData → Holds → WatchData → SessionData → Holds → WatchData → Due → Type 0
-LooksWhere true policy user m moment session was watch session' is watch' due = WasPulled policy user m moment session was watch session' is watch' due
-LooksWhere false policy user m moment session was watch session' is watch' due = Stays session was watch session' is watch' × (due ≡ Due.Nothing)
+abbrev pub LooksWhere : Bool → PolicyData → UserName → Mark → ℕ → SessionData → Holds → PullCursorData → SessionData → Holds → PullCursorData → NextWrite → Type 0
+LooksWhere true policy user m moment session was cursor session' is cursor' due = WasPulled policy user m moment session was cursor session' is cursor' due
+LooksWhere false policy user m moment session was cursor session' is cursor' due = Stays session was cursor session' is cursor' × (due ≡ NextWrite.Nothing)
 
 -- the packet that is left is due, and left no more; else nothing any more once the session is over; else this holds
-abbrev pub DueElse : Option Sign → Outbox → Bool → SessionData → Holds → WatchData → SessionData → Holds → WatchData → Due → Type 0 → Type 0
-DueElse (Some sign) left' over session was watch session' is watch' due Else = Stays session was watch session' is watch' × (due ≡ Due.Sign sign) × (left'.sign ≡ None)
-DueElse None left' true session was watch session' is watch' due Else = Stays session was watch session' is watch' × IsOver due
-DueElse None left' false session was watch session' is watch' due Else = Else
+abbrev pub DueElse : Option Sign → Outbox → Bool → SessionData → Holds → PullCursorData → SessionData → Holds → PullCursorData → NextWrite → Type 0 → Type 0
+DueElse (Some sign) left' over session was cursor session' is cursor' due Else = Stays session was cursor session' is cursor' × (due ≡ NextWrite.Sign sign) × (left'.sign ≡ None)
+DueElse None left' true session was cursor session' is cursor' due Else = Stays session was cursor session' is cursor' × IsOver due
+DueElse None left' false session was cursor session' is cursor' due Else = Else
 
 -- and else reports are looked for
-abbrev pub Seeks : Option Sign → Outbox → PolicyData → UserName → Mark → ℕ → SessionData → Holds → WatchData → SessionData → Holds → WatchData → Due → Type 0
-Seeks left left' policy user m moment session was watch session' is watch' due =
-    DueElse left left' (is_over session.phase) session was watch session' is watch' due
-    (LooksWhere (is_on session.phase) policy user m moment session was watch session' is watch' due)
+abbrev pub Seeks : Option Sign → Outbox → PolicyData → UserName → Mark → ℕ → SessionData → Holds → PullCursorData → SessionData → Holds → PullCursorData → NextWrite → Type 0
+Seeks left left' policy user m moment session was cursor session' is cursor' due =
+    DueElse left left' (is_over session.phase) session was cursor session' is cursor' due
+    (LooksWhere (is_on session.phase) policy user m moment session was cursor session' is cursor' due)
 
 -- the session was told of the time, and what it then asks to send is due, or else what there is
-pub record WasWatched (left left' : Outbox) (policy : PolicyData) (user : UserName) (m : Mark) (moment : ℕ) (session : SessionData) (was : Holds) (watch : WatchData) (session' : SessionData) (is : Holds) (watch' : WatchData) (due : Due) : Type 0 where
+pub record WasWatched (left left' : Outbox) (policy : PolicyData) (user : UserName) (m : Mark) (moment : ℕ) (session : SessionData) (was : Holds) (cursor : PullCursorData) (session' : SessionData) (is : Holds) (cursor' : PullCursorData) (due : NextWrite) : Type 0 where
   pub ticked : SessionData
   pub between : Holds
   pub told : WasTold policy user happens.Tick moment session was ticked between
-  pub sought : Seeks (left_after left (turn session happens.Tick moment).reply.send).sign left' policy user m moment ticked between watch session' is watch' due
+  pub sought : Seeks (left_after left (turn session happens.Tick moment).reply.send).sign left' policy user m moment ticked between cursor session' is cursor' due
 
 -- what the writer does for a user: he sends the packet that is left; once the session is over nothing more; else the session is
 -- told of the time, and he sends what it then asks for, or the user's reports, where there are any
-abbrev pub WasSought : Outbox → Outbox → PolicyData → UserName → Mark → ℕ → SessionData → Holds → WatchData → SessionData → Holds → WatchData → Due → Type 0
-WasSought left left' policy user m moment session was watch session' is watch' due =
-    DueElse left.sign left' (is_over session.phase) session was watch session' is watch' due
-    (WasWatched (record left { sign = None }) left' policy user m moment session was watch session' is watch' due)
+abbrev pub WasSought : Outbox → Outbox → PolicyData → UserName → Mark → ℕ → SessionData → Holds → PullCursorData → SessionData → Holds → PullCursorData → NextWrite → Type 0
+WasSought left left' policy user m moment session was cursor session' is cursor' due =
+    DueElse left.sign left' (is_over session.phase) session was cursor session' is cursor' due
+    (WasWatched (record left { sign = None }) left' policy user m moment session was cursor session' is cursor' due)

@@ -7,14 +7,14 @@ use Rattle.gx_answers.specs.declared.{outcome.LoginAnswer.LoginAnswer, pulled.Pu
 use Rattle.gx_devices.specs.Devices.{IsFront}
 use Rattle.gx_session.specs.{declared.event.{Control.Control, Sign.Sign}, Sending.{control_bytes, reports_text}}
 use Rattle.gx_door.specs.Acts.{gate_at, most_pulled, IsPulled}
-use Rattle.gx_serve.specs.{declared.seat.outgoing.{Due.Due, Greeted.Greeted}, Marks.mark}
+use Rattle.gx_serve.specs.{declared.state.outgoing.{NextWrite.NextWrite, LoginOutcome.LoginOutcome}, Marks.mark}
 
 -- what is written of what is due: a packet of the session's own, or one for each report
-abbrev pub due_text : Due → List ℕ
-due_text (Due.Sign sign) = control_bytes (Control.Sign sign)
-due_text (Due.Reports fetched) = reports_text fetched.pulled.reports
-due_text Due.Nothing = []
-due_text (Due.Over finished) = []
+abbrev pub due_text : NextWrite → List ℕ
+due_text (NextWrite.Sign sign) = control_bytes (Control.Sign sign)
+due_text (NextWrite.Reports fetched) = reports_text fetched.pulled.reports
+due_text NextWrite.Nothing = []
+due_text (NextWrite.Over finished) = []
 
 -- the user's reports from this number on, as the records of a legal day owe them to him, in which he is logged in
 pub record IsShown (policy : PolicyData) (user : UserName) (from : ℕ) (pulled : Pulled) : Type 0 where
@@ -24,11 +24,11 @@ pub record IsShown (policy : PolicyData) (user : UserName) (from : ℕ) (pulled 
   pub shown : IsPulled (gate_at policy records) (folded_user user) from most_pulled pulled
 
 -- where reports are due, they are the user's from this number on
-abbrev pub IsDue : PolicyData → UserName → ℕ → Due → Type 0
-IsDue policy user from (Due.Sign sign) = Unit {0}
-IsDue policy user from (Due.Reports fetched) = IsShown policy user from fetched.pulled
-IsDue policy user from Due.Nothing = Unit {0}
-IsDue policy user from (Due.Over finished) = Unit {0}
+abbrev pub IsDue : PolicyData → UserName → ℕ → NextWrite → Type 0
+IsDue policy user from (NextWrite.Sign sign) = Unit {0}
+IsDue policy user from (NextWrite.Reports fetched) = IsShown policy user from fetched.pulled
+IsDue policy user from NextWrite.Nothing = Unit {0}
+IsDue policy user from (NextWrite.Over finished) = Unit {0}
 
 -- it ends the session
 abbrev pub is_ending : Sign → Bool
@@ -36,18 +36,18 @@ is_ending Sign.Heartbeat = false
 is_ending Sign.EndOfSession = true
 
 -- nothing is sent behind it
-abbrev pub is_last : Due → Bool
-is_last (Due.Sign sign) = is_ending sign
-is_last (Due.Reports fetched) = false
-is_last Due.Nothing = false
-is_last (Due.Over finished) = true
+abbrev pub is_last : NextWrite → Bool
+is_last (NextWrite.Sign sign) = is_ending sign
+is_last (NextWrite.Reports fetched) = false
+is_last NextWrite.Nothing = false
+is_last (NextWrite.Over finished) = true
 
 -- the number of the next report behind it
-abbrev pub next_after : Due → ℕ → ℕ
-next_after (Due.Sign sign) next = next
-next_after (Due.Reports fetched) next = fetched.pulled.next
-next_after Due.Nothing next = next
-next_after (Due.Over finished) next = next
+abbrev pub next_after : NextWrite → ℕ → ℕ
+next_after (NextWrite.Sign sign) next = next
+next_after (NextWrite.Reports fetched) next = fetched.pulled.next
+next_after NextWrite.Nothing next = next
+next_after (NextWrite.Over finished) next = next
 
 -- a part of what a user who is on is sent: a heartbeat, or reports
 pub data Part : Type 0 where
@@ -113,23 +113,23 @@ pub record WasSpoken (whole : Bool) (policy : PolicyData) (user : UserName) (fro
   pub written : Writes whole before after (spoken ++ ending)
 
 -- the answer to a login was written, or a front of it
-abbrev pub IsGreeted : Option (List ℕ) → Option (List ℕ) → Greeted → Type 0
-IsGreeted before after (Greeted.On m) = (session : SessionName) × Appends before after (control_bytes (Control.Answer (LoginAnswer.Accepted session m.next)))
-IsGreeted before after (Greeted.Over finished) =
+abbrev pub IsGreeted : Option (List ℕ) → Option (List ℕ) → LoginOutcome → Type 0
+IsGreeted before after (LoginOutcome.On m) = (session : SessionName) × Appends before after (control_bytes (Control.Answer (LoginAnswer.Accepted session m.next)))
+IsGreeted before after (LoginOutcome.Over finished) =
     Appends before after [] ⊎ ((reason : LoginRejection) × Appends before after (control_bytes (Control.Answer (LoginAnswer.Rejected reason))))
-IsGreeted before after Greeted.Cut = (answer : LoginAnswer) × IsFront before after (control_bytes (Control.Answer answer))
+IsGreeted before after LoginOutcome.Cut = (answer : LoginAnswer) × IsFront before after (control_bytes (Control.Answer answer))
 
 -- what comes of a login that a user asked for then and was answered so
-abbrev pub Begins : UserName → ℕ → LoginAnswer → Greeted → Type 0
-Begins user login (LoginAnswer.Accepted session next) (Greeted.On m) = m ≡ mark user login next
-Begins user login (LoginAnswer.Accepted session next) (Greeted.Over finished) = ⊥
-Begins user login (LoginAnswer.Accepted session next) Greeted.Cut = ⊥
-Begins user login (LoginAnswer.Rejected reason) (Greeted.On m) = ⊥
-Begins user login (LoginAnswer.Rejected reason) (Greeted.Over finished) = Unit {0}
-Begins user login (LoginAnswer.Rejected reason) Greeted.Cut = ⊥
+abbrev pub Begins : UserName → ℕ → LoginAnswer → LoginOutcome → Type 0
+Begins user login (LoginAnswer.Accepted session next) (LoginOutcome.On m) = m ≡ mark user login next
+Begins user login (LoginAnswer.Accepted session next) (LoginOutcome.Over finished) = ⊥
+Begins user login (LoginAnswer.Accepted session next) LoginOutcome.Cut = ⊥
+Begins user login (LoginAnswer.Rejected reason) (LoginOutcome.On m) = ⊥
+Begins user login (LoginAnswer.Rejected reason) (LoginOutcome.Over finished) = Unit {0}
+Begins user login (LoginAnswer.Rejected reason) LoginOutcome.Cut = ⊥
 
 -- the fact, where a user is on
-abbrev pub IfOn : Greeted → Type 0 → Type 0
-IfOn (Greeted.On m) Fact = Fact
-IfOn (Greeted.Over finished) Fact = Unit {0}
-IfOn Greeted.Cut Fact = Unit {0}
+abbrev pub IfOn : LoginOutcome → Type 0 → Type 0
+IfOn (LoginOutcome.On m) Fact = Fact
+IfOn (LoginOutcome.Over finished) Fact = Unit {0}
+IfOn LoginOutcome.Cut Fact = Unit {0}

@@ -2,7 +2,7 @@
 use Rattle.std.specs.Prelude.{◌≡◌}
 use Rattle.gx_soup.specs.declared.packet.ClientPacket.{ClientPacket}
 use Rattle.gx_session.specs.Happenings as happens
-use Rattle.gx_serve.specs.declared.seat.taking.Taken.{Taken}
+use Rattle.gx_serve.specs.declared.state.taking.Taken.{Taken}
 
 -- the session was told of the packet, or that it ends
 abbrev pub IsTakenIn : ClientPacket → Taken → Type 0

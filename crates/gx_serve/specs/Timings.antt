@@ -1,7 +1,7 @@
 -- How long it takes until a user is told of a step.
 use Rattle.std.specs.Prelude.{◌≡◌, ℕ, ◌-◌, List, Option, Some, None, filter_map, if◌then◌else◌, nat_le}
 use Rattle.gx_history.specs.declared.report.Report.{Report}
-use Rattle.gx_lobby.specs.{declared.answer_times.AnswerCounts.AnswerCounts, Buckets.all_counted}
+use Rattle.gx_control.specs.{declared.answer_times.AnswerCounts.AnswerCounts, Buckets.all_counted}
 
 -- from the report's moment until it was sent, in nanoseconds; it is not asked for, where that moment is before the login
 abbrev pub time_of : ℕ → ℕ → Report → Option ℕ

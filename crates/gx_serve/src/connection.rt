@@ -1,13 +1,13 @@
 //! A connection: its two threads.
 
 use crate::announcing::Announces;
-use crate::link::Link;
 use crate::reading::{Cut, Heard, read_on};
-use crate::seat::{Break, BrokenOff};
+use crate::shared_connection::SharedConnection;
+use crate::state::{Break, BrokenOff};
 use crate::writing::write_on;
+use gx_control::{AnswerTimes, ShutdownFlag, Wakeup, Wakeups, WriterWakeup};
 use gx_devices::Counted;
 use gx_door::{Dial, Door};
-use gx_lobby::{AnswerTimes, Bell, Bells, Chime, Stop};
 use gx_reception::Opening;
 use std::alloc::Global;
 use std::io::{Read, Write};
@@ -51,22 +51,31 @@ impl<'x, H: HangUp> HungUp<'x, H> {
 }
 
 /// Writes until the session is over, and hangs up.
-fn speak<'x, D: Door, O: Write + Drop, H: HangUp, R: Wait + Clock + Dial>(
+fn run_writer<'x, D: Door, O: Write + Drop, H: HangUp, R: Wait + Clock + Dial>(
     rt: &R,
     alloc: Global,
     door: &D,
-    stop: &Stop,
-    chime: &Chime,
+    shutdown: &ShutdownFlag,
+    wakeup: &WriterWakeup,
     times: &AnswerTimes,
-    link: &Link<D::Ticket>,
+    shared: &SharedConnection<D::Ticket>,
     writer: O,
     line: &'x H,
 ) -> HungUp<'x, H> {
     let mut writer = Counted::new(writer);
-    let finished = write_on(rt, alloc, door, stop, chime, times, link, &mut writer);
+    let finished = write_on(
+        rt,
+        alloc,
+        door,
+        shutdown,
+        wakeup,
+        times,
+        shared,
+        &mut writer,
+    );
     if finished.is_some() {
         line.finish();
-        link.linger(rt);
+        shared.linger(rt);
     }
     HungUp::new(line)
 }
@@ -91,22 +100,22 @@ impl Listening {
 }
 
 /// Reads to the end.
-fn listen<D: Door, I: Read + Drop, R: Wait + Clock + Dial + Announces>(
+fn run_reader<D: Door, I: Read + Drop, R: Wait + Clock + Dial + Announces>(
     rt: &R,
     door: &D,
-    bells: Bells<'_>,
-    link: &Link<D::Ticket>,
+    wakeups: Wakeups<'_>,
+    shared: &SharedConnection<D::Ticket>,
     opening: Opening,
     reader: Counted<I>,
 ) -> Heard {
     let mut reader = reader;
-    read_on(rt, door, &bells, link, opening, &mut reader)
+    read_on(rt, door, &wakeups, shared, opening, &mut reader)
 }
 
 /// Runs the reader and the writer of a connection that begins with a login, each in a thread of its own, until both have
-/// ended and the line was hung up. The writer is woken by its chime, and counts how long its user's reports took. What commands
+/// ended and the line was hung up. The writer is woken, and counts how long its user's reports took. What commands
 /// ended the runtime announces.
-pub fn converse<
+pub fn run_connection<
     'x,
     T: Drop + Send,
     D: Door<Ticket = T> + Sync,
@@ -118,24 +127,27 @@ pub fn converse<
     rt: &'x R,
     alloc: Global,
     door: &'x D,
-    bell: &'x Bell,
-    chime: &'x Chime,
-    stop: &'x Stop,
+    matcher: &'x Wakeup,
+    wakeup: &'x WriterWakeup,
+    shutdown: &'x ShutdownFlag,
     times: &'x AnswerTimes,
-    link: &'x Link<T>,
+    shared: &'x SharedConnection<T>,
     opening: Opening,
     reader: Counted<I>,
     writer: O,
     line: &'x H,
 ) -> (HungUp<'x, H>, Listening) {
-    let bells = Bells::new(chime, bell);
+    let wakeups = Wakeups::new(wakeup, matcher);
     thread::scope(thread::scope_env(), rt, |scope| {
-        let Ok(listening) = (&*scope).spawn(move || listen(rt, door, bells, link, opening, reader))
-        else {
-            let told = link.break_off(rt, door, Break::Fault);
+        let Ok(listening) = (&*scope).spawn(move || run_reader(
+            rt, door, wakeups, shared, opening, reader,
+        )) else {
+            let told = shared.break_off(rt, door, Break::Fault);
             return (HungUp::new(line), Listening::Unheard(told));
         };
-        let hung_up = speak(rt, alloc, door, stop, chime, times, link, writer, line);
+        let hung_up = run_writer(
+            rt, alloc, door, shutdown, wakeup, times, shared, writer, line,
+        );
         (hung_up, Listening::Heard(listening.join(rt)))
     })
 }

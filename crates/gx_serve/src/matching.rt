@@ -1,13 +1,13 @@
 //! The matcher.
 
+use gx_control::{ServerControl, Woken};
 use gx_door::{Dial, Door};
-use gx_lobby::{Heard, Lobby};
 use std::sync::Wait;
 use std::thread;
 use std::time::{Clock, Duration};
 
 /// So many milliseconds lie at least between two times that the writers are woken for what others did.
-const BREATH: u64 = 1;
+const BETWEEN_WAKEUPS_MILLIS: u64 = 1;
 
 /// Makes matching steps until no order waits, or one is refused.
 fn settle<D: Door, R: Wait + Clock + Dial>(rt: &R, door: &D, mut pass: D::Ticket) -> D::Ticket {
@@ -24,35 +24,35 @@ fn settle<D: Door, R: Wait + Clock + Dial>(rt: &R, door: &D, mut pass: D::Ticket
 
 /// Wakes the writers and who keeps what is done, where something was or the server is to end, and lets a while pass unless
 /// readers wait. Answers whether a writer is to be asked after again soon, as it was before.
-fn wake<R: Wait + Clock>(rt: &R, lobby: &Lobby, heard: Heard, again: bool) -> bool {
-    let is_new = heard.rung || lobby.stop.is_asked().is_yes();
+fn wake<R: Wait + Clock>(rt: &R, control: &ServerControl, woken: Woken, again: bool) -> bool {
+    let is_new = woken.notified || control.shutdown.is_requested().is_yes();
     if is_new {
-        lobby.keeping.ring(rt);
+        control.keeper.notify(rt);
     }
-    let soon = (is_new || again) && lobby.chimes.ring_idle(rt, is_new);
-    if heard.behind == 0 {
-        thread::sleep(rt, Duration::from_millis(BREATH));
+    let soon = (is_new || again) && control.writers.notify_idle(rt, is_new);
+    if woken.behind == 0 {
+        thread::sleep(rt, Duration::from_millis(BETWEEN_WAKEUPS_MILLIS));
     }
     soon
 }
 
-/// Whenever the bell is rung, makes the matching steps that the readers have left, and wakes the writers, since others may be
-/// told of what was done; tries a refused step again, until the bell is closed. Gives the pass back.
+/// Whenever it is woken, makes the matching steps that the readers have left, and wakes the writers, since others may be
+/// told of what was done; tries a refused step again, until its wakeup is closed. Gives the pass back.
 pub fn match_on<D: Door, R: Wait + Clock + Dial>(
     rt: &R,
     door: &D,
-    lobby: &Lobby,
+    control: &ServerControl,
     mut pass: D::Ticket,
 ) -> D::Ticket {
     let mut again = false;
     for _ in rt.forever() {
-        let heard = lobby.bell.hear(rt, again);
+        let woken = control.matcher.wait(rt, again);
         pass = settle(rt, door, pass);
-        lobby.bell.settled(rt, heard.behind);
-        if heard.closed {
+        control.matcher.settled(rt, woken.behind);
+        if woken.closed {
             break;
         }
-        again = wake(rt, lobby, heard, again);
+        again = wake(rt, control, woken, again);
     }
     pass
 }

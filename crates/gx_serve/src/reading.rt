@@ -7,13 +7,13 @@ ghost use Rattle.gx_serve.specs.Readings.{cut_in, IfOpen, IsCut, IsKept, IsLeft,
 
 use crate::announcing::{Announces, announce};
 use crate::conduct::Exclusion;
-use crate::link::{Link, is_farewell};
-use crate::seat::taking::Taken;
-use crate::seat::{Break, BrokenOff, Ended, Over};
+use crate::shared_connection::{SharedConnection, is_farewell};
+use crate::state::taking::Taken;
+use crate::state::{Break, BrokenOff, Ended, Over};
 use gx_answers::StepFault;
+use gx_control::{Notified, Wakeups};
 use gx_devices::Counted;
 use gx_door::{Dial, Door};
-use gx_lobby::{Bells, Rung};
 use gx_reception::{Opening, is_idle, read_piece};
 use gx_soup::{ClientPacket, Feeder, SoupFault};
 use std::io::Read;
@@ -83,16 +83,16 @@ impl Heard {
 fn break_off<D: Door, R: Wait + Clock + Dial>(
     rt: &R,
     door: &D,
-    bells: &Bells<'_>,
-    link: &Link<D::Ticket>,
+    wakeups: &Wakeups<'_>,
+    shared: &SharedConnection<D::Ticket>,
     fault: Option<SoupFault>,
 ) -> Left
     ensures { IsCut fault result }
 {
     match fault {
         Some(fault) => {
-            let told = link.break_off(rt, door, Break::Fault);
-            bells.wake(rt);
+            let told = shared.break_off(rt, door, Break::Fault);
+            wakeups.wake_writer(rt);
             Left::Broken(fault, told)
         }
         None => Left::Open,
@@ -100,13 +100,13 @@ fn break_off<D: Door, R: Wait + Clock + Dial>(
 }
 
 /// Wakes the matcher behind a packet, unless it asks for nothing.
-fn note<R: Wait>(rt: &R, bells: &Bells<'_>, packet: &ClientPacket) -> Option<Rung>
+fn note<R: Wait>(rt: &R, wakeups: &Wakeups<'_>, packet: &ClientPacket) -> Option<Notified>
     ensures { IsFalse (is_idle packet.now) → IsTrue (is_some result) }
 {
     if is_idle(packet) {
         return None;
     }
-    Some(bells.note(rt))
+    Some(wakeups.wake_matcher(rt))
 }
 
 /// Whether one of these packets asks for anything.
@@ -124,15 +124,15 @@ fn is_asking(group: &[ClientPacket]) -> bool {
 fn settle<D: Door, R: Wait + Clock + Dial>(
     rt: &R,
     door: &D,
-    bells: &Bells<'_>,
-    link: &Link<D::Ticket>,
+    wakeups: &Wakeups<'_>,
+    shared: &SharedConnection<D::Ticket>,
     group: &[ClientPacket],
 ) {
     if !is_asking(group) {
         return;
     }
-    let settled = link.settle(rt, door);
-    bells.ring(rt, !settled);
+    let settled = shared.settle(rt, door);
+    wakeups.wake_both(rt, !settled);
 }
 
 /// Takes a few packets until the session is over, or its user is put out, announces what commands among them ended, and makes
@@ -140,31 +140,31 @@ fn settle<D: Door, R: Wait + Clock + Dial>(
 fn take_group<D: Door, R: Wait + Clock + Dial + Announces>(
     rt: &R,
     door: &D,
-    bells: &Bells<'_>,
-    link: &Link<D::Ticket>,
+    wakeups: &Wakeups<'_>,
+    shared: &SharedConnection<D::Ticket>,
     group: &[ClientPacket],
 ) -> Left
     ensures { IsKept result }
 {
     for packet in group {
         if is_farewell(packet) {
-            bells.wake(rt);
+            wakeups.wake_writer(rt);
         }
-        match link.take(rt, door, packet) {
+        match shared.take(rt, door, packet) {
             Taken::Told(told) => {
                 let announced = announce(rt, told.ended());
-                if let Some(over) = told.over(&announced, &note(rt, bells, packet)) {
-                    bells.wake(rt);
+                if let Some(over) = told.over(&announced, &note(rt, wakeups, packet)) {
+                    wakeups.wake_writer(rt);
                     return Left::Over(over);
                 }
             }
             Taken::Excluded(why, told) => {
-                bells.ring(rt, false);
+                wakeups.wake_both(rt, false);
                 return Left::Excluded(why, told);
             }
         }
     }
-    settle(rt, door, bells, link, group);
+    settle(rt, door, wakeups, shared, group);
     Left::Open
 }
 
@@ -173,15 +173,15 @@ fn take_group<D: Door, R: Wait + Clock + Dial + Announces>(
 fn take_packets<D: Door, R: Wait + Clock + Dial + Announces>(
     rt: &R,
     door: &D,
-    bells: &Bells<'_>,
-    link: &Link<D::Ticket>,
+    wakeups: &Wakeups<'_>,
+    shared: &SharedConnection<D::Ticket>,
     packets: &[ClientPacket],
 ) -> Left
     ensures { IsKept result }
 {
     let mut taken = 0u64;
     for group in packets.chunks(GROUP) {
-        match take_group(rt, door, bells, link, group) {
+        match take_group(rt, door, wakeups, shared, group) {
             Left::Open => taken = taken.saturating_add(1),
             left => return left,
         }
@@ -196,15 +196,15 @@ fn take_packets<D: Door, R: Wait + Clock + Dial + Announces>(
 fn take_all<D: Door, R: Wait + Clock + Dial + Announces>(
     rt: &R,
     door: &D,
-    bells: &Bells<'_>,
-    link: &Link<D::Ticket>,
+    wakeups: &Wakeups<'_>,
+    shared: &SharedConnection<D::Ticket>,
     packets: &[ClientPacket],
     fault: Option<SoupFault>,
 ) -> Left
     ensures { IsLeft fault result }
 {
-    match take_packets(rt, door, bells, link, packets) {
-        Left::Open => break_off(rt, door, bells, link, fault),
+    match take_packets(rt, door, wakeups, shared, packets) {
+        Left::Open => break_off(rt, door, wakeups, shared, fault),
         left => left,
     }
 }
@@ -213,8 +213,8 @@ fn take_all<D: Door, R: Wait + Clock + Dial + Announces>(
 fn take_piece<D: Door, R: Wait + Clock + Dial + Announces>(
     rt: &R,
     door: &D,
-    bells: &Bells<'_>,
-    link: &Link<D::Ticket>,
+    wakeups: &Wakeups<'_>,
+    shared: &SharedConnection<D::Ticket>,
     feeder: &mut Feeder,
     piece: &[u8],
 ) -> Left
@@ -224,11 +224,11 @@ fn take_piece<D: Door, R: Wait + Clock + Dial + Announces>(
         → IfOpen result (HasRead feeder.new (before ++ piece.now)) }
 {
     let Ok(fed) = feeder.feed(piece) else {
-        let told = link.break_off(rt, door, Break::Refused(StepFault::OutOfMemory));
-        bells.wake(rt);
+        let told = shared.break_off(rt, door, Break::Refused(StepFault::OutOfMemory));
+        wakeups.wake_writer(rt);
         return Left::Refused(told);
     };
-    take_all(rt, door, bells, link, &fed.packets, fed.fault)
+    take_all(rt, door, wakeups, shared, &fed.packets, fed.fault)
 }
 
 /// Takes the packets of a piece, unless the session is over, or was told that it ends.
@@ -236,8 +236,8 @@ fn take_piece<D: Door, R: Wait + Clock + Dial + Announces>(
 fn hear_piece<D: Door, R: Wait + Clock + Dial + Announces>(
     rt: &R,
     door: &D,
-    bells: &Bells<'_>,
-    link: &Link<D::Ticket>,
+    wakeups: &Wakeups<'_>,
+    shared: &SharedConnection<D::Ticket>,
     feeder: &mut Feeder,
     left: Left,
     piece: &[u8],
@@ -246,7 +246,7 @@ fn hear_piece<D: Door, R: Wait + Clock + Dial + Announces>(
         → Stands result feeder.new (before ++ piece.now) }
 {
     match left {
-        Left::Open => take_piece(rt, door, bells, link, feeder, piece),
+        Left::Open => take_piece(rt, door, wakeups, shared, feeder, piece),
         Left::Over(over) => Left::Over(over),
         Left::Refused(told) => Left::Refused(told),
         Left::Broken(fault, told) => Left::Broken(fault, told),
@@ -258,13 +258,20 @@ fn hear_piece<D: Door, R: Wait + Clock + Dial + Announces>(
 fn take_opening<D: Door, R: Wait + Clock + Dial + Announces>(
     rt: &R,
     door: &D,
-    bells: &Bells<'_>,
-    link: &Link<D::Ticket>,
+    wakeups: &Wakeups<'_>,
+    shared: &SharedConnection<D::Ticket>,
     opening: &Opening,
 ) -> Left
     ensures { IsLeft opening.now.fault result }
 {
-    take_all(rt, door, bells, link, opening.packets(), opening.fault())
+    take_all(
+        rt,
+        door,
+        wakeups,
+        shared,
+        opening.packets(),
+        opening.fault(),
+    )
 }
 
 /// Takes the packets that a connection begins with, its login first, then reads on and takes each that comes, until its
@@ -272,8 +279,8 @@ fn take_opening<D: Door, R: Wait + Clock + Dial + Announces>(
 pub fn read_on<D: Door, I: Read, R: Wait + Clock + Dial + Announces>(
     rt: &R,
     door: &D,
-    bells: &Bells<'_>,
-    link: &Link<D::Ticket>,
+    wakeups: &Wakeups<'_>,
+    shared: &SharedConnection<D::Ticket>,
     opening: Opening,
     reader: &mut Counted<I>,
 ) -> Heard
@@ -282,18 +289,18 @@ pub fn read_on<D: Door, I: Read, R: Wait + Clock + Dial + Announces>(
         reader.new.failed result }
 {
     let mut buffer = [0u8; 4096];
-    let mut left = take_opening(rt, door, bells, link, &opening);
+    let mut left = take_opening(rt, door, wakeups, shared, &opening);
     let mut feeder = opening.into_feeder();
     for _ in rt.forever() {
         let Some(n) = read_piece(reader, &mut buffer) else {
-            let ended = link.end(rt, door);
-            bells.wake(rt);
+            let ended = shared.end(rt, door);
+            wakeups.wake_writer(rt);
             return Heard {
                 left,
                 _ended: ended,
             };
         };
-        left = hear_piece(rt, door, bells, link, &mut feeder, left, &buffer[..n]);
+        left = hear_piece(rt, door, wakeups, shared, &mut feeder, left, &buffer[..n]);
     }
     unreachable!()
 }

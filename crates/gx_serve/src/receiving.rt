@@ -9,9 +9,9 @@ ghost use Rattle.gx_serve.specs.Receptions.{WasReceived, WasTurnedAway, WasTurne
 
 use crate::reading::Cut;
 use crate::writing::send_answer;
+use gx_control::ShutdownFlag;
 use gx_devices::Counted;
 use gx_door::{Caller, Dial, Door};
-use gx_lobby::Stop;
 use gx_reception::{Admission, Admits, Denial, Knock, NoLine, Opening, Undenied, await_login};
 use gx_soup::LoginRequest;
 use std::alloc::Global;
@@ -84,7 +84,7 @@ fn turn_off<D: Door, O: Write, R: Wait>(
     rt: &R,
     alloc: Global,
     door: &D,
-    stop: &Stop,
+    shutdown: &ShutdownFlag,
     denial: Denial,
     writer: &mut Counted<O>,
 )
@@ -93,7 +93,7 @@ fn turn_off<D: Door, O: Write, R: Wait>(
     ensures { WasTurnedOff (answers.Rejected rejections.NotAuthorized)
         (O.contents writer.old.device) (O.contents writer.new.device) }
 {
-    let _ = send_answer(rt, alloc, door, stop, denial.answer(), writer);
+    let _ = send_answer(rt, alloc, door, shutdown, denial.answer(), writer);
 }
 
 /// Denies the login of somebody who has no user's password, and answers it, once the record of it is kept. Nobody else writes
@@ -102,7 +102,7 @@ pub fn turn_away<D: Door, A: Admits<D>, O: Write, R: Wait + Dial>(
     rt: &R,
     alloc: Global,
     door: &D,
-    stop: &Stop,
+    shutdown: &ShutdownFlag,
     reception: &A,
     login: &LoginRequest,
     writer: &mut Counted<O>,
@@ -113,7 +113,7 @@ pub fn turn_away<D: Door, A: Admits<D>, O: Write, R: Wait + Dial>(
 {
     match reception.deny(rt, door, login) {
         Ok(denial) => {
-            turn_off(rt, alloc, door, stop, denial, writer);
+            turn_off(rt, alloc, door, shutdown, denial, writer);
             Gone::Denied
         }
         Err(Undenied::Spared) => Gone::Spared,

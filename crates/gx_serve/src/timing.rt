@@ -3,8 +3,8 @@
 ghost use Rattle.std.specs.Prelude.{◌≡◌};
 ghost use Rattle.gx_serve.specs.Timings.{times_of};
 
+use gx_control::AnswerCounts;
 use gx_history::report::Report;
-use gx_lobby::AnswerCounts;
 use gx_units::Moment;
 
 /// How long it took until the moment `sent` for each of these reports, from the moment of the step that it tells of. A report

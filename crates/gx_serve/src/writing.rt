@@ -5,14 +5,14 @@ ghost use Rattle.std.specs.{Prelude.{◌≡◌, ◌-◌, ◌^◌, ◌<◌, is_so
 ghost use Rattle.gx_session.specs.{Sending.control_bytes};
 ghost use Rattle.gx_serve.specs.{Speech.{due_text, is_last, next_after, IfOn, IsGreeted, WasSaid, WasSpoken}, Tellings.told_of, Timings.AreTimes, Breaks.break_of};
 
-use crate::link::Link;
-use crate::seat::Break;
-use crate::seat::outgoing::{Bookmark, Due, Fetched, Finished, Greeted};
+use crate::shared_connection::SharedConnection;
+use crate::state::Break;
+use crate::state::outgoing::{Bookmark, Fetched, Finished, LoginOutcome, NextWrite};
 use crate::timing::times_of;
 use gx_answers::{LoginAnswer, StepFault};
+use gx_control::{AnswerTimes, AnswersNoted, ShutdownFlag, WriterWakeup};
 use gx_devices::{Counted, WriteFault};
 use gx_door::{Dial, Door};
-use gx_lobby::{AnswerTimes, AnswersNoted, Chime, Stop};
 use gx_session::{Control, send_control, send_pulled};
 use std::alloc::Global;
 use std::io::Write;
@@ -31,7 +31,7 @@ fn cause_of(fault: WriteFault) -> Break
 
 /// Sends what is due: a packet of the session's own, or one for each report, in order; and nothing
 /// else.
-fn send<O: Write>(alloc: Global, due: &Due, writer: &mut Counted<O>) -> Result<(), WriteFault>
+fn send<O: Write>(alloc: Global, due: &NextWrite, writer: &mut Counted<O>) -> Result<(), WriteFault>
     requires { writer.old.failed < 2 ^ 64 - 1 }
     ensures sent { OnOk result (Appends
         (O.contents writer.old.device) (O.contents writer.new.device) (due_text due.now)) }
@@ -41,26 +41,26 @@ fn send<O: Write>(alloc: Global, due: &Due, writer: &mut Counted<O>) -> Result<(
     ensures told { IfErr result (IsBlamed writer.old.failed writer.new.failed) }
 {
     match due {
-        Due::Sign(signed) => send_control(alloc, Control::Sign(signed.sign()), writer),
-        Due::Reports(fetched) => send_pulled(alloc, fetched.pulled(), writer),
-        Due::Nothing | Due::Over(_) => Ok(()),
+        NextWrite::Sign(signed) => send_control(alloc, Control::Sign(signed.sign()), writer),
+        NextWrite::Reports(fetched) => send_pulled(alloc, fetched.pulled(), writer),
+        NextWrite::Nothing | NextWrite::Over(_) => Ok(()),
     }
 }
 
 /// Whether what was done so far may be told. Where it may not, no more is to be done: the server is asked to end.
-pub(crate) fn is_kept<D: Door, R: Wait>(rt: &R, door: &D, stop: &Stop) -> bool {
+pub(crate) fn is_kept<D: Door, R: Wait>(rt: &R, door: &D, shutdown: &ShutdownFlag) -> bool {
     let kept = door.keep(rt);
     if !kept {
-        stop.ask();
+        shutdown.request();
     }
     kept
 }
 
 /// Whether what is due may be sent: reports tell of what was done.
-fn may_send<D: Door, R: Wait>(rt: &R, door: &D, stop: &Stop, due: &Due) -> bool {
+fn may_send<D: Door, R: Wait>(rt: &R, door: &D, shutdown: &ShutdownFlag, due: &NextWrite) -> bool {
     match due {
-        Due::Reports(_) => is_kept(rt, door, stop),
-        Due::Sign(_) | Due::Nothing | Due::Over(_) => true,
+        NextWrite::Reports(_) => is_kept(rt, door, shutdown),
+        NextWrite::Sign(_) | NextWrite::Nothing | NextWrite::Over(_) => true,
     }
 }
 
@@ -70,8 +70,8 @@ fn send_kept<D: Door, O: Write, R: Wait>(
     rt: &R,
     alloc: Global,
     door: &D,
-    stop: &Stop,
-    due: &Due,
+    shutdown: &ShutdownFlag,
+    due: &NextWrite,
     writer: &mut Counted<O>,
 ) -> Result<(), Break>
     requires { writer.old.failed < 2 ^ 64 - 1 }
@@ -81,7 +81,7 @@ fn send_kept<D: Door, O: Write, R: Wait>(
         (O.contents writer.old.device) (O.contents writer.new.device) (due_text due.now)) }
     ensures kept { OnOk result (writer.new.failed ≡ writer.old.failed) }
 {
-    if !may_send(rt, door, stop, due) {
+    if !may_send(rt, door, shutdown, due) {
         return Err(Break::Fault);
     }
     match send(alloc, due, writer) {
@@ -96,7 +96,7 @@ pub(crate) fn send_answer<D: Door, O: Write, R: Wait>(
     rt: &R,
     alloc: Global,
     door: &D,
-    stop: &Stop,
+    shutdown: &ShutdownFlag,
     answer: LoginAnswer,
     writer: &mut Counted<O>,
 ) -> Result<(), Break>
@@ -107,7 +107,7 @@ pub(crate) fn send_answer<D: Door, O: Write, R: Wait>(
         (O.contents writer.new.device) (control_bytes (Control.Answer answer))) }
     ensures kept { OnOk result (writer.new.failed ≡ writer.old.failed) }
 {
-    if !is_kept(rt, door, stop) {
+    if !is_kept(rt, door, shutdown) {
         return Err(Break::Fault);
     }
     match send_control(alloc, Control::Answer(answer), writer) {
@@ -134,10 +134,10 @@ fn note_times<R: Dial>(
 fn go_on<D: Door, R: Wait + Clock + Dial>(
     rt: &R,
     door: &D,
-    chime: &Chime,
+    wakeup: &WriterWakeup,
     times: &AnswerTimes,
-    link: &Link<D::Ticket>,
-    due: Due,
+    shared: &SharedConnection<D::Ticket>,
+    due: NextWrite,
     bookmark: &mut Bookmark,
 ) -> Option<Finished>
     ensures last { is_some result ≡ is_last due }
@@ -145,17 +145,17 @@ fn go_on<D: Door, R: Wait + Clock + Dial>(
     ensures user { bookmark.new.user ≡ bookmark.old.user }
 {
     match due {
-        Due::Reports(fetched) => {
+        NextWrite::Reports(fetched) => {
             let noted = note_times(rt, times, &fetched, bookmark);
-            let rest = link.sent(rt, door, noted, fetched, bookmark);
+            let rest = shared.sent(rt, door, noted, fetched, bookmark);
             if rest > 0 {
-                chime.hear(rt, Duration::from_nanos(rest));
+                wakeup.wait(rt, Duration::from_nanos(rest));
             }
             None
         }
-        Due::Sign(signed) => signed.finished(),
-        Due::Nothing => None,
-        Due::Over(finished) => Some(finished),
+        NextWrite::Sign(signed) => signed.finished(),
+        NextWrite::Nothing => None,
+        NextWrite::Over(finished) => Some(finished),
     }
 }
 
@@ -165,25 +165,25 @@ fn write_answer<D: Door, O: Write, R: Wait + Clock + Dial>(
     rt: &R,
     alloc: Global,
     door: &D,
-    stop: &Stop,
-    chime: &Chime,
-    link: &Link<D::Ticket>,
+    shutdown: &ShutdownFlag,
+    wakeup: &WriterWakeup,
+    shared: &SharedConnection<D::Ticket>,
     writer: &mut Counted<O>,
-) -> Greeted
+) -> LoginOutcome
     requires { writer.old.failed < 2 ^ 64 - 1 }
     ensures answered { IsGreeted
         (O.contents writer.old.device) (O.contents writer.new.device) result }
     ensures kept { IfOn result (writer.new.failed ≡ writer.old.failed) }
 {
-    let answered = match link.await_answer(rt, door, stop, chime) {
+    let answered = match shared.await_answer(rt, door, shutdown, wakeup) {
         Ok(answered) => answered,
-        Err(finished) => return Greeted::Over(finished),
+        Err(finished) => return LoginOutcome::Over(finished),
     };
-    match send_answer(rt, alloc, door, stop, answered.answer(), writer) {
+    match send_answer(rt, alloc, door, shutdown, answered.answer(), writer) {
         Ok(()) => answered.sent(),
         Err(cause) => {
-            link.break_off(rt, door, cause);
-            Greeted::Cut
+            shared.break_off(rt, door, cause);
+            LoginOutcome::Cut
         }
     }
 }
@@ -194,10 +194,10 @@ fn write_reports<D: Door, O: Write, R: Wait + Clock + Dial>(
     rt: &R,
     alloc: Global,
     door: &D,
-    stop: &Stop,
-    chime: &Chime,
+    shutdown: &ShutdownFlag,
+    wakeup: &WriterWakeup,
     times: &AnswerTimes,
-    link: &Link<D::Ticket>,
+    shared: &SharedConnection<D::Ticket>,
     bookmark: Bookmark,
     writer: &mut Counted<O>,
 ) -> Option<Finished>
@@ -207,12 +207,12 @@ fn write_reports<D: Door, O: Write, R: Wait + Clock + Dial>(
 {
     let mut bookmark = bookmark;
     for _ in rt.forever() {
-        let due = link.await_due(rt, door, stop, chime, &bookmark);
-        if let Err(cause) = send_kept(rt, alloc, door, stop, &due, writer) {
-            link.break_off(rt, door, cause);
+        let due = shared.await_next_write(rt, door, shutdown, wakeup, &bookmark);
+        if let Err(cause) = send_kept(rt, alloc, door, shutdown, &due, writer) {
+            shared.break_off(rt, door, cause);
             return None;
         }
-        if let Some(finished) = go_on(rt, door, chime, times, link, due, &mut bookmark) {
+        if let Some(finished) = go_on(rt, door, wakeup, times, shared, due, &mut bookmark) {
             return Some(finished);
         }
     }
@@ -228,21 +228,21 @@ pub fn write_on<D: Door, O: Write, R: Wait + Clock + Dial>(
     rt: &R,
     alloc: Global,
     door: &D,
-    stop: &Stop,
-    chime: &Chime,
+    shutdown: &ShutdownFlag,
+    wakeup: &WriterWakeup,
     times: &AnswerTimes,
-    link: &Link<D::Ticket>,
+    shared: &SharedConnection<D::Ticket>,
     writer: &mut Counted<O>,
 ) -> Option<Finished>
     requires { writer.old.failed < 2 ^ 64 - 1 }
     ensures said { WasSaid (is_some result) D.policy
         (O.contents writer.old.device) (O.contents writer.new.device) }
 {
-    match write_answer(rt, alloc, door, stop, chime, link, writer) {
-        Greeted::On(bookmark) => write_reports(
-            rt, alloc, door, stop, chime, times, link, bookmark, writer,
+    match write_answer(rt, alloc, door, shutdown, wakeup, shared, writer) {
+        LoginOutcome::On(bookmark) => write_reports(
+            rt, alloc, door, shutdown, wakeup, times, shared, bookmark, writer,
         ),
-        Greeted::Over(finished) => Some(finished),
-        Greeted::Cut => None,
+        LoginOutcome::Over(finished) => Some(finished),
+        LoginOutcome::Cut => None,
     }
 }

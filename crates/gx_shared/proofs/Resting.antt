@@ -10,19 +10,19 @@ use Rattle.gx_audit_bytes.specs.declared.version.AuditVersion.{AuditVersion}
 use Rattle.gx_door.specs.Acts.{gate_at}
 use Rattle.gx_pass.proofs.Fronts.{prefix_length, prefix_trans}
 use Rattle.gx_leaving.specs.Logouts.{AddsLogouts, NobodyIsOn}
-use Rattle.gx_journal.specs.Journals.{added, is_broken, journal_bytes, IsGrown, IsKept, JournalData, TapeData}
+use Rattle.gx_journal.specs.Journals.{added, is_broken, journal_bytes, IsGrown, IsKept, JournalData, JournalWriterData}
 use Rattle.gx_journal.proofs.{Keeping.{earlier_begin, sound_of}, Rolling.{added_later, more_appended, whole_written}}
 use Rattle.gx_shared.specs.GoingOn.{GoesOn}
 
-pub sound_at : (tape : TapeData) (answer : Bool) → answer ≡ is_broken tape → answer ≡ false → tape.fault ≡ None
-sound_at tape answer is denied = none_of tape.fault (sym is ∙ denied)
+pub sound_at : (writer : JournalWriterData) (answer : Bool) → answer ≡ is_broken writer → answer ≡ false → writer.fault ≡ None
+sound_at writer answer is denied = none_of writer.fault (sym is ∙ denied)
   where
     none_of : (fault : Option WriteFault) → is_some fault ≡ false → fault ≡ None
     none_of None e = refl
     none_of (Some fault) e = absurd (cc e)
 
 -- the next records were put there
-pub rest_put : (version : AuditVersion) (records : List RecordData) (first before after : TapeData) (most : ℕ) → first.done ≤ before.done → before.done + most ≤ length records
+pub rest_put : (version : AuditVersion) (records : List RecordData) (first before after : JournalWriterData) (most : ℕ) → first.done ≤ before.done → before.done + most ≤ length records
     → Appends first.contents before.contents (journal_bytes version (added first.done before.done records)) → Appends before.contents after.contents (journal_bytes version (take most (drop before.done records)))
     → after.done ≡ before.done + most → Appends first.contents after.contents (journal_bytes version (added first.done after.done records))
 rest_put version records first before after most begun left so_far put done =
@@ -32,16 +32,16 @@ rest_put version records first before after most begun left so_far put done =
     (more_appended version first.contents before.contents after.contents first.done before.done records next begun (omega (arith, left)) (ap (λ (n : ℕ). take n (drop before.done records)) (sym size)) so_far put)
 
 -- all were put there
-pub rest_is_put : (version : AuditVersion) (records : List RecordData) (first last : TapeData) → length records ≤ last.done → Appends first.contents last.contents (journal_bytes version (added first.done last.done records))
+pub rest_is_put : (version : AuditVersion) (records : List RecordData) (first last : JournalWriterData) → length records ≤ last.done → Appends first.contents last.contents (journal_bytes version (added first.done last.done records))
     → Appends first.contents last.contents (journal_bytes version (drop first.done records))
 rest_is_put version records first last all put = subst (λ (rs : List RecordData). Appends first.contents last.contents (journal_bytes version (drop first.done rs))) (take_all last.done records all) put
 
 -- all records of the day are there
-pub all_kept : (version : AuditVersion) (begun : Option (List ℕ)) (count : ℕ) (earlier : List RecordData) (j : JournalData) (records : List RecordData) (after : TapeData) → IsKept begun count earlier version j → IsPrefix j.met.front records
-    → (after.fault ≡ None → Appends j.tape.contents after.contents (journal_bytes version (drop j.tape.done records))) → (after.fault ≡ None → j.tape.fault ≡ None) → after.fault ≡ None
+pub all_kept : (version : AuditVersion) (begun : Option (List ℕ)) (count : ℕ) (earlier : List RecordData) (j : JournalData) (records : List RecordData) (after : JournalWriterData) → IsKept begun count earlier version j → IsPrefix j.met.front records
+    → (after.fault ≡ None → Appends j.writer.contents after.contents (journal_bytes version (drop j.writer.done records))) → (after.fault ≡ None → j.writer.fault ≡ None) → after.fault ≡ None
     → IsGrown begun after.contents (journal_bytes version (drop count records))
 all_kept version begun count earlier j records after kept begins put sound none =
-    let before = j.tape in
+    let before = j.writer in
     let longer = prefix_length j.met.front records begins in
     let so_far : IsGrown begun before.contents (journal_bytes version (added count before.done records)) =
     subst (λ (rs : List RecordData). IsGrown begun before.contents (journal_bytes version rs)) (sym (added_later count before.done j.met.front records kept.met begins)) (kept.whole (sound_of before (sound none))) in

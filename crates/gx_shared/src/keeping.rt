@@ -14,11 +14,11 @@ use crate::rest::put_rest;
 use crate::shared::SharedGate;
 use crate::ticket::Ticket;
 use gx_audit_bytes::AuditVersion;
+use gx_control::{ServerControl, Tallied};
 use gx_devices::WriteFault;
 use gx_journal::{Journal, JournalName, Journaled};
 use gx_leaving::log_out_at_last;
 use gx_listen::{DayLog, Ending, PagePort, serve_door};
-use gx_lobby::{Lobby, Tallied};
 use gx_pass::{Blank, GateName, PassFault};
 use gx_policy::Policy;
 use gx_records::{ShowsRecords, ShowsState};
@@ -55,10 +55,10 @@ pub fn close_kept<G: ShowsState, N: GateName, J: JournalName, W: Write + Drop>(
     ensures kept { result.0.fault ≡ None → IsGrown J.begun (W.contents result.0.device)
         (journal_bytes J.version (drop J.count (G.seen result.0.gate).records)) }
 {
-    let (pass, mut tape) = journal.into_parts();
+    let (pass, mut writer) = journal.into_parts();
     let (gate, met, total) = shared.close(pass);
-    put_rest(&gate, &mut tape);
-    let (device, fault) = tape.into_parts();
+    put_rest(&gate, &mut writer);
+    let (device, fault) = writer.into_parts();
     let kept = Kept {
         gate,
         fault,
@@ -86,7 +86,7 @@ fn untallied<G, W>(kept: Kept<G, Tallied<'_, W>>) -> Kept<G, W>
 }
 
 /// Serves at a gate whose records are kept on this device, on which there are so many of those that the pass has met. What is
-/// written on it is counted in the lobby. Gives a pass too, which has met all that was done, how many records that are, and how
+/// written on it is counted in what the threads share. Gives a pass too, which has met all that was done, how many records that are, and how
 /// the server ended.
 fn serve_kept<
     G: ShowsRecords + ShowsState + Send,
@@ -104,7 +104,7 @@ fn serve_kept<
     count: u64,
     device: W,
     policy: &Policy,
-    lobby: &Lobby,
+    control: &ServerControl,
     log: Option<DayLog>,
     page: Option<PagePort>,
     listener: TcpListener,
@@ -126,7 +126,7 @@ fn serve_kept<
     ensures kept { result.0.fault ≡ None → IsGrown J.begun (W.contents result.0.device)
         (journal_bytes J.version (drop J.count (G.seen result.0.gate).records)) }
 {
-    let device = Tallied::new(device, &lobby.journal);
+    let device = Tallied::new(device, &control.journal);
     let door: Journaled<'_, SharedGate<G, N>, Tallied<'_, W>, J> = Journaled::new(
         alloc, version, &shared, pass, count, device,
     );
@@ -138,7 +138,7 @@ fn serve_kept<
         &door,
         policy,
         entrance,
-        lobby,
+        control,
         log,
         page,
         listener,
@@ -169,7 +169,7 @@ fn serve_named<
     count: u64,
     device: W,
     policy: &Policy,
-    lobby: &Lobby,
+    control: &ServerControl,
     page: Option<PagePort>,
     listener: TcpListener,
     connections: u64,
@@ -192,7 +192,7 @@ fn serve_named<
         (W.contents left.0.device)
         (journal_bytes J.version (drop J.count (G.seen left.0.gate).records))) }
 {
-    let Ok(log) = day_log(alloc, gate.policy(), lobby, count) else {
+    let Ok(log) = day_log(alloc, gate.policy(), control, count) else {
         gate.close();
         return Err(PassFault::OutOfMemory);
     };
@@ -208,7 +208,7 @@ fn serve_named<
                 count,
                 device,
                 policy,
-                lobby,
+                control,
                 log,
                 page,
                 listener,
@@ -222,7 +222,7 @@ fn serve_named<
 
 /// Serves connections on a gate that has records, as [`serve`](crate::serve) does, and keeps its records on this device in
 /// this version, on which there are the first `count` of them: each is written before anything that comes of it is sent. Whoever is
-/// logged in by the records is logged out before. What is written on the device is counted in the lobby. Gives what is left of
+/// logged in by the records is logged out before. What is written on the device is counted in what the threads share. Gives what is left of
 /// the day, and how the server ended.
 ///
 /// After a fault of the device nothing more is sent, and the server ends.
@@ -241,7 +241,7 @@ pub fn serve_journaled<
     version: AuditVersion,
     count: u64,
     device: W,
-    lobby: &Lobby,
+    control: &ServerControl,
     page: Option<PagePort>,
     listener: TcpListener,
     connections: u64,
@@ -278,7 +278,7 @@ pub fn serve_journaled<
         count,
         device,
         &policy,
-        lobby,
+        control,
         page,
         listener,
         connections,

@@ -10,7 +10,7 @@
 //! # Modules
 //!
 //! - `shared`: the gate that threads share, a [`Door`](gx_door::Door) and a [`Lookout`](gx_lookout::Lookout), behind its lock;
-//! - `desk`: what lies under the lock, a gate and the keeper of its history, whose records are the same;
+//! - `guarded_gate`: what lies under the lock, a gate and the keeper of its history, whose records are the same;
 //! - `entrance`: where passes are issued, an [`Issuer`](gx_door::Issuer);
 //! - `permit`: what passes are issued for, each with a part of a ledger, and how many lines were issued;
 //! - `ticket`: a pass, and how many records were added with it;
@@ -26,9 +26,9 @@
 #![tactic(auto)]
 
 mod counting;
-mod desk;
 mod ending;
 mod entrance;
+mod guarded_gate;
 mod keeping;
 mod logging;
 mod looking;

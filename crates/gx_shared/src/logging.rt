@@ -3,9 +3,9 @@
 ghost use Rattle.std.specs.Prelude.{◌≡◌, [], IfOk, IfSome};
 ghost use Rattle.gx_events.specs.Known.{known_of};
 
+use gx_control::ServerControl;
 use gx_events::EventLog;
 use gx_listen::DayLog;
-use gx_lobby::Lobby;
 use gx_policy::Policy;
 use gx_units::OutOfMemory;
 use std::alloc::Global;
@@ -15,13 +15,13 @@ use std::alloc::Global;
 pub(crate) fn day_log(
     alloc: Global,
     policy: &Policy,
-    lobby: &Lobby,
+    control: &ServerControl,
     earlier: u64,
 ) -> Result<Option<DayLog>, OutOfMemory>
     ensures known { IfOk result (λ log. IfSome log
         (λ l. l.events.known ≡ known_of policy.now [])) }
 {
-    let Some(form) = lobby.log.form() else {
+    let Some(form) = control.log.form() else {
         return Ok(None);
     };
     let events = EventLog::new(alloc, form, policy)?;

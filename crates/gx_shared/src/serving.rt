@@ -9,8 +9,8 @@ use crate::logging::day_log;
 use crate::permit::BlankLedgers;
 use crate::shared::SharedGate;
 use crate::ticket::Ticket;
+use gx_control::ServerControl;
 use gx_listen::{Ending, PagePort, ServeFault, serve_door};
-use gx_lobby::Lobby;
 use gx_pass::{Blank, GateName};
 use gx_policy::Policy;
 use gx_records::{ShowsRecords, ShowsState};
@@ -41,7 +41,7 @@ fn serve_shared<
     policy: &Policy,
     blank: Blank,
     ledgers: BlankLedgers,
-    lobby: &Lobby,
+    control: &ServerControl,
     page: Option<PagePort>,
     listener: TcpListener,
     connections: u64,
@@ -57,7 +57,7 @@ fn serve_shared<
     ensures total { IfOk result
         (λ left. left.2.amount ≡ length (G.seen left.0.gate).records) }
 {
-    let log = day_log(alloc, policy, lobby, 0)?;
+    let log = day_log(alloc, policy, control, 0)?;
     let (door, permits) = SharedGate::<G, N>::new(alloc, policy, blank, ledgers)?;
     let entrance = Entrance::new(&door, permits);
     let served = serve_door(
@@ -67,7 +67,7 @@ fn serve_shared<
         &door,
         policy,
         entrance,
-        lobby,
+        control,
         log,
         page,
         listener,
@@ -96,7 +96,7 @@ fn serve_named<
     policy: &Policy,
     blank: Blank,
     ledgers: BlankLedgers,
-    lobby: &Lobby,
+    control: &ServerControl,
     page: Option<PagePort>,
     listener: TcpListener,
     connections: u64,
@@ -115,7 +115,7 @@ fn serve_named<
         policy,
         blank,
         ledgers,
-        lobby,
+        control,
         page,
         listener,
         connections,
@@ -126,13 +126,13 @@ fn serve_named<
 }
 
 /// Takes connections under the policy, and serves each until it ends: so many of them, or
-/// fewer where the lobby is asked to end. The risk desk's page is served beside them, if it has a port. Gives the gate back, also
+/// fewer where the server is asked to end. The risk desk's page is served beside them, if it has a port. Gives the gate back, also
 /// where it gave up.
 pub fn serve<G: ShowsRecords + ShowsState + Send, R: Threads + Wait + Clock + Sync>(
     rt: &R,
     alloc: Global,
     policy: &Policy,
-    lobby: &Lobby,
+    control: &ServerControl,
     page: Option<PagePort>,
     listener: TcpListener,
     connections: u64,
@@ -148,7 +148,7 @@ pub fn serve<G: ShowsRecords + ShowsState + Send, R: Threads + Wait + Clock + Sy
         policy,
         blank,
         ledgers,
-        lobby,
+        control,
         page,
         listener,
         connections,

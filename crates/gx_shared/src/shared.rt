@@ -14,7 +14,7 @@ ghost use Rattle.gx_door.specs.{Acts.{asked_on, gate_met, login_on, AddsOwn, End
 ghost use Rattle.gx_board.specs.{Summaries.IsBehind, Views.IsView};
 ghost use Rattle.gx_shared.specs.Permits.{all_parts};
 
-use crate::desk::Desk;
+use crate::guarded_gate::GuardedGate;
 use crate::permit::{BlankLedgers, Permits};
 use crate::ticket::Ticket;
 use gx_answers::{AccessGate, LoginAnswer, Outcome, Pulled, StepFault};
@@ -48,7 +48,7 @@ fn pause() {
 ///
 /// It ends by `close`, `take_back` or `let_go`, and is never dropped.
 pub struct SharedGate<G: AccessGate, N: GateName> {
-    desk: Mutex<Desk<G, N>>,
+    guarded: Mutex<GuardedGate<G, N>>,
 }
 
 impl<G: AccessGate, N: GateName> SharedGate<G, N> {
@@ -72,9 +72,9 @@ impl<G: AccessGate, N: GateName> SharedGate<G, N> {
         ensures all { IfOk result (λ made. made.1.left + 1 ≡ N.parts) }
         ensures none_added { IfOk result (λ made. made.1.added ≡ 0) }
     {
-        let (desk, permits) = Desk::new(alloc, policy, blank, ledgers)?;
+        let (guarded, permits) = GuardedGate::new(alloc, policy, blank, ledgers)?;
         let shared = SharedGate {
-            desk: Mutex::new(desk),
+            guarded: Mutex::new(guarded),
         };
         Ok((shared, permits))
     }
@@ -104,18 +104,18 @@ impl<G: AccessGate, N: GateName> SharedGate<G, N> {
         ensures no_lines { IfErr result (λ e.
             e ≡ pass_faults.NoLines → highest_line (G.seen gate).records ≡ 65535) }
     {
-        let Ok((mut desk, mut permits)) = Desk::over(gate, blank, ledgers) else {
+        let Ok((mut guarded, mut permits)) = GuardedGate::over(gate, blank, ledgers) else {
             return Err(PassFault::OutOfMemory);
         };
-        match desk.issue(&mut permits) {
+        match guarded.issue(&mut permits) {
             Ok(pass) => {
                 let shared = SharedGate {
-                    desk: Mutex::new(desk),
+                    guarded: Mutex::new(guarded),
                 };
                 Ok((shared, permits, pass))
             }
             Err(fault) => {
-                desk.let_go();
+                guarded.let_go();
                 Err(fault)
             }
         }
@@ -123,14 +123,14 @@ impl<G: AccessGate, N: GateName> SharedGate<G, N> {
 
     /// What lies under the lock, once nobody else has it. Others have it for a few microseconds, and whoever sleeps until
     /// then is woken only after more of them: so it is looked for a while before that.
-    fn desk<R: Wait>(&self, rt: &R) -> MutexGuard<'_, Desk<G, N>> {
+    fn guarded<R: Wait>(&self, rt: &R) -> MutexGuard<'_, GuardedGate<G, N>> {
         for _ in 0..LOOKS {
-            if let Some(desk) = self.desk.try_lock() {
-                return desk;
+            if let Some(guarded) = self.guarded.try_lock() {
+                return guarded;
             }
             pause();
         }
-        self.desk.lock(rt)
+        self.guarded.lock(rt)
     }
 
     /// A pass of the next line, for one of these permits. It has met all records, of which none is of its line.
@@ -150,7 +150,7 @@ impl<G: AccessGate, N: GateName> SharedGate<G, N> {
         ensures none_less { OnErr result (permits.new ≡ permits.old) }
         ensures counted { permits.new.added ≡ permits.old.added }
     {
-        self.desk(rt).issue(permits)
+        self.guarded(rt).issue(permits)
     }
 
     /// The gate, the pass, which has met all its records, and how many these are. It has all that the pass had met, and of
@@ -165,9 +165,9 @@ impl<G: AccessGate, N: GateName> SharedGate<G, N> {
         ensures added { result.1.added ≡ pass.added }
         ensures total { result.2.amount ≡ length (G.seen result.0).records }
     {
-        let SharedGate { desk } = self;
+        let SharedGate { guarded } = self;
         let Ticket { pass, share } = pass;
-        let (gate, pass, total) = desk.into_inner().close(pass);
+        let (gate, pass, total) = guarded.into_inner().close(pass);
         (gate, Ticket { pass, share }, total)
     }
 
@@ -179,14 +179,14 @@ impl<G: AccessGate, N: GateName> SharedGate<G, N> {
         ensures counted { permits.left + 1 ≡ N.parts
             → permits.added ≡ length (G.seen result).records }
     {
-        let SharedGate { desk } = self;
-        desk.into_inner().take_back(permits)
+        let SharedGate { guarded } = self;
+        guarded.into_inner().take_back(permits)
     }
 
     /// Lets the gate go, where nobody holds a pass or its records are of no use.
     pub fn let_go(self) {
-        let SharedGate { desk } = self;
-        desk.into_inner().let_go();
+        let SharedGate { guarded } = self;
+        guarded.into_inner().let_go();
     }
 }
 
@@ -204,7 +204,7 @@ impl<G: ShowsState, N: GateName> Door for SharedGate<G, N> {
     }
 
     fn caller<R: Wait>(&self, rt: &R, user: UserName, password: Password) -> Caller {
-        self.desk(rt).caller(user, password)
+        self.guarded(rt).caller(user, password)
     }
 
     fn login<R: Wait + Dial>(
@@ -219,7 +219,7 @@ impl<G: ShowsState, N: GateName> Door for SharedGate<G, N> {
     ) -> (Ticket<N>, Result<LoginAnswer, StepFault>) {
         let Ticket { pass, mut share } = pass;
         let (pass, result) = self
-            .desk(rt)
+            .guarded(rt)
             .login(pass, &mut share, user, password, session, wanted, moment);
         (Ticket { pass, share }, result)
     }
@@ -233,7 +233,9 @@ impl<G: ShowsState, N: GateName> Door for SharedGate<G, N> {
         moment: Moment,
     ) -> (Ticket<N>, Result<Outcome, StepFault>) {
         let Ticket { pass, mut share } = pass;
-        let (pass, result) = self.desk(rt).act(pass, &mut share, user, request, moment);
+        let (pass, result) = self
+            .guarded(rt)
+            .act(pass, &mut share, user, request, moment);
         (Ticket { pass, share }, result)
     }
 
@@ -244,7 +246,7 @@ impl<G: ShowsState, N: GateName> Door for SharedGate<G, N> {
         moment: Moment,
     ) -> (Ticket<N>, Result<Option<Outcome>, StepFault>) {
         let Ticket { pass, mut share } = pass;
-        let (pass, result) = self.desk(rt).match_one(pass, &mut share, moment);
+        let (pass, result) = self.guarded(rt).match_one(pass, &mut share, moment);
         (Ticket { pass, share }, result)
     }
 
@@ -256,7 +258,7 @@ impl<G: ShowsState, N: GateName> Door for SharedGate<G, N> {
         most: u64,
     ) -> (Ticket<N>, Matched) {
         let Ticket { pass, mut share } = pass;
-        let (pass, matched) = self.desk(rt).match_some(pass, &mut share, moment, most);
+        let (pass, matched) = self.guarded(rt).match_some(pass, &mut share, moment, most);
         (Ticket { pass, share }, matched)
     }
 
@@ -271,7 +273,7 @@ impl<G: ShowsState, N: GateName> Door for SharedGate<G, N> {
     ) -> (Ticket<N>, Result<Turned, StepFault>) {
         let Ticket { pass, mut share } = pass;
         let (pass, result) = self
-            .desk(rt)
+            .guarded(rt)
             .turn(pass, &mut share, user, request, moment, most);
         (Ticket { pass, share }, result)
     }
@@ -285,7 +287,7 @@ impl<G: ShowsState, N: GateName> Door for SharedGate<G, N> {
         most: u64,
     ) -> (Ticket<N>, Result<Pulled, PullFault>) {
         let Ticket { pass, share } = pass;
-        let (pass, result) = self.desk(rt).pull(pass, user, from, most);
+        let (pass, result) = self.guarded(rt).pull(pass, user, from, most);
         (Ticket { pass, share }, result)
     }
 
@@ -307,7 +309,7 @@ impl<G: ShowsState, N: GateName> Door for SharedGate<G, N> {
         most: u64,
     ) -> (Ticket<N>, Result<Vec<Record>, OutOfMemory>) {
         let Ticket { pass, share } = pass;
-        let (pass, result) = self.desk(rt).records(pass, from, most);
+        let (pass, result) = self.guarded(rt).records(pass, from, most);
         (Ticket { pass, share }, result)
     }
 
@@ -321,7 +323,7 @@ impl<G: ShowsState, N: GateName> Door for SharedGate<G, N> {
             pass: other,
             share: others,
         } = other;
-        let (pass, other) = self.desk(rt).meet(pass, other);
+        let (pass, other) = self.guarded(rt).meet(pass, other);
         let first = Ticket { pass, share };
         let second = Ticket {
             pass: other,
@@ -352,7 +354,7 @@ impl<G: ShowsRecords + ShowsState, N: GateName> Lookout for SharedGate<G, N> {
         most: usize,
     ) -> (Ticket<N>, Result<Option<View>, OutOfMemory>) {
         let Ticket { pass, share } = pass;
-        let (pass, found) = self.desk(rt).look(alloc, pass, summary, viewer, most);
+        let (pass, found) = self.guarded(rt).look(alloc, pass, summary, viewer, most);
         (Ticket { pass, share }, found)
     }
 }

@@ -1,7 +1,7 @@
 -- A view as a Prometheus server reads it: the text format, version 0.0.4.
 use Rattle.std.specs.{Prelude.{◌≡◌, ℕ, ℤ, ◌+◌, ◌-◌, ◌*◌, ◌/◌, ◌%◌, ◌==◌, List, [], ◌∷◌, ◌++◌, codes, decimal, drop, flat_map, get_or, map, sum, unwrap_or, if◌then◌else◌, Bool, Option, Some, None}, Fmt.signed_decimal}
 use Rattle.gx_text.specs.{Moments.with_zeros, Shown.json_name}
-use Rattle.gx_lobby.specs.{declared.answer_times.AnswerCounts.AnswerCounts, Buckets.bounds}
+use Rattle.gx_control.specs.{declared.answer_times.AnswerCounts.AnswerCounts, Buckets.bounds}
 use Rattle.gx_overview.specs.declared.{day.DayRow.DayRow, rules.LimitRow.LimitRow}
 use Rattle.gx_board.specs.declared.{accounts.AccountState.AccountState, counts.Counts.Counts, denied.DeniedRow.DeniedRow, uses.{GrossUse.GrossUse, NetUse.NetUse}, view.View.View}
 use Rattle.gx_status.specs.declared.server.ServerFigures.{ServerFigures}

@@ -4,7 +4,7 @@ ghost use Rattle.std.specs.Prelude.{◌≡◌, ◌++◌, ◌≤◌, codes, get_o
 ghost use Rattle.gx_status.specs.Metrics.{answers_count, answers_family, answers_figure, answers_sum, bound_name, bucket_sample, bucket_samples, connections_figure, journal_bytes_figure, journal_failures_figure, journaled_figure, seconds_sample, seconds_text, server_figures};
 
 use crate::metrics::{append_family, append_figure, append_large_sample, append_large_sample_of};
-use gx_lobby::{AnswerCounts, JournalCounts};
+use gx_control::{AnswerCounts, JournalCounts};
 use gx_text::{append, append_number, append_with_zeros};
 use gx_units::OutOfMemory;
 

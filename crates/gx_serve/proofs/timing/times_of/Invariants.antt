@@ -1,6 +1,6 @@
 use Rattle.std.proofs.Common.{◌≡◌, drop}
 use Rattle.std.specs.Prelude.{filter_map, fold}
-use Rattle.gx_lobby.specs.Buckets.{all_counted, counted}
+use Rattle.gx_control.specs.Buckets.{all_counted, counted}
 use Rattle.gx_serve.specs.Timings.{time_of}
 use Rattle.gx_serve.proofs.timing.times_of.Given as goal
 

@@ -7,8 +7,8 @@ abbrev pub invariant-loop-self : goal.invariant-loop-self
 invariant-loop-self g l = record {
   known : l.count ≤ known l.self.met;
   met : IsPrefix l.fn.self.met.front l.self.met.front;
-  sound : IsFalse (is_broken l.self.tape);
+  sound : IsFalse (is_broken l.self.writer);
 }
 
 abbrev pub decreases-loop-self : goal.decreases-loop-self
-decreases-loop-self g l = l.count - l.self.tape.done
+decreases-loop-self g l = l.count - l.self.writer.done

@@ -1,0 +1,53 @@
+//! What becomes of a packet.
+
+ghost use Rattle.std.specs.Prelude.{◌≡◌};
+ghost use Rattle.gx_serve.specs.Takings.{IsTakenIn};
+
+use crate::conduct::Exclusion;
+use crate::state::{Break, BrokenOff, ConnectionState, Told};
+use gx_door::{Dial, Door};
+use gx_soup::ClientPacket;
+use gx_units::Moment;
+use std::sync::Wait;
+
+/// What became of a packet. A state alone makes one.
+#[derive(Drop)]
+pub enum Taken<'a> {
+    /// The session was told of it.
+    Told(Told<'a>),
+    /// Its user was put out, and the session was told that it ends.
+    Excluded(Exclusion, BrokenOff),
+}
+
+impl<T: Drop> ConnectionState<T> {
+    /// Why the user is put out, if he is.
+    fn exclusion<D: Door<Ticket = T>>(&mut self, door: &D) -> Option<Exclusion>
+        ensures user { self.new.user ≡ self.old.user }
+        ensures session { self.new.session ≡ self.old.session }
+        ensures outbox { self.new.outbox ≡ self.old.outbox }
+        ensures cursor { self.new.cursor ≡ self.old.cursor }
+    {
+        let length = self.length(door);
+        self.conduct.exclusion(length)
+    }
+
+    /// Takes a packet, unless its user is put out: nothing more is taken of him then, and the session is told that it ends.
+    pub fn take_in<'a, D: Door<Ticket = T>, R: Wait + Dial>(
+        &mut self,
+        rt: &R,
+        door: &D,
+        packet: &'a ClientPacket,
+        moment: Moment,
+    ) -> Taken<'a>
+        requires clock { R.shown moment }
+        ensures taken { IsTakenIn packet.now result }
+    {
+        match self.exclusion(door) {
+            Some(why) => {
+                let told = self.break_off(rt, door, Break::Fault, moment);
+                Taken::Excluded(why, told)
+            }
+            None => Taken::Told(self.take(rt, door, packet, moment)),
+        }
+    }
+}
