@@ -1,5 +1,5 @@
 -- What stands under the rank of its price and its number is in price-time priority.
-use Rattle.std.proofs.{Common.{◌≡◌, ℕ, zero, suc, ◌+◌, ◌-◌, ◌<◌, ◌≤◌, inl, inr, Bool, true, false, cond, not, ◌&&◌, List, [], ◌∷◌, length, refl, ◌∙◌, sym, ap, subst, arith, eq-eqb, if◌then◌else◌}, lemmas.{Bool.{and_from, and_parts, cases_eq, eqb-true, lt-ltb, le-ltb, false_from_ne_true}, Cmp.ranked}}
+use Rattle.std.proofs.{Common.{◌≡◌, ℕ, zero, suc, ◌+◌, ◌-◌, ◌<◌, ◌≤◌, inl, inr, Bool, true, false, cond, not, ◌&&◌, List, [], ◌∷◌, refl, ◌∙◌, sym, ap, subst, arith, eq-eqb, if◌then◌else◌}, lemmas.{Bool.{and_from, and_parts, cases_eq, eqb-true, lt-ltb, le-ltb, false_from_ne_true}, Cmp.ranked}}
 use Rattle.std.specs.{Prelude.{nat_lt, None, Some, option_map, slice_get}, BTreeMap.{insert_entry, is_at}, List.{AllByRecursion, find, list_all, Sorted.IsStrictlySortedBy}, Map.{keys_of, values_of, lookup, remove_entry, set_value}, Ordering.{is_eq, nat_cmp, match_ordering, ordering_then, MatchOrdering}, declared.cmp.Ordering.{Ordering, TheVariants.{Less, Equal, Greater}}}
 use Rattle.gx_history.specs.declared.live_order.LiveOrder.{LiveOrder}
 use Rattle.gx_book.specs.{declared.resting.Kept.Kept, Resting.{RestingData, resting_of}, Keys.{are_keyed, held, is_keyed, is_rank, order_at, orders_at, price_at}, Queue.{IsLatest, is_better, is_numbered, is_same, left_with, taken_from_first, with_order, with_shares, without_order}}
@@ -347,11 +347,6 @@ go_keyed buy test (e ∷ es) keyed =
 pub is_held : (buy : Bool) (k : ℕ × ℕ) (o : LiveOrder) (kept : Kept) → price_at buy k.0 ≡ o.terms.price → k.1 ≡ o.number
     → held o.number o.terms.price kept ≡ held k.1 (price_at buy k.0) kept
 is_held buy k o kept priced numbered = λ i. held (sym numbered i) (sym priced i) kept
-
--- as many orders as are kept
-pub as_many : (buy : Bool) (es : List ((ℕ × ℕ) × Kept)) → length (values_of (orders_at buy es)) ≡ length es
-as_many buy [] = refl
-as_many buy (e ∷ es) = ap suc (as_many buy es)
 
 -- what is kept first is the first order, under its key
 pub first_is_keyed : (buy : Bool) (es : List ((ℕ × ℕ) × Kept)) (k : ℕ × ℕ) (kept : Kept) (shares : ℕ) → are_keyed buy (orders_at buy es) ≡ true → slice_get es 0 ≡ Some (k, kept)

@@ -1,5 +1,5 @@
 -- An account's orders taken out one after the other are all that rests of the account.
-use Rattle.std.proofs.Common.{◌≡◌, ℕ, ◌+◌, ◌-◌, ◌≤◌, suc, arith, Bool, true, false, not, List, [], ◌∷◌, ◌++◌, length, refl, ◌∙◌, ap, sym, map, cond}
+use Rattle.std.proofs.{Common.{◌≡◌, ℕ, ◌+◌, ◌-◌, ◌≤◌, arith, Bool, true, false, not, List, [], ◌∷◌, ◌++◌, length, refl, ◌∙◌, ap, sym, map, cond}, lemmas.List.{Elements.filter-append, Filters.length-filter_both}}
 use Rattle.std.specs.{Prelude.{◌&&◌, ◌||◌, min}, List.{AllByRecursion, filter, fold, list_any}}
 use Rattle.gx_units.specs.{declared.names.{AccountName.AccountName, Symbol.Symbol}, Names.same_stock}
 use Rattle.gx_history.specs.{declared.live_order.LiveOrder.LiveOrder, Book.is_buy, Live.is_there}
@@ -89,29 +89,12 @@ all_his_are_out account his book whole = all_out his book ∙ by book whole
 
 -- ---- how many they are
 
-parted : (account : AccountName) (rs : List RestingData) → length (without_account account rs) + length (filter (is_of account) rs) ≡ length rs
-parted account [] = refl
-parted account (r ∷ rs) = at (is_of account r) (parted account rs)
-  where
-    at : (b : Bool) → length (without_account account rs) + length (filter (is_of account) rs) ≡ length rs
-        → length (cond (not b) (r ∷ without_account account rs) (without_account account rs)) + length (cond b (r ∷ filter (is_of account) rs) (filter (is_of account) rs)) ≡ suc (length rs)
-    at true more = omega (arith, more)
-    at false more = omega (arith, more)
-
-filter_both : (p : RestingData → Bool) (xs ys : List RestingData) → filter p (xs ++ ys) ≡ filter p xs ++ filter p ys
-filter_both p [] ys = refl
-filter_both p (x ∷ xs) ys = at (p x) (filter_both p xs ys)
-  where
-    at : (b : Bool) → filter p (xs ++ ys) ≡ filter p xs ++ filter p ys → cond b (x ∷ filter p (xs ++ ys)) (filter p (xs ++ ys)) ≡ cond b (x ∷ filter p xs) (filter p xs) ++ filter p ys
-    at true more = ap (λ rest. x ∷ rest) more
-    at false more = more
-
 without_all : (account : AccountName) (book : List StockOrders) → all_orders (on_each_side (without_account account) book) ≡ without_account account (all_orders book)
 without_all account [] = refl
 without_all account (s ∷ ss) =
     ap (λ rest. (without_account account s.buys ++ without_account account s.sells) ++ rest) (without_all account ss)
-    ∙ ap (λ front. front ++ without_account account (all_orders ss)) (sym (filter_both (λ r. not (is_of account r)) s.buys s.sells))
-    ∙ sym (filter_both (λ r. not (is_of account r)) (both_sides s) (all_orders ss))
+    ∙ ap (λ front. front ++ without_account account (all_orders ss)) (sym (filter-append (λ r. not (is_of account r)) s.buys s.sells))
+    ∙ sym (filter-append (λ r. not (is_of account r)) (both_sides s) (all_orders ss))
 
 -- so many fewer orders, counted as far as the count goes
 pub record HaveGone (count most : ℕ) (before now : List StockOrders) : Type 0 where
@@ -137,7 +120,7 @@ all_counted account count most before now h is =
     ∙ ap (λ (n : ℕ). min n most)
     (ap (λ (book : List StockOrders). length (all_orders before) - length (all_orders book)) is
     ∙ ap (λ (rs : List RestingData). length (all_orders before) - length rs) (without_all account before)
-    ∙ by (length (without_account account (all_orders before))) (count_of account before) (length (all_orders before)) (parted account (all_orders before)))
+    ∙ by (length (without_account account (all_orders before))) (count_of account before) (length (all_orders before)) (length-filter_both (is_of account) (λ r. not (is_of account r)) (λ r. refl) (all_orders before)))
   where
-    by : (others his all : ℕ) → others + his ≡ all → all - others ≡ his
+    by : (others his all : ℕ) → his + others ≡ all → all - others ≡ his
     by others his all h = omega (arith, h)

@@ -1,5 +1,5 @@
 -- What the book's calls make of it.
-use Rattle.std.specs.{Prelude.{ℕ, Bool, ◌-◌, ◌≡◌, List, Option, Some}, List.find}
+use Rattle.std.specs.{Prelude.{ℕ, Bool, ◌-◌, List, Option}, List.find}
 use Rattle.gx_history.specs.{declared.live_order.LiveOrder.LiveOrder, Book.is_buy, LiveOrders.shares_open}
 use Rattle.gx_units.specs.declared.names.Symbol.{Symbol}
 use Rattle.gx_book.specs.{Resting.{RestingData, resting_of}, Books.{StockOrders, on_side, resting_in, with_rested}, Queue.{is_same, taken_from_first, without_order}}
@@ -12,10 +12,6 @@ own_side book o = resting_in book o.terms.stock (is_buy o.terms.side)
 -- the order as the book has it, if it rests
 abbrev pub found_in : List StockOrders → LiveOrder → Option RestingData
 found_in book o = find (is_same (resting_of o)) (own_side book o)
-
--- the order rests, with all that is open of it
-abbrev pub Rests : List StockOrders → LiveOrder → Type 0
-Rests book o = found_in book o ≡ Some (resting_of o)
 
 -- the order put on its side of its stock
 abbrev pub put_to_rest : LiveOrder → List StockOrders → List StockOrders

@@ -1,5 +1,5 @@
 -- One side of a stock: the orders that rest there, the better price first, and at one price the earlier first.
-use Rattle.std.specs.{Prelude.{◌≡◌, ◌<◌, ◌-◌, ℕ, Bool, true, not, ◌&&◌, ◌==◌, nat_lt, List, [], ◌∷◌, map, if◌then◌else◌}, List.{AllByRecursion, filter, list_all, list_any}}
+use Rattle.std.specs.{Prelude.{◌≡◌, ◌<◌, ◌-◌, ℕ, Bool, true, not, ◌&&◌, ◌==◌, nat_lt, List, [], ◌∷◌, map, if◌then◌else◌}, List.{AllByRecursion, filter, list_all}}
 use Rattle.gx_units.specs.{Names.same_account, declared.names.AccountName.AccountName}
 use Rattle.gx_policy.specs.Lists.{placed}
 use Rattle.gx_book.specs.Resting.{RestingData}
@@ -15,10 +15,6 @@ is_numbered number r = r.order == number
 -- two orders of one number and one price
 abbrev pub is_same : RestingData → RestingData → Bool
 is_same a b = a.order == b.order && a.price == b.price
-
--- the order is there
-abbrev pub is_among : RestingData → List RestingData → Bool
-is_among order orders = list_any (is_same order) orders
 
 -- the order is the account's
 abbrev pub is_of : AccountName → RestingData → Bool

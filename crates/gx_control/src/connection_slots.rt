@@ -37,7 +37,7 @@ impl Occupied {
     }
 }
 
-/// ConnectionSlots for connections: each takes one for as long as it is served.
+/// Slots for connections: each takes one for as long as it is served.
 #[derive(Drop)]
 pub struct ConnectionSlots {
     occupied: Mutex<Occupied>,

@@ -1,4 +1,4 @@
--- What a state gives its writer: whose reports he sends, an answer, reports.
+-- What a connection's state gives its writer: whose reports he sends, an answer, reports.
 use Rattle.std.specs.Prelude.{ℕ, length, nat_le}
 use Rattle.gx_units.specs.declared.names.UserName.{UserName}
 use Rattle.gx_answers.specs.declared.{outcome.LoginAnswer.LoginAnswer, pulled.Pulled.Pulled}

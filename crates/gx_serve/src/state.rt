@@ -51,7 +51,7 @@ impl Break {
     }
 }
 
-/// That a session was told of what breaks it off. A state alone makes one.
+/// That a session was told of what breaks it off. A [`ConnectionState`] alone makes one.
 #[derive(Drop)]
 pub struct BrokenOff {
     cause: Break,
@@ -66,7 +66,8 @@ impl Model for BrokenOff {
     ghost view = { λ b. break_of b.cause };
 }
 
-/// That a session was told of a packet, what is to be announced of it, and whether it was over then. A state alone makes one.
+/// That a session was told of a packet, what is to be announced of it, and whether it was over then. A [`ConnectionState`]
+/// alone makes one.
 #[derive(Drop)]
 pub struct Told<'a> {
     event: Event<'a>,
@@ -117,13 +118,13 @@ impl Told<'_> {
     }
 }
 
-/// That a session was told of the server's end, where it was asked for. A state alone makes one, at each look.
+/// That a session was told of the server's end, where it was asked for. A [`ConnectionState`] alone makes one, at each look.
 #[derive(Drop)]
 pub struct Heeded {
     _told: (),
 }
 
-/// That a session was told of the end of its input, and that its reader has ended. A state alone makes one.
+/// That a session was told of the end of its input, and that its reader has ended. A [`ConnectionState`] alone makes one.
 #[derive(Drop)]
 pub struct Ended {
     _told: (),

@@ -51,7 +51,7 @@ impl<G: AccessGate, N: GateName> Model for GuardedGate<G, N> {
 }
 
 impl<G: AccessGate, N: GateName> GuardedGate<G, N> {
-    /// A guarded at the beginning of a day, and all permits for passes, in which nothing is counted.
+    /// A guarded gate at the beginning of a day, and all permits for passes, in which nothing is counted.
     ///
     /// # Errors
     ///
@@ -76,7 +76,7 @@ impl<G: AccessGate, N: GateName> GuardedGate<G, N> {
         Ok((GuardedGate { gate, keeper }, permits))
     }
 
-    /// A guarded over a gate that has records, and all permits for passes, in which these and their lines are counted: no line
+    /// A guarded gate over one that has records, and all permits for passes, in which these and their lines are counted: no line
     /// up to the highest of theirs is issued any more.
     ///
     /// # Errors

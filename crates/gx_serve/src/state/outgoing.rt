@@ -1,4 +1,4 @@
-//! What a state gives its writer.
+//! What a connection's state gives its writer.
 
 ghost use Rattle.std.specs.Prelude.{◌≡◌, ◌≢◌, ◌↔◌, IfErr, IfOk, Some, None, is_some};
 ghost use Rattle.gx_units.specs.Spelling.{folded_user};
@@ -54,7 +54,7 @@ impl Bookmark {
     }
 }
 
-/// The answer to a login, and whose it is. A state alone gives one.
+/// The answer to a login, and whose it is. A connection's state alone gives one.
 #[derive(Drop)]
 pub struct Answered {
     user: UserName,
@@ -94,7 +94,7 @@ impl Answered {
     }
 }
 
-/// A packet that a session asked to send besides its login's answer. A state alone gives one.
+/// A packet that a session asked to send besides its login's answer. A connection's state alone gives one.
 #[derive(Drop)]
 pub struct Signed {
     sign: Sign,
@@ -127,7 +127,8 @@ impl Signed {
     }
 }
 
-/// Reports that were pulled, and how many records there were before. A state alone gives them.
+/// Reports that were pulled, and how many records there were before. A connection's state alone gives
+/// them.
 #[derive(Drop)]
 pub struct Fetched {
     pulled: Pulled,

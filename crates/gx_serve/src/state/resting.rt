@@ -1,4 +1,4 @@
-//! How long the writer of a state may rest.
+//! How long the writer of a connection may rest.
 
 ghost use Rattle.std.specs.Prelude.{◌≡◌, ◌&&◌, not};
 ghost use Rattle.gx_session.specs.Table.{is_silent, rest_of};

@@ -1,4 +1,4 @@
-//! Matching steps that are made with a state's pass.
+//! Matching steps that are made with a connection's pass.
 
 ghost use Rattle.std.specs.Prelude.{◌≡◌, None, IsFalse, IsTrue};
 ghost use Rattle.gx_answers.specs.Matches.{matching_of};

@@ -10,7 +10,7 @@ use gx_soup::ClientPacket;
 use gx_units::Moment;
 use std::sync::Wait;
 
-/// What became of a packet. A state alone makes one.
+/// What became of a packet. A connection's state alone makes one.
 #[derive(Drop)]
 pub enum Taken<'a> {
     /// The session was told of it.
