@@ -67,7 +67,7 @@ FIELD = re.compile(r"^\s*(?:fields = )?(?:field (\d+) (\d+) ∷\s*-- (.*)|(\w+(?
 
 
 def layouts():
-    """Each layout: its crate, type byte, length, and fields as offset, length and name."""
+    """Each layout, by its message: its crate, type byte, length, and fields as offset, length and name."""
     found, lists = {}, {}
     for crate, file in (("gx_ouch", "gx_ouch/specs/Messages.antt"), ("gx_desk", "gx_desk/specs/Messages.antt")):
         for name, body in re.findall(r"^abbrev pub (\w+) : .*\n((?:(?!abbrev).*\n)+)", source(file), re.M):
@@ -80,7 +80,7 @@ def layouts():
                 byte = chr(int(kind.group(1))) if kind.group(1).isdigit() else found[kind.group(1).partition(".")[0]][1] \
                     if "." in kind.group(1) else ""
                 found[name] = (crate, byte, size.group(1), fields)
-    return found
+    return {name.removesuffix("_layout"): layout for name, layout in found.items()}
 
 
 def notes_of(crate, struct):

@@ -15,7 +15,7 @@ use gx_runs::{
     AuditFile, Day, JournalDevice, Start, TakenOver, audit_version, close_audited, connections_of,
     leave_audit, look_back, open_audit, open_file, open_journal, take_over, take_up, tell_cut,
 };
-use gx_server::Noted;
+use gx_server::ErrorRecorder;
 use gx_shared::{Kept, serve_journaled};
 use std::alloc::Global;
 use std::io;
@@ -31,7 +31,7 @@ fn go_on<'a, G: ShowsRecords + ShowsState + Send, R: ServerRuntime>(
     start: Start,
     day: Day<G>,
     log: &Arc<Log, Global>,
-) -> Result<(Kept<G, Noted<JournalDevice>>, Result<(), Ended<'a>>), Ended<'a>> {
+) -> Result<(Kept<G, ErrorRecorder<JournalDevice>>, Result<(), Ended<'a>>), Ended<'a>> {
     let Day {
         gate,
         version,
@@ -92,7 +92,7 @@ fn kept<'a>(
 fn close_server<'a, G: ShowsRecords>(
     host: &HostRuntime,
     path: &'a str,
-    left: Kept<G, Noted<JournalDevice>>,
+    left: Kept<G, ErrorRecorder<JournalDevice>>,
     ended: Result<(), Ended<'a>>,
     version: AuditVersion,
     audit: Option<AuditFile<'a>>,
@@ -103,7 +103,7 @@ fn close_server<'a, G: ShowsRecords>(
         device,
     } = left;
     let audited = close_audited(host, version, gate, audit);
-    let Noted { device, cause } = device;
+    let ErrorRecorder { device, cause } = device;
     kept(fault, path, cause)
         .and(look_back(path, &device))
         .and(ended)

@@ -4,7 +4,7 @@ ghost use Rattle.std.specs.Prelude.{◌^◌, ◌<◌};
 
 use gx_audit::{endings_of, order_ends_of};
 use gx_clock::TimeOfDay;
-use gx_command_line::{AuditFiles, Shape, TableForm, Wanted};
+use gx_command_line::{AuditFiles, Shape, ShowFilter, TableForm};
 use gx_desk::Action;
 use gx_endings::endings::Ending;
 use gx_history::record::{Record, Request, Step, Verdict};
@@ -33,7 +33,7 @@ fn moment_of(time: Option<TimeOfDay>, other: u64) -> u64 {
 }
 
 /// What is asked for but for names and an order.
-fn unnamed(wanted: &Wanted) -> Choice {
+fn unnamed(wanted: &ShowFilter) -> Choice {
     Choice {
         only_denied: wanted.only_denied,
         from: moment_of(wanted.from, 0),
@@ -43,7 +43,7 @@ fn unnamed(wanted: &Wanted) -> Choice {
 }
 
 /// The names that are asked for.
-fn names_of<'a>(wanted: &Wanted<'a>) -> AskedNames<'a> {
+fn names_of<'a>(wanted: &ShowFilter<'a>) -> AskedNames<'a> {
     AskedNames {
         account: wanted.account,
         user: wanted.user,
@@ -53,7 +53,7 @@ fn names_of<'a>(wanted: &Wanted<'a>) -> AskedNames<'a> {
 }
 
 /// What a name is not known as, and the name.
-fn told_of<'a>(wanted: &Wanted<'a>, unknown: UnknownName) -> (&'static str, Option<&'a str>) {
+fn told_of<'a>(wanted: &ShowFilter<'a>, unknown: UnknownName) -> (&'static str, Option<&'a str>) {
     match unknown {
         UnknownName::Account => ("account", wanted.account),
         UnknownName::User => ("user", wanted.user),
@@ -66,7 +66,7 @@ fn told_of<'a>(wanted: &Wanted<'a>, unknown: UnknownName) -> (&'static str, Opti
 fn tell_unknown(
     rt: &HostRuntime,
     policy: &Policy,
-    wanted: &Wanted,
+    wanted: &ShowFilter,
     unknown: UnknownName,
 ) -> ExitCode {
     let (what, name) = told_of(wanted, unknown);
@@ -199,7 +199,7 @@ fn show_under<'a, G: ShowsState>(
     rt: &HostRuntime,
     policy: &Policy,
     path: &'a str,
-    wanted: Wanted<'a>,
+    wanted: ShowFilter<'a>,
     shape: Shape,
 ) -> Result<ExitCode, Ended<'a>> {
     let mut choice = match choice_of(policy, &names_of(&wanted), &unnamed(&wanted)) {
@@ -215,7 +215,7 @@ fn show_under<'a, G: ShowsState>(
 pub(crate) fn show<'a, G: ShowsState>(
     rt: &HostRuntime,
     files: AuditFiles<'a>,
-    wanted: Wanted<'a>,
+    wanted: ShowFilter<'a>,
     shape: Shape,
 ) -> Result<ExitCode, Ended<'a>> {
     let policy = policy_of(rt, files.policy)?;

@@ -1,16 +1,14 @@
 -- What one more record adds to the counts of an account.
 use Rattle.std.proofs.{Common.{◌≡◌, ℕ, ◌+◌, Bool, true, false, cond, ◌&&◌, List, [], ◌∷◌, ◌++◌, arith, map, refl, ap, sym, ◌∙◌}, lemmas.List.{Elements.filter_map-append, Sums.{fold-append, sum_by-append, sum_by_push}}}
-use Rattle.std.specs.{Prelude.{Option, Some, None, count_by, filter_map, fold, option_and_then, option_to_list}, Option.option_map_or, List.cons_option}
+use Rattle.std.specs.{Prelude.{Option, Some, None, count_by, filter_map, fold, option_and_then, option_to_list}, Option.option_map_or}
 use Rattle.gx_units.specs.{Names.same_account, declared.names.AccountName.AccountName}
 use Rattle.gx_ouch.specs.declared.letters.Liquidity.{Liquidity}
 use Rattle.gx_policy.specs.{declared.policy.{Account.Account, PolicyData.PolicyData}, Lists.each_with_earlier, People.account_of}
-use Rattle.gx_history.specs.{declared.record.{Asked.Asked, Fill.Fill, RecordData.RecordData, Request.Request, Step.Step, Verdict.Verdict}, Book.rested_of, Executions.{Execution, executions, side_of, sides_in}, Orders.{Order, order_numbered, orders}, Requests.{asked, is_granted}}
-use Rattle.gx_laws.proofs.{NextOrders.executions_next, Pushing.each_after_next}
+use Rattle.gx_history.specs.{declared.record.{Asked.Asked, Fill.Fill, RecordData.RecordData, Request.Request, Step.Step, Verdict.Verdict}, Book.rested_of, Executions.{Execution, executions, side_of, sides_in}, Orders.{Order, order_numbered, orders}, Requests.{asked_of, is_granted}}
+use Rattle.gx_laws.proofs.{NextOrders.executions_next, Pushing.each_after_next, Order.one_found}
 use Rattle.gx_overview.specs.Accounts.{capped_count}
 use Rattle.gx_activity.specs.{declared.{activity.{ActivityRow.ActivityRow, OrderRequests.OrderRequests}, deeds.Deed.Deed}, Activity.{expired_of, is_asked, is_cancel, is_denied, is_enter, is_replace, orders_of, orders_said, trades_for}, Noting.{deed_of, deeds_in, one_more, row_done, so_far}}
-
-count_capped : (n : ℕ) → capped_count (capped_count n + 1) ≡ capped_count (n + 1)
-count_capped n = omega arith
+use Rattle.gx_overview.proofs.LiveOrders_call.{count_capped}
 
 pub no_more : (n : ℕ) → capped_count (n + 0) ≡ capped_count n
 no_more n = ap capped_count (omega arith)
@@ -41,7 +39,7 @@ module _ (policy : PolicyData) (known : List Order) (account : AccountName) (ge 
   base = the_row account (stopped ge gr gc) (stopped de dr dc) (capped_count fills) (capped_count rested) (capped_count expired)
 
   abbrev asks : (Request → Bool) → Step → Bool
-  asks kind step = option_map_or (λ (a : Asked). trades_for policy account a.user && kind a.request) (asked step) false
+  asks kind step = option_map_or (λ (a : Asked). trades_for policy account a.user && kind a.request) (asked_of step) false
 
   abbrev is_his : Execution → Bool
   is_his e = same_account account e.order.account
@@ -196,10 +194,6 @@ module _ (policy : PolicyData) (known : List Order) (account : AccountName) (ge 
       ∙ expired_grows expired (order_numbered known number)
 
 -- ---- the definitions, of one more record
-
-pub one_found : {Y : Type 0} (found : Option Y) → cons_option found [] ≡ option_to_list found
-one_found None = refl
-one_found (Some y) = refl
 
 module _ (policy : PolicyData) (records : List RecordData) (r : RecordData) (account : AccountName) where
   asked_next : (became : Verdict → Bool) (kind : Request → Bool)

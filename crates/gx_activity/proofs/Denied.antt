@@ -1,19 +1,15 @@
 -- What one more denial makes of the counts.
-use Rattle.std.proofs.{Common.{◌≡◌, ℕ, ◌+◌, ◌<◌, ◌≤◌, ◌^◌, Bool, true, false, cond, ◌&&◌, List, [], ◌∷◌, ◌++◌, map, length, take, get_or, arith, refl, ap, sym, ◌∙◌}, lemmas.{Slice.Eq.bytes_eq-Decides, List.{append-nil, map-id, take_more, Elements.filter_map-append, Sums.{count_by-le-length, sum_by_push}}}}
+use Rattle.std.proofs.{Common.{◌≡◌, ℕ, ◌+◌, ◌<◌, ◌≤◌, ◌^◌, Bool, true, false, cond, ◌&&◌, List, [], ◌∷◌, ◌++◌, map, length, take, get_or, arith, refl, ap, sym, ◌∙◌}, lemmas.{Slice.Eq.bytes_eq-Decides, List.{Elements.filter_map-append, Sums.{count_by-le-length, sum_by_push}, append-nil, map-id, take_more}, Simd.map-map, Bool.and_parts}}
 use Rattle.std.specs.{Prelude.{Option, Some, None, count_by, option_to_list}, Option.option_eq}
-use Rattle.gx_units.specs.{Names.{same_account, same_rule}, declared.names.{AccountName.AccountName, RuleId.RuleId}}
+use Rattle.gx_units.specs.{Names.{same_account, same_rule}, declared.names.AccountName.AccountName}
 use Rattle.gx_policy.specs.{declared.policy.PolicyData.PolicyData, Lists.once}
 use Rattle.gx_history.specs.declared.record.RecordData.{RecordData}
-use Rattle.gx_laws.proofs.Names.{account_is, account_is_itself}
+use Rattle.gx_laws.proofs.{Names.{account_is, account_is_itself, rule_is}, Sound.few_found, Keeping.map_same, Order.one_found}
 use Rattle.gx_overview.specs.Accounts.{capped_count}
-use Rattle.gx_overview.proofs.Passing.{map_same, map_twice}
 use Rattle.gx_activity.specs.{declared.denials.{Denial.Denial, DenialRow.DenialRow}, Denials.{denial_in, denial_row, denial_rows, denials, row_of, same_denial}, Denying.{counted_in, counted_once, denial_table, never, once_more, so_often, table_of}}
-use Rattle.gx_activity.proofs.{Counting.{one_found, one_more_is}, Standing.{fits, found_are_few}, Tables.{listed_value_of, table_next}, Trading.both_true}
+use Rattle.gx_activity.proofs.{Counting.one_more_is, Standing.fits, Tables.{listed_value_of, table_next}}
 
 -- ---- denials are the same where they are equal
-
-rule_is : (a b : RuleId) → same_rule a b ≡ true → a ≡ b
-rule_is a b h = let name : List ℕ → RuleId = λ (bytes : List ℕ). record { bytes = bytes } in ap name ((bytes_eq-Decides a.bytes b.bytes).0 h)
 
 owner_is_itself : (a : Option AccountName) → option_eq same_account a a ≡ true
 owner_is_itself None = refl
@@ -30,7 +26,7 @@ same_itself d = ap (λ (b : Bool). b && option_eq same_account d.account d.accou
 
 same_are_equal : (a b : Denial) → same_denial a b ≡ true → a ≡ b
 same_are_equal a b same =
-    let parts : (same_rule a.rule b.rule ≡ true) × (option_eq same_account a.account b.account ≡ true) = both_true (same_rule a.rule b.rule) (option_eq same_account a.account b.account) same in
+    let parts : (same_rule a.rule b.rule ≡ true) × (option_eq same_account a.account b.account ≡ true) = and_parts (same_rule a.rule b.rule) (option_eq same_account a.account b.account) same in
     λ i. record { rule = rule_is a.rule b.rule parts.0 i; account = owner_is a.account b.account parts.1 i }
 
 -- ---- one more
@@ -74,7 +70,7 @@ denials_further policy records i r d before after within is so_far counted =
 all_fit : (policy : PolicyData) (records : List RecordData) (n : ℕ) → n ≡ length records → n < 2 ^ 63 → (d : Denial) → so_often (denials policy records) d ≡ denial_row (denials policy records) d
 all_fit policy records n is few d =
     let his : count_by (λ (x : Denial). same_denial x d) (denials policy records) ≤ length (denials policy records) = count_by-le-length (λ (x : Denial). same_denial x d) (denials policy records) in
-    let all : length (denials policy records) ≤ length records = found_are_few (denial_in policy) records in
+    let all : length (denials policy records) ≤ length records = few_found (denial_in policy) records in
     ap row (fits (count_by (λ (x : Denial). same_denial x d) (denials policy records)) (omega arith))
   where
     row : ℕ → DenialRow
@@ -84,7 +80,7 @@ pub rows_are : (policy held : PolicyData) (records shown : List RecordData) (ent
     → n ≡ length records → n < 2 ^ 63 → map (λ (e : Denial × DenialRow). e.1) entries ≡ denial_rows policy records
 rows_are policy held records shown entries n is under of many few =
     ap (map (λ (e : Denial × DenialRow). e.1)) (is ∙ (λ i. denial_table (under i) (of i)))
-    ∙ map_twice {Y = Denial × DenialRow} (λ (d : Denial). (d, so_often (denials policy records) d)) (λ (e : Denial × DenialRow). e.1) (once same_denial (map (λ (d : Denial). d) (denials policy records)))
+    ∙ map-map {B = Denial × DenialRow} (λ (e : Denial × DenialRow). e.1) (λ (d : Denial). (d, so_often (denials policy records) d)) (once same_denial (map (λ (d : Denial). d) (denials policy records)))
     ∙ map_same (so_often (denials policy records)) (denial_row (denials policy records)) (all_fit policy records n many few) (once same_denial (map (λ (d : Denial). d) (denials policy records)))
     ∙ ap (λ (ds : List Denial). map (denial_row (denials policy records)) (once same_denial ds)) (map-id (denials policy records))
 

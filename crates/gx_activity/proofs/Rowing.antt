@@ -3,7 +3,7 @@ use Rattle.std.proofs.Common.{◌≡◌, Bool, true, false, cond, List, [], ◌�
 use Rattle.std.specs.{Prelude.{Option, Some, None, fold, unwrap_or}, Map.lookup}
 use Rattle.gx_units.specs.{Names.same_account, declared.names.AccountName.AccountName}
 use Rattle.gx_laws.proofs.Names.{account_is}
-use Rattle.gx_overview.proofs.Keeping.{inserted}
+use Rattle.gx_overview.proofs.Accounts_next.{inserted}
 use Rattle.gx_activity.specs.{declared.{activity.ActivityRow.ActivityRow, deeds.Deed.Deed}, Activity.idle, Noting.{entries_after, entries_done, row_done, row_in, row_with}}
 use Rattle.gx_activity.proofs.Counting.{done_in}
 

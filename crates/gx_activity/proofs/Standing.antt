@@ -1,26 +1,17 @@
 -- No count comes near 64 bits, and the rows stand as they were noted.
 use Rattle.std.proofs.{Common.{◌≡◌, ℕ, ◌+◌, ◌<◌, ◌≤◌, ◌*◌, ◌^◌, arith, Bool, List, [], ◌∷◌, ◌++◌, map, length, take, drop, refl, ap, sym, ◌∙◌, length-append}, lemmas.List.{length-map, Sums.count_by-le-length}}
-use Rattle.std.specs.{Prelude.{Option, Some, None, count_by, filter_map, flat_map, option_and_then, option_to_list}, List.cons_option}
+use Rattle.std.specs.Prelude.{Option, Some, None, count_by, flat_map, option_and_then, option_to_list}
 use Rattle.gx_units.specs.{Names.same_account, declared.names.AccountName.AccountName}
 use Rattle.gx_ouch.specs.declared.letters.Liquidity.{Liquidity}
 use Rattle.gx_policy.specs.{declared.policy.{Account.Account, PolicyData.PolicyData}, Lists.{each_after, each_with_earlier}}
 use Rattle.gx_history.specs.{declared.record.{Fill.Fill, RecordData.RecordData, Request.Request, Verdict.Verdict}, Book.rested_of, Executions.{Execution, executions, executions_of, side_of, sides_in}, Orders.{Order, order_numbered, orders}, Requests.is_granted}
 use Rattle.gx_overview.specs.Accounts.{capped_count}
-use Rattle.gx_overview.proofs.Passing.{map_same}
 use Rattle.gx_activity.specs.{declared.activity.ActivityRow.ActivityRow, Activity.{activity_row, expired_of, is_asked, is_cancel, is_denied, is_enter, is_replace, orders_of, orders_said, requests_of}, Noting.{capped_requests, row_in, so_far}}
 use Rattle.gx_activity.proofs.Counting.{the_requests, the_row}
+use Rattle.gx_laws.proofs.{Sound.few_found, Keeping.map_same}
 
 pub fits : (n : ℕ) → n < 2 ^ 64 → capped_count n ≡ n
 fits n few = omega arith
-
--- a list is no longer with some of it mapped
-pub found_are_few : {X Y : Type 0} (f : X → Option Y) (xs : List X) → length (filter_map f xs) ≤ length xs
-found_are_few f [] = omega arith
-found_are_few {X} {Y} f (x ∷ xs) = by (f x) (found_are_few f xs)
-  where
-    by : (found : Option Y) → length (filter_map f xs) ≤ length xs → length (cons_option found (filter_map f xs)) ≤ length (x ∷ xs)
-    by None fewer = omega arith
-    by (Some y) fewer = omega arith
 
 entries_are : (earlier records : List RecordData) → length (each_after earlier records) ≡ length records
 entries_are earlier [] = refl
@@ -78,7 +69,7 @@ module _ (policy : PolicyData) (records : List RecordData) (n : ℕ) (is : n ≡
   said_fit : (account : AccountName) (says : Verdict → Option ℕ) → capped_count (orders_of account (orders_said says policy records)) ≡ orders_of account (orders_said says policy records)
   said_fit account says =
       let said : (List RecordData × RecordData) → Option Order = λ (entry : List RecordData × RecordData). option_and_then (order_numbered (orders policy entry.0)) (says entry.1.verdict) in
-      let found : length (orders_said says policy records) ≤ length (each_with_earlier records) = found_are_few said (each_with_earlier records) in
+      let found : length (orders_said says policy records) ≤ length (each_with_earlier records) = few_found said (each_with_earlier records) in
       let many : length (each_with_earlier records) ≡ length records = entries_are [] records in
       let his : orders_of account (orders_said says policy records) ≤ length (orders_said says policy records) = count_by-le-length (λ (o : Order). same_account account o.account) (orders_said says policy records) in
       fits (orders_of account (orders_said says policy records)) (omega arith)

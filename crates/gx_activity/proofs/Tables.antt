@@ -1,12 +1,8 @@
 -- A table with a row for each key, where the keys first come: what one more item makes of it.
-use Rattle.std.proofs.{Common.{◌≡◌, Bool, true, false, not, cond, ◌||◌, List, [], ◌∷◌, ◌++◌, map, refl, ap, sym, subst, ◌∙◌, append_assoc, true≢false}, lemmas.List.{append-nil, Elements.filter-append}}
+use Rattle.std.proofs.{Common.{◌≡◌, Bool, true, false, not, cond, ◌||◌, List, [], ◌∷◌, ◌++◌, map, refl, ap, sym, subst, ◌∙◌, append_assoc, true≢false}, lemmas.List.{Elements.filter-append, append-nil, map_push}}
 use Rattle.std.specs.{Prelude.{IfOk, Option, Some, None, Result, Ok, Err, filter, find, fold, unwrap_or}, List.list_any, Map.lookup}
 use Rattle.indexmap.specs.IndexMap.{insert_entry}
 use Rattle.gx_policy.specs.Lists.{once}
-
-map_push : {X Y : Type 0} (f : X → Y) (xs : List X) (x : X) → map f (xs ++ x ∷ []) ≡ map f xs ++ f x ∷ []
-map_push f [] x = refl
-map_push f (y ∷ xs) x = ap (λ rest. f y ∷ rest) (map_push f xs x)
 
 -- what follows of what came, where it went well
 pub of_items : {V E X : Type 0} (r : Result V E) (items : V → List X) (xs : List X) (Q : V → Type 0) → ((v : V) → items v ≡ xs → Q v) → IfOk r (λ v. items v ≡ xs) → IfOk r Q

@@ -1,20 +1,16 @@
 -- What one more fill makes of the positions.
-use Rattle.std.proofs.{Common.{◌≡◌, ℕ, ◌+◌, ◌<◌, Bool, true, false, not, cond, ◌&&◌, List, [], ◌∷◌, ◌++◌, map, length, take, get_or, arith, refl, ap, sym, subst, ◌∙◌}, lemmas.{Slice.Eq.bytes_eq-Decides, List.take_more}}
+use Rattle.std.proofs.{Common.{◌≡◌, ℕ, ◌+◌, ◌<◌, Bool, true, false, not, cond, ◌&&◌, List, [], ◌∷◌, ◌++◌, map, length, take, get_or, arith, refl, ap, sym, subst, ◌∙◌}, lemmas.{Slice.Eq.bytes_eq-Decides, List.take_more, Simd.map-map, Bool.and_parts}}
 use Rattle.std.specs.Prelude.{fold}
 use Rattle.gx_units.specs.{Money.value, Names.{same_account, same_stock}}
 use Rattle.gx_policy.specs.{declared.policy.PolicyData.PolicyData, Lists.once}
 use Rattle.gx_history.specs.{declared.record.RecordData.RecordData, Book.is_buy, Executions.{Execution, executions, sides_in}, Figures.done_of_chosen, Orders.orders}
 use Rattle.gx_laws.proofs.{Names.{account_is, account_is_itself, stock_is}, NextOrders.{executions_next, executions_none, orders_next}}
-use Rattle.gx_overview.specs.{declared.{executed.Executed.Executed, owners.Owners.Owners}, Accounts.capped, Executed.{KnowOrders, value_of_chosen}}
-use Rattle.gx_overview.proofs.{Counting.sum_capped, Executing.{shares_next, value_next}, Passing.map_twice}
+use Rattle.gx_overview.specs.{declared.{executed.Executed.Executed, owners.Owners.Owners}, Accounts.capped_at_128_bits, Executed.{KnowOrders, value_of_chosen}}
+use Rattle.gx_overview.proofs.{LiveOrders_call.sum_capped, Fills_call.{shares_next, value_next}}
 use Rattle.gx_activity.specs.{declared.positions.{Position.Position, PositionRow.PositionRow}, Positions.{is_in, no_position, position_of, position_row, position_rows, position_with, row_of, same_position}, Positioning.{NotePositions, entries_after, position_table, table_of}}
 use Rattle.gx_activity.proofs.Tables.{listed_value_of, table_from}
 
 -- ---- positions are the same where they are equal
-
-pub both_true : (a b : Bool) → (a && b) ≡ true → (a ≡ true) × (b ≡ true)
-both_true true b h = (refl, h)
-both_true false b h = (h, cc)
 
 same_itself : (p : Position) → same_position p p ≡ true
 same_itself p =
@@ -22,7 +18,7 @@ same_itself p =
 
 same_are_equal : (p q : Position) → same_position p q ≡ true → p ≡ q
 same_are_equal p q same =
-    let parts : (same_account p.account q.account ≡ true) × (same_stock p.stock q.stock ≡ true) = both_true (same_account p.account q.account) (same_stock p.stock q.stock) same in
+    let parts : (same_account p.account q.account ≡ true) × (same_stock p.stock q.stock ≡ true) = and_parts (same_account p.account q.account) (same_stock p.stock q.stock) same in
     λ i. record { account = account_is p.account q.account parts.0 i; stock = stock_is p.stock q.stock parts.1 i }
 
 -- ---- the row of a position, with one more side of a fill
@@ -39,8 +35,8 @@ with_side e row = position_with (is_buy e.order.terms.side) e.fill row
 row_next : (made : List Execution) (e : Execution) (p : Position)
     → position_row (made ++ e ∷ []) p ≡ cond (same_position (position_of e) p) (with_side e (position_row made p)) (position_row made p)
 row_next made e p =
-    (λ i. the_row p (the_sums (capped (shares_next made e (is_in p true) i)) (capped (value_next made e (is_in p true) i)))
-    (the_sums (capped (shares_next made e (is_in p false) i)) (capped (value_next made e (is_in p false) i))))
+    (λ i. the_row p (the_sums (capped_at_128_bits (shares_next made e (is_in p true) i)) (capped_at_128_bits (value_next made e (is_in p true) i)))
+    (the_sums (capped_at_128_bits (shares_next made e (is_in p false) i)) (capped_at_128_bits (value_next made e (is_in p false) i))))
     ∙ by (same_position (position_of e) p) (is_buy e.order.terms.side)
   where
     shares : Bool → ℕ
@@ -52,18 +48,18 @@ row_next made e p =
     price : ℕ
     price = value e.fill.shares e.fill.price
 
-    none : (n : ℕ) → capped (n + 0) ≡ capped n
-    none n = ap capped (omega arith)
+    none : (n : ℕ) → capped_at_128_bits (n + 0) ≡ capped_at_128_bits n
+    none n = ap capped_at_128_bits (omega arith)
 
-    same : (buys : Bool) → the_sums (capped (shares buys + 0)) (capped (worth buys + 0)) ≡ the_sums (capped (shares buys)) (capped (worth buys))
+    same : (buys : Bool) → the_sums (capped_at_128_bits (shares buys + 0)) (capped_at_128_bits (worth buys + 0)) ≡ the_sums (capped_at_128_bits (shares buys)) (capped_at_128_bits (worth buys))
     same buys = λ i. the_sums (none (shares buys) i) (none (worth buys) i)
 
-    more : (buys : Bool) → the_sums (capped (shares buys + e.fill.shares)) (capped (worth buys + price)) ≡ the_sums (capped (capped (shares buys) + e.fill.shares)) (capped (capped (worth buys) + price))
+    more : (buys : Bool) → the_sums (capped_at_128_bits (shares buys + e.fill.shares)) (capped_at_128_bits (worth buys + price)) ≡ the_sums (capped_at_128_bits (capped_at_128_bits (shares buys) + e.fill.shares)) (capped_at_128_bits (capped_at_128_bits (worth buys) + price))
     more buys = sym (λ i. the_sums (sum_capped (shares buys) e.fill.shares i) (sum_capped (worth buys) price i))
 
     by : (his buys : Bool)
-        → the_row p (the_sums (capped (shares true + cond (his && buys) e.fill.shares 0)) (capped (worth true + cond (his && buys) price 0)))
-        (the_sums (capped (shares false + cond (his && not buys) e.fill.shares 0)) (capped (worth false + cond (his && not buys) price 0)))
+        → the_row p (the_sums (capped_at_128_bits (shares true + cond (his && buys) e.fill.shares 0)) (capped_at_128_bits (worth true + cond (his && buys) price 0)))
+        (the_sums (capped_at_128_bits (shares false + cond (his && not buys) e.fill.shares 0)) (capped_at_128_bits (worth false + cond (his && not buys) price 0)))
         ≡ cond his (position_with buys e.fill (position_row made p)) (position_row made p)
     by true true = λ i. the_row p (more true i) (same false i)
     by true false = λ i. the_row p (same true i) (more false i)
@@ -103,7 +99,7 @@ pub rows_are : (policy held : PolicyData) (records shown : List RecordData) (ent
     → map (λ (e : Position × PositionRow). e.1) entries ≡ position_rows policy records
 rows_are policy held records shown entries is under of =
     ap (map (λ (e : Position × PositionRow). e.1)) (is ∙ (λ i. position_table (under i) (of i)))
-    ∙ map_twice {Y = Position × PositionRow} (λ (p : Position). (p, position_row (executions policy records) p)) (λ (e : Position × PositionRow). e.1) (once same_position (map position_of (executions policy records)))
+    ∙ map-map {B = Position × PositionRow} (λ (e : Position × PositionRow). e.1) (λ (p : Position). (p, position_row (executions policy records) p)) (once same_position (map position_of (executions policy records)))
 
 -- and each of them
 pub each_is : (policy : PolicyData) (records : List RecordData) (rows : List PositionRow) → rows ≡ position_rows policy records → (p : Position) → row_of rows p ≡ position_row (executions policy records) p

@@ -2,7 +2,7 @@
 use Rattle.std.specs.{Prelude.{ℕ, Bool, true, false, ◌&&◌, List, count_by, Option, Some, None, option_and_then}, Option.option_map_or, List.filter_map}
 use Rattle.gx_units.specs.{Names.same_account, declared.names.{AccountName.AccountName, UserName.UserName}}
 use Rattle.gx_policy.specs.{declared.policy.{Account.Account, PolicyData.PolicyData}, Lists.each_with_earlier, People.account_of}
-use Rattle.gx_history.specs.{declared.record.{Asked.Asked, RecordData.RecordData, Request.Request, Verdict.Verdict}, Book.rested_of, Executions.{Execution, executions}, Orders.{Order, order_numbered, orders}, Requests.{asked, is_granted}}
+use Rattle.gx_history.specs.{declared.record.{Asked.Asked, RecordData.RecordData, Request.Request, Verdict.Verdict}, Book.rested_of, Executions.{Execution, executions}, Orders.{Order, order_numbered, orders}, Requests.{asked_of, is_granted}}
 use Rattle.gx_activity.specs.declared.activity.{ActivityRow.ActivityRow, OrderRequests.OrderRequests}
 
 -- Enter Order
@@ -32,7 +32,7 @@ trades_for policy account user = option_map_or (same_account account) (account_o
 -- a user of the account asked for such a thing, and such a thing became of it
 abbrev pub is_asked : PolicyData → AccountName → (Verdict → Bool) → (Request → Bool) → RecordData → Bool
 is_asked policy account became kind r =
-    became r.verdict && option_map_or (λ (a : Asked). trades_for policy account a.user && kind a.request) (asked r.step) false
+    became r.verdict && option_map_or (λ (a : Asked). trades_for policy account a.user && kind a.request) (asked_of r.step) false
 
 -- how many requests for orders of the account's users became such
 abbrev pub requests_of : PolicyData → List RecordData → AccountName → (Verdict → Bool) → OrderRequests

@@ -2,7 +2,7 @@
 use Rattle.std.specs.{Prelude.{Bool, ◌&&◌, List, count_by, find, map, Option, Some, None, option_and_then, unwrap_or}, List.filter_map, Option.option_eq}
 use Rattle.gx_units.specs.Names.{same_account, same_rule}
 use Rattle.gx_policy.specs.{declared.policy.PolicyData.PolicyData, Lists.once, People.account_of, RuleNames.rule_id}
-use Rattle.gx_history.specs.{declared.record.{Asked.Asked, RecordData.RecordData, Verdict.Verdict}, Requests.asked}
+use Rattle.gx_history.specs.{declared.record.{Asked.Asked, RecordData.RecordData, Verdict.Verdict}, Requests.asked_of}
 use Rattle.gx_activity.specs.declared.denials.{Denial.Denial, DenialRow.DenialRow}
 
 -- by the same rule, of the same account or none
@@ -16,7 +16,7 @@ denial_by policy other a = None
 
 -- and of a record, if it shows such a request
 abbrev pub denial_in : PolicyData → RecordData → Option Denial
-denial_in policy r = option_and_then (denial_by policy r.verdict) (asked r.step)
+denial_in policy r = option_and_then (denial_by policy r.verdict) (asked_of r.step)
 
 -- all denials, in their order
 abbrev pub denials : PolicyData → List RecordData → List Denial

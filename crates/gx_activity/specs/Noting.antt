@@ -3,7 +3,7 @@ use Rattle.std.specs.{Prelude.{◌≡◌, ℕ, ◌+◌, Bool, List, [], ◌++◌
 use Rattle.indexmap.specs.IndexMap.{insert_entry}
 use Rattle.gx_units.specs.{Names.same_account, declared.names.AccountName.AccountName}
 use Rattle.gx_policy.specs.{declared.policy.{Account.Account, PolicyData.PolicyData}, People.account_of}
-use Rattle.gx_history.specs.{declared.record.{Asked.Asked, RecordData.RecordData, Request.Request, Step.Step, Verdict.Verdict}, Orders.{Order, order_numbered, orders_added}, Requests.asked}
+use Rattle.gx_history.specs.{declared.record.{Asked.Asked, RecordData.RecordData, Request.Request, Step.Step, Verdict.Verdict}, Orders.{Order, order_numbered, orders_added}, Requests.asked_of}
 use Rattle.gx_overview.specs.{declared.owners.{Owner.Owner, Owners.Owners}, Accounts.capped_count, Executed.KnowOrders}
 use Rattle.gx_activity.specs.{declared.{activity.{ActivityRow.ActivityRow, OrderRequests.OrderRequests}, deeds.Deed.Deed}, Activity.{activity_of, idle, is_cancel, is_enter, is_replace}}
 
@@ -50,7 +50,7 @@ entries_of_number entries owner deed = option_map_or (λ (o : Owner). entries_do
 -- the request of a user of the account, granted or denied
 abbrev pub deed_asked : PolicyData → (Request → Deed) → Step → List (AccountName × Deed)
 deed_asked policy became step =
-    option_map_or (λ (a : Asked). map (λ (account : AccountName). (account, became a.request)) (option_to_list (account_of policy a.user))) (asked step) []
+    option_map_or (λ (a : Asked). map (λ (account : AccountName). (account, became a.request)) (option_to_list (account_of policy a.user))) (asked_of step) []
 
 -- what was done to the order of this number, if it is known
 abbrev pub deed_of : List Order → Deed → ℕ → List (AccountName × Deed)

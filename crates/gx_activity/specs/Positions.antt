@@ -4,7 +4,7 @@ use Rattle.gx_units.specs.{Names.{same_account, same_stock}, declared.names.Acco
 use Rattle.gx_ouch.specs.declared.outbound.OrderTerms.{OrderTerms}
 use Rattle.gx_policy.specs.{declared.policy.PolicyData.PolicyData, Lists.once}
 use Rattle.gx_history.specs.{declared.record.{Fill.Fill, RecordData.RecordData}, Executions.{Execution, executions}, Figures.{done_of_chosen, on_side}}
-use Rattle.gx_overview.specs.{declared.executed.Executed.Executed, Accounts.capped, Executed.{value_of_chosen, with_fill}}
+use Rattle.gx_overview.specs.{declared.executed.Executed.Executed, Accounts.capped_at_128_bits, Executed.{value_of_chosen, with_fill}}
 use Rattle.gx_activity.specs.declared.positions.{Position.Position, PositionRow.PositionRow}
 
 -- the same account and the same stock
@@ -22,8 +22,8 @@ is_in p buys = on_side (λ (account : AccountName). same_account account p.accou
 -- what was executed on this side there
 abbrev pub executed_in : List Execution → Position → Bool → Executed
 executed_in made p buys = record {
-  shares = capped (done_of_chosen made (is_in p buys));
-  value = capped (value_of_chosen made (is_in p buys));
+  shares = capped_at_128_bits (done_of_chosen made (is_in p buys));
+  value = capped_at_128_bits (value_of_chosen made (is_in p buys));
 }
 
 -- what was bought and sold there

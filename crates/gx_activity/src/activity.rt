@@ -8,7 +8,7 @@ use crate::deeds::Deed;
 use gx_history::record::{Fill, Record, Request, Step, Verdict};
 use gx_history::records::Records;
 use gx_overview::owners::Owners;
-use gx_people::people::People;
+use gx_people::People;
 use gx_policy::{Account, Policy};
 use gx_records::ShowsRecords;
 use gx_units::{AccountName, OutOfMemory, UserName};

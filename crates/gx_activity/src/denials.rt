@@ -6,7 +6,7 @@ ghost use Rattle.gx_activity.specs.{Denials.{denial_in, denial_row, denial_rows,
 use crate::listing::rows_in;
 use gx_history::record::{Record, Step, Verdict};
 use gx_history::records::Records;
-use gx_people::people::People;
+use gx_people::People;
 use gx_policy::Policy;
 use gx_records::ShowsRecords;
 use gx_units::{AccountName, OutOfMemory, RuleId};

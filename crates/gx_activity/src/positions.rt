@@ -9,7 +9,7 @@ use gx_history::record::{Fill, Record, Step, Verdict};
 use gx_history::records::Records;
 use gx_overview::executed::Executed;
 use gx_overview::owners::{Owner, Owners};
-use gx_people::people::People;
+use gx_people::People;
 use gx_policy::Policy;
 use gx_records::ShowsRecords;
 use gx_units::{AccountName, OutOfMemory, Symbol};

@@ -3,7 +3,7 @@ use Rattle.std.proofs.{Common.{◌≡◌, ℕ, ◌<◌, List, [], ◌∷◌, ◌
 use Rattle.std.specs.Option.{option_map_or}
 use Rattle.gx_history.specs.{declared.record.{Asked.Asked, RecordData.RecordData, Step.Step}, Verdicts.{next, after_step}}
 use Rattle.gx_policy.specs.declared.policy.PolicyData.{PolicyData}
-use Rattle.gx_answers.specs.{Asking.stepped, Gates.{GateData, left_by}, declared.outcome.Outcome.Outcome}
+use Rattle.gx_answers.specs.{Asking.gate_after_step, Gates.{GateData, left_by}, declared.outcome.Outcome.Outcome}
 
 same_gate : (p q : PolicyData) (r s : List RecordData) (after : GateData) → after ≡ record { policy = p; records = r } → p ≡ q → r ≡ s → after ≡ record { policy = q; records = s }
 same_gate p q r s after h e f =
@@ -13,7 +13,7 @@ same_gate p q r s after h e f =
 
 -- a step's gate
 pub stepped_is : (gate after : GateData) (a : Asked) (o : Outcome) → after.policy ≡ gate.policy → next gate.policy gate.records (Step.Asked a) ≡ Some (left_by a o)
-    → after.records ≡ gate.records ++ left_by a o ∷ [] → after ≡ stepped gate a
+    → after.records ≡ gate.records ++ left_by a o ∷ [] → after ≡ gate_after_step gate a
 stepped_is gate after a o p n r =
     let e : after.records ≡ after_step gate.policy gate.records (Step.Asked a) =
     r ∙ sym (ap (λ (x : Option RecordData). option_map_or (λ (y : RecordData). gate.records ++ y ∷ []) x gate.records) n) in

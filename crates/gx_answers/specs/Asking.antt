@@ -9,5 +9,5 @@ abbrev pub asked_by : UserName → Request → ℕ → Asked
 asked_by user request moment = record { line = 1; user = folded_user user; request = request; handed = moment }
 
 -- the gate after the request's step
-abbrev pub stepped : GateData → Asked → GateData
-stepped gate a = record { policy = gate.policy; records = after_step gate.policy gate.records (Step.Asked a) }
+abbrev pub gate_after_step : GateData → Asked → GateData
+gate_after_step gate a = record { policy = gate.policy; records = after_step gate.policy gate.records (Step.Asked a) }

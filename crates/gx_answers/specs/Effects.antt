@@ -1,7 +1,7 @@
 -- What a step changes.
 use Rattle.std.specs.Prelude.{◌≡◌, Bool, IsTrue, IsFalse}
 use Rattle.gx_units.specs.declared.names.AccountName.{AccountName}
-use Rattle.gx_history.specs.{declared.{facts.StockSide.StockSide, «record».RecordData.RecordData}, MayMove.MayMove, World.{World, move_of, stepped, world}, Figures.{of_accounts, on_side}, InForce.is_killed}
+use Rattle.gx_history.specs.{declared.{facts.StockSide.StockSide, «record».RecordData.RecordData}, MayMove.MayMove, World.{World, move_of, world_after_record, world}, Figures.{of_accounts, on_side}, InForce.is_killed}
 use Rattle.gx_laws.specs.{Lifts.EndsKill, Exposure.{HasNothing, NoneIsGranted, side_shares}}
 use Rattle.gx_answers.specs.Gates.{GateData}
 
@@ -11,7 +11,7 @@ world_of gate = world gate.policy gate.records
 
 -- the gate's world, after this record
 abbrev pub moved_by : GateData → RecordData → World
-moved_by gate r = stepped gate.policy (world_of gate) r
+moved_by gate r = world_after_record gate.policy (world_of gate) r
 
 -- the record may move the gate's world as it does
 abbrev pub MayMoveBy : GateData → RecordData → Type 0

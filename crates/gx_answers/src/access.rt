@@ -5,7 +5,7 @@ ghost use Rattle.gx_laws.specs.Exposure.{NetStaysWithin, SharesStayWithin, Value
 ghost use Rattle.gx_history.specs.{InForce.{is_killed, line_of}, Matched.{AreUncrossed, HasNoOrders}, Showing.is_askable, Verdicts.IsLegal};
 ghost use Rattle.gx_policy.specs.{Lists.slice, People.user_in};
 ghost use Rattle.gx_answers.specs.declared.outcome.StepFault.TheVariants as faults;
-ghost use Rattle.gx_answers.specs.{Effects.{moved_by, world_of, EndsKills, MayMoveBy, NoneHeldWhereNoneAsked, NoneOnSideWhereNoneAsked}, Gates.{left_by, matched_by}, Logins.login_answered, Matches.{matches_left, matching_of, next_match, settled_gate, with_match}, Steps.{has_its_places, next_of, verdict_of, with_record, IsFull, IsJudged}, Told.{copies_of, ends_before, login_of, reads, stream_of}};
+ghost use Rattle.gx_answers.specs.{Effects.{moved_by, world_of, EndsKills, MayMoveBy, NoneHeldWhereNoneAsked, NoneOnSideWhereNoneAsked}, Gates.{left_by, matched_by}, Logins.login_answered, Matches.{matches_left, matching_of, next_match, settled_gate, with_match}, Steps.{never_refuses, next_of, verdict_of, with_record, IsFull, IsJudged}, Told.{copies_of, ends_before, login_of, reads, stream_of}};
 
 use crate::outcome::{LoginAnswer, Outcome, StepFault};
 use crate::pulled::{Pulled, Reached};
@@ -52,8 +52,8 @@ pub trait AccessGate {
         ensures lifted_by { IfOk result
             (λ o. EndsKills (seen self.old) (seen self.new) (left_by a o)) }
         ensures unchanged { OnErr result (seen self.new ≡ seen self.old) }
-        ensures never_refused { IsTrue (has_its_places (seen self.old) a) → IsOk result }
-        ensures full { IsFull (seen self.old) → IsFalse (has_its_places (seen self.old) a)
+        ensures never_refused { IsTrue (never_refuses (seen self.old) a) → IsOk result }
+        ensures full { IsFull (seen self.old) → IsFalse (never_refuses (seen self.old) a)
             → result ≡ Err faults.DayFull }
         ensures day_full { IfErr result (λ e. e ≡ faults.DayFull → IsFull (seen self.old)) };
 

@@ -80,7 +80,7 @@ pub fn replay_first<G: AccessGate>(
 /// # Errors
 ///
 /// As of [`replay_first`], and `OutOfMemory` where the watcher was refused its memory.
-#[tactic(auto, using(crate::proofs::Walking::answer_of_records))]
+#[tactic(auto, using(crate::proofs::Audit_walk::answer_of_records))]
 pub fn replay_watched<G: AccessGate, W: Watches<G>>(
     alloc: Global,
     policy: &Policy,

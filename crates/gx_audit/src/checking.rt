@@ -20,7 +20,7 @@ use std::alloc::Global;
 /// Whether the bytes are the audit of a legal day under the policy: how many records there are, or the first fault. Bytes
 /// that begin with `GXH2` are taken as version 2, those that begin with `GXH3` as version 3 with the day of their header,
 /// all others as version 1. The steps are made again on a gate of its own, a `G`.
-#[tactic(auto, using(crate::proofs::Only::is_only))]
+#[tactic(auto, using(crate::proofs::Bytes_only::is_only))]
 pub fn check_audit<G: AccessGate>(
     alloc: Global,
     policy: &Policy,
@@ -38,7 +38,7 @@ pub fn check_audit<G: AccessGate>(
 }
 
 /// Where the records begin: behind the header, where there has to be one.
-#[tactic(auto, using(crate::proofs::Fronts::told_of_header, crate::proofs::Fronts::headless))]
+#[tactic(auto, using(crate::proofs::Header_call::told_of_header, crate::proofs::Header_call::headless))]
 pub(crate) fn records_start(
     policy: &Policy,
     version: AuditVersion,
@@ -57,7 +57,7 @@ pub(crate) fn records_start(
 }
 
 /// Where the policy's header in this version ends, with which the bytes have to begin.
-#[tactic(auto, using(crate::proofs::Fronts::other_header))]
+#[tactic(auto, using(crate::proofs::Header_call::other_header))]
 pub fn header_end(policy: &Policy, version: AuditVersion, bytes: &[u8]) -> Result<usize, AuditFault>
     requires version { version_of bytes.now ≡ version }
     ensures within { IfOk result (λ end. end ≤ length bytes.now) }
@@ -85,7 +85,7 @@ fn tells_other_policy(fault: AuditFault) -> bool
 }
 
 /// Whether the audit has a whole header, which is not the policy's.
-#[tactic(auto, using(crate::proofs::Fronts::no_header, crate::proofs::Fronts::no_other_header, crate::proofs::Fronts::header_told, crate::proofs::Fronts::header_not_told))]
+#[tactic(auto, using(crate::proofs::Header_call::no_header, crate::proofs::Header_call::no_other_header, crate::proofs::Header_call::header_told, crate::proofs::Header_call::header_not_told))]
 pub fn is_of_other_policy(policy: &Policy, bytes: &[u8]) -> bool
     ensures other { IsTrue result → HasOtherHeader policy.now bytes.now }
     ensures same { IsFalse result → ¬ (HasOtherHeader policy.now bytes.now) }
@@ -101,7 +101,7 @@ pub fn is_of_other_policy(policy: &Policy, bytes: &[u8]) -> bool
 }
 
 /// Checks the records from this place on, on a gate of its own.
-#[tactic(auto, using(crate::proofs::Walking::answer_under))]
+#[tactic(auto, using(crate::proofs::Audit_walk::answer_under))]
 fn check_behind<G: AccessGate>(
     alloc: Global,
     policy: &Policy,
@@ -123,7 +123,7 @@ fn check_behind<G: AccessGate>(
 }
 
 /// Makes the steps of the records from this place on, on a new gate: how many records there are, or the first fault.
-#[tactic(auto, using(crate::proofs::Walking::answer_of_records, crate::proofs::Walking::left_told, crate::proofs::Walking::all_legal))]
+#[tactic(auto, using(crate::proofs::Audit_walk::answer_of_records, crate::proofs::Audit_walk::left_told, crate::proofs::Audit_walk::all_legal))]
 fn check_records<G: AccessGate>(
     gate: &mut G,
     version: AuditVersion,
@@ -175,7 +175,7 @@ pub(crate) fn follow_records<G: AccessGate>(
 }
 
 /// The bytes from this place on.
-#[tactic(auto, using(crate::proofs::Rest::take_the_rest, crate::proofs::Rest::rest_size))]
+#[tactic(auto, using(crate::proofs::Rest_bounds::take_the_rest, crate::proofs::Rest_bounds::rest_size))]
 fn behind(bytes: &[u8], at: usize) -> &[u8]
     requires { at ≤ length bytes.now }
     ensures rest { result.now ≡ drop at bytes.now }
@@ -248,7 +248,7 @@ pub fn check_watched<G: AccessGate, W: Watches<G>>(
 }
 
 /// Makes the step of the record that these bytes show, as [`follow`] does, while the watcher looks on.
-#[tactic(auto, using(crate::proofs::Watching::stands_last, crate::proofs::Watching::is_expected))]
+#[tactic(auto, using(crate::proofs::Watcher_call::stands_last, crate::proofs::Watcher_call::is_expected))]
 fn follow_watched<G: AccessGate, W: Watches<G>>(
     gate: &mut G,
     watcher: &mut W,
@@ -323,7 +323,7 @@ fn follow<G: AccessGate>(
 }
 
 /// Makes the step: what came of it, if it leaves a record. `DayFull` where no record of this step follows.
-#[tactic(auto, using(crate::proofs::Full::none_asked, crate::proofs::Full::none_matched))]
+#[tactic(auto, using(crate::proofs::FullDay_bounds::none_asked, crate::proofs::FullDay_bounds::none_matched))]
 fn made<G: AccessGate>(gate: &mut G, step: Step) -> Result<Option<Outcome>, StepFault>
     requires askable { IsAskableStep step }
     ensures policy { (G.seen gate.new).policy ≡ (G.seen gate.old).policy }
@@ -346,7 +346,7 @@ fn made<G: AccessGate>(gate: &mut G, step: Step) -> Result<Option<Outcome>, Step
 }
 
 /// Whether the record shows this outcome of its step.
-#[tactic(auto, using(crate::proofs::Outcomes::same_outcome))]
+#[tactic(auto, using(crate::proofs::Outcome_call::same_outcome))]
 fn has_outcome(shown: &RecordData, outcome: &Outcome) -> bool
     requires { IsTrue (shows_rule shown.now.verdict) }
     ensures same { IsTrue result → left_by shown.now.step outcome.now ≡ shown.now }

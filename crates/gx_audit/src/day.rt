@@ -18,7 +18,7 @@ pub fn header_of<G: AccessGate>(version: AuditVersion, gate: &G) -> [u8; RECORD_
 }
 
 /// What stands in front of the gate's records: the policy's header in a version that has one.
-#[tactic(auto, using(crate::proofs::Fronts::no_front, crate::proofs::Fronts::front_is))]
+#[tactic(auto, using(crate::proofs::Header_call::no_front, crate::proofs::Header_call::front_is))]
 fn front<G: AccessGate>(
     alloc: Global,
     version: AuditVersion,
@@ -37,7 +37,7 @@ fn front<G: AccessGate>(
 
 /// The audit of the gate's records in this version: that of a legal day under its policy.
 /// For the cases: they put the whole audit of a day into memory.
-#[tactic(auto, using(crate::proofs::Whole::whole_is, crate::proofs::Whole::is_audit))]
+#[tactic(auto, using(crate::proofs::Audit_whole::whole_is, crate::proofs::Audit_whole::is_audit))]
 pub fn audit_of<G: AccessGate>(
     alloc: Global,
     version: AuditVersion,

@@ -8,7 +8,7 @@ ghost use Rattle.gx_devices.specs.Devices.{IsFront};
 use crate::day::header_of;
 use arrayvec::ArrayVec;
 use gx_audit_bytes::{AuditVersion, RECORD_SIZE, write_record_in};
-use gx_devices::{Counted, WriteFailed, write_whole};
+use gx_devices::{CallCounter, WriteFailed, write_whole};
 use gx_history::record::Record;
 use gx_history::records::Records;
 use gx_records::ShowsRecords;
@@ -22,11 +22,11 @@ type PieceBytes = ArrayVec<u8, 8_192>;
 
 /// Writes the audit of the gate's records in this version: the policy's header, where it has one, and then each record as
 /// its 128 bytes, one behind the other. Takes no memory. After a fault a front of that is written.
-#[tactic(auto, using(crate::proofs::Pieces::behind_front, crate::proofs::Pieces::front_cut, crate::proofs::Pieces::records_cut))]
+#[tactic(auto, using(crate::proofs::Audit_next::behind_front, crate::proofs::Audit_next::front_cut, crate::proofs::Audit_next::records_cut))]
 pub fn write_audit<G: ShowsRecords, W: Write>(
     version: AuditVersion,
     gate: &G,
-    writer: &mut Counted<W>,
+    writer: &mut CallCounter<W>,
 ) -> Result<(), WriteFailed>
     requires { writer.old.failed < 2 ^ 64 - 1 }
     ensures written { OnOk result (Appends
@@ -43,11 +43,11 @@ pub fn write_audit<G: ShowsRecords, W: Write>(
 }
 
 /// Writes what stands in front of the records.
-#[tactic(auto, using(crate::proofs::Pieces::no_front_written, crate::proofs::Fronts::front_is))]
+#[tactic(auto, using(crate::proofs::Audit_next::no_front_written, crate::proofs::Header_call::front_is))]
 fn write_front<G: ShowsRecords, W: Write>(
     version: AuditVersion,
     gate: &G,
-    writer: &mut Counted<W>,
+    writer: &mut CallCounter<W>,
 ) -> Result<(), WriteFailed>
     requires { writer.old.failed < 2 ^ 64 - 1 }
     ensures written { OnOk result (Appends
@@ -69,7 +69,7 @@ fn write_front<G: ShowsRecords, W: Write>(
 fn write_records<W: Write>(
     version: AuditVersion,
     records: &Records<'_>,
-    writer: &mut Counted<W>,
+    writer: &mut CallCounter<W>,
 ) -> Result<(), WriteFailed>
     requires { writer.old.failed < 2 ^ 64 - 1 }
     ensures written { OnOk result (Appends
@@ -97,7 +97,7 @@ fn write_piece<W: Write>(
     version: AuditVersion,
     piece: &Records<'_>,
     bytes: &mut PieceBytes,
-    writer: &mut Counted<W>,
+    writer: &mut CallCounter<W>,
 ) -> Result<(), WriteFailed>
     requires few { length piece.now ≤ 64 }
     requires writer { writer.old.failed < 2 ^ 64 - 1 }

@@ -19,7 +19,7 @@ use std::alloc::Global;
 /// `Truncated` only where the bytes are too few for a header, and `OtherPolicy` where they do not begin with the policy's, in
 /// version 3 that of the day which they name.
 /// Any other fault names its record.
-#[tactic(auto, using(crate::proofs::Journals::holds_records, crate::proofs::Journals::is_within))]
+#[tactic(auto, using(crate::proofs::Journal_call::holds_records, crate::proofs::Journal_call::is_within))]
 pub fn replay<G: AccessGate>(
     alloc: Global,
     policy: &Policy,

@@ -1,5 +1,5 @@
 -- The parts of a header.
-use Rattle.std.proofs.{Common.{◌≡◌, ℕ, ◌<◌, ◌^◌, ◌-◌, ◌==◌, true, List, [], ◌∷◌, ◌++◌, length, replicate, get_or, slice_index, refl, ap, ◌∙◌, arith}, lemmas.{List.{append-nil, length-append, length-take, take_at}, Nat.{from_be_bytes-to_be_bytes_2, from_be_bytes-to_be_bytes_4}, Bool.Decides.nat_tests}}
+use Rattle.std.proofs.{Common.{◌≡◌, ℕ, ◌<◌, ◌^◌, ◌-◌, ◌==◌, List, [], ◌∷◌, ◌++◌, length, replicate, get_or, slice_index, refl, ap, ◌∙◌, arith}, lemmas.{List.{append-nil, length-append, length-take, take_at}, Nat.{from_be_bytes-to_be_bytes_2, from_be_bytes-to_be_bytes_4}, Bool.{eqb-true, and_parts}}}
 use Rattle.std.specs.{Prelude.codes, Int.{w8, w16, w32, from_be_bytes, to_be_bytes}}
 use Rattle.gx_ouch.proofs.Places.{known_to_lie}
 use Rattle.sha2.proofs.Facts256.{length-sha256}
@@ -8,7 +8,6 @@ use Rattle.gx_clock.specs.{Offsets.minutes_in, declared.offset.UtcOffset.UtcOffs
 use Rattle.gx_digest.specs.PolicyText.{policy_text}
 use Rattle.gx_policy.specs.declared.policy.PolicyData.{PolicyData}
 use Rattle.gx_audit_bytes.specs.{declared.{day.AuditDay.AuditDay, version.AuditVersion.AuditVersion}, Bodies.zero_padded, Days.{day_in, day_shown, offset_shown, sign_shown}, Headers.{audit_header, dated_header, dated_bytes, dated_contents, header_bytes, header_contents, header_in, session_shown}, Versions.{version_of, DayFits}}
-use Rattle.gx_audit_bytes.proofs.ReadBack.{both_true}
 
 session_size : (policy : PolicyData) → length (session_shown policy) ≡ 10
 session_size policy =
@@ -22,14 +21,11 @@ pub parts_lie : (policy : PolicyData) (bytes : List ℕ) → bytes ≡ header_by
 unfolding header_bytes
 parts_lie policy bytes known = known_to_lie audit_header (header_contents policy) bytes known (record { offsets = refl; size = refl }) (sizes policy)
 
-same_number : (n m : ℕ) → (n == m) ≡ true → n ≡ m
-same_number n m h = grind (arith, nat_tests)
-
 -- a header has 128 bytes
 pub header_size : (policy : PolicyData) → length (header_bytes policy) ≡ 128
 header_size policy =
-    same_number (length (header_bytes policy)) 128
-    (both_true (slice_index (header_bytes policy) 0 == 71) (length (header_bytes policy) == 128) (parts_lie policy (header_bytes policy) refl).is_of).1
+    eqb-true (length (header_bytes policy)) 128
+    (and_parts (slice_index (header_bytes policy) 0 == 71) (length (header_bytes policy) == 128) (parts_lie policy (header_bytes policy) refl).is_of).1
 
 dated_sizes : (policy : PolicyData) (day : AuditDay) → HasSizes dated_header (dated_contents policy day)
 dated_sizes policy day = λ i. 3 ∷ session_size policy i ∷ 1 ∷ 2 ∷ 2 ∷ 2 ∷ 2 ∷ length-sha256 (policy_text policy) i ∷ 4 ∷ 1 ∷ 2 ∷ 66 ∷ []
@@ -42,8 +38,8 @@ dated_lie policy day bytes known =
 
 pub dated_size : (policy : PolicyData) (day : AuditDay) → length (dated_bytes policy day) ≡ 128
 dated_size policy day =
-    same_number (length (dated_bytes policy day)) 128
-    (both_true (slice_index (dated_bytes policy day) 0 == 71) (length (dated_bytes policy day) == 128) (dated_lie policy day (dated_bytes policy day) refl).is_of).1
+    eqb-true (length (dated_bytes policy day)) 128
+    (and_parts (slice_index (dated_bytes policy day) 0 == 71) (length (dated_bytes policy day) == 128) (dated_lie policy day (dated_bytes policy day) refl).is_of).1
 
 -- the day that the parts of a header show
 abbrev day_of : List (List ℕ) → AuditDay

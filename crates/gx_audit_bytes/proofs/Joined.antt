@@ -23,7 +23,7 @@ one_more version before after r bytes more written put grown =
 pub one_more_shown : (version : AuditVersion) (before after : List RecordData) (r : RecordData) → AreShown version before → IsShown version r → after ≡ before ++ r ∷ [] → AreShown version after
 one_more_shown version before after r are is grown = subst (AreShown version) (sym grown) (all_next (IsShown version) before r are is)
 
-one_on : (records : List RecordData) (i : ℕ) (r d : RecordData) → i < length records → r ≡ get_or records i d → take (i + 1) records ≡ take i records ++ r ∷ []
+pub one_on : (records : List RecordData) (i : ℕ) (r d : RecordData) → i < length records → r ≡ get_or records i d → take (i + 1) records ≡ take i records ++ r ∷ []
 one_on records i r d within is = take_more records i d within ∙ ap (λ (x : RecordData). take i records ++ x ∷ []) (sym is)
 
 -- the next of the records is written

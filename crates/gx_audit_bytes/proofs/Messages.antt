@@ -2,8 +2,8 @@
 use Rattle.std.proofs.{Common.{◌≡◌, ℕ, ◌<◌, ◌^◌, ◌&&◌, ◌==◌, List, [], ◌∷◌, length, slice_index, refl, ap, ◌∙◌, arith}, lemmas.Nat.{from_be_bytes-to_be_bytes_4, from_be_bytes-to_be_bytes_8}}
 use Rattle.std.specs.{Prelude.{Option, Some, None, option_map, if◌then◌else◌}, Option.{option_or, unwrap_or}, Int.{w8, from_be_bytes}}
 use Rattle.gx_ouch.proofs.Places.{known_to_lie}
-use Rattle.gx_ouch.specs.{Layout.{Layout, HasSizes, IsWithoutGaps, cut, laid_out}, Messages.{enter_order, replace_order, cancel_order}, Reading.{inbound_of, enter_of, replace_of, cancel_of}, declared.inbound.{Inbound.Inbound, EnterOrder.EnterOrder, ReplaceOrder.ReplaceOrder, CancelOrder.CancelOrder}}
-use Rattle.gx_desk.specs.{Messages.{kill, lift, set_limit, restrict, unrestrict, grant, revoke, close_day}, Reading.{command_of, account_command_of, limit_command_of, stock_command_of, reader_command_of, close_of, tagged}, declared.{Action.Action, Command.Command, Tag.Tag}}
+use Rattle.gx_ouch.specs.{Layout.{Layout, HasSizes, IsWithoutGaps, field_bytes, laid_out}, Messages.{enter_order, replace_order, cancel_order}, Reading.{inbound_of, enter_of, replace_of, cancel_of}, declared.inbound.{Inbound.Inbound, EnterOrder.EnterOrder, ReplaceOrder.ReplaceOrder, CancelOrder.CancelOrder}}
+use Rattle.gx_desk.specs.{Messages.{kill, lift, set_limit, restrict, unrestrict, grant, revoke, close_day}, Reading.{command_of, account_command_of, limit_command_of, stock_command_of, reader_command_of, close_of, tagged_command}, declared.{Action.Action, Command.Command, Tag.Tag}}
 use Rattle.gx_history.specs.{Payloads.{asked_by, request_of, unreadable}, declared.record.Request.Request}
 use Rattle.gx_audit_bytes.specs.Contents.{enter_contents, replace_contents, cancel_contents, command_layout, action_contents, command_contents, LimitFits}
 
@@ -14,9 +14,9 @@ one_byte n = omega arith
 -- the message of a trader, by its first byte and its length
 abbrev inbound_at : ℕ → ℕ → List ℕ → Option Inbound
 inbound_at head size bytes =
-    if (head == enter_order.kind) && (size == enter_order.size) then enter_of (cut enter_order bytes)
-    else (if (head == replace_order.kind) && (size == replace_order.size) then replace_of (cut replace_order bytes)
-    else (if (head == cancel_order.kind) && (size == cancel_order.size) then cancel_of (cut cancel_order bytes)
+    if (head == enter_order.kind) && (size == enter_order.size) then enter_of (field_bytes enter_order bytes)
+    else (if (head == replace_order.kind) && (size == replace_order.size) then replace_of (field_bytes replace_order bytes)
+    else (if (head == cancel_order.kind) && (size == cancel_order.size) then cancel_of (field_bytes cancel_order bytes)
     else None))
 
 inbound_by : (bytes : List ℕ) (head size : ℕ) → slice_index bytes 0 ≡ head → length bytes ≡ size → inbound_of bytes ≡ inbound_at head size bytes
@@ -26,14 +26,14 @@ inbound_by bytes head size h s = ap (λ (n : ℕ). inbound_at n (length bytes) b
 -- the command, by its first byte and its length
 abbrev command_at : ℕ → ℕ → List ℕ → Option Command
 command_at head size bytes =
-    if (head == kill.kind) && (size == kill.size) then account_command_of Action.Kill (cut kill bytes)
-    else (if (head == lift.kind) && (size == lift.size) then account_command_of Action.Lift (cut lift bytes)
-    else (if (head == set_limit.kind) && (size == set_limit.size) then limit_command_of (cut set_limit bytes)
-    else (if (head == restrict.kind) && (size == restrict.size) then stock_command_of Action.Restrict (cut restrict bytes)
-    else (if (head == unrestrict.kind) && (size == unrestrict.size) then stock_command_of Action.Unrestrict (cut unrestrict bytes)
-    else (if (head == grant.kind) && (size == grant.size) then reader_command_of Action.Grant (cut grant bytes)
-    else (if (head == revoke.kind) && (size == revoke.size) then reader_command_of Action.Revoke (cut revoke bytes)
-    else (if (head == close_day.kind) && (size == close_day.size) then close_of (cut close_day bytes)
+    if (head == kill.kind) && (size == kill.size) then account_command_of Action.Kill (field_bytes kill bytes)
+    else (if (head == lift.kind) && (size == lift.size) then account_command_of Action.Lift (field_bytes lift bytes)
+    else (if (head == set_limit.kind) && (size == set_limit.size) then limit_command_of (field_bytes set_limit bytes)
+    else (if (head == restrict.kind) && (size == restrict.size) then stock_command_of Action.Restrict (field_bytes restrict bytes)
+    else (if (head == unrestrict.kind) && (size == unrestrict.size) then stock_command_of Action.Unrestrict (field_bytes unrestrict bytes)
+    else (if (head == grant.kind) && (size == grant.size) then reader_command_of Action.Grant (field_bytes grant bytes)
+    else (if (head == revoke.kind) && (size == revoke.size) then reader_command_of Action.Revoke (field_bytes revoke bytes)
+    else (if (head == close_day.kind) && (size == close_day.size) then close_of (field_bytes close_day bytes)
     else None)))))))
 
 command_by : (bytes : List ℕ) (head size : ℕ) → slice_index bytes 0 ≡ head → length bytes ≡ size → command_of bytes ≡ command_at head size bytes
@@ -110,7 +110,7 @@ cancel_read m bytes known size sizes shares =
     same : cancel_of (cancel_contents m) ≡ Some (Inbound.Cancel m)
     same = λ i. Some (Inbound.Cancel (record { token = m.token; shares = from_be_bytes-to_be_bytes_4 m.shares shares i }))
 
-fields_of : (layout : Layout) (contents : List (List ℕ)) (bytes : List ℕ) → bytes ≡ laid_out layout contents → IsWithoutGaps layout → HasSizes layout contents → cut layout bytes ≡ contents
+fields_of : (layout : Layout) (contents : List (List ℕ)) (bytes : List ℕ) → bytes ≡ laid_out layout contents → IsWithoutGaps layout → HasSizes layout contents → field_bytes layout bytes ≡ contents
 fields_of layout contents bytes known gapless sizes = (known_to_lie layout contents bytes known gapless sizes).fields
 
 -- the bytes of a command are read as it
@@ -123,7 +123,7 @@ command_back tag (Action.Lift account) bytes known size sizes fits =
     command_by bytes 76 23 (ap (λ (bs : List ℕ). slice_index bs 0) known) size ∙ ap (account_command_of Action.Lift) (fields_of lift (tag.bytes ∷ action_contents (Action.Lift account)) bytes known (record { offsets = refl; size = refl }) sizes)
 command_back tag (Action.SetLimit rule limit) bytes known size sizes fits =
     command_by bytes 77 31 (ap (λ (bs : List ℕ). slice_index bs 0) known) size ∙ ap limit_command_of (fields_of set_limit (tag.bytes ∷ action_contents (Action.SetLimit rule limit)) bytes known (record { offsets = refl; size = refl }) sizes)
-    ∙ ap (λ (n : ℕ). Some (tagged tag.bytes (Action.SetLimit rule n))) (from_be_bytes-to_be_bytes_8 limit fits)
+    ∙ ap (λ (n : ℕ). Some (tagged_command tag.bytes (Action.SetLimit rule n))) (from_be_bytes-to_be_bytes_8 limit fits)
 command_back tag (Action.Restrict rule stock) bytes known size sizes fits =
     command_by bytes 82 31 (ap (λ (bs : List ℕ). slice_index bs 0) known) size ∙ ap (stock_command_of Action.Restrict) (fields_of restrict (tag.bytes ∷ action_contents (Action.Restrict rule stock)) bytes known (record { offsets = refl; size = refl }) sizes)
 command_back tag (Action.Unrestrict rule stock) bytes known size sizes fits =

@@ -1,11 +1,12 @@
 -- A message that is read of a payload is written as the payload.
-use Rattle.std.proofs.{Common.{◌≡◌, ℕ, ◌+◌, ◌<◌, ◌≤◌, ◌&&◌, ◌==◌, Bool, true, false, List, [], ◌∷◌, ◌++◌, length, take, drop, map, get_or, slice_index, inl, inr, refl, sym, ap, ◌∙◌, arith}, Math.Seq.take-add, lemmas.{Bool.{cases_lt, eqb-true}, List.{take_all, length-take, length-drop, get_or-drop, get_or-take, get_or_past}, Nat.{be_bytes_2, be_bytes_4, be_bytes_8}}}
+use Rattle.std.proofs.{Common.{◌≡◌, ℕ, ◌+◌, ◌<◌, ◌≤◌, ◌==◌, Bool, true, false, List, [], ◌∷◌, ◌++◌, length, take, drop, map, get_or, slice_index, inl, inr, refl, sym, ap, ◌∙◌, arith}, Math.Seq.take-add, lemmas.{Bool.{cases_lt, eqb-true, and_parts}, List.{take_all, length-take, length-drop, get_or-drop, get_or-take, get_or_past}, Nat.{be_bytes_2, be_bytes_4, be_bytes_8}}}
 use Rattle.std.specs.{Prelude.{Option, Some, None, option_map, if◌then◌else◌}, Option.{option_or, unwrap_or}, Int.{w8, w16, w32, w64, to_be_bytes, from_be_bytes}}
-use Rattle.gx_ouch.specs.{Layout.{Field, Layout, IsWithoutGaps, bytes_at, cut, is_of, laid_out, with_fields, offsets_from, end_from}, Writing.letter, Messages.{enter_order, replace_order, cancel_order}, Reading.{inbound_of, enter_of, replace_of, cancel_of}, declared.inbound.{Inbound.Inbound, EnterOrder.EnterOrder, ReplaceOrder.ReplaceOrder}}
+use Rattle.gx_ouch.specs.{Layout.{Field, Layout, IsWithoutGaps, bytes_at, field_bytes, is_of, laid_out, with_fields, offsets_from, end_from}, Writing.letter, Messages.{enter_order, replace_order, cancel_order}, Reading.{inbound_of, enter_of, replace_of, cancel_of}, declared.inbound.{Inbound.Inbound, EnterOrder.EnterOrder, ReplaceOrder.ReplaceOrder}}
 use Rattle.gx_desk.specs.{Messages.{kill, lift, set_limit, restrict, unrestrict, grant, revoke, close_day}, Reading.{command_of, limit_command_of}, declared.{Command.Command}}
 use Rattle.gx_history.specs.{Payloads.{asked_by, message_of, request_of, unreadable}, declared.record.Request.Request}
 use Rattle.gx_audit_bytes.specs.{Bodies.request_body, Contents.{enter_contents, replace_contents}}
 use Rattle.gx_audit_bytes.proofs.Messages.{one_byte}
+use Rattle.gx_ouch.proofs.Places.{same_head, same_tail}
 
 -- ---- fields
 
@@ -49,12 +50,6 @@ one offset bytes within = single (take 1 (drop offset bytes)) (sized offset 1 by
 
 -- ---- layouts
 
-pub same_head : {A : Type 0} (x y : A) (xs ys : List A) → x ∷ xs ≡ y ∷ ys → x ≡ y
-same_head x y xs ys e = cc
-
-pub same_tail : {A : Type 0} (x y : A) (xs ys : List A) → x ∷ xs ≡ y ∷ ys → xs ≡ ys
-same_tail x y xs ys e = cc
-
 pub fields_back : (fields : List Field) (bytes : List ℕ) (n : ℕ) → map (λ (f : Field). f.offset) fields ≡ offsets_from n fields
     → with_fields (take n bytes) (map (λ (f : Field). bytes_at f bytes) fields) ≡ take (end_from n fields) bytes
 fields_back [] bytes n o = refl
@@ -65,10 +60,10 @@ fields_back (f ∷ fs) bytes n o =
     ∙ fields_back fs bytes (n + f.size) (same_tail f.offset n (map (λ (g : Field). g.offset) fs) (offsets_from (n + f.size) fs) o)
 
 -- bytes of the layout's type and length are its fields, laid out
-pub laid_back : (layout : Layout) (bytes : List ℕ) → IsWithoutGaps layout → 1 ≤ layout.size → slice_index bytes 0 ≡ layout.kind → length bytes ≡ layout.size → laid_out layout (cut layout bytes) ≡ bytes
+pub laid_back : (layout : Layout) (bytes : List ℕ) → IsWithoutGaps layout → 1 ≤ layout.size → slice_index bytes 0 ≡ layout.kind → length bytes ≡ layout.size → laid_out layout (field_bytes layout bytes) ≡ bytes
 laid_back layout [] gapless some head size = absurd (omega (arith, some, size))
 laid_back layout (x ∷ xs) gapless some head size =
-    ap (λ (kind : ℕ). with_fields (kind ∷ []) (cut layout (x ∷ xs))) (sym head)
+    ap (λ (kind : ℕ). with_fields (kind ∷ []) (field_bytes layout (x ∷ xs))) (sym head)
     ∙ fields_back layout.fields (x ∷ xs) 1 gapless.offsets
     ∙ ap (λ (n : ℕ). take n (x ∷ xs)) (gapless.size ∙ sym size)
     ∙ take_all (length (x ∷ xs)) (x ∷ xs) (omega arith)
@@ -93,16 +88,8 @@ nothing bytes q h = cc
 chosen : (bytes : List ℕ) (layout : Layout) (b : Bool) (this rest : Option Request) → is_of layout bytes ≡ b
     → (slice_index bytes 0 ≡ layout.kind → length bytes ≡ layout.size → Writes bytes this) → Writes bytes rest → Writes bytes (if b then this else rest)
 chosen bytes layout true this rest h here there =
-    here (eqb-true (slice_index bytes 0) layout.kind (left_true (slice_index bytes 0 == layout.kind) (length bytes == layout.size) h))
-    (eqb-true (length bytes) layout.size (right_true (slice_index bytes 0 == layout.kind) (length bytes == layout.size) h))
-  where
-    left_true : (a b : Bool) → (a && b) ≡ true → a ≡ true
-    left_true true b h = refl
-    left_true false b h = cc
-
-    right_true : (a b : Bool) → (a && b) ≡ true → b ≡ true
-    right_true true b h = h
-    right_true false b h = cc
+    here (eqb-true (slice_index bytes 0) layout.kind (and_parts (slice_index bytes 0 == layout.kind) (length bytes == layout.size) h).0)
+    (eqb-true (length bytes) layout.size (and_parts (slice_index bytes 0 == layout.kind) (length bytes == layout.size) h).1)
 chosen bytes layout false this rest h here there = there
 
 order_chosen : (b : Bool) (this rest : Option Inbound) → option_map asked_by (if b then this else rest) ≡ (if b then option_map asked_by this else option_map asked_by rest)
@@ -129,7 +116,7 @@ a_command bytes layout this rest here there =
     along bytes _ _ (command_chosen (is_of layout bytes) this rest) (chosen bytes layout (is_of layout bytes) _ _ refl here there)
 
 -- the fields of an Enter Order
-enter_fields : (bytes : List ℕ) (m : EnterOrder) → enter_of (cut enter_order bytes) ≡ Some (Inbound.Enter m) → IsBytes bytes → length bytes ≡ 49 → enter_contents m ≡ cut enter_order bytes
+enter_fields : (bytes : List ℕ) (m : EnterOrder) → enter_of (field_bytes enter_order bytes) ≡ Some (Inbound.Enter m) → IsBytes bytes → length bytes ≡ 49 → enter_contents m ≡ field_bytes enter_order bytes
 enter_fields bytes m read h size =
     ap (λ (found : Option Inbound). contents_of found) (sym read)
     ∙ (λ i. bytes_at (record { offset = 1; size = 14 }) bytes ∷ one 15 bytes (omega (arith, size)) i ∷ four 16 bytes h (omega (arith, size)) i ∷ bytes_at (record { offset = 20; size = 8 }) bytes
@@ -142,12 +129,12 @@ enter_fields bytes m read h size =
     contents_of (Some (Inbound.Cancel m)) = []
     contents_of None = []
 
-enter_back : (bytes : List ℕ) → IsBytes bytes → slice_index bytes 0 ≡ 79 → length bytes ≡ 49 → Writes bytes (option_map asked_by (enter_of (cut enter_order bytes)))
+enter_back : (bytes : List ℕ) → IsBytes bytes → slice_index bytes 0 ≡ 79 → length bytes ≡ 49 → Writes bytes (option_map asked_by (enter_of (field_bytes enter_order bytes)))
 unfolding request_body
 enter_back bytes h head size =
     told bytes _ (ap (laid_out enter_order) (enter_fields bytes _ refl h size) ∙ laid_back enter_order bytes (record { offsets = refl; size = refl }) (omega arith) head size)
 
-replace_fields : (bytes : List ℕ) (m : ReplaceOrder) → replace_of (cut replace_order bytes) ≡ Some (Inbound.Replace m) → IsBytes bytes → length bytes ≡ 47 → replace_contents m ≡ cut replace_order bytes
+replace_fields : (bytes : List ℕ) (m : ReplaceOrder) → replace_of (field_bytes replace_order bytes) ≡ Some (Inbound.Replace m) → IsBytes bytes → length bytes ≡ 47 → replace_contents m ≡ field_bytes replace_order bytes
 replace_fields bytes m read h size =
     ap (λ (found : Option Inbound). contents_of found) (sym read)
     ∙ (λ i. bytes_at (record { offset = 1; size = 14 }) bytes ∷ bytes_at (record { offset = 15; size = 14 }) bytes ∷ four 29 bytes h (omega (arith, size)) i ∷ four 33 bytes h (omega (arith, size)) i
@@ -159,17 +146,17 @@ replace_fields bytes m read h size =
     contents_of (Some (Inbound.Cancel m)) = []
     contents_of None = []
 
-replace_back : (bytes : List ℕ) → IsBytes bytes → slice_index bytes 0 ≡ 85 → length bytes ≡ 47 → Writes bytes (option_map asked_by (replace_of (cut replace_order bytes)))
+replace_back : (bytes : List ℕ) → IsBytes bytes → slice_index bytes 0 ≡ 85 → length bytes ≡ 47 → Writes bytes (option_map asked_by (replace_of (field_bytes replace_order bytes)))
 unfolding request_body
 replace_back bytes h head size =
     told bytes _ (ap (laid_out replace_order) (replace_fields bytes _ refl h size) ∙ laid_back replace_order bytes (record { offsets = refl; size = refl }) (omega arith) head size)
 
-cancel_back : (bytes : List ℕ) → IsBytes bytes → slice_index bytes 0 ≡ 88 → length bytes ≡ 19 → Writes bytes (option_map asked_by (cancel_of (cut cancel_order bytes)))
+cancel_back : (bytes : List ℕ) → IsBytes bytes → slice_index bytes 0 ≡ 88 → length bytes ≡ 19 → Writes bytes (option_map asked_by (cancel_of (field_bytes cancel_order bytes)))
 unfolding request_body
 cancel_back bytes h head size =
     told bytes _ (ap (laid_out cancel_order) fields ∙ laid_back cancel_order bytes (record { offsets = refl; size = refl }) (omega arith) head size)
   where
-    fields : take 14 (drop 1 bytes) ∷ to_be_bytes w32 (from_be_bytes w32 (take 4 (drop 15 bytes))) ∷ [] ≡ cut cancel_order bytes
+    fields : take 14 (drop 1 bytes) ∷ to_be_bytes w32 (from_be_bytes w32 (take 4 (drop 15 bytes))) ∷ [] ≡ field_bytes cancel_order bytes
     fields = λ i. take 14 (drop 1 bytes) ∷ four 15 bytes h (omega (arith, size)) i ∷ []
 
 orders_back : (bytes : List ℕ) → IsBytes bytes → Writes bytes (option_map asked_by (inbound_of bytes))
@@ -180,16 +167,16 @@ orders_back bytes h =
     (an_order bytes cancel_order _ _ (cancel_back bytes h) (nothing bytes)))
 
 -- a command whose fields are cut from the bytes as they are written
-command_back : (bytes : List ℕ) (layout : Layout) → IsWithoutGaps layout → 1 ≤ layout.size → (c : Command) → request_body (Request.Command c) ≡ laid_out layout (cut layout bytes)
+command_back : (bytes : List ℕ) (layout : Layout) → IsWithoutGaps layout → 1 ≤ layout.size → (c : Command) → request_body (Request.Command c) ≡ laid_out layout (field_bytes layout bytes)
     → slice_index bytes 0 ≡ layout.kind → length bytes ≡ layout.size → Writes bytes (Some (Request.Command c))
 command_back bytes layout gapless some c written head size = told bytes (Request.Command c) (written ∙ laid_back layout bytes gapless some head size)
 
-limit_back : (bytes : List ℕ) → IsBytes bytes → slice_index bytes 0 ≡ 77 → length bytes ≡ 31 → Writes bytes (option_map Request.Command (limit_command_of (cut set_limit bytes)))
+limit_back : (bytes : List ℕ) → IsBytes bytes → slice_index bytes 0 ≡ 77 → length bytes ≡ 31 → Writes bytes (option_map Request.Command (limit_command_of (field_bytes set_limit bytes)))
 unfolding request_body
 limit_back bytes h head size =
     command_back bytes set_limit (record { offsets = refl; size = refl }) (omega arith) _ (ap (laid_out set_limit) fields) head size
   where
-    fields : take 14 (drop 1 bytes) ∷ take 8 (drop 15 bytes) ∷ to_be_bytes w64 (from_be_bytes w64 (take 8 (drop 23 bytes))) ∷ [] ≡ cut set_limit bytes
+    fields : take 14 (drop 1 bytes) ∷ take 8 (drop 15 bytes) ∷ to_be_bytes w64 (from_be_bytes w64 (take 8 (drop 23 bytes))) ∷ [] ≡ field_bytes set_limit bytes
     fields = λ i. take 14 (drop 1 bytes) ∷ take 8 (drop 15 bytes) ∷ eight 23 bytes h (omega (arith, size)) i ∷ []
 
 commands_back : (bytes : List ℕ) → IsBytes bytes → Writes bytes (option_map Request.Command (command_of bytes))

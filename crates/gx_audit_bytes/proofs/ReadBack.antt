@@ -2,7 +2,7 @@
 use Rattle.std.proofs.{Common.{◌≡◌, ℕ, ◌<◌, ◌^◌, ◌&&◌, Bool, true, false, List, [], get_or, refl, sym, ap, ◌∙◌}, lemmas.{Nat.{from_be_bytes-to_be_bytes_2, from_be_bytes-to_be_bytes_4, from_be_bytes-to_be_bytes_8}, Slice.Eq.bytes_eq-Decides}}
 use Rattle.std.specs.{Prelude.{Option, Some, None, option_map, option_and_then, if◌then◌else◌, bytes_eq, IsTrue}, Int.{w8, w16, w32, w64, from_be_bytes}}
 use Rattle.gx_ouch.proofs.Places.{known_to_lie}
-use Rattle.gx_ouch.specs.Layout.{LiesIn, cut}
+use Rattle.gx_ouch.specs.Layout.{LiesIn, field_bytes}
 use Rattle.gx_history.specs.{Requests.handed_moment, Showing.is_showable, declared.record.{RecordData.RecordData, Step.Step, Verdict.Verdict}}
 use Rattle.gx_audit_bytes.specs.{declared.version.AuditVersion.AuditVersion, Bodies.zero_padded, Records.{audit_record, record_contents, record_bytes, HasPlaces, line_shown, user_shown, kind_shown, body_shown, verdict_letter, rule_shown, order_shown, maker_shown, shares_shown, price_shown}, Reading.{step_in, verdict_in, step_shown, verdict_shown, content_in, record_of, is_record_of, NumbersFit, StepIsRead, VerdictIsRead, shows_rule, IsShown}}
 use Rattle.gx_audit_bytes.proofs.{Rules.shown_names_rule, Messages.one_byte}
@@ -35,7 +35,7 @@ abbrev content_of : List (List ℕ) → Option RecordData
 content_of parts =
     option_and_then (λ (step : Step). option_map (λ (v : Verdict). record { number = from_be_bytes w64 (get_or parts 1 []); moment = from_be_bytes w64 (get_or parts 3 []); step = step; verdict = v }) (verdict_of parts)) (step_of parts)
 
-shown_by_parts : (bytes : List ℕ) → content_in bytes ≡ content_of (cut audit_record bytes)
+shown_by_parts : (bytes : List ℕ) → content_in bytes ≡ content_of (field_bytes audit_record bytes)
 unfolding content_in step_shown verdict_shown
 shown_by_parts bytes = refl
 
@@ -95,7 +95,3 @@ is_shown version r bytes known places fit step verdict showable =
 pub fields_lie : (version : AuditVersion) (r : RecordData) (bytes : List ℕ) → bytes ≡ record_bytes version r → HasPlaces version r → LiesIn audit_record (record_contents version r) bytes
 unfolding record_bytes
 fields_lie version r bytes known places = known_to_lie audit_record (record_contents version r) bytes known (record { offsets = refl; size = refl }) places
-
-pub both_true : (a b : Bool) → (a && b) ≡ true → (a ≡ true) × (b ≡ true)
-both_true true b h = (refl, h)
-both_true false b h = cc

@@ -1,19 +1,16 @@
 -- A rule is read from its name as itself, and a verdict from its parts.
-use Rattle.std.proofs.Common.{◌≡◌, ℕ, Bool, true, false, ◌||◌, ◌&&◌, not, List, [], ◌∷◌, ◌++◌, refl, sym, ap, ◌∙◌}
-use Rattle.std.specs.{Prelude.{Option, Some, None, IsTrue, codes, cond, bytes_eq, unwrap_or}, List.{find, list_any}}
+use Rattle.std.proofs.Common.{◌≡◌, ℕ, Bool, true, false, ◌||◌, ◌&&◌, not, ◌++◌, refl, sym, ap, ◌∙◌}
+use Rattle.std.specs.Prelude.{Option, Some, None, IsTrue, codes, cond, bytes_eq, unwrap_or}
 use Rattle.gx_units.specs.declared.names.RuleId.{RuleId}
 use Rattle.gx_policy.specs.{RuleNames.{NameFits, rule_id, rules_before, rules_behind, is_built_in}, declared.rule_name.RuleName.{RuleName, TheVariants.{L1, L2, L3, G1, G2, G3, I1, I2, I3, P1, P2, P3, P4, P5, P6, P7, P8, P9, P10, P11, P12, Q1, Q2, Q3, Q4, File}}}
 use Rattle.gx_history.specs.{Showing.{is_showable, is_verdict_of, is_rule_shown, answers}, declared.record.{RecordData.RecordData, Request.Request, Step.Step, Verdict.Verdict, Fill.Fill}}
 use Rattle.gx_audit_bytes.specs.Reading.{rule_in, verdict_in, VerdictIsRead, shows_rule}
-use Rattle.gx_audit_bytes.proofs.Fields.{take_whole}
+use Rattle.gx_policy.proofs.Names.{take_whole}
+use Rattle.gx_laws.proofs.Order.{nothing_such}
 
 none_of : {X : Type 0} (passes : Bool) (x : X) (rest : Option X) (any : Bool) → (passes || any) ≡ false → (any ≡ false → rest ≡ None) → cond passes (Some x) rest ≡ None
 none_of true x rest any h below = cc
 none_of false x rest any h below = below h
-
-find_none : {X : Type 0} (test : X → Bool) (xs : List X) → list_any test xs ≡ false → find test xs ≡ None
-find_none test [] h = refl
-find_none test (x ∷ xs) h = none_of (test x) x (find test xs) (list_any test xs) h (find_none test xs)
 
 not_built_in : (built_in blank : Bool) → IsTrue (not built_in && not blank) → built_in ≡ false
 not_built_in true blank h = cc
@@ -24,7 +21,7 @@ file_read : (name : RuleId) → is_built_in name ≡ false → rule_in name.byte
 unfolding rule_in
 file_read name other =
     ap (λ (found : Option RuleName). unwrap_or found (File (record { bytes = name.bytes })))
-    (find_none (λ (rule : RuleName). bytes_eq (rule_id rule).bytes name.bytes) (rules_before ++ rules_behind) other)
+    (nothing_such (λ (rule : RuleName). bytes_eq (rule_id rule).bytes name.bytes) (rules_before ++ rules_behind) other)
 
 -- a rule is read from its name
 rule_read : (rule : RuleName) → NameFits rule → IsTrue (is_rule_shown rule) → rule_in (rule_id rule).bytes ≡ rule

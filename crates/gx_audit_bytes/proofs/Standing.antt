@@ -1,19 +1,16 @@
 -- A record is written as the bytes that show it where its parts stand there.
-use Rattle.std.proofs.{Common.{◌≡◌, ℕ, ◌+◌, ◌-◌, ◌≤◌, ◌&&◌, ◌||◌, ◌==◌, Bool, true, false, List, [], ◌∷◌, ◌++◌, length, take, drop, map, get_or, slice_index, refl, sym, ap, ◌∙◌, arith}, lemmas.{Bool.{eqb-true, Decides.nat_tests}, List.{take-append-drop, drop_at, length-append}, Slice.Eq.bytes_eq-Decides}}
+use Rattle.std.proofs.{Common.{◌≡◌, ℕ, ◌+◌, ◌-◌, ◌≤◌, ◌&&◌, ◌||◌, ◌==◌, Bool, true, false, List, [], ◌∷◌, ◌++◌, length, take, drop, map, get_or, slice_index, refl, sym, ap, ◌∙◌, arith}, lemmas.{Bool.{eqb-true, and_parts, and_from, eq-eqb}, List.{take-append-drop, drop_at, length-append}, Slice.Eq.bytes_eq-Decides, Option.same_Some}}
 use Rattle.std.specs.{Prelude.{Option, Some, None, option_map, option_and_then, replicate, codes, unwrap_or, if◌then◌else◌, bytes_eq, IsTrue}, List.find, Int.{w8, w16, w32, w64, to_be_bytes, from_be_bytes}}
-use Rattle.gx_ouch.proofs.Places.{known_to_lie}
-use Rattle.gx_ouch.specs.{Layout.{field, bytes_at, cut, laid_out, with_fields}, Writing.letter}
+use Rattle.gx_ouch.proofs.Places.{known_to_lie, same_head, same_tail}
+use Rattle.gx_ouch.specs.{Layout.{field, bytes_at, field_bytes, laid_out, with_fields}, Writing.letter}
 use Rattle.gx_desk.specs.declared.{Action.Action, Tag.Tag}
 use Rattle.gx_policy.specs.{declared.rule_name.RuleName.RuleName, RuleNames.{rule_id, rules_before, rules_behind}}
 use Rattle.gx_history.specs.{Payloads.request_of, Requests.handed_moment, declared.record.{RecordData.RecordData, Request.Request, Step.Step, Asked.Asked, Verdict.Verdict, Fill.Fill}}
 use Rattle.gx_audit_bytes.specs.{declared.version.AuditVersion.AuditVersion, Versions.mark_of, Bodies.{yes_or_no, zero_padded, request_body, request_kind}, Contents.command_layout, Records.{audit_record, record_contents, record_bytes, HasPlaces, number_place, handed_place, moment_place, line_place, user_place, kind_place, body_place, verdict_place, rule_place, order_place, maker_place, shares_place, price_place, line_shown, user_shown, kind_shown, body_shown, verdict_letter, rule_shown, order_shown, maker_shown, shares_shown, price_shown}, Reading.{part, login_in, unreadable_in, request_in, step_in, step_shown, rule_in, verdict_in, verdict_shown, content_in, content_with, record_of, IsShown}, Written.{has_mark, body_size, is_free, is_answer, has_answers, is_request_written, is_step_written, has_no_rule, has_no_order, has_no_fill, is_verdict_written, has_parts}}
-use Rattle.gx_audit_bytes.proofs.{ReadBack.{is_true, both_true}, Messages.one_byte, Fields.take_whole, Payloads.{IsBytes, bytes-take, bytes-drop, sized, one, two, four, eight, same_head, same_tail, fields_back, laid_back, is_message, message_back}}
+use Rattle.gx_audit_bytes.proofs.{ReadBack.is_true, Messages.one_byte, Payloads.{IsBytes, bytes-take, bytes-drop, sized, one, two, four, eight, fields_back, laid_back, is_message, message_back}}
+use Rattle.gx_policy.proofs.Names.{take_whole}
 
 -- ---- tests
-
-both : (a b : Bool) → a ≡ true → b ≡ true → (a && b) ≡ true
-both true b p q = q
-both false b p q = cc
 
 same : (xs ys : List ℕ) → bytes_eq xs ys ≡ true → xs ≡ ys
 same xs ys h = (bytes_eq-Decides xs ys).0 h
@@ -29,26 +26,14 @@ agree false xs ys there back = go (bytes_eq xs ys) refl
     go true e = back (same xs ys e)
     go false e = refl
 
-some_is : {A : Type 0} (x y : A) → Some x ≡ Some y → x ≡ y
-some_is x y e = cc
-
-number_is : (n m : ℕ) → (n == m) ≡ true → n ≡ m
-number_is n m h = eqb-true n m h
-
-number_tests : (n m : ℕ) → n ≡ m → (n == m) ≡ true
-number_tests n m h = ap (λ (k : ℕ). n == k) (sym h) ∙ itself n
-  where
-    itself : (k : ℕ) → (k == k) ≡ true
-    itself k = grind (arith, nat_tests)
-
 -- ---- the request
 
 answer_back : (byte : ℕ) → is_answer byte ≡ true → yes_or_no (byte == 89) ≡ byte
 answer_back byte h = go (byte == 89) refl
   where
     go : (t : Bool) → (byte == 89) ≡ t → yes_or_no t ≡ byte
-    go true e = sym (number_is byte 89 e)
-    go false e = sym (number_is byte 78 (ap (λ (t : Bool). t || (byte == 78)) (sym e) ∙ h))
+    go true e = sym (eqb-true byte 89 e)
+    go false e = sym (eqb-true byte 78 (ap (λ (t : Bool). t || (byte == 78)) (sym e) ∙ h))
 
 is_an_answer : (right : Bool) → is_answer (yes_or_no right) ≡ true
 is_an_answer true = refl
@@ -78,7 +63,7 @@ logout_laid body = refl
 
 -- a message in front of the body
 message_laid : (size : ℕ) (body : List ℕ) (q : Request) → IsBytes body → Some (request_of (take size body)) ≡ Some q → is_message q ≡ true → request_body q ≡ take size body
-message_laid size body q h read message = message_back (take size body) q (bytes-take size body h) (some_is _ _ read) message
+message_laid size body q h read message = message_back (take size body) q (bytes-take size body h) (same_Some _ _ read) message
 
 command_laid : (tag : Tag) (action : Action) (body : List ℕ) → IsBytes body → request_in (request_kind (Request.Command (record { tag = tag; action = action }))) body ≡ Some (Request.Command (record { tag = tag; action = action }))
     → request_body (Request.Command (record { tag = tag; action = action })) ≡ take (command_layout action).size body
@@ -96,10 +81,10 @@ command_laid tag Action.CloseDay body h read = message_laid 15 body _ h read ref
 request_laid : (q : Request) (body : List ℕ) → IsBytes body → length body ≡ 58 → request_in (request_kind q) body ≡ Some q → has_answers q body ≡ true → request_body q ≡ take (body_size q) body
 unfolding request_in
 request_laid (Request.Login m) body h size read answers =
-    let two_answers = both_true (is_answer (from_be_bytes w8 (part 0 1 body))) (is_answer (from_be_bytes w8 (part 1 1 body))) answers in
-    ap request_body (sym (some_is _ _ read)) ∙ login_laid body h size two_answers.0 two_answers.1
+    let two_answers = and_parts (is_answer (from_be_bytes w8 (part 0 1 body))) (is_answer (from_be_bytes w8 (part 1 1 body))) answers in
+    ap request_body (sym (same_Some _ _ read)) ∙ login_laid body h size two_answers.0 two_answers.1
 request_laid Request.Logout body h size read answers = logout_laid body
-request_laid (Request.Unreadable m) body h size read answers = ap request_body (sym (some_is _ _ read)) ∙ unreadable_laid body h size
+request_laid (Request.Unreadable m) body h size read answers = ap request_body (sym (same_Some _ _ read)) ∙ unreadable_laid body h size
 request_laid (Request.Enter m) body h size read answers = message_laid 49 body _ h read refl
 request_laid (Request.Replace m) body h size read answers = message_laid 47 body _ h read refl
 request_laid (Request.Cancel m) body h size read answers = message_laid 19 body _ h read refl
@@ -145,7 +130,7 @@ freed n front body fits size is whole =
 answered : (q : Request) (body : List ℕ) → zero_padded 58 (request_body q) ≡ body → has_answers q body ≡ true
 unfolding request_body
 answered (Request.Login m) body whole =
-    both (is_answer (from_be_bytes w8 (part 0 1 body))) (is_answer (from_be_bytes w8 (part 1 1 body)))
+    and_from (is_answer (from_be_bytes w8 (part 0 1 body))) (is_answer (from_be_bytes w8 (part 1 1 body)))
     (ap (λ (bs : List ℕ). is_answer (from_be_bytes w8 (part 0 1 bs))) (sym whole) ∙ ap is_answer (one_byte (yes_or_no m.password_is_right)) ∙ is_an_answer m.password_is_right)
     (ap (λ (bs : List ℕ). is_answer (from_be_bytes w8 (part 1 1 bs))) (sym whole) ∙ ap is_answer (one_byte (yes_or_no m.session_is_right)) ∙ is_an_answer m.session_is_right)
 answered Request.Logout body whole = refl
@@ -162,16 +147,16 @@ read_by kind q body read is = ap (λ (k : ℕ). request_in k body) (sym is) ∙ 
 request_stands : (q : Request) (kind : ℕ) (body : List ℕ) → IsBytes body → length body ≡ 58 → request_in kind body ≡ Some q → is_request_written q kind body ≡ true
     → (kind ≡ request_kind q) × (zero_padded 58 (request_body q) ≡ body)
 request_stands q kind body h size read tested =
-    let by_kind = both_true (kind == request_kind q) (has_answers q body && is_free (body_size q) body) tested in
-    let by_body = both_true (has_answers q body) (is_free (body_size q) body) by_kind.1 in
-    let is = number_is kind (request_kind q) by_kind.0 in
+    let by_kind = and_parts (kind == request_kind q) (has_answers q body && is_free (body_size q) body) tested in
+    let by_body = and_parts (has_answers q body) (is_free (body_size q) body) by_kind.1 in
+    let is = eqb-true kind (request_kind q) by_kind.0 in
     (is, padded (body_size q) (request_body q) body (body_fits q) size (request_laid q body h size (read_by kind q body read is) by_body.0) (same _ _ by_body.1))
 
 request_tested : (q : Request) (kind : ℕ) (body : List ℕ) → IsBytes body → length body ≡ 58 → request_in kind body ≡ Some q → kind ≡ request_kind q → zero_padded 58 (request_body q) ≡ body
     → is_request_written q kind body ≡ true
 request_tested q kind body h size read is whole =
-    both (kind == request_kind q) _ (number_tests kind (request_kind q) is)
-    (both (has_answers q body) _ (answered q body whole)
+    and_from (kind == request_kind q) _ (eq-eqb kind (request_kind q) is)
+    (and_from (has_answers q body) _ (answered q body whole)
     (tests _ _ (freed (body_size q) (request_body q) body (body_fits q) size (request_laid q body h size (read_by kind q body read is) (answered q body whole)) whole)))
 
 -- ---- the step
@@ -247,12 +232,12 @@ step_stands (Step.Asked a) bytes h size shown tested =
       body = stands.1;
     }
 step_stands (Step.Matching moment) bytes h size shown tested =
-    let by_line = both_true (bytes_eq (bytes_at line_place bytes) (replicate 2 0)) _ tested in
-    let by_user = both_true (bytes_eq (bytes_at user_place bytes) (codes "      ")) _ by_line.1 in
+    let by_line = and_parts (bytes_eq (bytes_at line_place bytes) (replicate 2 0)) _ tested in
+    let by_user = and_parts (bytes_eq (bytes_at user_place bytes) (codes "      ")) _ by_line.1 in
     record {
       line = sym (same _ _ by_line.0);
       user = sym (same _ _ by_user.0);
-      kind = ap letter (sym (number_is (from_be_bytes w8 (bytes_at kind_place bytes)) 52 (matching_of moment bytes shown).0)) ∙ one 36 bytes (omega (arith, size));
+      kind = ap letter (sym (eqb-true (from_be_bytes w8 (bytes_at kind_place bytes)) 52 (matching_of moment bytes shown).0)) ∙ one 36 bytes (omega (arith, size));
       body = sym (same _ _ by_user.1);
     }
 
@@ -261,8 +246,8 @@ step_tested (Step.Asked a) bytes h size shown stands =
     request_tested a.request (from_be_bytes w8 (bytes_at kind_place bytes)) (bytes_at body_place bytes) (body_bytes bytes h) (sized 37 58 bytes (omega (arith, size))) (asked_of a bytes shown).request_is
     (ap (from_be_bytes w8) (sym stands.kind) ∙ one_byte (request_kind a.request)) stands.body
 step_tested (Step.Matching moment) bytes h size shown stands =
-    both (bytes_eq (bytes_at line_place bytes) (replicate 2 0)) _ (tests _ _ (sym stands.line))
-    (both (bytes_eq (bytes_at user_place bytes) (codes "      ")) _ (tests _ _ (sym stands.user)) (tests _ _ (sym stands.body)))
+    and_from (bytes_eq (bytes_at line_place bytes) (replicate 2 0)) _ (tests _ _ (sym stands.line))
+    (and_from (bytes_eq (bytes_at user_place bytes) (codes "      ")) _ (tests _ _ (sym stands.user)) (tests _ _ (sym stands.body)))
 
 -- ---- the verdict
 
@@ -281,7 +266,7 @@ by_letter : (n k : ℕ) (this rest : Option Verdict) → (n ≡ k → Tells n th
 by_letter n k this rest here there = go (n == k) refl
   where
     go : (t : Bool) → (n == k) ≡ t → Tells n (if t then this else rest)
-    go true e = here (number_is n k e)
+    go true e = here (eqb-true n k e)
     go false e = there
 
 letter_read : (n : ℕ) (rule : List ℕ) (order maker shares price : ℕ) (v : Verdict) → verdict_in n rule order maker shares price ≡ Some v → n ≡ verdict_letter v
@@ -301,7 +286,7 @@ found_named name (rule ∷ rules) x e = go (bytes_eq (rule_id rule).bytes name) 
     behind = find (λ r. bytes_eq (rule_id r).bytes name) rules
 
     go : (t : Bool) → bytes_eq (rule_id rule).bytes name ≡ t → (behind ≡ Some x → (rule_id x).bytes ≡ name) → (if t then Some rule else behind) ≡ Some x → (rule_id x).bytes ≡ name
-    go true is others found = ap (λ (r : RuleName). (rule_id r).bytes) (sym (some_is rule x found)) ∙ same _ _ is
+    go true is others found = ap (λ (r : RuleName). (rule_id r).bytes) (sym (same_Some rule x found)) ∙ same _ _ is
     go false is others found = others found
 
 named : (name : List ℕ) (found : Option RuleName) → length name ≡ 8 → ((x : RuleName) → found ≡ Some x → (rule_id x).bytes ≡ name) → (rule_id (unwrap_or found (RuleName.File (record { bytes = name })))).bytes ≡ name
@@ -380,23 +365,23 @@ record NoFill (bytes : List ℕ) : Type 0 where
 
 no_fill : (bytes : List ℕ) → has_no_fill bytes ≡ true → NoFill bytes
 no_fill bytes tested =
-    let by_maker = both_true (bytes_eq (bytes_at maker_place bytes) (replicate 8 0)) _ tested in
-    let by_shares = both_true (bytes_eq (bytes_at shares_place bytes) (replicate 4 0)) _ by_maker.1 in
+    let by_maker = and_parts (bytes_eq (bytes_at maker_place bytes) (replicate 8 0)) _ tested in
+    let by_shares = and_parts (bytes_eq (bytes_at shares_place bytes) (replicate 4 0)) _ by_maker.1 in
     record { maker = sym (same _ _ by_maker.0); shares = sym (same _ _ by_shares.0); price = sym (same _ _ by_shares.1) }
 
 no_fill_tested : (bytes : List ℕ) → NoFill bytes → has_no_fill bytes ≡ true
 no_fill_tested bytes none =
-    both (bytes_eq (bytes_at maker_place bytes) (replicate 8 0)) _ (tests _ _ (sym none.maker))
-    (both (bytes_eq (bytes_at shares_place bytes) (replicate 4 0)) _ (tests _ _ (sym none.shares)) (tests _ _ (sym none.price)))
+    and_from (bytes_eq (bytes_at maker_place bytes) (replicate 8 0)) _ (tests _ _ (sym none.maker))
+    (and_from (bytes_eq (bytes_at shares_place bytes) (replicate 4 0)) _ (tests _ _ (sym none.shares)) (tests _ _ (sym none.price)))
 
 verdict_stands : (v : Verdict) (bytes : List ℕ) → IsBytes bytes → length bytes ≡ 128 → verdict_shown bytes ≡ Some v → is_verdict_written v bytes ≡ true → VerdictStands v bytes
 verdict_stands Verdict.Granted bytes h size shown tested =
-    let by_rule = both_true (has_no_rule bytes) (has_no_order bytes && has_no_fill bytes) tested in
-    let by_order = both_true (has_no_order bytes) (has_no_fill bytes) by_rule.1 in
+    let by_rule = and_parts (has_no_rule bytes) (has_no_order bytes && has_no_fill bytes) tested in
+    let by_order = and_parts (has_no_order bytes) (has_no_fill bytes) by_rule.1 in
     let none = no_fill bytes by_order.1 in
     record { rule = sym (same _ _ by_rule.0); order = sym (same _ _ by_order.0); maker = none.maker; shares = none.shares; price = none.price }
 verdict_stands (Verdict.Denied rule) bytes h size shown tested =
-    let by_order = both_true (has_no_order bytes) (has_no_fill bytes) tested in
+    let by_order = and_parts (has_no_order bytes) (has_no_fill bytes) tested in
     let none = no_fill bytes by_order.1 in
     record { rule = denied_rule rule bytes size shown; order = sym (same _ _ by_order.0); maker = none.maker; shares = none.shares; price = none.price }
 verdict_stands (Verdict.Filled fill) bytes h size shown tested =
@@ -409,25 +394,25 @@ verdict_stands (Verdict.Filled fill) bytes h size shown tested =
       price = ap (λ (f : Fill). to_be_bytes w32 f.price) (sym is) ∙ four 124 bytes h (omega (arith, size));
     }
 verdict_stands (Verdict.Rested order) bytes h size shown tested =
-    let by_rule = both_true (has_no_rule bytes) (has_no_fill bytes) tested in
+    let by_rule = and_parts (has_no_rule bytes) (has_no_fill bytes) tested in
     let none = no_fill bytes by_rule.1 in
     record { rule = sym (same _ _ by_rule.0); order = ap (to_be_bytes w64) (sym (rested_of order bytes shown)) ∙ eight 104 bytes h (omega (arith, size)); maker = none.maker; shares = none.shares; price = none.price }
 verdict_stands (Verdict.Expired order) bytes h size shown tested =
-    let by_rule = both_true (has_no_rule bytes) (has_no_fill bytes) tested in
+    let by_rule = and_parts (has_no_rule bytes) (has_no_fill bytes) tested in
     let none = no_fill bytes by_rule.1 in
     record { rule = sym (same _ _ by_rule.0); order = ap (to_be_bytes w64) (sym (expired_of order bytes shown)) ∙ eight 104 bytes h (omega (arith, size)); maker = none.maker; shares = none.shares; price = none.price }
 
 verdict_tested : (v : Verdict) (bytes : List ℕ) → VerdictStands v bytes → is_verdict_written v bytes ≡ true
 verdict_tested Verdict.Granted bytes stands =
-    both (has_no_rule bytes) _ (tests _ _ (sym stands.rule))
-    (both (has_no_order bytes) _ (tests _ _ (sym stands.order)) (no_fill_tested bytes (record { maker = stands.maker; shares = stands.shares; price = stands.price })))
+    and_from (has_no_rule bytes) _ (tests _ _ (sym stands.rule))
+    (and_from (has_no_order bytes) _ (tests _ _ (sym stands.order)) (no_fill_tested bytes (record { maker = stands.maker; shares = stands.shares; price = stands.price })))
 verdict_tested (Verdict.Denied rule) bytes stands =
-    both (has_no_order bytes) _ (tests _ _ (sym stands.order)) (no_fill_tested bytes (record { maker = stands.maker; shares = stands.shares; price = stands.price }))
+    and_from (has_no_order bytes) _ (tests _ _ (sym stands.order)) (no_fill_tested bytes (record { maker = stands.maker; shares = stands.shares; price = stands.price }))
 verdict_tested (Verdict.Filled fill) bytes stands = tests _ _ (sym stands.rule)
 verdict_tested (Verdict.Rested order) bytes stands =
-    both (has_no_rule bytes) _ (tests _ _ (sym stands.rule)) (no_fill_tested bytes (record { maker = stands.maker; shares = stands.shares; price = stands.price }))
+    and_from (has_no_rule bytes) _ (tests _ _ (sym stands.rule)) (no_fill_tested bytes (record { maker = stands.maker; shares = stands.shares; price = stands.price }))
 verdict_tested (Verdict.Expired order) bytes stands =
-    both (has_no_rule bytes) _ (tests _ _ (sym stands.rule)) (no_fill_tested bytes (record { maker = stands.maker; shares = stands.shares; price = stands.price }))
+    and_from (has_no_rule bytes) _ (tests _ _ (sym stands.rule)) (no_fill_tested bytes (record { maker = stands.maker; shares = stands.shares; price = stands.price }))
 
 -- ---- the record
 
@@ -443,7 +428,7 @@ content_inside : (r : RecordData) (bytes : List ℕ) (step : Option Step) (verdi
 content_inside r bytes None verdict e = absurd cc
 content_inside r bytes (Some s) None e = absurd cc
 content_inside r bytes (Some s) (Some v) e =
-    let is = some_is (content_with bytes s v) r e in
+    let is = same_Some (content_with bytes s v) r e in
     record {
       step_is = ap (λ (x : RecordData). Some x.step) is;
       verdict_is = ap (λ (x : RecordData). Some x.verdict) is;
@@ -471,11 +456,11 @@ mark_size AuditVersion.Two = refl
 mark_size (AuditVersion.Three day) = refl
 
 -- the parts of the record are those that are cut from the bytes
-parts_are : (version : AuditVersion) (r : RecordData) (bytes : List ℕ) → IsBytes bytes → length bytes ≡ 128 → content_in bytes ≡ Some r → has_parts version r bytes ≡ true → record_contents version r ≡ cut audit_record bytes
+parts_are : (version : AuditVersion) (r : RecordData) (bytes : List ℕ) → IsBytes bytes → length bytes ≡ 128 → content_in bytes ≡ Some r → has_parts version r bytes ≡ true → record_contents version r ≡ field_bytes audit_record bytes
 parts_are version r bytes h size shown tested =
     let is = content_of r bytes shown in
-    let by_mark = both_true (has_mark version bytes) (is_step_written r.step bytes && is_verdict_written r.verdict bytes) tested in
-    let by_step = both_true (is_step_written r.step bytes) (is_verdict_written r.verdict bytes) by_mark.1 in
+    let by_mark = and_parts (has_mark version bytes) (is_step_written r.step bytes && is_verdict_written r.verdict bytes) tested in
+    let by_step = and_parts (is_step_written r.step bytes) (is_verdict_written r.verdict bytes) by_mark.1 in
     let step = step_stands r.step bytes h size is.step_is by_step.0 in
     let verdict = verdict_stands r.verdict bytes h size is.verdict_is by_step.1 in
     let mark = (mark_in (mark_of version) bytes (same _ _ by_mark.0)).1 in
@@ -488,11 +473,11 @@ parts_are version r bytes h size shown tested =
 written_so : (version : AuditVersion) (r : RecordData) (bytes : List ℕ) → IsBytes bytes → length bytes ≡ 128 → content_in bytes ≡ Some r → has_parts version r bytes ≡ true → record_bytes version r ≡ bytes
 unfolding record_bytes
 written_so version r bytes h size shown tested =
-    let by_mark = both_true (has_mark version bytes) (is_step_written r.step bytes && is_verdict_written r.verdict bytes) tested in
+    let by_mark = and_parts (has_mark version bytes) (is_step_written r.step bytes && is_verdict_written r.verdict bytes) tested in
     ap (laid_out audit_record) (parts_are version r bytes h size shown tested)
     ∙ laid_back audit_record bytes (record { offsets = refl; size = refl }) (omega arith) (mark_in (mark_of version) bytes (same _ _ by_mark.0)).0 size
 
-cut_sizes : (bytes : List ℕ) → length bytes ≡ 128 → map length (cut audit_record bytes) ≡ 3 ∷ 8 ∷ 8 ∷ 8 ∷ 2 ∷ 6 ∷ 1 ∷ 58 ∷ 1 ∷ 8 ∷ 8 ∷ 8 ∷ 4 ∷ 4 ∷ []
+cut_sizes : (bytes : List ℕ) → length bytes ≡ 128 → map length (field_bytes audit_record bytes) ≡ 3 ∷ 8 ∷ 8 ∷ 8 ∷ 2 ∷ 6 ∷ 1 ∷ 58 ∷ 1 ∷ 8 ∷ 8 ∷ 8 ∷ 4 ∷ 4 ∷ []
 cut_sizes bytes size =
     λ i. sized 1 3 bytes (omega (arith, size)) i ∷ sized 4 8 bytes (omega (arith, size)) i ∷ sized 12 8 bytes (omega (arith, size)) i ∷ sized 20 8 bytes (omega (arith, size)) i ∷ sized 28 2 bytes (omega (arith, size)) i ∷ sized 30 6 bytes (omega (arith, size)) i
     ∷ sized 36 1 bytes (omega (arith, size)) i ∷ sized 37 58 bytes (omega (arith, size)) i ∷ sized 95 1 bytes (omega (arith, size)) i ∷ sized 96 8 bytes (omega (arith, size)) i ∷ sized 104 8 bytes (omega (arith, size)) i ∷ sized 112 8 bytes (omega (arith, size)) i
@@ -529,10 +514,10 @@ tested_so version r bytes h size shown is =
     let body = body_left version r bytes size user rule is in
     let mark = mark_size version in
     let places : HasPlaces version r = λ i. mark i ∷ 8 ∷ 8 ∷ 8 ∷ 2 ∷ user i ∷ 1 ∷ body i ∷ 1 ∷ rule i ∷ 8 ∷ 8 ∷ 4 ∷ 4 ∷ [] in
-    let parts : cut audit_record bytes ≡ record_contents version r = (known_to_lie audit_record (record_contents version r) bytes (sym is) (record { offsets = refl; size = refl }) places).fields in
+    let parts : field_bytes audit_record bytes ≡ record_contents version r = (known_to_lie audit_record (record_contents version r) bytes (sym is) (record { offsets = refl; size = refl }) places).fields in
     let at = λ (n : ℕ). ap (λ (ps : List (List ℕ)). get_or ps n []) (sym parts) in
-    both (has_mark version bytes) _ (ap (has_mark version) (sym is) ∙ mark_kept version r)
-    (both (is_step_written r.step bytes) _
+    and_from (has_mark version bytes) _ (ap (has_mark version) (sym is) ∙ mark_kept version r)
+    (and_from (is_step_written r.step bytes) _
     (step_tested r.step bytes h size content.step_is (record { line = at 4; user = at 5; kind = at 6; body = at 7 }))
     (verdict_tested r.verdict bytes (record { rule = at 9; order = at 10; maker = at 11; shares = at 12; price = at 13 })))
 

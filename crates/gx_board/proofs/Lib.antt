@@ -1,6 +1,6 @@
-mod Denying
-mod Following
-mod Belonging
-pub mod Catching
-mod Trading
-pub mod Noting
+mod Denied_next
+mod Summary_next
+mod View_owner
+pub mod Summary_call
+mod LiveOrders_call
+pub mod Record_call

@@ -2,7 +2,7 @@
 use Rattle.std.specs.{Prelude.{ℕ, ◌+◌, Bool, true, false, ◌++◌, List, count_by, length, map, max, Option, Some, None, if◌then◌else◌}, Option.option_map_or}
 use Rattle.gx_units.specs.{Names.same_rule, declared.names.RuleId.RuleId}
 use Rattle.gx_policy.specs.{RuleNames.rule_id, declared.{policy.{FileRule.FileRule, PolicyData.PolicyData}, rule_name.{RuleName.RuleName, TheConstants.BUILT_IN}}}
-use Rattle.gx_history.specs.{declared.record.{Asked.Asked, RecordData.RecordData, Verdict.Verdict, VerdictKind.VerdictKind}, Requests.{asked, is_command, is_granted}}
+use Rattle.gx_history.specs.{declared.record.{Asked.Asked, RecordData.RecordData, Verdict.Verdict, VerdictKind.VerdictKind}, Requests.{asked_of, is_command, is_granted}}
 use Rattle.gx_pass.specs.Views.{highest_line, line_in}
 use Rattle.gx_overview.specs.{Accounts.capped_count, Commands.is_grant}
 use Rattle.gx_board.specs.declared.{counts.Counts.Counts, denied.DeniedRow.DeniedRow}
@@ -12,17 +12,17 @@ abbrev pub grants : RecordData → Bool
 grants r = is_granted r.verdict
 
 -- the rule that denied the request, if one did
-abbrev pub denying : Verdict → Option RuleName
-denying (Verdict.Denied rule) = Some rule
-denying other = None
+abbrev pub rule_of_denial : Verdict → Option RuleName
+rule_of_denial (Verdict.Denied rule) = Some rule
+rule_of_denial other = None
 
 -- a request was denied
 abbrev pub denies : RecordData → Bool
-denies r = option_map_or (λ (rule : RuleName). true) (denying r.verdict) false
+denies r = option_map_or (λ (rule : RuleName). true) (rule_of_denial r.verdict) false
 
 -- by the rule of this name
 abbrev pub is_denied_by : RuleId → RecordData → Bool
-is_denied_by name r = option_map_or (λ (rule : RuleName). same_rule name (rule_id rule)) (denying r.verdict) false
+is_denied_by name r = option_map_or (λ (rule : RuleName). same_rule name (rule_id rule)) (rule_of_denial r.verdict) false
 
 -- two orders met
 abbrev pub is_fill : Verdict → Bool
@@ -34,7 +34,7 @@ fills r = is_fill r.verdict
 
 -- an officer asked for something
 abbrev pub commands : RecordData → Bool
-commands r = option_map_or (λ (a : Asked). is_command a.request) (asked r.step) false
+commands r = option_map_or (λ (a : Asked). is_command a.request) (asked_of r.step) false
 
 -- what the records say in numbers
 abbrev pub counts_of : List RecordData → Counts
@@ -51,8 +51,8 @@ abbrev pub one_more : Bool → ℕ → ℕ
 one_more is n = if is then capped_count (n + 1) else n
 
 -- the numbers, once the record has come
-abbrev pub counted : RecordData → Counts → Counts
-counted r c = record {
+abbrev pub counts_with : RecordData → Counts → Counts
+counts_with r c = record {
   records = capped_count (c.records + 1);
   granted = one_more (grants r) c.granted;
   denied = one_more (denies r) c.denied;

@@ -3,7 +3,7 @@ use Rattle.std.specs.{Prelude.{Bool, true, false, ◌||◌, List, Option, Some},
 use Rattle.gx_units.specs.{Names.same_user, declared.names.{AccountName.AccountName, UserName.UserName}}
 use Rattle.gx_desk.specs.declared.Action.{Action}
 use Rattle.gx_policy.specs.{declared.policy.{PolicyData.PolicyData, Role.Role}, People.{account_of, covers, role_in}}
-use Rattle.gx_history.specs.{declared.record.{Asked.Asked, RecordData.RecordData, Request.Request}, InForce.is_entitled, Requests.asked}
+use Rattle.gx_history.specs.{declared.record.{Asked.Asked, RecordData.RecordData, Request.Request}, InForce.is_entitled, Requests.asked_of}
 
 -- an officer's are those of his scope, a reader's those that he is entitled to now, and a trader has none to look at
 abbrev pub is_his : PolicyData → List RecordData → UserName → Option Role → AccountName → Bool
@@ -38,4 +38,4 @@ is_request_shown policy records viewer user other = is_trader_shown policy recor
 
 -- the record of such a request
 abbrev pub is_record_shown : PolicyData → List RecordData → UserName → RecordData → Bool
-is_record_shown policy records viewer r = option_map_or (λ (a : Asked). is_request_shown policy records viewer a.user a.request) (asked r.step) false
+is_record_shown policy records viewer r = option_map_or (λ (a : Asked). is_request_shown policy records viewer a.user a.request) (asked_of r.step) false

@@ -4,7 +4,7 @@ use Rattle.circular_buffer.specs.Buffer.{Buffer, buffer, keep_last}
 use Rattle.gx_policy.specs.declared.policy.PolicyData.{PolicyData}
 use Rattle.gx_history.specs.declared.record.RecordData.{RecordData}
 use Rattle.gx_overview.specs.Commands.{granted_commands}
-use Rattle.gx_board.specs.{declared.summary.Summary.Summary, Counting.{commands, counted, counts_of, denied_rows, denies, row_counted}}
+use Rattle.gx_board.specs.{declared.summary.Summary.Summary, Counting.{commands, counts_with, counts_of, denied_rows, denies, row_counted}}
 
 -- so many denials are shown, and so many commands
 abbrev pub most_recent : ℕ
@@ -15,8 +15,8 @@ abbrev pub recent : List RecordData → Buffer RecordData
 recent found = buffer (keep_last most_recent found) most_recent
 
 -- the ring with one more item, where the condition holds
-abbrev pub pushed : Bool → RecordData → Buffer RecordData → Buffer RecordData
-pushed is r ring = if is then buffer (keep_last ring.capacity (ring.items ++ r ∷ [])) ring.capacity else ring
+abbrev pub pushed_if : Bool → RecordData → Buffer RecordData → Buffer RecordData
+pushed_if is r ring = if is then buffer (keep_last ring.capacity (ring.items ++ r ∷ [])) ring.capacity else ring
 
 -- all but the commands of the summary is that of these records
 pub record IsCounted (policy : PolicyData) (records : List RecordData) (d : Summary) : Type 0 where
@@ -40,10 +40,10 @@ Follows more old new = (policy : PolicyData) (records : List RecordData) → IsS
 
 -- what the record changes but for the commands
 pub record Notes (r : RecordData) (old new : Summary) : Type 0 where
-  pub counts : new.counts ≡ counted r old.counts
+  pub counts : new.counts ≡ counts_with r old.counts
   pub denied : new.denied.items ≡ map (row_counted r) old.denied.items
-  pub last_denied : new.last_denied ≡ pushed (denies r) r old.last_denied
-  pub last_commands : new.last_commands ≡ pushed (commands r) r old.last_commands
+  pub last_denied : new.last_denied ≡ pushed_if (denies r) r old.last_denied
+  pub last_commands : new.last_commands ≡ pushed_if (commands r) r old.last_commands
   pub commands_kept : new.commands.items ≡ old.commands.items
 
 -- what the record, if there is one, changes but for the commands

@@ -54,7 +54,7 @@ fn note_in_all(rows: &mut [DeniedRow], left: &RecordData)
 }
 
 /// Counts the record in the row of the rule that denied its request, if one did.
-#[tactic(auto, using(crate::proofs::Denying::none_counted))]
+#[tactic(auto, using(crate::proofs::Denied_next::none_counted))]
 pub(crate) fn note(rows: &mut [DeniedRow], left: &RecordData)
     ensures { rows.new ≡ map (row_counted left.now) rows.old }
 {

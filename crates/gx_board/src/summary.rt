@@ -1,7 +1,7 @@
 //! What is kept of a day's records, so that no view walks them.
 
 ghost use Rattle.std.specs.Prelude.{◌≡◌, ◌+◌, ◌<◌, ◌≤◌, [], drop, length, slice_get, take, IfOk, IsFalse, IsTrue, OnErr, OnOk};
-ghost use Rattle.gx_board.specs.{Counting.counted, Summaries.{Counted, Follows, IsBehind, IsNoted, IsSummary, Notes, pushed, recent, Stays}};
+ghost use Rattle.gx_board.specs.{Counting.counts_with, Summaries.{Counted, Follows, IsBehind, IsNoted, IsSummary, Notes, pushed_if, recent, Stays}};
 
 use crate::counts::{Counts, commands, denies, is_kept};
 use crate::denied::{DeniedRow, first_rows, note};
@@ -42,7 +42,7 @@ fn ring(alloc: Global) -> Result<HeapCircularBuffer<RecordData>, OutOfMemory>
 
 /// Puts the record last, where the condition holds.
 fn push_where(is_so: bool, ring: &mut HeapCircularBuffer<RecordData>, left: &RecordData)
-    ensures { ring.new ≡ pushed is_so left.now ring.old }
+    ensures { ring.new ≡ pushed_if is_so left.now ring.old }
 {
     if is_so {
         ring.push_back(*left);
@@ -72,7 +72,7 @@ impl Summary {
 
     /// Notes the record, but for the command that it may grant.
     fn note_kept(&mut self, left: &RecordData, counts: Counts)
-        requires { counts ≡ counted left.now self.old.counts }
+        requires { counts ≡ counts_with left.now self.old.counts }
         ensures { Notes left.now self.old self.new }
     {
         self.counts = counts;

@@ -1,9 +1,9 @@
 -- What stands under the rank of its price and its number is in price-time priority.
-use Rattle.std.proofs.{Common.{◌≡◌, ℕ, zero, suc, ◌+◌, ◌-◌, ◌<◌, ◌≤◌, inl, inr, Bool, true, false, cond, not, ◌&&◌, List, [], ◌∷◌, refl, ◌∙◌, sym, ap, subst, arith, eq-eqb, if◌then◌else◌}, lemmas.{Bool.{and_from, and_parts, cases_eq, eqb-true, lt-ltb, le-ltb, false_from_ne_true}, Cmp.ranked}}
+use Rattle.std.proofs.{Common.{◌≡◌, ℕ, zero, suc, ◌+◌, ◌-◌, ◌<◌, ◌≤◌, inl, inr, Bool, true, false, cond, not, ◌&&◌, List, [], ◌∷◌, refl, ◌∙◌, sym, ap, subst, arith, eq-eqb, if◌then◌else◌}, lemmas.{Bool.{and_from, and_parts, cases_eq, eqb-true, lt-ltb, le-ltb, false_from_ne_true, not-true}, Cmp.ranked, Option.same_Some}}
 use Rattle.std.specs.{Prelude.{nat_lt, None, Some, option_map, slice_get}, BTreeMap.{insert_entry, is_at}, List.{AllByRecursion, find, list_all, Sorted.IsStrictlySortedBy}, Map.{keys_of, values_of, lookup, remove_entry, set_value}, Ordering.{is_eq, nat_cmp, match_ordering, ordering_then, MatchOrdering}, declared.cmp.Ordering.{Ordering, TheVariants.{Less, Equal, Greater}}}
 use Rattle.gx_history.specs.declared.live_order.LiveOrder.{LiveOrder}
-use Rattle.gx_book.specs.{declared.resting.Kept.Kept, Resting.{RestingData, resting_of}, Keys.{are_keyed, held, is_keyed, is_rank, order_at, orders_at, price_at}, Queue.{IsLatest, is_better, is_numbered, is_same, left_with, taken_from_first, with_order, with_shares, without_order}}
-use Rattle.gx_book.proofs.Order.{ahead_of_all, all_pass, behind_first, is_false, some_is}
+use Rattle.gx_book.specs.{declared.resting.KeptOrder.KeptOrder, Resting.{RestingData, resting_of}, Keys.{are_keyed, resting_of_kept, is_keyed, is_rank, order_at, orders_at, price_at}, Queue.{IsLatest, is_better, is_numbered, is_same, left_with, taken_from_first, with_order, with_shares, without_order}}
+use Rattle.gx_book.proofs.Order.{ahead_of_all, all_pass, behind_first}
 
 -- ---- keys
 
@@ -165,7 +165,7 @@ none_shared : (r : RestingData) (shares : ℕ) (rs : List RestingData) → list_
 none_shared r shares [] all = refl
 none_shared r shares (x ∷ rs) all =
     let parts = and_parts (not (is_same r x)) (list_all (λ y. not (is_same r y)) rs) all in
-    ap (λ (b : Bool). (if b then record x { shares = shares } else x) ∷ with_shares r shares rs) (is_false (is_same r x) parts.0) ∙ ap (λ more. x ∷ more) (none_shared r shares rs parts.1)
+    ap (λ (b : Bool). (if b then record x { shares = shares } else x) ∷ with_shares r shares rs) (not-true (is_same r x) parts.0) ∙ ap (λ more. x ∷ more) (none_shared r shares rs parts.1)
 
 -- ---- what is kept under keys, and the orders that are meant
 
@@ -176,22 +176,22 @@ order_is_keyed true o rank few is = (and_from _ _ (eq-eqb _ _ (omega (arith, few
 order_is_keyed false o rank few is = (and_from _ _ (eq-eqb _ _ (sym is)) (eq-eqb o.number o.number refl), is)
 
 -- the first order
-pub first_at : (buy : Bool) (es : List ((ℕ × ℕ) × Kept)) (k : ℕ × ℕ) (kept : Kept) (price : ℕ) → slice_get es 0 ≡ Some (k, kept) → price ≡ price_at buy k.0
-    → Some (held k.1 price kept) ≡ slice_get (values_of (orders_at buy es)) 0
+pub first_at : (buy : Bool) (es : List ((ℕ × ℕ) × KeptOrder)) (k : ℕ × ℕ) (kept : KeptOrder) (price : ℕ) → slice_get es 0 ≡ Some (k, kept) → price ≡ price_at buy k.0
+    → Some (resting_of_kept k.1 price kept) ≡ slice_get (values_of (orders_at buy es)) 0
 first_at buy [] k kept price first is = cc
 first_at buy (e ∷ es) k kept price first is =
-    ap (λ (p : ℕ). Some (held k.1 p kept)) is ∙ ap (option_map (λ (f : (ℕ × ℕ) × Kept). (order_at buy f).1)) (sym first)
+    ap (λ (p : ℕ). Some (resting_of_kept k.1 p kept)) is ∙ ap (option_map (λ (f : (ℕ × ℕ) × KeptOrder). (order_at buy f).1)) (sym first)
 
-keys_stay : (buy : Bool) (es : List ((ℕ × ℕ) × Kept)) → keys_of (orders_at buy es) ≡ keys_of es
+keys_stay : (buy : Bool) (es : List ((ℕ × ℕ) × KeptOrder)) → keys_of (orders_at buy es) ≡ keys_of es
 keys_stay buy [] = refl
 keys_stay buy (e ∷ es) = ap (λ keys. e.0 ∷ keys) (keys_stay buy es)
 
-inserted : (buy : Bool) (k : ℕ × ℕ) (kept : Kept) (es : List ((ℕ × ℕ) × Kept))
+inserted : (buy : Bool) (k : ℕ × ℕ) (kept : KeptOrder) (es : List ((ℕ × ℕ) × KeptOrder))
     → orders_at buy (insert_entry key_cmp es k kept) ≡ insert_entry key_cmp (orders_at buy es) k (order_at buy (k, kept)).1
 inserted buy k kept [] = refl
 inserted buy k kept (e ∷ es) = by (key_cmp k e.0) refl (inserted buy k kept es)
   where
-    into : Ordering → List ((ℕ × ℕ) × Kept)
+    into : Ordering → List ((ℕ × ℕ) × KeptOrder)
     into o = match_ordering o ((k, kept) ∷ e ∷ es) ((e.0, kept) ∷ es) (e ∷ insert_entry key_cmp es k kept)
 
     meant : Ordering → List ((ℕ × ℕ) × RestingData)
@@ -204,7 +204,7 @@ inserted buy k kept (e ∷ es) = by (key_cmp k e.0) refl (inserted buy k kept es
     by Equal is later = ap (λ (key : ℕ × ℕ). (e.0, (order_at buy (key, kept)).1) ∷ orders_at buy es) (sym (compared k e.0 Equal is))
     by Greater is later = ap (λ rest. order_at buy e ∷ rest) later
 
-removed : (buy : Bool) (test : ℕ × ℕ → Bool) (es : List ((ℕ × ℕ) × Kept)) → orders_at buy (remove_entry test es) ≡ remove_entry test (orders_at buy es)
+removed : (buy : Bool) (test : ℕ × ℕ → Bool) (es : List ((ℕ × ℕ) × KeptOrder)) → orders_at buy (remove_entry test es) ≡ remove_entry test (orders_at buy es)
 removed buy test [] = refl
 removed buy test (e ∷ es) =
     elim (test e.0) as (λ b. orders_at buy (cond b es (e ∷ remove_entry test es)) ≡ cond b (orders_at buy es) (order_at buy e ∷ remove_entry test (orders_at buy es))) [
@@ -213,47 +213,47 @@ removed buy test (e ∷ es) =
     ]
 
 -- what is kept under a key is the order of its number and its price
-found : (buy : Bool) (k : ℕ × ℕ) (es : List ((ℕ × ℕ) × Kept))
-    → lookup (is_at (key_cmp k)) (orders_at buy es) ≡ option_map (held k.1 (price_at buy k.0)) (lookup (is_at (key_cmp k)) es)
+found : (buy : Bool) (k : ℕ × ℕ) (es : List ((ℕ × ℕ) × KeptOrder))
+    → lookup (is_at (key_cmp k)) (orders_at buy es) ≡ option_map (resting_of_kept k.1 (price_at buy k.0)) (lookup (is_at (key_cmp k)) es)
 found buy k [] = refl
 found buy k (e ∷ es) = by (key_cmp k e.0) refl (found buy k es)
   where
-    by : (o : Ordering) → o ≡ key_cmp k e.0 → lookup (is_at (key_cmp k)) (orders_at buy es) ≡ option_map (held k.1 (price_at buy k.0)) (lookup (is_at (key_cmp k)) es)
-        → cond (is_eq o) (Some (order_at buy e).1) (lookup (is_at (key_cmp k)) (orders_at buy es)) ≡ option_map (held k.1 (price_at buy k.0)) (cond (is_eq o) (Some e.1) (lookup (is_at (key_cmp k)) es))
+    by : (o : Ordering) → o ≡ key_cmp k e.0 → lookup (is_at (key_cmp k)) (orders_at buy es) ≡ option_map (resting_of_kept k.1 (price_at buy k.0)) (lookup (is_at (key_cmp k)) es)
+        → cond (is_eq o) (Some (order_at buy e).1) (lookup (is_at (key_cmp k)) (orders_at buy es)) ≡ option_map (resting_of_kept k.1 (price_at buy k.0)) (cond (is_eq o) (Some e.1) (lookup (is_at (key_cmp k)) es))
     by Less is later = later
     by Greater is later = later
-    by Equal is later = ap (λ (key : ℕ × ℕ). Some (held key.1 (price_at buy key.0) e.1)) (sym (compared k e.0 Equal is))
+    by Equal is later = ap (λ (key : ℕ × ℕ). Some (resting_of_kept key.1 (price_at buy key.0) e.1)) (sym (compared k e.0 Equal is))
 
-pub put_at : (buy : Bool) (k : ℕ × ℕ) (o : LiveOrder) (kept : Kept) (es : List ((ℕ × ℕ) × Kept)) → is_keyed buy (k, resting_of o) ≡ true → price_at buy k.0 ≡ o.terms.price → k.1 ≡ o.number
+pub put_at : (buy : Bool) (k : ℕ × ℕ) (o : LiveOrder) (kept : KeptOrder) (es : List ((ℕ × ℕ) × KeptOrder)) → is_keyed buy (k, resting_of o) ≡ true → price_at buy k.0 ≡ o.terms.price → k.1 ≡ o.number
     → kept.shares ≡ (resting_of o).shares → kept.order.value ≡ o
     → are_keyed buy (orders_at buy es) ≡ true → IsStrictlySortedBy key_cmp (keys_of es) → IsLatest (resting_of o) (values_of (orders_at buy es))
     → (are_keyed buy (orders_at buy (insert_entry key_cmp es k kept)) ≡ true) × (values_of (orders_at buy (insert_entry key_cmp es k kept)) ≡ with_order buy (resting_of o) (values_of (orders_at buy es)))
 put_at buy k o kept es here priced numbered shares whose keyed sorted latest =
-    let meant : held k.1 (price_at buy k.0) kept ≡ resting_of o =
+    let meant : resting_of_kept k.1 (price_at buy k.0) kept ≡ resting_of o =
     λ i. record { order = numbered i; account = (whose i).account; user = (whose i).user; price = priced i; shares = shares i } in
     let same : orders_at buy (insert_entry key_cmp es k kept) ≡ insert_entry key_cmp (orders_at buy es) k (resting_of o) =
     inserted buy k kept es ∙ ap (insert_entry key_cmp (orders_at buy es) k) meant in
     let all = put_is buy k (resting_of o) (orders_at buy es) here keyed (subst (IsStrictlySortedBy key_cmp) (sym (keys_stay buy es)) sorted) latest in
     (ap (are_keyed buy) same ∙ all.0, ap values_of same ∙ all.1)
 
-pub taken_at : (buy : Bool) (k : ℕ × ℕ) (gone : RestingData) (es : List ((ℕ × ℕ) × Kept)) → is_keyed buy (k, gone) ≡ true → are_keyed buy (orders_at buy es) ≡ true → IsStrictlySortedBy key_cmp (keys_of es)
+pub taken_at : (buy : Bool) (k : ℕ × ℕ) (gone : RestingData) (es : List ((ℕ × ℕ) × KeptOrder)) → is_keyed buy (k, gone) ≡ true → are_keyed buy (orders_at buy es) ≡ true → IsStrictlySortedBy key_cmp (keys_of es)
     → (are_keyed buy (orders_at buy (remove_entry (is_at (key_cmp k)) es)) ≡ true) × (values_of (orders_at buy (remove_entry (is_at (key_cmp k)) es)) ≡ without_order gone (values_of (orders_at buy es)))
 taken_at buy k gone es here keyed sorted =
     let same = removed buy (is_at (key_cmp k)) es in
     let all = taken_is buy k gone (orders_at buy es) here keyed (subst (IsStrictlySortedBy key_cmp) (sym (keys_stay buy es)) sorted) in
     (ap (are_keyed buy) same ∙ all.0, ap values_of same ∙ all.1)
 
-pub found_at : (buy : Bool) (k : ℕ × ℕ) (r : RestingData) (es : List ((ℕ × ℕ) × Kept)) → is_keyed buy (k, r) ≡ true → are_keyed buy (orders_at buy es) ≡ true
-    → find (is_same r) (values_of (orders_at buy es)) ≡ option_map (held k.1 (price_at buy k.0)) (lookup (is_at (key_cmp k)) es)
+pub found_at : (buy : Bool) (k : ℕ × ℕ) (r : RestingData) (es : List ((ℕ × ℕ) × KeptOrder)) → is_keyed buy (k, r) ≡ true → are_keyed buy (orders_at buy es) ≡ true
+    → find (is_same r) (values_of (orders_at buy es)) ≡ option_map (resting_of_kept k.1 (price_at buy k.0)) (lookup (is_at (key_cmp k)) es)
 found_at buy k r es here keyed = found_is buy k r (orders_at buy es) here keyed ∙ found buy k es
 
 -- ---- so many shares are left
 
 -- what is kept of the order, with so many shares
-abbrev pub sized : ℕ → Kept → Kept
+abbrev pub sized : ℕ → KeptOrder → KeptOrder
 sized shares kept = record kept { shares = shares }
 
-shared_at : (buy : Bool) (k : ℕ × ℕ) (r : RestingData) (shares : ℕ) (kept : Kept) (es : List ((ℕ × ℕ) × Kept))
+shared_at : (buy : Bool) (k : ℕ × ℕ) (r : RestingData) (shares : ℕ) (kept : KeptOrder) (es : List ((ℕ × ℕ) × KeptOrder))
     → is_keyed buy (k, r) ≡ true → are_keyed buy (orders_at buy es) ≡ true → IsStrictlySortedBy key_cmp (keys_of es) → lookup (is_at (key_cmp k)) es ≡ Some kept
     → (are_keyed buy (orders_at buy (set_value (is_at (key_cmp k)) es (sized shares kept))) ≡ true)
     × (values_of (orders_at buy (set_value (is_at (key_cmp k)) es (sized shares kept))) ≡ with_shares r shares (values_of (orders_at buy es)))
@@ -263,7 +263,7 @@ shared_at buy k r shares kept (e ∷ es) here keyed sorted there =
     let parts = and_parts (is_keyed buy (order_at buy e)) (are_keyed buy (orders_at buy es)) keyed in
     by (key_cmp k e.0) refl parts sorted.0 there (λ deeper. shared_at buy k r shares kept es here parts.1 sorted.1 deeper)
   where
-    left : Ordering → List ((ℕ × ℕ) × Kept)
+    left : Ordering → List ((ℕ × ℕ) × KeptOrder)
     left o = cond (is_eq o) ((e.0, sized shares kept) ∷ es) (e ∷ set_value (is_at (key_cmp k)) es (sized shares kept))
 
     by : (o : Ordering) → o ≡ key_cmp k e.0 → (is_keyed buy (order_at buy e) ≡ true) × (are_keyed buy (orders_at buy es) ≡ true) → AllByRecursion (λ (y : ℕ × ℕ). key_cmp e.0 y ≡ Less) (keys_of es)
@@ -286,9 +286,9 @@ shared_at buy k r shares kept (e ∷ es) here keyed sorted there =
         at Equal is there same =
             let behind = subst (λ (a : ℕ × ℕ). AllByRecursion (λ (y : ℕ × ℕ). key_cmp a y ≡ Less) (keys_of es)) (sym (compared k e.0 Equal is)) sorted in
             let apart = apart_all buy (k, r) (orders_at buy es) here parts.1 (subst (AllByRecursion (λ (y : ℕ × ℕ). key_cmp k y ≡ Less)) (sym (keys_stay buy es)) behind) in
-            let its : e.1 ≡ kept = some_is there in (
+            let its : e.1 ≡ kept = same_Some _ _ there in (
               and_from _ _ parts.0 parts.1,
-              ap (λ (x : Kept). held e.0.1 (price_at buy e.0.0) (sized shares x) ∷ values_of (orders_at buy es)) (sym its)
+              ap (λ (x : KeptOrder). resting_of_kept e.0.1 (price_at buy e.0.0) (sized shares x) ∷ values_of (orders_at buy es)) (sym its)
                   ∙ ap (λ rest. shown true ∷ rest) (sym (none_shared r shares (values_of (orders_at buy es)) apart))
                   ∙ ap (λ b. shown b ∷ with_shares r shares (values_of (orders_at buy es))) (sym same),
             )
@@ -307,22 +307,22 @@ some_left zero some = absurd (some refl)
 some_left (suc n) some = lt-ltb 0 (suc n) (omega arith)
 
 -- the order stays with so many
-pub stays_at : (buy : Bool) (k : ℕ × ℕ) (r : RestingData) (shares : ℕ) (kept : Kept) (es : List ((ℕ × ℕ) × Kept)) → (shares ≡ 0 → ⊥)
+pub stays_at : (buy : Bool) (k : ℕ × ℕ) (r : RestingData) (shares : ℕ) (kept : KeptOrder) (es : List ((ℕ × ℕ) × KeptOrder)) → (shares ≡ 0 → ⊥)
     → is_keyed buy (k, r) ≡ true → are_keyed buy (orders_at buy es) ≡ true → IsStrictlySortedBy key_cmp (keys_of es) → lookup (is_at (key_cmp k)) es ≡ Some kept
     → values_of (orders_at buy (set_value (is_at (key_cmp k)) es (sized shares kept))) ≡ left_with r shares (values_of (orders_at buy es))
 stays_at buy k r shares kept es some here keyed sorted there =
     (shared_at buy k r shares kept es here keyed sorted there).1 ∙ ap (λ b. if b then with_shares r shares (values_of (orders_at buy es)) else without_order r (values_of (orders_at buy es))) (sym (some_left shares some))
 
 -- or none was there
-pub none_stays : (buy : Bool) (k : ℕ × ℕ) (r : RestingData) (shares : ℕ) (es : List ((ℕ × ℕ) × Kept)) → (shares ≡ 0 → ⊥)
+pub none_stays : (buy : Bool) (k : ℕ × ℕ) (r : RestingData) (shares : ℕ) (es : List ((ℕ × ℕ) × KeptOrder)) → (shares ≡ 0 → ⊥)
     → is_keyed buy (k, r) ≡ true → are_keyed buy (orders_at buy es) ≡ true → lookup (is_at (key_cmp k)) es ≡ None
     → values_of (orders_at buy es) ≡ left_with r shares (values_of (orders_at buy es))
 none_stays buy k r shares es some here keyed missing =
-    sym (none_shared r shares (values_of (orders_at buy es)) (none_found r (values_of (orders_at buy es)) (found_at buy k r es here keyed ∙ ap (option_map (held k.1 (price_at buy k.0))) missing)))
+    sym (none_shared r shares (values_of (orders_at buy es)) (none_found r (values_of (orders_at buy es)) (found_at buy k r es here keyed ∙ ap (option_map (resting_of_kept k.1 (price_at buy k.0))) missing)))
     ∙ ap (λ b. if b then with_shares r shares (values_of (orders_at buy es)) else without_order r (values_of (orders_at buy es))) (sym (some_left shares some))
 
 -- a key alone tells that the orders stay keyed
-pub stay_keyed : (buy : Bool) (k : ℕ × ℕ) (shares : ℕ) (kept : Kept) (es : List ((ℕ × ℕ) × Kept))
+pub stay_keyed : (buy : Bool) (k : ℕ × ℕ) (shares : ℕ) (kept : KeptOrder) (es : List ((ℕ × ℕ) × KeptOrder))
     → are_keyed buy (orders_at buy es) ≡ true → lookup (is_at (key_cmp k)) es ≡ Some kept
     → are_keyed buy (orders_at buy (set_value (is_at (key_cmp k)) es (sized shares kept))) ≡ true
 stay_keyed buy k shares kept [] keyed there = refl
@@ -334,7 +334,7 @@ stay_keyed buy k shares kept (e ∷ es) keyed there =
     ] there
 
 -- and where one goes
-pub go_keyed : (buy : Bool) (test : ℕ × ℕ → Bool) (es : List ((ℕ × ℕ) × Kept)) → are_keyed buy (orders_at buy es) ≡ true → are_keyed buy (orders_at buy (remove_entry test es)) ≡ true
+pub go_keyed : (buy : Bool) (test : ℕ × ℕ → Bool) (es : List ((ℕ × ℕ) × KeptOrder)) → are_keyed buy (orders_at buy es) ≡ true → are_keyed buy (orders_at buy (remove_entry test es)) ≡ true
 go_keyed buy test [] keyed = refl
 go_keyed buy test (e ∷ es) keyed =
     let parts = and_parts (is_keyed buy (order_at buy e)) (are_keyed buy (orders_at buy es)) keyed in
@@ -344,23 +344,18 @@ go_keyed buy test (e ∷ es) keyed =
     ]
 
 -- what is kept of an order under its key
-pub is_held : (buy : Bool) (k : ℕ × ℕ) (o : LiveOrder) (kept : Kept) → price_at buy k.0 ≡ o.terms.price → k.1 ≡ o.number
-    → held o.number o.terms.price kept ≡ held k.1 (price_at buy k.0) kept
-is_held buy k o kept priced numbered = λ i. held (sym numbered i) (sym priced i) kept
+pub is_held : (buy : Bool) (k : ℕ × ℕ) (o : LiveOrder) (kept : KeptOrder) → price_at buy k.0 ≡ o.terms.price → k.1 ≡ o.number
+    → resting_of_kept o.number o.terms.price kept ≡ resting_of_kept k.1 (price_at buy k.0) kept
+is_held buy k o kept priced numbered = λ i. resting_of_kept (sym numbered i) (sym priced i) kept
 
 -- what is kept first is the first order, under its key
-pub first_is_keyed : (buy : Bool) (es : List ((ℕ × ℕ) × Kept)) (k : ℕ × ℕ) (kept : Kept) (shares : ℕ) → are_keyed buy (orders_at buy es) ≡ true → slice_get es 0 ≡ Some (k, kept)
-    → (is_keyed buy (k, held k.1 (price_at buy k.0) kept) ≡ true)
-    × (taken_from_first shares (values_of (orders_at buy es)) ≡ left_with (held k.1 (price_at buy k.0) kept) (kept.shares - shares) (values_of (orders_at buy es)))
+pub first_is_keyed : (buy : Bool) (es : List ((ℕ × ℕ) × KeptOrder)) (k : ℕ × ℕ) (kept : KeptOrder) (shares : ℕ) → are_keyed buy (orders_at buy es) ≡ true → slice_get es 0 ≡ Some (k, kept)
+    → (is_keyed buy (k, resting_of_kept k.1 (price_at buy k.0) kept) ≡ true)
+    × (taken_from_first shares (values_of (orders_at buy es)) ≡ left_with (resting_of_kept k.1 (price_at buy k.0) kept) (kept.shares - shares) (values_of (orders_at buy es)))
 first_is_keyed buy [] k kept shares keyed first = cc
 first_is_keyed buy (e ∷ es) k kept shares keyed first =
     let parts = and_parts (is_keyed buy (order_at buy e)) (are_keyed buy (orders_at buy es)) keyed in
-    let its : e ≡ (k, kept) = some_is first in (
-      ap (λ (x : (ℕ × ℕ) × Kept). is_keyed buy (order_at buy x)) (sym its) ∙ parts.0,
-      ap (λ (x : (ℕ × ℕ) × Kept). left_with (order_at buy x).1 (x.1.shares - shares) (values_of (orders_at buy (e ∷ es)))) its,
+    let its : e ≡ (k, kept) = same_Some _ _ first in (
+      ap (λ (x : (ℕ × ℕ) × KeptOrder). is_keyed buy (order_at buy x)) (sym its) ∙ parts.0,
+      ap (λ (x : (ℕ × ℕ) × KeptOrder). left_with (order_at buy x).1 (x.1.shares - shares) (values_of (orders_at buy (e ∷ es)))) its,
     )
-
--- nothing is taken from an empty side
-pub none_first : (buy : Bool) (shares : ℕ) (es : List ((ℕ × ℕ) × Kept)) → slice_get es 0 ≡ None → values_of (orders_at buy es) ≡ taken_from_first shares (values_of (orders_at buy es))
-none_first buy shares [] none = refl
-none_first buy shares (e ∷ es) none = cc

@@ -1,25 +1,25 @@
 -- A book that opens on the policy's stocks.
-use Rattle.std.proofs.{Common.{◌≡◌, ℕ, ◌+◌, ◌<◌, Bool, true, not, ◌||◌, List, [], ◌∷◌, ◌++◌, map, refl, ◌∙◌, sym, ap, subst, length, take, drop, zero, suc, get_or, append_assoc, if◌then◌else◌}, lemmas.{Bool.{and_from, and_parts, or_parts}, List.{get_or-map, length-map, take_more, take-append-drop, Folds.list_any-append}}}
+use Rattle.std.proofs.{Common.{◌≡◌, ℕ, ◌+◌, ◌<◌, Bool, true, not, ◌||◌, List, [], ◌∷◌, ◌++◌, map, refl, ◌∙◌, sym, ap, subst, length, take, drop, zero, suc, get_or, append_assoc, if◌then◌else◌}, lemmas.{Bool.{and_from, and_parts, or_parts, not-true}, List.{Folds.list_any-append, get_or-map, length-map, take_more, take-append-drop}}}
 use Rattle.std.specs.List.{list_any}
 use Rattle.indexmap.specs.IndexMap.{insert_entry}
 use Rattle.gx_units.specs.{Names.same_stock, declared.names.Symbol.Symbol}
 use Rattle.gx_policy.specs.{declared.policy.{Stock.Stock, PolicyData.PolicyData}, Lists.are_distinct, Soundness.{is_sound, names_differ}}
-use Rattle.gx_book.specs.{declared.sides.Sides.Sides, Resting.RestingData, Books.{StockOrders, is_same_stock, is_sound_book, without_orders}, Table.{book_of, stock_of}}
-use Rattle.gx_book.proofs.{Order.is_false, Stocks.stocks_equiv}
+use Rattle.gx_book.specs.{declared.sides.BothSides.BothSides, Resting.RestingData, Books.{StockOrders, is_same_stock, is_sound_book, without_orders}, Table.{book_of, stock_of}}
+use Rattle.gx_book.proofs.Stocks.{stocks_equiv}
 
 -- a stock of a new name goes last
-added : (es : List (Symbol × Sides)) (name : Symbol) (sides : Sides) (rest : List StockOrders) → are_distinct is_same_stock (book_of es ++ stock_of (name, sides) ∷ rest) ≡ true
+added : (es : List (Symbol × BothSides)) (name : Symbol) (sides : BothSides) (rest : List StockOrders) → are_distinct is_same_stock (book_of es ++ stock_of (name, sides) ∷ rest) ≡ true
     → book_of (insert_entry same_stock es name sides) ≡ book_of es ++ stock_of (name, sides) ∷ []
 added [] name sides rest differ = refl
 added (e ∷ es) name sides rest differ =
     let named : StockOrders → Bool = λ (b : StockOrders). same_stock e.0 b.stock in
     let parts = and_parts (not (list_any named (book_of es ++ stock_of (name, sides) ∷ rest))) _ differ in
-    let apart = (or_parts (list_any named (book_of es)) _ (sym (list_any-append named (book_of es) (stock_of (name, sides) ∷ rest)) ∙ is_false _ parts.0)).1 in
+    let apart = (or_parts (list_any named (book_of es)) _ (sym (list_any-append named (book_of es) (stock_of (name, sides) ∷ rest)) ∙ not-true _ parts.0)).1 in
     ap (λ b. book_of (if b then (e.0, sides) ∷ es else e ∷ insert_entry same_stock es name sides)) (stocks_equiv.symm name e.0 ∙ (or_parts (same_stock e.0 name) _ apart).0)
     ∙ ap (λ ss. stock_of e ∷ ss) (added es name sides rest parts.1)
 
 -- one more of the stocks
-added_next : (es : List (Symbol × Sides)) (name : Symbol) (sides : Sides) (rows : List StockOrders) (i : ℕ)
+added_next : (es : List (Symbol × BothSides)) (name : Symbol) (sides : BothSides) (rows : List StockOrders) (i : ℕ)
     → are_distinct is_same_stock rows ≡ true → book_of es ≡ take i rows → i < length rows → stock_of (name, sides) ≡ get_or rows i (stock_of (name, sides))
     → book_of (insert_entry same_stock es name sides) ≡ take (i + 1) rows
 added_next es name sides rows i differ are within at =
@@ -50,7 +50,7 @@ stocks_differ policy h =
     (and_parts _ _ (and_parts _ _ (and_parts _ _ names).0).0).1
 
 -- one more of the policy's stocks
-pub listed_next : (es : List (Symbol × Sides)) (sides : Sides) (stocks : List Stock) (i : ℕ) (d : Stock)
+pub listed_next : (es : List (Symbol × BothSides)) (sides : BothSides) (stocks : List Stock) (i : ℕ) (d : Stock)
     → are_distinct (λ (a b : Stock). same_stock a.name b.name) stocks ≡ true → book_of es ≡ take i (map without_orders stocks) → i < length stocks
     → sides.buys ≡ [] → sides.sells ≡ []
     → book_of (insert_entry same_stock es (get_or stocks i d).name sides) ≡ take (i + 1) (map without_orders stocks)

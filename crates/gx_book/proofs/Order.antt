@@ -1,17 +1,10 @@
 -- A side stays in the order of its prices, whatever is done to it.
-use Rattle.std.proofs.{Common.{◌≡◌, ◌-◌, ℕ, Bool, true, false, cond, not, ◌&&◌, List, [], ◌∷◌, ◌++◌, map, refl, ◌∙◌, sym, ap, true≢false, arith}, lemmas.{Bool.{and_from, and_parts}, List.{Elements.All-filter, Folds.list_all-append, Sums.{AllPass-from_list_all, list_all-from_AllPass}}}}
-use Rattle.std.specs.{Prelude.{Option, Some, None, if◌then◌else◌, nat_lt}, List.{filter, list_all}}
-use Rattle.gx_policy.specs.Lists.{placed}
+use Rattle.std.proofs.{Common.{◌≡◌, ◌-◌, ℕ, Bool, true, false, cond, not, ◌&&◌, List, [], ◌∷◌, ◌++◌, map, refl, ◌∙◌, ap, arith}, lemmas.{Bool.{and_from, and_parts}, List.{Elements.All-filter, Folds.list_all-append, Sums.{AllPass-from_list_all, list_all-from_AllPass}}}}
+use Rattle.std.specs.{Prelude.{if◌then◌else◌, nat_lt}, List.{filter, list_all}}
+use Rattle.gx_policy.specs.Lists.{inserted_behind}
 use Rattle.gx_book.specs.{Resting.RestingData, Queue.{is_better, is_in_order, is_same, left_with, taken_from_first, with_order, with_shares, without_order}}
 
 -- ---- any list
-
-pub some_is : {X : Type 0} {x y : X} → Some x ≡ Some y → x ≡ y
-some_is {X} {x} h = ap (λ (o : Option X). elim o [ None ↦ x | Some z ↦ z ]) h
-
-pub is_false : (b : Bool) → not b ≡ true → b ≡ false
-is_false true h = absurd (true≢false (sym h))
-is_false false h = refl
 
 pub all_pass : {X : Type 0} (p : X → Bool) (xs : List X) → list_all p xs ≡ true → filter p xs ≡ xs
 all_pass p [] all = refl
@@ -32,15 +25,15 @@ pub all_filter : {X : Type 0} (q p : X → Bool) (xs : List X) → list_all q xs
 all_filter q p xs all = list_all-from_AllPass q (filter p xs) (All-filter p (λ x. q x ≡ true) xs (AllPass-from_list_all q xs all))
 
 -- whoever betters all goes first
-pub ahead_of_all : {X : Type 0} (better : X → X → Bool) (r : X) (xs : List X) → list_all (better r) xs ≡ true → placed better xs r ≡ r ∷ xs
+pub ahead_of_all : {X : Type 0} (better : X → X → Bool) (r : X) (xs : List X) → list_all (better r) xs ≡ true → inserted_behind better xs r ≡ r ∷ xs
 ahead_of_all better r xs all = ap (λ front. front ++ r ∷ filter (better r) xs) (none_pass (better r) xs all) ∙ ap (λ rest. r ∷ rest) (all_pass (better r) xs all)
 
 -- and behind whom he doesn't better
-pub behind_first : {X : Type 0} (better : X → X → Bool) (r x : X) (xs : List X) → better r x ≡ false → placed better (x ∷ xs) r ≡ x ∷ placed better xs r
+pub behind_first : {X : Type 0} (better : X → X → Bool) (r x : X) (xs : List X) → better r x ≡ false → inserted_behind better (x ∷ xs) r ≡ x ∷ inserted_behind better xs r
 behind_first better r x xs is =
     ap (λ b. cond (not b) (x ∷ filter (λ y. not (better r y)) xs) (filter (λ y. not (better r y)) xs) ++ r ∷ cond b (x ∷ filter (better r) xs) (filter (better r) xs)) is
 
-all_placed : {X : Type 0} (q : X → Bool) (better : X → X → Bool) (r : X) (xs : List X) → list_all q xs ≡ true → q r ≡ true → list_all q (placed better xs r) ≡ true
+all_placed : {X : Type 0} (q : X → Bool) (better : X → X → Bool) (r : X) (xs : List X) → list_all q xs ≡ true → q r ≡ true → list_all q (inserted_behind better xs r) ≡ true
 all_placed q better r xs all here =
     list_all-append q (filter (λ y. not (better r y)) xs) (r ∷ filter (better r) xs)
     ∙ and_from _ _ (all_filter q (λ y. not (better r y)) xs all) (and_from _ _ here (all_filter q (better r) xs all))

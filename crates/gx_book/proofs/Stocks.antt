@@ -1,10 +1,10 @@
 -- What the table of stocks says of the book that it stands for.
-use Rattle.std.proofs.{Common.{◌≡◌, ℕ, ◌+◌, arith, length, length-append, Bool, true, false, cond, not, ◌||◌, List, [], ◌∷◌, map, refl, ◌∙◌, sym, ap, subst, if◌then◌else◌}, lemmas.{Bool.{and_from, and_parts}, List.Folds.list_all-map, Map.{NonePasses, none_passes_from_lookup, Entries.none_past_head, Steps.set_value_same}, Slice.Eq.bytes_eq-Decides}}
+use Rattle.std.proofs.{Common.{◌≡◌, ℕ, ◌+◌, arith, length, length-append, Bool, true, false, cond, not, ◌||◌, List, [], ◌∷◌, map, refl, ◌∙◌, sym, ap, subst, if◌then◌else◌}, lemmas.{Bool.{and_from, and_parts}, List.Folds.list_all-map, Map.{Entries.none_past_head, Steps.set_value_same, NonePasses, none_passes_from_lookup}, Slice.Eq.bytes_eq-Decides, Option.same_Some}}
 use Rattle.std.specs.{Prelude.{OnErr, Option, Some, None, is_some, Result, Ok, Err}, Cmp.{IsEquivalence, on_equiv, Lexicographic.nat_list_eq_equiv}, Option.option_map_or, List.{list_any, AllByRecursion, IsDistinct}, Map.{keys_of, lookup, set_value}}
 use Rattle.gx_units.specs.{Names.same_stock, declared.names.Symbol.Symbol}
 use Rattle.gx_policy.specs.Lists.{are_distinct}
-use Rattle.gx_book.specs.{declared.sides.Sides.Sides, Resting.RestingData, Books.{IsSound, StockOrders, all_orders, both_sides, is_same_stock, is_sound_book, is_sound_stock, on_each_side, on_side, resting_in, side_of, stock_in, with_side}, Queue.is_in_order, Table.{book_of, both_changed, changed, side_in, stock_of}}
-use Rattle.gx_book.proofs.Order.{all_so, some_is}
+use Rattle.gx_book.specs.{declared.sides.BothSides.BothSides, Resting.RestingData, Books.{IsSound, StockOrders, all_orders, both_sides, is_same_stock, is_sound_book, is_sound_stock, on_each_side, on_side, resting_in, side_of, stock_in, with_side}, Queue.is_in_order, Table.{book_of, both_changed, with_side_changed, side_in, stock_of}}
+use Rattle.gx_book.proofs.Order.{all_so}
 
 pub on_err : {X E : Type 0} (o : Result X E) (P : Type 0) → P → OnErr o P
 on_err (Ok x) P h = tt
@@ -19,7 +19,7 @@ stocks_equiv = on_equiv (λ (s : Symbol). s.bytes) nat_list_eq_equiv
 -- ---- one side of one stock
 
 -- the stock found in the table
-pub stock_found : (es : List (Symbol × Sides)) (stock : Symbol) (buy : Bool)
+pub stock_found : (es : List (Symbol × BothSides)) (stock : Symbol) (buy : Bool)
     → resting_in (book_of es) stock buy ≡ option_map_or (side_in buy) (lookup (same_stock stock) es) []
 stock_found [] stock buy = refl
 stock_found (e ∷ es) stock buy =
@@ -27,50 +27,50 @@ stock_found (e ∷ es) stock buy =
     [ true ↦ refl | false ↦ stock_found es stock buy ]
 
 -- whether the table has the stock
-pub listed_found : (es : List (Symbol × Sides)) (stock : Symbol) → is_some (lookup (same_stock stock) es) ≡ is_some (stock_in (book_of es) stock)
+pub listed_found : (es : List (Symbol × BothSides)) (stock : Symbol) → is_some (lookup (same_stock stock) es) ≡ is_some (stock_in (book_of es) stock)
 listed_found [] stock = refl
 listed_found (e ∷ es) stock =
     elim (same_stock stock e.0) as (λ b. is_some (cond b (Some e.1) (lookup (same_stock stock) es)) ≡ is_some (cond b (Some (stock_of e)) (stock_in (book_of es) stock)))
     [ true ↦ refl | false ↦ listed_found es stock ]
 
 -- the side of a stock that is listed, and of one that is not
-pub side_found : (es : List (Symbol × Sides)) (book : List StockOrders) (stock : Symbol) (sides : Sides) → book_of es ≡ book → Some sides ≡ lookup (same_stock stock) es → (buy : Bool) → resting_in book stock buy ≡ side_in buy sides
+pub side_found : (es : List (Symbol × BothSides)) (book : List StockOrders) (stock : Symbol) (sides : BothSides) → book_of es ≡ book → Some sides ≡ lookup (same_stock stock) es → (buy : Bool) → resting_in book stock buy ≡ side_in buy sides
 side_found es book stock sides view found buy =
-    ap (λ b. resting_in b stock buy) (sym view) ∙ stock_found es stock buy ∙ ap (λ (o : Option Sides). option_map_or (side_in buy) o []) (sym found)
+    ap (λ b. resting_in b stock buy) (sym view) ∙ stock_found es stock buy ∙ ap (λ (o : Option BothSides). option_map_or (side_in buy) o []) (sym found)
 
-pub none_found : (es : List (Symbol × Sides)) (book : List StockOrders) (stock : Symbol) (buy : Bool) → book_of es ≡ book → None ≡ lookup (same_stock stock) es → resting_in book stock buy ≡ []
+pub none_found : (es : List (Symbol × BothSides)) (book : List StockOrders) (stock : Symbol) (buy : Bool) → book_of es ≡ book → None ≡ lookup (same_stock stock) es → resting_in book stock buy ≡ []
 none_found es book stock buy view missing =
-    ap (λ b. resting_in b stock buy) (sym view) ∙ stock_found es stock buy ∙ ap (λ (o : Option Sides). option_map_or (side_in buy) o []) (sym missing)
+    ap (λ b. resting_in b stock buy) (sym view) ∙ stock_found es stock buy ∙ ap (λ (o : Option BothSides). option_map_or (side_in buy) o []) (sym missing)
 
-abbrev row : Symbol × Sides → Bool → (List RestingData → List RestingData) → Bool → StockOrders
+abbrev row : Symbol × BothSides → Bool → (List RestingData → List RestingData) → Bool → StockOrders
 row e buy f b = if b then with_side buy f (stock_of e) else stock_of e
 
 -- where no entry has the name, nothing changes
-none_changed : (stock : Symbol) (buy : Bool) (f : List RestingData → List RestingData) (es : List (Symbol × Sides)) → NonePasses (same_stock stock) es → on_side stock buy f (book_of es) ≡ book_of es
+none_changed : (stock : Symbol) (buy : Bool) (f : List RestingData → List RestingData) (es : List (Symbol × BothSides)) → NonePasses (same_stock stock) es → on_side stock buy f (book_of es) ≡ book_of es
 none_changed stock buy f [] apart = refl
 none_changed stock buy f (e ∷ es) apart =
     ap (λ b. row e buy f b ∷ on_side stock buy f (book_of es)) apart.0 ∙ ap (λ rest. stock_of e ∷ rest) (none_changed stock buy f es apart.1)
 
-pub unlisted_stays : (es : List (Symbol × Sides)) (book : List StockOrders) (stock : Symbol) (buy : Bool) (f : List RestingData → List RestingData) → book_of es ≡ book → None ≡ lookup (same_stock stock) es → on_side stock buy f book ≡ book
+pub unlisted_stays : (es : List (Symbol × BothSides)) (book : List StockOrders) (stock : Symbol) (buy : Bool) (f : List RestingData → List RestingData) → book_of es ≡ book → None ≡ lookup (same_stock stock) es → on_side stock buy f book ≡ book
 unlisted_stays es book stock buy f view missing =
     ap (on_side stock buy f) (sym view) ∙ none_changed stock buy f es (none_passes_from_lookup (same_stock stock) es (sym missing)) ∙ view
 
-changed_in_place : (stock : Symbol) (buy : Bool) (f : List RestingData → List RestingData) (es : List (Symbol × Sides)) (before : Sides)
+changed_in_place : (stock : Symbol) (buy : Bool) (f : List RestingData → List RestingData) (es : List (Symbol × BothSides)) (before : BothSides)
     → IsDistinct same_stock (keys_of es) → lookup (same_stock stock) es ≡ Some before
-    → book_of (set_value (same_stock stock) es (changed buy f before)) ≡ on_side stock buy f (book_of es)
+    → book_of (set_value (same_stock stock) es (with_side_changed buy f before)) ≡ on_side stock buy f (book_of es)
 unfolding IsDistinct
 changed_in_place stock buy f [] before distinct found = refl
 changed_in_place stock buy f (e ∷ es) before distinct found = by (same_stock stock e.0) refl (λ later. changed_in_place stock buy f es before distinct.1 later)
   where
-    written : Bool → Sides → List StockOrders
-    written b s = book_of (cond b ((e.0, changed buy f s) ∷ es) (e ∷ set_value (same_stock stock) es (changed buy f s)))
+    written : Bool → BothSides → List StockOrders
+    written b s = book_of (cond b ((e.0, with_side_changed buy f s) ∷ es) (e ∷ set_value (same_stock stock) es (with_side_changed buy f s)))
 
     by : (b : Bool) → same_stock stock e.0 ≡ b
-        → (lookup (same_stock stock) es ≡ Some before → book_of (set_value (same_stock stock) es (changed buy f before)) ≡ on_side stock buy f (book_of es))
+        → (lookup (same_stock stock) es ≡ Some before → book_of (set_value (same_stock stock) es (with_side_changed buy f before)) ≡ on_side stock buy f (book_of es))
         → written (same_stock stock e.0) before ≡ on_side stock buy f (book_of (e ∷ es))
     by true is later =
         ap (λ b. written b before) is
-        ∙ ap (written true) (some_is (sym found ∙ ap (λ b. cond b (Some e.1) (lookup (same_stock stock) es)) is))
+        ∙ ap (written true) (same_Some _ _ (sym found ∙ ap (λ b. cond b (Some e.1) (lookup (same_stock stock) es)) is))
         ∙ ap (λ rest. row e buy f true ∷ rest) (sym (none_changed stock buy f es (none_past_head stocks_equiv stock e es distinct is)))
         ∙ ap (λ b. row e buy f b ∷ on_side stock buy f (book_of es)) (sym is)
     by false is later =
@@ -79,20 +79,20 @@ changed_in_place stock buy f (e ∷ es) before distinct found = by (same_stock s
         ∙ ap (λ b. row e buy f b ∷ on_side stock buy f (book_of es)) (sym is)
 
 -- a stock's sides written back into the table, one of them changed
-pub written_back : (es after : List (Symbol × Sides)) (stock : Symbol) (buy : Bool) (f : List RestingData → List RestingData) (before now : Sides)
-    → after ≡ set_value (same_stock stock) es now → now ≡ changed buy f before → IsDistinct same_stock (keys_of es) → Some before ≡ lookup (same_stock stock) es
+pub written_back : (es after : List (Symbol × BothSides)) (stock : Symbol) (buy : Bool) (f : List RestingData → List RestingData) (before now : BothSides)
+    → after ≡ set_value (same_stock stock) es now → now ≡ with_side_changed buy f before → IsDistinct same_stock (keys_of es) → Some before ≡ lookup (same_stock stock) es
     → book_of after ≡ on_side stock buy f (book_of es)
 written_back es after stock buy f before now written done distinct found =
     ap book_of written ∙ ap (λ s. book_of (set_value (same_stock stock) es s)) done ∙ changed_in_place stock buy f es before distinct (sym found)
 
 -- and as they were
-pub written_same : (es after : List (Symbol × Sides)) (stock : Symbol) (before now : Sides)
+pub written_same : (es after : List (Symbol × BothSides)) (stock : Symbol) (before now : BothSides)
     → after ≡ set_value (same_stock stock) es now → now ≡ before → Some before ≡ lookup (same_stock stock) es → book_of after ≡ book_of es
 written_same es after stock before now written same found =
     ap book_of written ∙ ap (λ s. book_of (set_value (same_stock stock) es s)) same ∙ ap book_of (set_value_same (same_stock stock) es before (sym found))
 
 -- both sides of each entry changed
-pub each_changed : (f : List RestingData → List RestingData) (es : List (Symbol × Sides)) → book_of (map (λ (e : Symbol × Sides). (e.0, both_changed f e.1)) es) ≡ on_each_side f (book_of es)
+pub each_changed : (f : List RestingData → List RestingData) (es : List (Symbol × BothSides)) → book_of (map (λ (e : Symbol × BothSides). (e.0, both_changed f e.1)) es) ≡ on_each_side f (book_of es)
 each_changed f [] = refl
 each_changed f (e ∷ es) = ap (λ rest. stock_of (e.0, both_changed f e.1) ∷ rest) (each_changed f es)
 
@@ -117,35 +117,35 @@ pub sound_on_each : (f : List RestingData → List RestingData) (book : List Sto
 sound_on_each f book sound keeps = sound_map (λ (s : StockOrders). record { stock = s.stock; buys = f s.buys; sells = f s.sells }) book sound (λ s here.
     let parts = and_parts (is_in_order true s.buys) (is_in_order false s.sells) here in and_from _ _ (keeps true s.buys parts.0) (keeps false s.sells parts.1))
 
-no_such_stock : (stock : Symbol) (es : List (Symbol × Sides)) → AllByRecursion (λ other. same_stock stock other ≡ false) (keys_of es)
+no_such_stock : (stock : Symbol) (es : List (Symbol × BothSides)) → AllByRecursion (λ other. same_stock stock other ≡ false) (keys_of es)
     → list_any (λ (s : StockOrders). same_stock stock s.stock) (book_of es) ≡ false
 no_such_stock stock [] apart = refl
 no_such_stock stock (e ∷ es) apart = ap (λ b. b || list_any (λ (s : StockOrders). same_stock stock s.stock) (book_of es)) apart.0 ∙ no_such_stock stock es apart.1
 
-stocks_differ : (es : List (Symbol × Sides)) → IsDistinct same_stock (keys_of es) → are_distinct is_same_stock (book_of es) ≡ true
+stocks_differ : (es : List (Symbol × BothSides)) → IsDistinct same_stock (keys_of es) → are_distinct is_same_stock (book_of es) ≡ true
 unfolding IsDistinct
 stocks_differ [] distinct = refl
 stocks_differ (e ∷ es) distinct = and_from _ _ (ap not (no_such_stock e.0 es distinct.0)) (stocks_differ es distinct.1)
 
-pub always_sound : (es : List (Symbol × Sides)) (book : List StockOrders) → book_of es ≡ book → IsDistinct same_stock (keys_of es) → is_sound_book (book_of es) ≡ true → IsSound book
+pub always_sound : (es : List (Symbol × BothSides)) (book : List StockOrders) → book_of es ≡ book → IsDistinct same_stock (keys_of es) → is_sound_book (book_of es) ≡ true → IsSound book
 always_sound es book view distinct sound = subst IsSound view (record { sides_are_sound = sound; stocks_differ = stocks_differ es distinct })
 
 -- ---- how many orders rest
 
-one_side_fewer : (buy : Bool) (before after : Sides) (f : List RestingData → List RestingData) (n : ℕ) (key : Symbol) → after ≡ changed buy f before → length (side_in buy after) + n ≡ length (side_in buy before)
+one_side_fewer : (buy : Bool) (before after : BothSides) (f : List RestingData → List RestingData) (n : ℕ) (key : Symbol) → after ≡ with_side_changed buy f before → length (side_in buy after) + n ≡ length (side_in buy before)
     → length (both_sides (stock_of (key, after))) + n ≡ length (both_sides (stock_of (key, before)))
 one_side_fewer true before after f n key is fewer =
-    ap (λ l. l + n) (length-append after.buys after.sells) ∙ ap (λ (s : List RestingData). (length after.buys + length s) + n) (ap (λ (s : Sides). s.sells) is) ∙ omega (arith, fewer) ∙ sym (length-append before.buys before.sells)
+    ap (λ l. l + n) (length-append after.buys after.sells) ∙ ap (λ (s : List RestingData). (length after.buys + length s) + n) (ap (λ (s : BothSides). s.sells) is) ∙ omega (arith, fewer) ∙ sym (length-append before.buys before.sells)
 one_side_fewer false before after f n key is fewer =
-    ap (λ l. l + n) (length-append after.buys after.sells) ∙ ap (λ (s : List RestingData). (length s + length after.sells) + n) (ap (λ (s : Sides). s.buys) is) ∙ omega (arith, fewer) ∙ sym (length-append before.buys before.sells)
+    ap (λ l. l + n) (length-append after.buys after.sells) ∙ ap (λ (s : List RestingData). (length s + length after.sells) + n) (ap (λ (s : BothSides). s.buys) is) ∙ omega (arith, fewer) ∙ sym (length-append before.buys before.sells)
 
 -- as many fewer as on the side of the stock
-pub fewer_back : (es entries : List (Symbol × Sides)) (stock : Symbol) (buy : Bool) (f : List RestingData → List RestingData) (before after : Sides) (n : ℕ)
-    → entries ≡ set_value (same_stock stock) es after → after ≡ changed buy f before → Some before ≡ lookup (same_stock stock) es → length (side_in buy after) + n ≡ length (side_in buy before)
+pub fewer_back : (es entries : List (Symbol × BothSides)) (stock : Symbol) (buy : Bool) (f : List RestingData → List RestingData) (before after : BothSides) (n : ℕ)
+    → entries ≡ set_value (same_stock stock) es after → after ≡ with_side_changed buy f before → Some before ≡ lookup (same_stock stock) es → length (side_in buy after) + n ≡ length (side_in buy before)
     → length (all_orders (book_of entries)) + n ≡ length (all_orders (book_of es))
-fewer_back es entries stock buy f before after n written is found fewer = ap (λ (xs : List (Symbol × Sides)). length (all_orders (book_of xs)) + n) written ∙ by es found
+fewer_back es entries stock buy f before after n written is found fewer = ap (λ (xs : List (Symbol × BothSides)). length (all_orders (book_of xs)) + n) written ∙ by es found
   where
-    by : (xs : List (Symbol × Sides)) → Some before ≡ lookup (same_stock stock) xs → length (all_orders (book_of (set_value (same_stock stock) xs after))) + n ≡ length (all_orders (book_of xs))
+    by : (xs : List (Symbol × BothSides)) → Some before ≡ lookup (same_stock stock) xs → length (all_orders (book_of (set_value (same_stock stock) xs after))) + n ≡ length (all_orders (book_of xs))
     by [] found = cc
     by (x ∷ xs) found = at (same_stock stock x.0) found (λ deeper. by xs deeper)
       where
@@ -154,10 +154,10 @@ fewer_back es entries stock buy f before after n written is found fewer = ap (λ
             → length (all_orders (book_of (cond b ((x.0, after) ∷ xs) (x ∷ set_value (same_stock stock) xs after)))) + n ≡ length (all_orders (book_of (x ∷ xs)))
         at true found deeper =
             let one = one_side_fewer buy before after f n x.0 is fewer in
-            let its : before ≡ x.1 = some_is found in
+            let its : before ≡ x.1 = same_Some _ _ found in
             ap (λ l. l + n) (length-append (both_sides (stock_of (x.0, after))) (all_orders (book_of xs)))
             ∙ omega (arith, one)
-            ∙ ap (λ (s : Sides). length (both_sides (stock_of (x.0, s))) + length (all_orders (book_of xs))) its
+            ∙ ap (λ (s : BothSides). length (both_sides (stock_of (x.0, s))) + length (all_orders (book_of xs))) its
             ∙ sym (length-append (both_sides (stock_of x)) (all_orders (book_of xs)))
         at false found deeper =
             let more = deeper found in

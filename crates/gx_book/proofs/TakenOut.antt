@@ -20,7 +20,7 @@ abbrev stock_without : List LiveOrder → StockOrders → StockOrders
 stock_without os s = made s.stock (side_without os s.stock true s.buys) (side_without os s.stock false s.sells)
 
 -- without none a side is as it was
-none_out : (rs : List RestingData) → filter (λ (r : RestingData). true) rs ≡ rs
+pub none_out : (rs : List RestingData) → filter (λ (r : RestingData). true) rs ≡ rs
 none_out [] = refl
 none_out (r ∷ rs) = ap (λ (more : List RestingData). r ∷ more) (none_out rs)
 

@@ -26,8 +26,8 @@ abbrev pub left_with : LiveOrder → ℕ → List StockOrders → List StockOrde
 left_with o shares book = on_side o.terms.stock (is_buy o.terms.side) (queue.left_with (resting_of o) shares) book
 
 -- so many shares fewer of the order
-abbrev pub reduced : LiveOrder → ℕ → List StockOrders → List StockOrders
-reduced o shares book = left_with o (shares_open o - shares) book
+abbrev pub with_fewer_shares : LiveOrder → ℕ → List StockOrders → List StockOrders
+with_fewer_shares o shares book = left_with o (shares_open o - shares) book
 
 -- so many shares taken from the best order on this side of the stock
 abbrev pub taken_from_best : Symbol → Bool → ℕ → List StockOrders → List StockOrders

@@ -1,7 +1,7 @@
 -- One side of a stock: the orders that rest there, the better price first, and at one price the earlier first.
 use Rattle.std.specs.{Prelude.{◌≡◌, ◌<◌, ◌-◌, ℕ, Bool, true, not, ◌&&◌, ◌==◌, nat_lt, List, [], ◌∷◌, map, if◌then◌else◌}, List.{AllByRecursion, filter, list_all}}
 use Rattle.gx_units.specs.{Names.same_account, declared.names.AccountName.AccountName}
-use Rattle.gx_policy.specs.Lists.{placed}
+use Rattle.gx_policy.specs.Lists.{inserted_behind}
 use Rattle.gx_book.specs.Resting.{RestingData}
 
 -- the first order has the better price, on this side, true for buys
@@ -22,7 +22,7 @@ is_of account r = same_account r.account account
 
 -- the order is behind all of equal or better price
 abbrev pub with_order : Bool → RestingData → List RestingData → List RestingData
-with_order buy r orders = placed (is_better buy) orders r
+with_order buy r orders = inserted_behind (is_better buy) orders r
 
 -- the order is taken out
 abbrev pub without_order : RestingData → List RestingData → List RestingData

@@ -2,10 +2,10 @@
 
 ghost use Rattle.std.specs.Prelude.{◌≡◌, ◌+◌, is_some, length, min, IfOk, OnOk, OnErr, if◌then◌else◌};
 ghost use Rattle.gx_history.specs.Book.{is_buy};
-ghost use Rattle.gx_book.specs.{Account.{AreAllOf, count_of}, Books.{IsSound, all_orders, best_in, empty_book, on_each_side, stock_in}, Changes.{found_in, own_side, put_to_rest, reduced, taken_from_best, taken_out}, Queue.{IsLatest, no_orders, without_account}, Resting.resting_of};
+ghost use Rattle.gx_book.specs.{Account.{AreAllOf, count_of}, Books.{IsSound, all_orders, best_in, empty_book, on_each_side, stock_in}, Changes.{found_in, own_side, put_to_rest, with_fewer_shares, taken_from_best, taken_out}, Queue.{IsLatest, no_orders, without_account}, Resting.resting_of};
 
 use crate::resting::{Resting, is_buy};
-use crate::sides::Sides;
+use crate::sides::BothSides;
 use gx_history::live_order::LiveOrder;
 use gx_index::{get_mut_near, get_near, index_near};
 use gx_policy::{Policy, Stock};
@@ -20,7 +20,7 @@ use std::marker::Model;
 /// the buys and the list of the sells. Only `new` and `rest` take memory.
 #[derive(Drop)]
 pub struct Book {
-    by_stock: IndexMap<Symbol, Sides>,
+    by_stock: IndexMap<Symbol, BothSides>,
     /// Where each stock is looked for first.
     slots: Slots<usize>,
 }
@@ -63,7 +63,7 @@ impl Book {
         let slots = slots_of(alloc, policy.stocks())?;
         let mut by_stock = IndexMap::with_capacity(alloc, policy.stocks().len())?;
         for stock in policy.stocks() {
-            by_stock.insert(stock.name, Sides::new(alloc))?;
+            by_stock.insert(stock.name, BothSides::new(alloc))?;
         }
         Ok(Book { by_stock, slots })
     }
@@ -138,7 +138,7 @@ impl Book {
     /// Takes so many shares from the order, of which all rests that is open, if it rests. It stays where it stands, or
     /// goes where none are left.
     pub fn reduce(&mut self, order: &LiveOrder, near: usize, shares: u32)
-        ensures { self.new ≡ reduced order.now shares self.old }
+        ensures { self.new ≡ with_fewer_shares order.now shares self.old }
     {
         let Some(sides) = get_mut_near(&mut self.by_stock, near, order.terms.stock) else {
             return;
@@ -187,5 +187,5 @@ impl Book {
     }
 
     /// Lets it go. Its drop is proved here once, and not in each crate that owns one.
-    pub fn let_go(self) {}
+    pub fn release(self) {}
 }

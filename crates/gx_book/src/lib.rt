@@ -1,8 +1,10 @@
 //! The book: the orders that rest, per listed stock and side in price-time priority.
 #![tactic(auto)]
 
-pub mod book;
+mod book;
 pub mod laws;
 pub mod resting;
 mod side;
 mod sides;
+
+pub use book::Book;

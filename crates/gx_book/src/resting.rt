@@ -2,7 +2,7 @@
 
 ghost use Rattle.std.specs.Prelude.{◌≡◌};
 ghost use Rattle.gx_history.specs.{Book.is_buy, LiveOrders.shares_open};
-ghost use Rattle.gx_book.specs.Keys.{held};
+ghost use Rattle.gx_book.specs.Keys.{resting_of_kept};
 
 use gx_history::live_order::LiveOrder;
 use std::marker::Model;
@@ -10,20 +10,20 @@ use std::snapshot::Snapshot;
 
 /// What a side of the book keeps of an order, under its price and its number.
 #[derive(Drop)]
-pub(crate) struct Kept {
+pub(crate) struct KeptOrder {
     /// The shares that may still be executed.
     pub(crate) shares: u32,
     /// The order as it came to rest. It is there for contracts alone, and takes no memory.
     pub(crate) order: Snapshot<LiveOrder>,
 }
 
-impl Kept {
+impl KeptOrder {
     /// All that is open of the order.
-    pub(crate) fn of(order: &LiveOrder) -> Kept
+    pub(crate) fn of(order: &LiveOrder) -> KeptOrder
         ensures shares { result.shares ≡ shares_open order.now }
         ensures order { result.order.value ≡ order.now }
     {
-        Kept {
+        KeptOrder {
             shares: order.open(),
             order: Snapshot::of(order),
         }
@@ -38,7 +38,7 @@ pub struct Resting {
     price: u32,
     shares: u32,
     /// It is there for contracts alone, and takes no memory.
-    kept: Snapshot<Kept>,
+    kept: Snapshot<KeptOrder>,
 }
 
 impl Model for Resting {
@@ -57,8 +57,8 @@ impl Model for Resting {
 
 impl Resting {
     /// The order of this number and this limit of which that is kept.
-    pub(crate) fn of(order: u64, price: u32, kept: &Kept) -> Resting
-        ensures { result ≡ held order price kept.now }
+    pub(crate) fn of(order: u64, price: u32, kept: &KeptOrder) -> Resting
+        ensures { result ≡ resting_of_kept order price kept.now }
     {
         Resting {
             order,

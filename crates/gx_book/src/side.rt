@@ -2,9 +2,9 @@
 
 ghost use Rattle.std.specs.{Prelude.{◌≡◌, ◌-◌, ◌+◌, [], IsTrue, OnOk, OnErr, slice_get, length, is_some, if◌then◌else◌}, Option.option_map_or, List.find};
 ghost use Rattle.gx_history.specs.{Book.is_buy, LiveOrders.shares_open};
-ghost use Rattle.gx_book.specs.{Resting.{RestingData, resting_of}, Queue.{IsLatest, is_same, left_with, taken_from_first, with_order, without_order}, Keys.{held, is_keyed, price_at}};
+ghost use Rattle.gx_book.specs.{Resting.{RestingData, resting_of}, Queue.{IsLatest, is_same, left_with, taken_from_first, with_order, without_order}, Keys.{resting_of_kept, is_keyed, price_at}};
 
-use crate::resting::{Kept, Resting, is_buy};
+use crate::resting::{KeptOrder, Resting, is_buy};
 use gx_history::live_order::LiveOrder;
 use gx_units::OutOfMemory;
 use std::alloc::Global;
@@ -15,7 +15,7 @@ use std::marker::Model;
 #[derive(Drop)]
 pub(crate) struct Side<const SIDE: u8> {
     /// What is open of each order, by the rank of its price and its number.
-    orders: BTreeMap<(u32, u64), Kept>,
+    orders: BTreeMap<(u32, u64), KeptOrder>,
 }
 
 impl<const SIDE: u8> Model for Side<SIDE> {
@@ -79,7 +79,8 @@ impl<const SIDE: u8> Side<SIDE> {
             (self.new ≡ with_order (is_buy SIDE) (resting_of order.now) self.old) }
         ensures err { OnErr result (self.new ≡ self.old) }
     {
-        self.orders.insert(Self::key_of(order), Kept::of(order))?;
+        self.orders
+            .insert(Self::key_of(order), KeptOrder::of(order))?;
         Ok(())
     }
 

@@ -3,7 +3,7 @@ use Rattle.std.proofs.{Common.{◌≡◌, ℕ, ◌+◌, ◌≤◌, ◌<◌, min,
 use Rattle.std.specs.{Prelude.{◌||◌, if◌then◌else◌}, List.list_any}
 use Rattle.gx_units.specs.declared.names.SessionName.{SessionName}
 use Rattle.gx_soup.specs.{declared.packet.{LoginRequest.LoginRequest, ServerPacket.{ServerPacket, TheVariants.{Accepted, Rejected, Sequenced, Heartbeat, EndOfSession}}}, Login.greatest}
-use Rattle.gx_client.specs.{declared.heard.{Stage.{Stage, TheVariants.{On, Over}}, Heard.Heard}, Session.{is_end, reports_in, stage_of, next_of, heard_after, heard_as, Standing, HasHeard, noted}}
+use Rattle.gx_client.specs.{declared.heard.{Stage.{Stage, TheVariants.{On, Over}}, Heard.Heard}, Session.{is_end, reports_in, stage_of, next_of, heard_after, heard_as, Standing, HasHeard, standing_after}}
 
 -- once the session has ended, nothing counts
 ended : (packets : List ServerPacket) (p : ServerPacket) → list_any is_end packets ≡ true → (list_any is_end (packets ++ p ∷ []) ≡ true) × (reports_in (packets ++ p ∷ []) ≡ reports_in packets)
@@ -59,13 +59,13 @@ is_over ends e = sym (ap (λ (b : Bool). if b then Over else On) e)
 
 -- a session that is on hears a report
 report_heard : (login : LoginRequest) (first before after : ℕ) (ends b : Bool) → ends ≡ false → after ≡ before + 1 → nat_lt (min (first + before) greatest) greatest ≡ b
-    → noted (standing login On (min (first + before) greatest)) (if b then Heard.Report (min (first + before) greatest) else Heard.Unexpected) ≡ standing login (if ends then Over else On) (min (first + after) greatest)
+    → standing_after (standing login On (min (first + before) greatest)) (if b then Heard.Report (min (first + before) greatest) else Heard.Unexpected) ≡ standing login (if ends then Over else On) (min (first + after) greatest)
 report_heard login first before after ends true e f h = same_standing login _ _ _ _ (goes_on ends e) (counted first before after f (less _ h))
 report_heard login first before after ends false e f h = same_standing login _ _ _ _ (goes_on ends e) (used_up first before after f (not_less _ h))
 
 -- a session that is on hears a packet
 on_hears : (login : LoginRequest) (first before after : ℕ) (p : ServerPacket) (ends : Bool) → ends ≡ list_any is_end (p ∷ []) → after ≡ before + reports_in (p ∷ [])
-    → noted (standing login On (min (first + before) greatest)) (heard_as On (min (first + before) greatest) p) ≡ standing login (if ends then Over else On) (min (first + after) greatest)
+    → standing_after (standing login On (min (first + before) greatest)) (heard_as On (min (first + before) greatest) p) ≡ standing login (if ends then Over else On) (min (first + after) greatest)
 on_hears login first before after (Accepted session next) ends e f = same_standing login _ _ _ _ (goes_on ends e) (same_next first before after f)
 on_hears login first before after (Rejected why) ends e f = same_standing login _ _ _ _ (goes_on ends e) (same_next first before after f)
 on_hears login first before after (Sequenced payload) ends e f = report_heard login first before after ends (nat_lt (min (first + before) greatest) greatest) e f refl
@@ -74,7 +74,7 @@ on_hears login first before after EndOfSession ends e f = same_standing login _ 
 
 -- a session that was accepted hears a packet
 accepted_hears : (login : LoginRequest) (first : ℕ) (more : List ServerPacket) (p : ServerPacket) (b : Bool) → list_any is_end more ≡ b
-    → noted (standing login (if b then Over else On) (min (first + reports_in more) greatest)) (heard_as (if b then Over else On) (min (first + reports_in more) greatest) p)
+    → standing_after (standing login (if b then Over else On) (min (first + reports_in more) greatest)) (heard_as (if b then Over else On) (min (first + reports_in more) greatest) p)
     ≡ standing login (if list_any is_end (more ++ p ∷ []) then Over else On) (min (first + reports_in (more ++ p ∷ [])) greatest)
 accepted_hears login first more p true h =
     let e = ended more p h in
@@ -88,7 +88,7 @@ first_next first = omega arith
 
 -- a session hears one more packet
 steps : (login : LoginRequest) (wanted : ℕ) (packets : List ServerPacket) (p : ServerPacket)
-    → noted (standing login (stage_of packets) (next_of wanted packets)) (heard_as (stage_of packets) (next_of wanted packets) p) ≡ standing login (stage_of (packets ++ p ∷ [])) (next_of wanted (packets ++ p ∷ []))
+    → standing_after (standing login (stage_of packets) (next_of wanted packets)) (heard_as (stage_of packets) (next_of wanted packets) p) ≡ standing login (stage_of (packets ++ p ∷ [])) (next_of wanted (packets ++ p ∷ []))
 steps login wanted [] (Accepted session next) = same_standing login _ _ _ _ refl (first_next next)
 steps login wanted [] (Rejected why) = refl
 steps login wanted [] (Sequenced payload) = refl
@@ -100,11 +100,11 @@ steps login wanted (Sequenced payload ∷ more) p = steps login wanted more p
 steps login wanted (Heartbeat ∷ more) p = steps login wanted more p
 steps login wanted (EndOfSession ∷ more) p = refl
 
-pub has_heard : (before after : Standing) (asked : LoginRequest) (packets : List ServerPacket) (p : ServerPacket) → HasHeard before asked packets → after ≡ noted before (heard_as before.stage before.next p)
+pub has_heard : (before after : Standing) (asked : LoginRequest) (packets : List ServerPacket) (p : ServerPacket) → HasHeard before asked packets → after ≡ standing_after before (heard_as before.stage before.next p)
     → HasHeard after asked (packets ++ p ∷ [])
 has_heard before after asked packets p h e =
     let known : before ≡ standing asked (stage_of packets) (next_of asked.wanted packets) = λ i. standing (h.login i) (h.stage i) (h.next i) in
-    let whole : after ≡ standing asked (stage_of (packets ++ p ∷ [])) (next_of asked.wanted (packets ++ p ∷ [])) = e ∙ (ap (λ (s : Standing). noted s (heard_as s.stage s.next p)) known ∙ steps asked asked.wanted packets p) in
+    let whole : after ≡ standing asked (stage_of (packets ++ p ∷ [])) (next_of asked.wanted (packets ++ p ∷ [])) = e ∙ (ap (λ (s : Standing). standing_after s (heard_as s.stage s.next p)) known ∙ steps asked asked.wanted packets p) in
     record {
       login = ap (λ (s : Standing). s.login) whole;
       stage = ap (λ (s : Standing). s.stage) whole;

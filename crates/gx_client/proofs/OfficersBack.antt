@@ -1,7 +1,7 @@
 -- An answer and a drop copy that the gate writes are shown by their bytes.
 use Rattle.std.proofs.{Common.{◌≡◌, ℕ, ◌<◌, ◌^◌, List, [], ◌∷◌, Option, Some, refl, ap, ◌∙◌}, lemmas.Nat.from_be_bytes-to_be_bytes_8}
 use Rattle.std.specs.{Prelude.{option_map, ◌==◌, None, if◌then◌else◌}, Int.{w64, to_be_bytes}}
-use Rattle.gx_ouch.specs.Layout.{cut}
+use Rattle.gx_ouch.specs.Layout.{field_bytes}
 use Rattle.gx_desk.specs.{declared.{Answer.Answer, AnswerCode.AnswerCode, DropCopy.DropCopy}, Messages.{answer, drop_copy}, Writing.{answer_code, answer_contents, answer_bytes, drop_copy_contents, drop_copy_bytes}}
 use Rattle.gx_client.specs.{Letters.answer_code_in, Messages.{IsAnswer, IsDropCopy}, Reading.{moment_shown, message_in, answer_in_parts, answer_shown, drop_copy_in_parts, drop_copy_shown}}
 use Rattle.gx_client.proofs.ReadBack.{one_byte, lies_in, first_back, executed_parts, in_back}
@@ -24,10 +24,10 @@ drop_copy_parts timestamp m is =
 
 -- what is shown of bytes of the right length
 abbrev answer_by : ℕ → List ℕ → Option Answer
-answer_by size bytes = if size == answer.size then answer_in_parts (cut answer bytes) else None
+answer_by size bytes = if size == answer.size then answer_in_parts (field_bytes answer bytes) else None
 
 abbrev drop_copy_by : ℕ → List ℕ → Option DropCopy
-drop_copy_by size bytes = if size == drop_copy.size then drop_copy_in_parts (cut drop_copy bytes) else None
+drop_copy_by size bytes = if size == drop_copy.size then drop_copy_in_parts (field_bytes drop_copy bytes) else None
 
 answer_shown_back : (timestamp : ℕ) (m : Answer) → IsAnswer timestamp m → answer_shown (answer_bytes timestamp m) ≡ Some m
 unfolding answer_bytes
@@ -37,7 +37,7 @@ answer_shown_back timestamp m is =
 
 answer_moment : (timestamp : ℕ) (m : Answer) → IsAnswer timestamp m → moment_shown (answer_bytes timestamp m) ≡ timestamp
 unfolding answer_bytes
-answer_moment timestamp m is = first_back timestamp (cut answer (answer_bytes timestamp m)) _ is.moment (lies_in answer (answer_contents timestamp m) (record { offsets = refl; size = refl }) is.texts).1
+answer_moment timestamp m is = first_back timestamp (field_bytes answer (answer_bytes timestamp m)) _ is.moment (lies_in answer (answer_contents timestamp m) (record { offsets = refl; size = refl }) is.texts).1
 
 drop_copy_shown_back : (timestamp : ℕ) (m : DropCopy) → IsDropCopy timestamp m → drop_copy_shown (drop_copy_bytes timestamp m) ≡ Some m
 unfolding drop_copy_bytes
@@ -47,7 +47,7 @@ drop_copy_shown_back timestamp m is =
 
 drop_copy_moment : (timestamp : ℕ) (m : DropCopy) → IsDropCopy timestamp m → moment_shown (drop_copy_bytes timestamp m) ≡ timestamp
 unfolding drop_copy_bytes
-drop_copy_moment timestamp m is = first_back timestamp (cut drop_copy (drop_copy_bytes timestamp m)) _ is.moment (lies_in drop_copy (drop_copy_contents timestamp m) (record { offsets = refl; size = refl }) is.texts).1
+drop_copy_moment timestamp m is = first_back timestamp (field_bytes drop_copy (drop_copy_bytes timestamp m)) _ is.moment (lies_in drop_copy (drop_copy_contents timestamp m) (record { offsets = refl; size = refl }) is.texts).1
 
 pub answer_back : (timestamp : ℕ) (m : Answer) (bytes : List ℕ) → IsAnswer timestamp m → answer_bytes timestamp m ≡ bytes
     → message_in answer_shown answer_bytes bytes ≡ Some (record { timestamp = timestamp; message = m })

@@ -1,9 +1,9 @@
 -- A message that the gate writes is shown by its bytes.
-use Rattle.std.proofs.{Common.{◌≡◌, ℕ, ◌<◌, ◌^◌, Bool, true, false, List, [], ◌∷◌, ◌++◌, length, Option, Some, None, refl, sym, ap, subst, ◌∙◌, arith}, lemmas.{Bool.eqb-true, Slice.Eq.bytes_eq-Decides, Nat.{from_be_bytes-to_be_bytes_4, from_be_bytes-to_be_bytes_8}}}
+use Rattle.std.proofs.{Common.{◌≡◌, ℕ, ◌<◌, ◌^◌, Bool, true, false, List, [], ◌∷◌, ◌++◌, length, Option, Some, None, refl, sym, ap, subst, ◌∙◌, arith}, lemmas.{Bool.{eqb-true, and_parts}, Slice.Eq.bytes_eq-Decides, Nat.{from_be_bytes-to_be_bytes_4, from_be_bytes-to_be_bytes_8}}}
 use Rattle.std.specs.{Prelude.{option_map, option_and_then, IsTrue, IfSome, IfNone, bytes_eq, slice_index, ◌&&◌, ◌==◌, if◌then◌else◌}, Int.{w64, to_be_bytes}}
 use Rattle.gx_ouch.proofs.Places.{lies, outbound_known_to_lie}
-use Rattle.gx_ouch.specs.{Layout.{LiesIn, Layout, IsWithoutGaps, HasSizes, cut, laid_out}, Letters.{event_letter, liquidity_letter, cancel_letter, reject_letter}, Messages.{system_event, accepted, replaced, canceled, executed, rejected}, Reading.byte, Writing.{outbound_bytes, outbound_layout, outbound_contents, contents_behind, order_contents}, declared.{letters.{EventCode.EventCode, Liquidity.Liquidity, CancelReason.CancelReason, RejectReason.RejectReason}, outbound.{OrderTerms.OrderTerms, Outbound.Outbound, Accepted.Accepted, Replaced.Replaced, Canceled.Canceled, Executed.Executed, Rejected.Rejected}}}
-use Rattle.gx_client.specs.{declared.reading.Stamped.Stamped, Letters.{event_in, liquidity_in, cancel_reason_in, reject_reason_in}, Messages.{IsOutbound, HasNone, ReadsBack, TermsFit}, Reading.{long, part, moment_shown, checked, message_in, terms_of, executed_in, event_in_parts, accepted_in_parts, replaced_in_parts, canceled_in_parts, executed_in_parts, rejected_in_parts, outbound_shown}}
+use Rattle.gx_ouch.specs.{Layout.{LiesIn, Layout, IsWithoutGaps, HasSizes, field_bytes, laid_out}, Letters.{event_letter, liquidity_letter, cancel_letter, reject_letter}, Messages.{system_event, accepted_layout, replaced_layout, canceled_layout, executed_layout, rejected_layout}, Reading.byte, Writing.{outbound_bytes, outbound_layout, outbound_contents, contents_behind, order_contents}, declared.{letters.{EventCode.EventCode, Liquidity.Liquidity, CancelReason.CancelReason, RejectReason.RejectReason}, outbound.{OrderTerms.OrderTerms, Outbound.Outbound, Accepted.Accepted, Replaced.Replaced, Canceled.Canceled, Executed.Executed, Rejected.Rejected}}}
+use Rattle.gx_client.specs.{declared.reading.Stamped.Stamped, Letters.{event_in, liquidity_in, cancel_reason_in, reject_reason_in}, Messages.{IsOutbound, HasNone, ReadsBack, TermsFit}, Reading.{long, part, moment_shown, stamped_message, message_in, terms_of, executed_in, event_in_parts, accepted_in_parts, replaced_in_parts, canceled_in_parts, executed_in_parts, rejected_in_parts, outbound_shown}}
 
 pub is_true : (b : Bool) → IsTrue b → b ≡ true
 is_true true h = refl
@@ -112,16 +112,12 @@ rejected_parts : (timestamp : ℕ) (m : Rejected) → rejected_in_parts (outboun
 rejected_parts timestamp m =
     ap (option_map (λ reason. Outbound.Rejected (record { token = m.token; reason = reason }))) (ap reject_reason_in (one_byte (reject_letter m.reason)) ∙ reject_back m.reason)
 
-pub right_true : (a b : Bool) → (a && b) ≡ true → b ≡ true
-right_true true b h = h
-right_true false b h = cc
-
 pub length_of : (layout : Layout) (contents : List (List ℕ)) (bytes : List ℕ) → LiesIn layout contents bytes → length bytes ≡ layout.size
-length_of layout contents bytes lies = eqb-true (length bytes) layout.size (right_true (slice_index bytes 0 == layout.kind) (length bytes == layout.size) (is_true _ lies.is_of))
+length_of layout contents bytes lies = eqb-true (length bytes) layout.size (and_parts (slice_index bytes 0 == layout.kind) (length bytes == layout.size) (is_true _ lies.is_of)).1
 
 -- a message's bytes have its length, and its fields stand at their places
 pub lies_in : (layout : Layout) (contents : List (List ℕ)) → IsWithoutGaps layout → HasSizes layout contents
-    → (length (laid_out layout contents) ≡ layout.size) × (cut layout (laid_out layout contents) ≡ contents)
+    → (length (laid_out layout contents) ≡ layout.size) × (field_bytes layout (laid_out layout contents) ≡ contents)
 lies_in layout contents gapless sizes =
     let l = lies layout contents gapless sizes in
     (length_of layout contents (laid_out layout contents) l, l.fields)
@@ -129,12 +125,12 @@ lies_in layout contents gapless sizes =
 -- what is shown, by the first byte and the length
 abbrev shown_by : ℕ → ℕ → List ℕ → Option Outbound
 shown_by head size bytes =
-    if (head == system_event.kind) && (size == system_event.size) then event_in_parts (cut system_event bytes)
-    else (if (head == accepted.kind) && (size == accepted.size) then Some (accepted_in_parts (cut accepted bytes))
-    else (if (head == replaced.kind) && (size == replaced.size) then Some (replaced_in_parts (cut replaced bytes))
-    else (if (head == canceled.kind) && (size == canceled.size) then canceled_in_parts (cut canceled bytes)
-    else (if (head == executed.kind) && (size == executed.size) then executed_in_parts (cut executed bytes)
-    else (if (head == rejected.kind) && (size == rejected.size) then rejected_in_parts (cut rejected bytes)
+    if (head == system_event.kind) && (size == system_event.size) then event_in_parts (field_bytes system_event bytes)
+    else (if (head == accepted_layout.kind) && (size == accepted_layout.size) then Some (accepted_in_parts (field_bytes accepted_layout bytes))
+    else (if (head == replaced_layout.kind) && (size == replaced_layout.size) then Some (replaced_in_parts (field_bytes replaced_layout bytes))
+    else (if (head == canceled_layout.kind) && (size == canceled_layout.size) then canceled_in_parts (field_bytes canceled_layout bytes)
+    else (if (head == executed_layout.kind) && (size == executed_layout.size) then executed_in_parts (field_bytes executed_layout bytes)
+    else (if (head == rejected_layout.kind) && (size == rejected_layout.size) then rejected_in_parts (field_bytes rejected_layout bytes)
     else None)))))
 
 shown_at : (bytes : List ℕ) (size : ℕ) → length bytes ≡ size → outbound_shown bytes ≡ shown_by (slice_index bytes 0) size bytes
@@ -148,20 +144,20 @@ shown_back timestamp (Outbound.SystemEvent code) is =
     let l = lies_in system_event (outbound_contents timestamp (Outbound.SystemEvent code)) (record { offsets = refl; size = refl }) is.texts in
     shown_at (laid_out system_event (outbound_contents timestamp (Outbound.SystemEvent code))) 10 l.0 ∙ (ap event_in_parts l.1 ∙ event_parts timestamp code)
 shown_back timestamp (Outbound.Accepted m) is =
-    let l = lies_in accepted (outbound_contents timestamp (Outbound.Accepted m)) (record { offsets = refl; size = refl }) is.texts in
-    shown_at (laid_out accepted (outbound_contents timestamp (Outbound.Accepted m))) 66 l.0 ∙ ap Some (ap accepted_in_parts l.1 ∙ accepted_parts timestamp m is.numbers.0 is.numbers.1)
+    let l = lies_in accepted_layout (outbound_contents timestamp (Outbound.Accepted m)) (record { offsets = refl; size = refl }) is.texts in
+    shown_at (laid_out accepted_layout (outbound_contents timestamp (Outbound.Accepted m))) 66 l.0 ∙ ap Some (ap accepted_in_parts l.1 ∙ accepted_parts timestamp m is.numbers.0 is.numbers.1)
 shown_back timestamp (Outbound.Replaced m) is =
-    let l = lies_in replaced (outbound_contents timestamp (Outbound.Replaced m)) (record { offsets = refl; size = refl }) is.texts in
-    shown_at (laid_out replaced (outbound_contents timestamp (Outbound.Replaced m))) 80 l.0 ∙ ap Some (ap replaced_in_parts l.1 ∙ replaced_parts timestamp m is.numbers.0 is.numbers.1)
+    let l = lies_in replaced_layout (outbound_contents timestamp (Outbound.Replaced m)) (record { offsets = refl; size = refl }) is.texts in
+    shown_at (laid_out replaced_layout (outbound_contents timestamp (Outbound.Replaced m))) 80 l.0 ∙ ap Some (ap replaced_in_parts l.1 ∙ replaced_parts timestamp m is.numbers.0 is.numbers.1)
 shown_back timestamp (Outbound.Canceled m) is =
-    let l = lies_in canceled (outbound_contents timestamp (Outbound.Canceled m)) (record { offsets = refl; size = refl }) is.texts in
-    shown_at (laid_out canceled (outbound_contents timestamp (Outbound.Canceled m))) 28 l.0 ∙ (ap canceled_in_parts l.1 ∙ canceled_parts timestamp m is.numbers)
+    let l = lies_in canceled_layout (outbound_contents timestamp (Outbound.Canceled m)) (record { offsets = refl; size = refl }) is.texts in
+    shown_at (laid_out canceled_layout (outbound_contents timestamp (Outbound.Canceled m))) 28 l.0 ∙ (ap canceled_in_parts l.1 ∙ canceled_parts timestamp m is.numbers)
 shown_back timestamp (Outbound.Executed m) is =
-    let l = lies_in executed (outbound_contents timestamp (Outbound.Executed m)) (record { offsets = refl; size = refl }) is.texts in
-    shown_at (laid_out executed (outbound_contents timestamp (Outbound.Executed m))) 40 l.0 ∙ (ap executed_in_parts l.1 ∙ ap (option_map Outbound.Executed) (executed_parts (to_be_bytes w64 timestamp) [] m is.numbers.0 is.numbers.1 is.numbers.2))
+    let l = lies_in executed_layout (outbound_contents timestamp (Outbound.Executed m)) (record { offsets = refl; size = refl }) is.texts in
+    shown_at (laid_out executed_layout (outbound_contents timestamp (Outbound.Executed m))) 40 l.0 ∙ (ap executed_in_parts l.1 ∙ ap (option_map Outbound.Executed) (executed_parts (to_be_bytes w64 timestamp) [] m is.numbers.0 is.numbers.1 is.numbers.2))
 shown_back timestamp (Outbound.Rejected m) is =
-    let l = lies_in rejected (outbound_contents timestamp (Outbound.Rejected m)) (record { offsets = refl; size = refl }) is.texts in
-    shown_at (laid_out rejected (outbound_contents timestamp (Outbound.Rejected m))) 24 l.0 ∙ (ap rejected_in_parts l.1 ∙ rejected_parts timestamp m)
+    let l = lies_in rejected_layout (outbound_contents timestamp (Outbound.Rejected m)) (record { offsets = refl; size = refl }) is.texts in
+    shown_at (laid_out rejected_layout (outbound_contents timestamp (Outbound.Rejected m))) 24 l.0 ∙ (ap rejected_in_parts l.1 ∙ rejected_parts timestamp m)
 
 -- the moment is the first field
 pub first_back : (timestamp : ℕ) (parts others : List (List ℕ)) → timestamp < 2 ^ 64 → parts ≡ to_be_bytes w64 timestamp ∷ others → long (part parts 0) ≡ timestamp
@@ -169,9 +165,9 @@ first_back timestamp parts others fits e = ap (λ (ps : List (List ℕ)). long (
 
 moment_back : (timestamp : ℕ) (message : Outbound) → IsOutbound timestamp message → moment_shown (outbound_bytes timestamp message) ≡ timestamp
 moment_back timestamp message is =
-    by message (first_back timestamp (cut (outbound_layout message) (outbound_bytes timestamp message)) (contents_behind message) is.moment (outbound_known_to_lie timestamp message (outbound_bytes timestamp message) refl is.texts).fields)
+    by message (first_back timestamp (field_bytes (outbound_layout message) (outbound_bytes timestamp message)) (contents_behind message) is.moment (outbound_known_to_lie timestamp message (outbound_bytes timestamp message) refl is.texts).fields)
   where
-    by : (m : Outbound) → long (part (cut (outbound_layout m) (outbound_bytes timestamp message)) 0) ≡ timestamp → moment_shown (outbound_bytes timestamp message) ≡ timestamp
+    by : (m : Outbound) → long (part (field_bytes (outbound_layout m) (outbound_bytes timestamp message)) 0) ≡ timestamp → moment_shown (outbound_bytes timestamp message) ≡ timestamp
     by (Outbound.SystemEvent code) e = e
     by (Outbound.Accepted m) e = e
     by (Outbound.Replaced m) e = e
@@ -186,8 +182,8 @@ module _ {M : Type 0} (IsMessage : ℕ → M → Type 0) (bytes_of : ℕ → M �
   pub in_back : (timestamp : ℕ) (message : M) (bytes : List ℕ) → IsMessage timestamp message → bytes_of timestamp message ≡ bytes → message_in shown bytes_of bytes ≡ Some (record { timestamp = timestamp; message = message })
   in_back timestamp message bytes is e =
       subst (λ (bs : List ℕ). message_in shown bytes_of bs ≡ Some (record { timestamp = timestamp; message = message })) e
-      (ap (option_and_then (λ (m : M). checked bytes_of (bytes_of timestamp message) (moment_shown (bytes_of timestamp message)) m)) (message_back timestamp message is)
-      ∙ (ap (λ (t : ℕ). checked bytes_of (bytes_of timestamp message) t message) (moment_is timestamp message is)
+      (ap (option_and_then (λ (m : M). stamped_message bytes_of (bytes_of timestamp message) (moment_shown (bytes_of timestamp message)) m)) (message_back timestamp message is)
+      ∙ (ap (λ (t : ℕ). stamped_message bytes_of (bytes_of timestamp message) t message) (moment_is timestamp message is)
       ∙ ap (λ (b : Bool). if b then Some (record { timestamp = timestamp; message = message }) else None) (same_bytes (bytes_of timestamp message))))
 
 -- what was read has these bytes
@@ -197,7 +193,7 @@ checked_written bytes_of bytes timestamp message true h = (bytes_eq-Decides (byt
 checked_written bytes_of bytes timestamp message false h = tt
 
 found_written : {M : Type 0} (bytes_of : ℕ → M → List ℕ) (bytes : List ℕ) (found : Option M)
-    → IfSome (option_and_then (checked bytes_of bytes (moment_shown bytes)) found) (λ (read : Stamped M). bytes_of read.timestamp read.message ≡ bytes)
+    → IfSome (option_and_then (stamped_message bytes_of bytes (moment_shown bytes)) found) (λ (read : Stamped M). bytes_of read.timestamp read.message ≡ bytes)
 found_written bytes_of bytes None = tt
 found_written bytes_of bytes (Some m) = checked_written bytes_of bytes (moment_shown bytes) m (bytes_eq (bytes_of (moment_shown bytes) m) bytes) refl
 

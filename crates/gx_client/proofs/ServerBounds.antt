@@ -1,5 +1,5 @@
 -- How much is left over.
-use Rattle.std.proofs.{Common.{◌≡◌, ℕ, zero, suc, ◌+◌, ◌-◌, ◌*◌, ◌<◌, ◌≤◌, ◌⊎◌, inl, inr, Bool, true, false, cond, not, ◌==◌, nat_lt, List, [], ◌∷◌, length, take, drop, get_or, Option, Some, None, refl, ap, arith}, lemmas.{Bool.Decides.nat_tests, List.{nil_from_length, get_or-drop, length-drop}}}
+use Rattle.std.proofs.{Common.{◌≡◌, ℕ, zero, suc, ◌+◌, ◌-◌, ◌*◌, ◌<◌, ◌≤◌, ◌⊎◌, inl, inr, Bool, true, false, cond, not, ◌==◌, nat_lt, List, [], ◌∷◌, length, take, drop, get_or, Option, Some, None, refl, ap, arith}, lemmas.{Bool.ltb-true, List.{nil_from_length, get_or-drop, length-drop}}}
 use Rattle.gx_soup.specs.{declared.packet.ServerPacket.ServerPacket, Standard.{login_accepted, login_rejected, longest_packet}}
 use Rattle.gx_units.specs.declared.names.LoginRejection.{LoginRejection}
 use Rattle.gx_client.specs.{declared.front.{ServerFault.ServerFault, Front.{Front, TheVariants.{Short, Faulty, Whole}}}, ServerPackets.{server_front, typed_front, whole_front, accepted_front, rejected_front, is_server_type, has_its_length, ServerSoup, server_packets_of}}
@@ -30,14 +30,11 @@ either_told false false v w p n h k e = cc
 whole_told : (kind : ℕ) (payload : List ℕ) → ¬ (whole_front kind payload ≡ Short)
 whole_told kind payload = either_told (kind == login_accepted) (kind == login_rejected) _ _ _ _ (accepted_told payload _) (rejected_told payload _)
 
-lt_is : (m n : ℕ) → nat_lt m n ≡ true → m < n
-lt_is m n h = grind (arith, nat_tests)
-
 typed_short : (count : ℕ) (body : List ℕ) → typed_front count body ≡ Short → (length body ≡ 0) ⊎ (length body < count)
 typed_short count [] e = inl refl
 typed_short count (kind ∷ body) e =
     let s = told_short (not (is_server_type kind)) (not (has_its_length kind count)) (nat_lt (length body) (count - 1)) _ _ (whole_front kind (take (count - 1) body)) (whole_told kind (take (count - 1) body)) e in
-    let l = lt_is (length body) (count - 1) s in
+    let l = ltb-true (length body) (count - 1) s in
     inr (omega (arith, l))
 
 counted_short : (b : Bool) (x : ServerFault) (w : Front) → cond b (Faulty x) w ≡ Short → w ≡ Short

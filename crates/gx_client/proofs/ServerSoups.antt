@@ -1,9 +1,10 @@
 -- The laws of `server_front` and of `server_packets_of`: a text that goes on, and one packet after another.
-use Rattle.std.proofs.{Common.{◌≡◌, ℕ, zero, suc, ◌+◌, ◌-◌, ◌*◌, ◌<◌, ◌≤◌, Bool, true, false, cond, not, nat_lt, ◌==◌, List, [], ◌∷◌, ◌++◌, length, take, drop, Option, Some, None, refl, sym, ap, ◌∙◌, append_assoc, slice_index, slice_range, arith}, lemmas.{Bool.Decides.nat_tests, List.{nil_from_length, drop-append-le, take-append-le, length-take-le, length-drop, length-append}}}
+use Rattle.std.proofs.{Common.{◌≡◌, ℕ, zero, suc, ◌+◌, ◌-◌, ◌*◌, ◌<◌, ◌≤◌, Bool, true, false, cond, not, nat_lt, ◌==◌, List, [], ◌∷◌, ◌++◌, length, take, drop, Option, Some, None, refl, sym, ap, ◌∙◌, append_assoc, slice_index, slice_range, arith}, lemmas.{Bool.{Decides.nat_tests, ltb-false}, List.{nil_from_length, drop-append-le, length-take-le, length-drop}}}
 use Rattle.gx_soup.specs.{declared.packet.ServerPacket.ServerPacket, Standard.{login_accepted, login_rejected}, Login.number_of}
 use Rattle.gx_client.specs.{declared.front.{ServerFault.ServerFault, Front.{Front, TheVariants.{Short, Faulty, Whole}}}, ServerPackets.{server_front, typed_front, whole_front, accepted_front, rejected_front, rejection_of, plain_packet, is_server_type, has_its_length, ServerSoup, behind, soup_from, soup_within, server_packets_of}}
 use Rattle.std.specs.Option.{option_to_list}
 use Rattle.gx_units.specs.declared.names.LoginRejection.{LoginRejection}
+use Rattle.gx_soup.proofs.Soup.{body_grows}
 
 -- a text that goes on: nothing follows a fault
 abbrev pub joined : ServerSoup → Option ServerFault → List ℕ → ServerSoup
@@ -15,17 +16,6 @@ chosen_grows true l s s' x y w w' k h = refl
 chosen_grows false true s s' x y w w' k h = refl
 chosen_grows false false true s' x y w w' k h = absurd (h refl)
 chosen_grows false false false s' x y w w' k h = rw ((k refl).0, (k refl).1) refl
-
-at_least : (m n : ℕ) → nat_lt m n ≡ false → n ≤ m
-at_least m n h = grind (arith, nat_tests)
-
-below : (m n : ℕ) → n ≤ m → nat_lt m n ≡ false
-below m n h = grind (arith, nat_tests)
-
-body_grows : (n : ℕ) (a b : List ℕ) → nat_lt (length a) n ≡ false → (nat_lt (length (a ++ b)) n ≡ false) × (take n (a ++ b) ≡ take n a)
-body_grows n a b h =
-    let enough : n ≤ length a = at_least (length a) n h in
-    (below (length (a ++ b)) n (simp length-append (omega arith)), take-append-le n a b enough)
 
 typed_grows : (count : ℕ) (a b : List ℕ) → ¬ (typed_front count a ≡ Short) → typed_front count (a ++ b) ≡ typed_front count a
 typed_grows count [] b h = absurd (h refl)
@@ -78,7 +68,7 @@ typed_takes : (count : ℕ) (body : List ℕ) (p : Option ServerPacket) (t : ℕ
 typed_takes count [] p t pos e = cc
 typed_takes count (kind ∷ body) p t pos e =
     let k = picked (not (is_server_type kind)) (not (has_its_length kind count)) (nat_lt (length body) (count - 1)) _ _ (whole_front kind (take (count - 1) body)) p t e in
-    let enough : count - 1 ≤ length body = at_least _ _ k.1 in
+    let enough : count - 1 ≤ length body = ltb-false _ _ k.1 in
     let len : length (take (count - 1) body) ≡ count - 1 = length-take-le (count - 1) body enough in
     let taken = whole_takes kind (take (count - 1) body) p t k.2 in
     (omega arith, omega arith)

@@ -1,9 +1,9 @@
 -- A server's packet is read back as itself.
-use Rattle.std.proofs.{Common.{◌≡◌, ℕ, ◌+◌, ◌-◌, ◌*◌, ◌/◌, ◌%◌, ◌^◌, ◌<◌, Bool, true, false, cond, not, ◌==◌, nat_lt, List, [], ◌∷◌, ◌++◌, length, take, drop, Option, Some, None, refl, ap, ◌∙◌, arith, decimal, replicate}, lemmas.{Bool.Decides.nat_tests, List.{take_at, take_all, drop_at, length-append, length-replicate}, Fmt.length-decimal-le}}
+use Rattle.std.proofs.{Common.{◌≡◌, ℕ, ◌+◌, ◌-◌, Bool, true, false, cond, not, nat_lt, List, [], ◌∷◌, ◌++◌, length, take, drop, Option, Some, None, refl, ap, ◌∙◌, arith}, lemmas.List.{take_at, take_all, drop_at, length-append}}
 use Rattle.std.specs.Option.{option_to_list}
 use Rattle.gx_units.specs.{declared.names.{LoginRejection.{LoginRejection, TheVariants.{NotAuthorized, SessionNotAvailable}}, SessionName.SessionName}, Spelling.folded_session}
-use Rattle.gx_soup.specs.{declared.packet.ServerPacket.ServerPacket, Standard.{login_accepted, login_rejected, sequenced_data, server_heartbeat, end_of_session, debug, unsequenced_data}, Login.number_of, Writing.{framed, number_field, session_field, reason_code, server_bytes}}
-use Rattle.gx_soup.proofs.Numbers.{number_read}
+use Rattle.gx_soup.specs.{declared.packet.ServerPacket.ServerPacket, Standard.{login_accepted, login_rejected, sequenced_data, server_heartbeat, end_of_session, debug, unsequenced_data}, Login.number_of, Writing.{framed_packet, number_field, session_field, reason_code, server_bytes}}
+use Rattle.gx_soup.proofs.{Numbers.number_read, Written.{not_zero, enough, cut_at, count_is, past, padded_len}}
 use Rattle.gx_client.specs.{declared.front.{Front.{Front, TheVariants.{Short, Faulty, Whole}}, ServerFault.{ServerFault, TheVariants.ZeroLength}}, ServerPackets.{server_front, counted_front, typed_front, whole_front, accepted_front, is_server_type, has_its_length, behind, server_packets_of, IsServerPacket}}
 use Rattle.gx_client.proofs.{ServerSoups.packets_whole, SessionNames.{name_back, name_length}}
 
@@ -13,36 +13,18 @@ told true true true x y w a b c = cc
 told true false s x y w a b c = cc
 told false l s x y w a b c = cc
 
-not_zero : (n : ℕ) → ((n + 1) == 0) ≡ false
-not_zero n = grind (arith, nat_tests)
-
-enough : (payload rest : List ℕ) → nat_lt (length (payload ++ rest)) (length payload + 1 - 1) ≡ false
-enough payload rest = let e = length-append payload rest in grind (arith, nat_tests)
-
-cut_at : (payload rest : List ℕ) → take (length payload + 1 - 1) (payload ++ rest) ≡ payload
-cut_at payload rest = take_at payload rest (length payload + 1 - 1) (omega arith)
-
-count_is : (n : ℕ) → 256 * (n / 256) + n % 256 ≡ n
-count_is n = omega arith
-
 typed_is : (kind : ℕ) (payload rest : List ℕ) → is_server_type kind ≡ true → has_its_length kind (length payload + 1) ≡ true → typed_front (length payload + 1) (kind ∷ (payload ++ rest)) ≡ whole_front kind payload
 typed_is kind payload rest known sized =
     told (is_server_type kind) (has_its_length kind (length payload + 1)) (nat_lt (length (payload ++ rest)) (length payload + 1 - 1)) _ _ (whole_front kind (take (length payload + 1 - 1) (payload ++ rest))) known sized (enough payload rest) ∙ ap (whole_front kind) (cut_at payload rest)
 
-framed_front : (kind : ℕ) (payload rest : List ℕ) → is_server_type kind ≡ true → has_its_length kind (length payload + 1) ≡ true → server_front (framed kind payload ++ rest) ≡ whole_front kind payload
+framed_front : (kind : ℕ) (payload rest : List ℕ) → is_server_type kind ≡ true → has_its_length kind (length payload + 1) ≡ true → server_front (framed_packet kind payload ++ rest) ≡ whole_front kind payload
 unfolding server_front
 framed_front kind payload rest known sized =
     ap (λ n. counted_front n (kind ∷ (payload ++ rest))) (count_is (length payload + 1)) ∙ (ap (λ b. cond b (Faulty ZeroLength) (typed_front (length payload + 1) (kind ∷ (payload ++ rest)))) (not_zero (length payload)) ∙ typed_is kind payload rest known sized)
 
-past : (kind : ℕ) (payload rest : List ℕ) → drop (length payload + 3) (framed kind payload ++ rest) ≡ rest
-past kind payload rest = drop_at (framed kind payload) rest (length payload + 3) (omega arith)
-
-framed_read : (kind : ℕ) (payload rest : List ℕ) (p : Option ServerPacket) → is_server_type kind ≡ true → has_its_length kind (length payload + 1) ≡ true → whole_front kind payload ≡ Whole p (length payload + 3) → server_packets_of (framed kind payload ++ rest) ≡ behind (option_to_list p) (server_packets_of rest)
+framed_read : (kind : ℕ) (payload rest : List ℕ) (p : Option ServerPacket) → is_server_type kind ≡ true → has_its_length kind (length payload + 1) ≡ true → whole_front kind payload ≡ Whole p (length payload + 3) → server_packets_of (framed_packet kind payload ++ rest) ≡ behind (option_to_list p) (server_packets_of rest)
 framed_read kind payload rest p known sized e =
-    packets_whole (framed kind payload ++ rest) p (length payload + 3) (framed_front kind payload rest known sized ∙ e) ∙ ap (λ r. behind (option_to_list p) (server_packets_of r)) (past kind payload rest)
-
-number_length : (n : ℕ) → n < 2 ^ 64 → length (number_field n) ≡ 20
-number_length n h = omega (arith, length-append (replicate (20 - length (decimal n)) 32) (decimal n), length-replicate {A = ℕ} (20 - length (decimal n)) 32, length-decimal-le 20 n (omega arith) (omega arith) h)
+    packets_whole (framed_packet kind payload ++ rest) p (length payload + 3) (framed_front kind payload rest known sized ∙ e) ∙ ap (λ r. behind (option_to_list p) (server_packets_of r)) (past kind payload rest)
 
 -- the parts of a Login Accepted's payload
 module _ (session number : List ℕ) (s : length session ≡ 10) (n : length number ≡ 20) where
@@ -70,15 +52,15 @@ name_is : (session : SessionName) → folded_session session ≡ session → fol
 name_is session folded = λ i. record { bytes = name_back session.bytes (ap (λ (x : SessionName). x.bytes) folded) i }
 
 accepted_read : (session : SessionName) (next : ℕ) (rest : List ℕ) → IsServerPacket (ServerPacket.Accepted session next)
-    → server_packets_of (framed login_accepted (session_field session ++ number_field next) ++ rest) ≡ behind (ServerPacket.Accepted session next ∷ []) (server_packets_of rest)
+    → server_packets_of (framed_packet login_accepted (session_field session ++ number_field next) ++ rest) ≡ behind (ServerPacket.Accepted session next ∷ []) (server_packets_of rest)
 accepted_read session next rest h =
     let s = name_length session.bytes (ap (λ (x : SessionName). x.bytes) h.1) h.0 in
-    let n = number_length next h.2 in
+    let n = padded_len next h.2 in
     framed_read login_accepted (session_field session ++ number_field next) rest (Some (ServerPacket.Accepted session next)) refl
     (has_thirty _ (payload_length (session_field session) (number_field next) s n))
     (accepted_is (session_field session) (number_field next) s n session next (name_is session h.1) (number_read next h.2))
 
-rejected_read : (why : LoginRejection) (rest : List ℕ) → server_packets_of (framed login_rejected (reason_code why ∷ []) ++ rest) ≡ behind (ServerPacket.Rejected why ∷ []) (server_packets_of rest)
+rejected_read : (why : LoginRejection) (rest : List ℕ) → server_packets_of (framed_packet login_rejected (reason_code why ∷ []) ++ rest) ≡ behind (ServerPacket.Rejected why ∷ []) (server_packets_of rest)
 rejected_read NotAuthorized rest = framed_read login_rejected (reason_code NotAuthorized ∷ []) rest (Some (ServerPacket.Rejected NotAuthorized)) refl refl refl
 rejected_read SessionNotAvailable rest = framed_read login_rejected (reason_code SessionNotAvailable ∷ []) rest (Some (ServerPacket.Rejected SessionNotAvailable)) refl refl refl
 
@@ -92,8 +74,8 @@ packet_read ServerPacket.Heartbeat rest h = framed_read server_heartbeat [] rest
 packet_read ServerPacket.EndOfSession rest h = framed_read end_of_session [] rest (Some ServerPacket.EndOfSession) refl refl refl
 
 -- Debug and Unsequenced Data are passed over
-pub debug_read : (payload rest : List ℕ) → server_packets_of (framed debug payload ++ rest) ≡ server_packets_of rest
+pub debug_read : (payload rest : List ℕ) → server_packets_of (framed_packet debug payload ++ rest) ≡ server_packets_of rest
 debug_read payload rest = framed_read debug payload rest None refl refl refl
 
-pub unsequenced_read : (payload rest : List ℕ) → server_packets_of (framed unsequenced_data payload ++ rest) ≡ server_packets_of rest
+pub unsequenced_read : (payload rest : List ℕ) → server_packets_of (framed_packet unsequenced_data payload ++ rest) ≡ server_packets_of rest
 unsequenced_read payload rest = framed_read unsequenced_data payload rest None refl refl refl

@@ -1,6 +1,6 @@
 -- What stands at the places of a message that the gate writes. Numbers are unsigned, the highest byte first.
 use Rattle.std.specs.{Prelude.{ℕ, List, [], Option, Some, None, option_map, option_and_then, bytes_eq, length, ◌==◌, slice_index_or, if◌then◌else◌}, Int.{w64, from_be_bytes}}
-use Rattle.gx_ouch.specs.{declared.{outbound.{Outbound.Outbound, OrderTerms.OrderTerms, Executed.Executed}, letters.Liquidity.Liquidity}, Layout.{field, bytes_at, cut, is_of}, Messages.{system_event, accepted, replaced, canceled, executed, rejected}, Reading.{byte, number}}
+use Rattle.gx_ouch.specs.{declared.{outbound.{Outbound.Outbound, OrderTerms.OrderTerms, Executed.Executed}, letters.Liquidity.Liquidity}, Layout.{field, bytes_at, field_bytes, is_of}, Messages.{system_event, accepted_layout, replaced_layout, canceled_layout, executed_layout, rejected_layout}, Reading.{byte, number}}
 use Rattle.gx_desk.specs.{declared.{Answer.Answer, DropCopy.DropCopy}, Messages.{answer, drop_copy}}
 use Rattle.gx_client.specs.{declared.reading.Stamped.Stamped, Letters.{event_in, liquidity_in, cancel_reason_in, reject_reason_in, answer_code_in}}
 
@@ -13,13 +13,13 @@ abbrev pub moment_shown : List ℕ → ℕ
 moment_shown bytes = long (bytes_at (field 1 8) bytes)
 
 -- a message with its moment, where these are its bytes
-abbrev pub checked : {M : Type 0} → (ℕ → M → List ℕ) → List ℕ → ℕ → M → Option (Stamped M)
-checked bytes_of bytes timestamp message =
+abbrev pub stamped_message : {M : Type 0} → (ℕ → M → List ℕ) → List ℕ → ℕ → M → Option (Stamped M)
+stamped_message bytes_of bytes timestamp message =
     if bytes_eq (bytes_of timestamp message) bytes then Some (record { timestamp = timestamp; message = message }) else None
 
 -- the message that stands at its places, where these are its bytes
 abbrev pub message_in : {M : Type 0} → (List ℕ → Option M) → (ℕ → M → List ℕ) → List ℕ → Option (Stamped M)
-message_in shown bytes_of bytes = option_and_then (λ message. checked bytes_of bytes (moment_shown bytes) message) (shown bytes)
+message_in shown bytes_of bytes = option_and_then (λ message. stamped_message bytes_of bytes (moment_shown bytes) message) (shown bytes)
 
 -- a field by its number in its layout: 0 is the moment, 1 the token
 abbrev pub part : List (List ℕ) → ℕ → List ℕ
@@ -95,12 +95,12 @@ rejected_in_parts parts =
 -- the message at the places that the bytes' type and length give
 unfoldable pub outbound_shown : List ℕ → Option Outbound
 outbound_shown bytes =
-    if is_of system_event bytes then event_in_parts (cut system_event bytes)
-    else (if is_of accepted bytes then Some (accepted_in_parts (cut accepted bytes))
-    else (if is_of replaced bytes then Some (replaced_in_parts (cut replaced bytes))
-    else (if is_of canceled bytes then canceled_in_parts (cut canceled bytes)
-    else (if is_of executed bytes then executed_in_parts (cut executed bytes)
-    else (if is_of rejected bytes then rejected_in_parts (cut rejected bytes)
+    if is_of system_event bytes then event_in_parts (field_bytes system_event bytes)
+    else (if is_of accepted_layout bytes then Some (accepted_in_parts (field_bytes accepted_layout bytes))
+    else (if is_of replaced_layout bytes then Some (replaced_in_parts (field_bytes replaced_layout bytes))
+    else (if is_of canceled_layout bytes then canceled_in_parts (field_bytes canceled_layout bytes)
+    else (if is_of executed_layout bytes then executed_in_parts (field_bytes executed_layout bytes)
+    else (if is_of rejected_layout bytes then rejected_in_parts (field_bytes rejected_layout bytes)
     else None)))))
 
 -- the answer at its places, in bytes of its length
@@ -114,7 +114,7 @@ answer_in_parts parts =
     }) (answer_code_in (part parts 3))
 
 abbrev pub answer_shown : List ℕ → Option Answer
-answer_shown bytes = if length bytes == answer.size then answer_in_parts (cut answer bytes) else None
+answer_shown bytes = if length bytes == answer.size then answer_in_parts (field_bytes answer bytes) else None
 
 -- the drop copy at its places, in bytes of its length
 abbrev pub drop_copy_in_parts : List (List ℕ) → Option DropCopy
@@ -126,4 +126,4 @@ drop_copy_in_parts parts =
     }) (executed_in parts)
 
 abbrev pub drop_copy_shown : List ℕ → Option DropCopy
-drop_copy_shown bytes = if length bytes == drop_copy.size then drop_copy_in_parts (cut drop_copy bytes) else None
+drop_copy_shown bytes = if length bytes == drop_copy.size then drop_copy_in_parts (field_bytes drop_copy bytes) else None

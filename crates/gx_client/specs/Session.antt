@@ -69,10 +69,10 @@ pub record HasHeard (session : Standing) (asked : LoginRequest) (packets : List 
   pub next : session.next ≡ next_of asked.wanted packets
 
 -- a session to which this was said
-abbrev pub noted : Standing → Heard → Standing
-noted session (Heard.LoggedIn name first) = record session { stage = On; next = min first greatest }
-noted session (Heard.Refused why) = record session { stage = Over }
-noted session (Heard.Report number) = record session { next = min (number + 1) greatest }
-noted session Heard.Heartbeat = session
-noted session Heard.Ended = record session { stage = Over }
-noted session Heard.Unexpected = session
+abbrev pub standing_after : Standing → Heard → Standing
+standing_after session (Heard.LoggedIn name first) = record session { stage = On; next = min first greatest }
+standing_after session (Heard.Refused why) = record session { stage = Over }
+standing_after session (Heard.Report number) = record session { next = min (number + 1) greatest }
+standing_after session Heard.Heartbeat = session
+standing_after session Heard.Ended = record session { stage = Over }
+standing_after session Heard.Unexpected = session

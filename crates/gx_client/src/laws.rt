@@ -2,7 +2,7 @@
 
 ghost use Rattle.std.specs.{Prelude.{◌≡◌, ℕ, ◌+◌, ◌<◌, List, [], ◌∷◌, ◌++◌, length, is_some, IsTrue, IsFalse, slice_index}, List.list_any};
 ghost use Rattle.gx_units.specs.declared.names.SessionName.{SessionName};
-ghost use Rattle.gx_soup.specs.{declared.packet.{ClientPacket.TheVariants.Data, ServerPacket.{ServerPacket, TheVariants.{Accepted, Sequenced}}}, Login.greatest, Packets.{packets_of, with_packet}, Standard.{debug, longest_packet, unsequenced_data}, Writing.{framed, server_bytes}};
+ghost use Rattle.gx_soup.specs.{declared.packet.{ClientPacket.TheVariants.Data, ServerPacket.{ServerPacket, TheVariants.{Accepted, Sequenced}}}, Login.greatest, Packets.{packets_of, with_packet}, Standard.{debug, longest_packet, unsequenced_data}, Writing.{framed_packet, server_bytes}};
 ghost use Rattle.gx_ouch.specs.{declared.inbound.Inbound.Inbound, Writing.outbound_bytes};
 ghost use Rattle.gx_desk.specs.{declared.Command.Command, Writing.{answer_bytes, drop_copy_bytes}};
 ghost use Rattle.gx_client.specs.{Messages.{IsOutbound, IsAnswer, IsDropCopy, AreToldApart, HaveNoneInCommon}, Sending.{CarriesCommand, CarriesInbound}, ServerPackets.{server_packets_of, behind, IsServerPacket}, Session.{is_end, reports_in, stage_of, heard_after}, declared.heard.Stage.TheVariants.Over};
@@ -41,9 +41,9 @@ pub fn packets_are_read_back()
 /// Debug and Unsequenced Data of a server are passed over.
 pub fn others_are_passed_over()
     ensures debug { (payload rest : List ℕ) →
-        server_packets_of (framed debug payload ++ rest) ≡ server_packets_of rest }
+        server_packets_of (framed_packet debug payload ++ rest) ≡ server_packets_of rest }
     ensures unsequenced { (payload rest : List ℕ) →
-        server_packets_of (framed unsequenced_data payload ++ rest) ≡ server_packets_of rest }
+        server_packets_of (framed_packet unsequenced_data payload ++ rest) ≡ server_packets_of rest }
 {}
 
 /// Nothing that follows a fault changes what was told.

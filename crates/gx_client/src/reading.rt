@@ -2,7 +2,7 @@
 
 ghost use Rattle.std.specs.{Prelude.{◌≡◌, ◌<◌, ◌≤◌, ◌^◌, length, IfNone, IfSome}, Int.{w32, w64, from_be_bytes}};
 ghost use Rattle.gx_ouch.specs.declared.outbound.Outbound.TheVariants as outbounds;
-ghost use Rattle.gx_ouch.specs.{Layout.cut, Messages.{system_event, accepted, replaced, canceled, executed, rejected}, Writing.outbound_bytes};
+ghost use Rattle.gx_ouch.specs.{Layout.field_bytes, Messages.{system_event, accepted_layout, replaced_layout, canceled_layout, executed_layout, rejected_layout}, Writing.outbound_bytes};
 ghost use Rattle.gx_desk.specs.Writing.{answer_bytes, drop_copy_bytes};
 ghost use Rattle.gx_client.specs.{Messages.{IsOutbound, IsAnswer, IsDropCopy, NumbersFit, TermsFit, HasNone, ReadsBack}, Reading.{message_in, terms_of, executed_in, event_in_parts, accepted_in_parts, replaced_in_parts, canceled_in_parts, rejected_in_parts, outbound_shown, answer_shown, drop_copy_shown}};
 
@@ -124,7 +124,7 @@ fn outbound_shown(bytes: &[u8]) -> Option<Outbound>
 
 fn event_shown(bytes: &[u8]) -> Option<Outbound>
     requires { length bytes.now ≡ 10 }
-    ensures shown { result ≡ event_in_parts (cut system_event bytes.now) }
+    ensures shown { result ≡ event_in_parts (field_bytes system_event bytes.now) }
     ensures fits { IfSome result NumbersFit }
 {
     let event = event_code(bytes[9])?;
@@ -133,7 +133,7 @@ fn event_shown(bytes: &[u8]) -> Option<Outbound>
 
 fn accepted_shown(bytes: &[u8]) -> Outbound
     requires { length bytes.now ≡ 66 }
-    ensures shown { result ≡ accepted_in_parts (cut accepted bytes.now) }
+    ensures shown { result ≡ accepted_in_parts (field_bytes accepted_layout bytes.now) }
     ensures fits { NumbersFit result }
 {
     Outbound::Accepted(Accepted {
@@ -145,7 +145,7 @@ fn accepted_shown(bytes: &[u8]) -> Outbound
 
 fn replaced_shown(bytes: &[u8]) -> Outbound
     requires { length bytes.now ≡ 80 }
-    ensures shown { result ≡ replaced_in_parts (cut replaced bytes.now) }
+    ensures shown { result ≡ replaced_in_parts (field_bytes replaced_layout bytes.now) }
     ensures fits { NumbersFit result }
 {
     Outbound::Replaced(Replaced {
@@ -159,8 +159,8 @@ fn replaced_shown(bytes: &[u8]) -> Outbound
 /// The terms in an Accepted or a Replaced, which both have them at the same places.
 fn terms_shown(bytes: &[u8]) -> OrderTerms
     requires { 65 ≤ length bytes.now }
-    ensures accepted { result ≡ terms_of (cut accepted bytes.now) }
-    ensures replaced { result ≡ terms_of (cut replaced bytes.now) }
+    ensures accepted { result ≡ terms_of (field_bytes accepted_layout bytes.now) }
+    ensures replaced { result ≡ terms_of (field_bytes replaced_layout bytes.now) }
     ensures fits { TermsFit result }
 {
     OrderTerms {
@@ -184,7 +184,7 @@ fn terms_shown(bytes: &[u8]) -> OrderTerms
 
 fn canceled_shown(bytes: &[u8]) -> Option<Outbound>
     requires { length bytes.now ≡ 28 }
-    ensures shown { result ≡ canceled_in_parts (cut canceled bytes.now) }
+    ensures shown { result ≡ canceled_in_parts (field_bytes canceled_layout bytes.now) }
     ensures fits { IfSome result NumbersFit }
 {
     let reason = cancel_reason(bytes[27])?;
@@ -198,7 +198,7 @@ fn canceled_shown(bytes: &[u8]) -> Option<Outbound>
 /// The Executed in a message of its own, or at the front of a drop copy.
 fn executed_shown(bytes: &[u8]) -> Option<Executed>
     requires { 40 ≤ length bytes.now }
-    ensures shown { result ≡ executed_in (cut executed bytes.now) }
+    ensures shown { result ≡ executed_in (field_bytes executed_layout bytes.now) }
     ensures fits { IfSome result (λ m. NumbersFit (outbounds.Executed m)) }
 {
     let liquidity = liquidity(bytes[31])?;
@@ -213,7 +213,7 @@ fn executed_shown(bytes: &[u8]) -> Option<Executed>
 
 fn rejected_shown(bytes: &[u8]) -> Option<Outbound>
     requires { length bytes.now ≡ 24 }
-    ensures shown { result ≡ rejected_in_parts (cut rejected bytes.now) }
+    ensures shown { result ≡ rejected_in_parts (field_bytes rejected_layout bytes.now) }
     ensures fits { IfSome result NumbersFit }
 {
     let reason = reject_reason(bytes[23])?;

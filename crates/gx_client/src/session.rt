@@ -2,7 +2,7 @@
 
 ghost use Rattle.std.specs.Prelude.{◌≡◌, [], ◌∷◌, ◌++◌, List};
 ghost use Rattle.gx_soup.specs.declared.packet.{LoginRequest.LoginRequest, ServerPacket.ServerPacket};
-ghost use Rattle.gx_client.specs.Session.{HasHeard, heard_after, heard_as, noted};
+ghost use Rattle.gx_client.specs.Session.{HasHeard, heard_after, heard_as, standing_after};
 
 use crate::heard::{Heard, Stage};
 use gx_soup::{LoginRequest, ServerPacket};
@@ -96,7 +96,7 @@ impl ClientSession {
     }
 
     fn note(&mut self, heard: Heard)
-        ensures { self.new ≡ noted self.old heard }
+        ensures { self.new ≡ standing_after self.old heard }
     {
         match heard {
             Heard::LoggedIn(_, first) => {

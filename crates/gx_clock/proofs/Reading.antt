@@ -1,7 +1,7 @@
 -- An offset is read from its text, and from no other.
 use Rattle.std.proofs.{Common.{◌≡◌, ℕ, ◌+◌, ◌-◌, ◌*◌, ◌/◌, ◌%◌, ◌<◌, ◌≤◌, ◌==◌, Bool, true, false, cond, ◌&&◌, nat_lt, nat_le, List, [], ◌∷◌, Some, None, refl, sym, subst, ap, ◌∙◌, arith}, lemmas.{Bool.{false≢true, eqb-true, Decides.nat_tests}, Option.{cond_some, option_and_then_some}}}
 use Rattle.std.specs.{Option.option_and_then, Char.is_ascii_digit}
-use Rattle.gx_clock.specs.{declared.offset.UtcOffset.UtcOffset, Offsets.{most_minutes, two_digits, minutes_of, signed, minutes_written, offset_of, minutes_in, tens, ones, text_of, written}}
+use Rattle.gx_clock.specs.{declared.offset.UtcOffset.UtcOffset, Offsets.{most_minutes, two_digits, minutes_of, signed_offset, minutes_written, offset_of, minutes_in, tens, ones, text_of, written}}
 
 digit_is : (d : ℕ) → d < 10 → is_ascii_digit (48 + d) ≡ true
 digit_is d h = grind (arith, nat_tests, h)
@@ -44,8 +44,8 @@ text_read n h =
     ∙ minutes_read n h)
 
 pub offset_read : (offset : UtcOffset) → minutes_in offset ≤ most_minutes → offset_of (written offset) ≡ Some offset
-offset_read (UtcOffset.Ahead n) h = ap (option_and_then (signed 43)) (text_read n h)
-offset_read (UtcOffset.Behind n) h = ap (option_and_then (signed 45)) (text_read n h)
+offset_read (UtcOffset.Ahead n) h = ap (option_and_then (signed_offset 43)) (text_read n h)
+offset_read (UtcOffset.Behind n) h = ap (option_and_then (signed_offset 45)) (text_read n h)
 
 both_digits : (a b n : ℕ) → two_digits a b ≡ Some n → (is_ascii_digit a && is_ascii_digit b) ≡ true
 both_digits a b n e = (cond_some (is_ascii_digit a && is_ascii_digit b) ((a - 48) * 10 + (b - 48)) n e).0
@@ -107,7 +107,7 @@ signed_by false true sign n offset p q e =
     subst (IsSigned sign n) (cond_some true (UtcOffset.Behind n) offset e).1 (refl, ap (λ s. text_of s n) (sym (q refl)))
 signed_by false false sign n offset p q e = absurd (false≢true (cond_some false (UtcOffset.Ahead n) offset e).0)
 
-sign_is : (sign n : ℕ) (offset : UtcOffset) → signed sign n ≡ Some offset → IsSigned sign n offset
+sign_is : (sign n : ℕ) (offset : UtcOffset) → signed_offset sign n ≡ Some offset → IsSigned sign n offset
 sign_is sign n offset e = signed_by (sign == 43) (sign == 45) sign n offset (eqb-true sign 43) (eqb-true sign 45) e
 
 -- the minutes are few, and the text is the offset's
@@ -123,10 +123,10 @@ whole sign a b colon c d n offset e digits (minutes, text) =
     (subst (λ m. m ≤ most_minutes) (sym minutes) digits.1.1, six sign a b colon c d n e digits ∙ sym text)
 
 text_by : (is_colon : Bool) (sign a b colon c d : ℕ) (offset : UtcOffset) → (is_colon ≡ true → colon ≡ 58)
-    → cond is_colon (option_and_then (signed sign) (minutes_written a b c d)) None ≡ Some offset
+    → cond is_colon (option_and_then (signed_offset sign) (minutes_written a b c d)) None ≡ Some offset
     → IsText (sign ∷ a ∷ b ∷ colon ∷ c ∷ d ∷ []) offset
 text_by true sign a b colon c d offset p e =
-    option_and_then_some (signed sign) (minutes_written a b c d) offset e (λ n written rest.
+    option_and_then_some (signed_offset sign) (minutes_written a b c d) offset e (λ n written rest.
     whole sign a b colon c d n offset (p refl) (digits_written a b c d n written) (sign_is sign n offset rest))
 text_by false sign a b colon c d offset p e = absurd (false≢true (cond_some false offset offset e).0)
 

@@ -17,8 +17,8 @@ minutes_of hours minutes =
     if nat_lt minutes 60 && nat_le (hours * 60 + minutes) most_minutes then Some (hours * 60 + minutes) else None
 
 -- `+` is ahead of UTC, `-` is behind
-abbrev pub signed : ℕ → ℕ → Option UtcOffset
-signed sign minutes =
+abbrev pub signed_offset : ℕ → ℕ → Option UtcOffset
+signed_offset sign minutes =
     if sign == 43 then Some (UtcOffset.Ahead minutes)
     else if sign == 45 then Some (UtcOffset.Behind minutes)
     else None
@@ -31,7 +31,7 @@ minutes_written a b c d =
 -- the offset that a text writes: +HH:MM or -HH:MM
 abbrev pub offset_of : List ℕ → Option UtcOffset
 offset_of (sign ∷ a ∷ b ∷ colon ∷ c ∷ d ∷ []) =
-    if colon == 58 then option_and_then (signed sign) (minutes_written a b c d) else None
+    if colon == 58 then option_and_then (signed_offset sign) (minutes_written a b c d) else None
 offset_of other = None
 
 -- the minutes of an offset, ahead or behind

@@ -1,7 +1,7 @@
 //! How far local time is from UTC.
 
 ghost use Rattle.std.specs.Prelude.{◌≡◌};
-ghost use Rattle.gx_clock.specs.Offsets.{minutes_of, minutes_written, offset_of, signed, two_digits};
+ghost use Rattle.gx_clock.specs.Offsets.{minutes_of, minutes_written, offset_of, signed_offset, two_digits};
 
 /// The most minutes that an offset has, ahead or behind: 14 hours.
 const MOST_MINUTES: u16 = 840;
@@ -48,7 +48,7 @@ fn minutes_written(a: u8, b: u8, c: u8, d: u8) -> Option<u16>
 
 /// So many minutes ahead of UTC at `+`, and behind at `-`.
 fn signed(sign: u8, minutes: u16) -> Option<UtcOffset>
-    ensures { result ≡ signed sign minutes }
+    ensures { result ≡ signed_offset sign minutes }
 {
     match sign {
         b'+' => Some(UtcOffset::Ahead(minutes)),

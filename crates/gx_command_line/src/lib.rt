@@ -109,7 +109,7 @@ pub struct Standby<'a> {
 
 /// Which records of an audit are wanted.
 #[derive(Clone, Copy)]
-pub struct Wanted<'a> {
+pub struct ShowFilter<'a> {
     /// Those that concern this account.
     pub account: Option<&'a str>,
     /// Those that this user asked for, and what became of his orders.
@@ -209,7 +209,7 @@ pub enum Asked<'a> {
     /// `gate check`: to check an audit.
     Check(AuditFiles<'a>),
     /// `gate show`: to show records of an audit.
-    Show(AuditFiles<'a>, Wanted<'a>, Shape),
+    Show(AuditFiles<'a>, ShowFilter<'a>, Shape),
     /// `gate state`: to tell what stands in an audit's day.
     State(AuditFiles<'a>, StateAsked),
     /// `gate report`: to report an audit's day.
@@ -326,8 +326,8 @@ fn audit_files<'a>(given: &ArgMatches<'a>) -> Option<AuditFiles<'a>> {
 }
 
 /// Which records of an audit are wanted.
-fn wanted_records<'a>(given: &ArgMatches<'a>) -> Wanted<'a> {
-    Wanted {
+fn wanted_records<'a>(given: &ArgMatches<'a>) -> ShowFilter<'a> {
+    ShowFilter {
         account: given.get_str("account"),
         user: given.get_str("user"),
         order: given.get_one::<u64>("order"),

@@ -21,12 +21,12 @@ abbrev pub no_answers : AnswerCounts
 no_answers = record { by_bucket = replicate 17 0; nanoseconds = 0 }
 
 -- an answer that took so long is counted in its bucket, and in no other
-abbrev pub counted : AnswerCounts → ℕ → AnswerCounts
-counted counts time = record {
+abbrev pub with_answer_counted : AnswerCounts → ℕ → AnswerCounts
+with_answer_counted counts time = record {
   by_bucket = set counts.by_bucket (bucket_of time) (capped_sum (slice_index counts.by_bucket (bucket_of time)) 1);
   nanoseconds = capped_sum counts.nanoseconds time;
 }
 
 -- and so is each of these
 abbrev pub all_counted : List ℕ → AnswerCounts
-all_counted times = fold counted no_answers times
+all_counted times = fold with_answer_counted no_answers times

@@ -1,7 +1,7 @@
 //! How long it takes until a user is told of a step, as it is counted.
 
 ghost use Rattle.std.specs.Prelude.{◌≡◌, ◌<◌, length, nat_le, position, IfSome};
-ghost use Rattle.gx_control.specs.Buckets.{bucket_of, counted, no_answers};
+ghost use Rattle.gx_control.specs.Buckets.{bucket_of, with_answer_counted, no_answers};
 
 use std::marker::Model;
 use std::sync::atomic::{AtomicU64, Ordering};
@@ -65,7 +65,7 @@ impl AnswerCounts {
 
     /// One more answer, which took so many nanoseconds.
     pub fn note(&mut self, time: u64)
-        ensures { self.new ≡ counted self.old time }
+        ensures { self.new ≡ with_answer_counted self.old time }
     {
         let bucket = bucket_of(time);
         self.by_bucket[bucket] = self.by_bucket[bucket].saturating_add(1);

@@ -10,7 +10,7 @@ ghost use Rattle.gx_core.specs.Known.{accounts_held, change_asked, has_concerned
 use crate::gate::Gate;
 use gx_desk::{Action, WrittenName};
 use gx_history::record::{Asked, Request};
-use gx_people::people::People;
+use gx_people::People;
 use gx_people::power::Power;
 use gx_policy::Account;
 use gx_rules::RuleBook;
@@ -49,13 +49,13 @@ fn are_its_accounts_his(
 
 impl Gate {
     /// Whether the names in a command are known, and its rule has the setting.
-    #[tactic(auto, using(crate::proofs::Commanding::limits_are_known, crate::proofs::Commanding::lists_are_known, crate::proofs::Commanding::readers_are_known))]
+    #[tactic(auto, using(crate::proofs::Command_call::limits_are_known, crate::proofs::Command_call::lists_are_known, crate::proofs::Command_call::readers_are_known))]
     fn knows_names(&self, action: &Action) -> bool
         ensures { result ≡ knows_names self.now.policy self.now.records action.now }
     {
         let policy = &self.policy;
-        let rules = &self.keepers.rules;
-        let people = &self.keepers.people;
+        let rules = &self.state.rules;
+        let people = &self.state.people;
         match *action {
             Action::Kill(account) | Action::Lift(account) => { policy.account(account).is_some() }
             Action::SetLimit(rule, _) => rules.limit(rule).is_some(),
@@ -75,10 +75,10 @@ impl Gate {
             (is_his_or_not_its self.now (role_in self.now.policy.users officer) rule)
             self.now.policy.accounts }
     {
-        let keepers = &self.keepers;
+        let state = &self.state;
         are_its_accounts_his(
-            &keepers.rules,
-            &keepers.people,
+            &state.rules,
+            &state.people,
             officer,
             rule,
             self.policy.accounts(),
@@ -87,12 +87,12 @@ impl Gate {
 
     /// Whether an officer has the accounts that a command concerns: the one that it names, or all that its rule is
     /// for.
-    #[tactic(auto, using(crate::proofs::Judged::scopes_are_known))]
+    #[tactic(auto, using(crate::proofs::Facts_call::scopes_are_known))]
     fn has_concerned(&self, officer: UserName, action: &Action) -> bool
         ensures { result ≡ has_concerned self.now
             (role_in self.now.policy.users officer) action.now }
     {
-        let people = &self.keepers.people;
+        let people = &self.state.people;
         match *action {
             Action::Kill(account) | Action::Lift(account) => people.holds(officer, account),
             Action::SetLimit(rule, _) => self.holds_rule(officer, rule),
@@ -111,7 +111,7 @@ impl Gate {
         ensures { result ≡ are_his self.now.policy self.now.records
             (role_in self.now.policy.users officer) action.now }
     {
-        self.keepers.people.is_officer(officer, 0) && self.has_concerned(officer, action)
+        self.state.people.is_officer(officer, 0) && self.has_concerned(officer, action)
     }
 
     /// Whether the reader whom an officer names sees the account's fills from now on.
@@ -120,30 +120,30 @@ impl Gate {
     {
         // that the policy is sound, which what readers see rests on
         let _ = self.policy.rules();
-        match self.keepers.people.reader_named(reader) {
-            Some(name) => self.keepers.people.sees(name, account),
+        match self.state.people.reader_named(reader) {
+            Some(name) => self.state.people.sees(name, account),
             None => false,
         }
     }
 
     /// Whether the rule has this very limit.
-    #[tactic(auto, using(crate::proofs::Commanding::limit_is_known))]
+    #[tactic(auto, using(crate::proofs::Command_call::limit_is_known))]
     fn has_limit(&self, rule: RuleId, limit: u64) -> bool
         ensures { result ≡ has_limit (rule_in_force self.now.policy self.now.records rule) limit }
     {
-        self.keepers.rules.limit(rule) == Some(limit)
+        self.state.rules.limit(rule) == Some(limit)
     }
 
     /// Whether a command would change anything.
-    #[tactic(auto, using(crate::proofs::Commanding::stock_is_listed, crate::proofs::Judged::the_kill_is_known))]
+    #[tactic(auto, using(crate::proofs::Command_call::stock_is_listed, crate::proofs::Facts_call::the_kill_is_known))]
     fn would_change(&self, officer: UserName, action: &Action) -> bool
         ensures { result ≡ changes self.now.policy self.now.records officer action.now }
     {
-        let rules = &self.keepers.rules;
-        let day = &self.keepers.day;
+        let rules = &self.state.rules;
+        let status = &self.state.status;
         match *action {
-            Action::Kill(account) => day.kill_changes(account),
-            Action::Lift(account) => day.lift_changes(account, officer),
+            Action::Kill(account) => status.kill_changes(account),
+            Action::Lift(account) => status.lift_changes(account, officer),
             Action::SetLimit(rule, limit) => !self.has_limit(rule, limit),
             Action::Restrict(rule, stock) => !rules.lists(rule, stock),
             Action::Unrestrict(rule, stock) => rules.lists(rule, stock),
@@ -154,7 +154,7 @@ impl Gate {
     }
 
     /// What the rules ask about a command; true of any other request.
-    #[tactic(auto, using(crate::proofs::Judged::powers_are_known))]
+    #[tactic(auto, using(crate::proofs::Facts_call::powers_are_known))]
     pub(crate) fn command_facts(&self, a: &Asked) -> CommandFacts
         ensures names { result.names_are_known ≡ names_known self.now a.now }
         ensures power { result.has_power ≡ power_held self.now a.now }
@@ -166,7 +166,7 @@ impl Gate {
         };
         CommandFacts {
             names_are_known: self.knows_names(&c.action),
-            has_power: self.keepers.people.has(a.user, Power::of(&c.action)),
+            has_power: self.state.people.has(a.user, Power::of(&c.action)),
             accounts_are_his: self.holds_accounts(a.user, &c.action),
             would_change: self.would_change(a.user, &c.action),
         }

@@ -6,23 +6,23 @@ ghost use Rattle.gx_history.specs.{InForce.is_closed, Streams.stream, Verdicts.l
 
 use crate::login::{login_answered, login_asked};
 use crate::moves::matched_move;
-use crate::places::{first_history, keep_for, keep_one};
 use crate::putting::put_pull;
+use crate::reserve::{first_history, reserve_for, reserve_one};
 use gx_answers::{
     AccessGate, LoginAnswer, Outcome, Pulled, Reached, Reports, StepFault, record_of,
     record_of_match,
 };
-use gx_history::history::History;
+use gx_gate_state::GateState;
+use gx_gate_state::apply::apply_record;
+use gx_gate_state::listed::house_of;
+use gx_gate_state::matching::apply_match;
+use gx_gate_state::next_record::NextRecord;
+use gx_history::History;
 use gx_history::moves::Move;
 use gx_history::record::{Asked, Record, Request, Verdict};
 use gx_history::records::Records;
 use gx_history::report::Report;
 use gx_index::Near;
-use gx_keepers::apply::carry_on;
-use gx_keepers::keepers::Keepers;
-use gx_keepers::listed::house_of;
-use gx_keepers::matching::carry_match;
-use gx_keepers::next_record::NextRecord;
 use gx_policy::Policy;
 use gx_records::ShowsRecords;
 use gx_units::{AccountName, Firm, Moment, OutOfMemory, Password, SessionName, UserName};
@@ -35,7 +35,7 @@ use std::marker::Model;
 pub struct Gate {
     alloc: Global,
     pub(crate) policy: Policy,
-    pub(crate) keepers: Keepers,
+    pub(crate) state: GateState,
     history: History,
 }
 
@@ -47,7 +47,7 @@ impl Model for Gate {
 
     ghost view = { λ g. record { policy = g.policy; records = g.history.records } };
 
-    ghost invariant = { λ g. IsWhole g.policy g.history.records g.history.spare g.keepers };
+    ghost invariant = { λ g. IsWhole g.policy g.history.records g.history.spare g.state };
 }
 
 impl AccessGate for Gate {
@@ -56,18 +56,18 @@ impl AccessGate for Gate {
     fn open(alloc: Global, policy: &Policy) -> Result<Gate, OutOfMemory> {
         let policy = policy.copied(alloc)?;
         let Ok(history) = first_history(alloc, &policy) else {
-            policy.let_go();
+            policy.release();
             return Err(OutOfMemory);
         };
-        let Ok(keepers) = Keepers::new(alloc, &policy) else {
-            policy.let_go();
-            history.let_go();
+        let Ok(state) = GateState::new(alloc, &policy) else {
+            policy.release();
+            history.release();
             return Err(OutOfMemory);
         };
         Ok(Gate {
             alloc,
             policy,
-            keepers,
+            state,
             history,
         })
     }
@@ -76,12 +76,12 @@ impl AccessGate for Gate {
         let Gate {
             alloc: _,
             policy,
-            keepers,
+            state,
             history,
         } = self;
-        policy.let_go();
-        keepers.let_go();
-        history.let_go();
+        policy.release();
+        state.release();
+        history.release();
     }
 
     fn step(&mut self, a: Asked) -> Result<Outcome, StepFault> {
@@ -93,14 +93,14 @@ impl AccessGate for Gate {
         let entry = record_of(&a, outcome);
         let mut moves = Move::Nothing;
         self.put_asked_move(&mut moves, &a, near, &entry, &known);
-        keep_for(&mut self.history, &self.policy, &a, outcome.verdict)?;
-        carry_on(
-            &mut self.keepers,
+        reserve_for(&mut self.history, &self.policy, &a, outcome.verdict)?;
+        apply_record(
+            &mut self.state,
             NextRecord {
                 policy: &self.policy,
                 history: &self.history,
                 moves: &moves,
-                left: &entry,
+                data: &entry,
                 near,
             },
             &a,
@@ -117,14 +117,14 @@ impl AccessGate for Gate {
         let outcome = self.match_outcome(&first, near.stock, handed);
         let entry = record_of_match(handed, outcome);
         let moves = matched_move(outcome.verdict);
-        keep_one(&mut self.history, &self.policy)?;
-        carry_match(
-            &mut self.keepers,
+        reserve_one(&mut self.history, &self.policy)?;
+        apply_match(
+            &mut self.state,
             NextRecord {
                 policy: &self.policy,
                 history: &self.history,
                 moves: &moves,
-                left: &entry,
+                data: &entry,
                 near,
             },
         )?;
@@ -146,19 +146,19 @@ impl AccessGate for Gate {
         let _ = &self.history;
     }
 
-    #[tactic(auto, using(crate::proofs::Judged::kill_is_known))]
+    #[tactic(auto, using(crate::proofs::Facts_call::kill_is_known))]
     fn is_killed(&self, account: AccountName) -> bool {
-        self.keepers.day.is_killed(account, 0)
+        self.state.status.is_killed(account, 0)
     }
 
-    #[tactic(auto, using(crate::proofs::Judged::line_is_known))]
+    #[tactic(auto, using(crate::proofs::Facts_call::line_is_known))]
     fn on(&self, user: UserName) -> Option<u16> {
-        self.keepers.day.line_of(user, 0)
+        self.state.status.line_of(user, 0)
     }
 
-    #[tactic(auto, using(crate::proofs::Judged::users_are_known))]
+    #[tactic(auto, using(crate::proofs::Facts_call::users_are_known))]
     fn knows(&self, user: UserName) -> bool {
-        self.keepers.people.knows(user)
+        self.state.people.knows(user)
     }
 
     fn records(&self, from: u64, most: u64) -> Result<Vec<Record>, OutOfMemory> {
@@ -175,7 +175,7 @@ impl AccessGate for Gate {
         })
     }
 
-    #[tactic(auto, using(crate::proofs::Judged::reports_are_known, crate::proofs::Judged::end_is_known))]
+    #[tactic(auto, using(crate::proofs::Facts_call::reports_are_known, crate::proofs::Facts_call::end_is_known))]
     fn put_reports(
         &self,
         user: UserName,
@@ -184,9 +184,9 @@ impl AccessGate for Gate {
         most: u64,
         list: &mut Vec<Report>,
     ) -> Result<Reached, OutOfMemory> {
-        let asker = self.keepers.people.near(user);
+        let asker = self.state.people.near(user);
         put_pull(
-            &self.keepers,
+            &self.state,
             &self.history.records(),
             self.house_of(user, asker),
             user,
@@ -197,7 +197,7 @@ impl AccessGate for Gate {
         )
     }
 
-    #[tactic(auto, using(crate::proofs::Judged::passwords_are_known))]
+    #[tactic(auto, using(crate::proofs::Facts_call::passwords_are_known))]
     fn login_request(
         &self,
         user: UserName,
@@ -206,7 +206,7 @@ impl AccessGate for Gate {
         wanted: u64,
     ) -> Request {
         login_asked(
-            &self.keepers.people,
+            &self.state.people,
             &self.policy,
             user,
             password,
@@ -228,38 +228,38 @@ impl ShowsRecords for Gate {
 
 impl Gate {
     /// Whether some Close Day was granted.
-    #[tactic(auto, using(crate::proofs::Judged::end_is_known))]
+    #[tactic(auto, using(crate::proofs::Facts_call::end_is_known))]
     pub(crate) fn is_closed(&self) -> bool
         ensures { result ≡ is_closed self.now.records }
     {
-        self.keepers.day.is_closed()
+        self.state.status.is_closed()
     }
 
     /// The moment of the last record; 0 where there is none.
-    #[tactic(auto, using(crate::proofs::Judged::moment_is_known))]
+    #[tactic(auto, using(crate::proofs::Facts_call::moment_is_known))]
     pub fn last_moment(&self) -> Moment
         ensures { result ≡ last_moment self.now.records }
     {
-        self.keepers.day.last_moment()
+        self.state.status.last_moment()
     }
 
     /// The firm of the account that the user trades for.
-    #[tactic(auto, using(crate::proofs::Judged::accounts_are_known))]
+    #[tactic(auto, using(crate::proofs::Facts_call::accounts_are_known))]
     fn house_of(&self, user: UserName, near: Near) -> Option<Firm>
         ensures { result ≡ house_of self.now.policy user }
     {
         house_of(
             &self.policy,
-            self.keepers.people.account_near(user, near.user),
+            self.state.people.account_near(user, near.user),
             near.account,
         )
     }
 
     /// How many reports the user was owed.
-    #[tactic(auto, using(crate::proofs::Judged::reports_are_known))]
+    #[tactic(auto, using(crate::proofs::Facts_call::reports_are_known))]
     pub(crate) fn count_reports(&self, user: UserName) -> u64
         ensures { result ≡ length (stream self.now.policy self.now.records user) }
     {
-        self.keepers.streams.len(user) as u64
+        self.state.streams.len(user) as u64
     }
 }

@@ -12,11 +12,11 @@ use crate::gate::Gate;
 use gx_answers::{AccessGate, Outcome};
 use gx_decide::decide;
 use gx_desk::Action;
+use gx_gate_state::listed::fits_firm;
 use gx_history::facts::Facts;
 use gx_history::live_order::LiveOrder;
 use gx_history::record::{Asked, Request, Verdict};
 use gx_index::Near;
-use gx_keepers::listed::fits_firm;
 use gx_orders::request_tokens::{named_token, new_token};
 use gx_people::power::Power;
 use gx_units::{AccountName, Moment, UserName};
@@ -51,12 +51,12 @@ fn is_on_line(on: Option<u16>, line: u16) -> bool
 
 impl Gate {
     /// Whether a Login's user is in the policy, and its password is right.
-    #[tactic(auto, using(crate::proofs::Judged::users_are_known))]
+    #[tactic(auto, using(crate::proofs::Facts_call::users_are_known))]
     fn knows_who_asks(&self, a: &Asked) -> bool
         ensures { result ≡ knows_user self.now.policy a.now.user a.now.request }
     {
         match &a.request {
-            Request::Login(m) => m.password_is_right && self.keepers.people.knows(a.user),
+            Request::Login(m) => m.password_is_right && self.state.people.knows(a.user),
             _ => true,
         }
     }
@@ -76,7 +76,7 @@ impl Gate {
 
     /// Whether orders are asked for by a trader, and commands by an officer; this is the account that the user trades for,
     /// if he trades.
-    #[tactic(auto, using(crate::proofs::Judged::traders_have_accounts, crate::proofs::Judged::officers_are_known))]
+    #[tactic(auto, using(crate::proofs::Facts_call::traders_have_accounts, crate::proofs::Facts_call::officers_are_known))]
     fn fits_role(&self, a: &Asked, account: Option<AccountName>) -> bool
         requires account { account ≡ account_of self.now.policy a.now.user }
         ensures fits { result
@@ -84,61 +84,61 @@ impl Gate {
     {
         match &a.request {
             Request::Enter(_) | Request::Replace(_) | Request::Cancel(_) => account.is_some(),
-            Request::Command(_) => self.keepers.people.is_officer(a.user, 0),
+            Request::Command(_) => self.state.people.is_officer(a.user, 0),
             _ => true,
         }
     }
 
     /// Whether an Enter's stock is listed; true for any other request.
-    #[tactic(auto, using(crate::proofs::Judged::stocks_are_known))]
+    #[tactic(auto, using(crate::proofs::Facts_call::stocks_are_known))]
     fn lists_its_stock(&self, request: &Request, near: usize) -> bool
         ensures { result ≡ lists_its_stock self.now.policy request.now }
     {
         match request {
-            Request::Enter(m) => self.keepers.book.lists(m.stock, near),
+            Request::Enter(m) => self.state.book.lists(m.stock, near),
             _ => true,
         }
     }
 
     /// The account that the user trades for, if he trades.
-    #[tactic(auto, using(crate::proofs::Judged::accounts_are_known))]
+    #[tactic(auto, using(crate::proofs::Facts_call::accounts_are_known))]
     fn account_of(&self, user: UserName, near: usize) -> Option<AccountName>
         ensures { result ≡ account_of self.now.policy user }
     {
-        self.keepers.people.account_near(user, near)
+        self.state.people.account_near(user, near)
     }
 
     /// The line that the user is logged in on.
-    #[tactic(auto, using(crate::proofs::Judged::line_is_known))]
+    #[tactic(auto, using(crate::proofs::Facts_call::line_is_known))]
     fn line_near(&self, user: UserName, near: usize) -> Option<u16>
         ensures { result ≡ line_of self.now.records user }
     {
-        self.keepers.day.line_of(user, near)
+        self.state.status.line_of(user, near)
     }
 
     /// Whether the account is killed.
-    #[tactic(auto, using(crate::proofs::Judged::kill_is_known))]
+    #[tactic(auto, using(crate::proofs::Facts_call::kill_is_known))]
     fn is_killed_near(&self, account: AccountName, near: usize) -> bool
         ensures { result ≡ is_killed self.now.policy self.now.records account }
     {
-        self.keepers.day.is_killed(account, near)
+        self.state.status.is_killed(account, near)
     }
 
     /// Whether the request's new token was used before by its user.
-    #[tactic(auto, using(crate::proofs::Judged::tokens_are_known))]
+    #[tactic(auto, using(crate::proofs::Facts_call::tokens_are_known))]
     fn token_is_used(&self, a: &Asked) -> bool
         ensures { result ≡ has_used self.now a.now }
     {
-        new_token(&a.request).is_some_and(|token| self.keepers.orders.is_used(a.user, token))
+        new_token(&a.request).is_some_and(|token| self.state.orders.is_used(a.user, token))
     }
 
     /// The live order that a Replace or a Cancel names.
     #[inline(always)]
-    #[tactic(auto, using(crate::proofs::Judged::named_is_known))]
+    #[tactic(auto, using(crate::proofs::Facts_call::named_is_known))]
     fn order_named(&self, a: &Asked) -> Option<LiveOrder>
         ensures { result ≡ order_asked self.now a.now }
     {
-        self.keepers.orders.under(a.user, named_token(&a.request)?)
+        self.state.orders.under(a.user, named_token(&a.request)?)
     }
 
     /// The moment of the record that the request leaves: that handed in, or that of the record before where it is later.
@@ -209,15 +209,8 @@ impl Gate {
     {
         // that the policy is sound, which `shown` rests on
         let _ = self.policy.rules();
-        let keepers = &self.keepers;
-        decide(
-            &keepers.people,
-            &keepers.rules,
-            &keepers.ledger,
-            known,
-            near,
-            a,
-        )
+        let state = &self.state;
+        decide(&state.people, &state.rules, &state.ledger, known, near, a)
     }
 
     /// The number, the moment and the verdict of the record that the request leaves, by what the rules ask.

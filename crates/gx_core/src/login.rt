@@ -6,7 +6,7 @@ ghost use Rattle.gx_answers.specs.Logins.{login_answer_after, login_asked_of};
 
 use gx_answers::LoginAnswer;
 use gx_history::record::{Login, Request, Verdict};
-use gx_people::people::People;
+use gx_people::People;
 use gx_policy::{Policy, RuleName};
 use gx_units::{LoginRejection, Password, SessionName, UserName};
 

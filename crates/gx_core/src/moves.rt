@@ -7,12 +7,12 @@ ghost use Rattle.gx_policy.specs.{declared.policy.PolicyData.PolicyData, People.
 ghost use Rattle.gx_core.specs.{Known.order_asked, Moves.{done_by, granted_move}};
 
 use crate::gate::Gate;
+use gx_gate_state::listed::firm_of;
 use gx_history::facts::Facts;
 use gx_history::live_order::LiveOrder;
 use gx_history::moves::Move;
 use gx_history::record::{Asked, RecordData, Request, Verdict};
 use gx_index::Near;
-use gx_keepers::listed::firm_of;
 use gx_ouch::{EnterOrder, OrderTerms, ReplaceOrder};
 use gx_policy::{Policy, RuleName};
 use gx_units::{AccountName, UserName};

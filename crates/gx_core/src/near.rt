@@ -10,10 +10,10 @@ use gx_index::Near;
 impl Gate {
     /// Of who asks, and of the stock of an Enter.
     pub(crate) fn near_asker(&self, a: &Asked) -> Near {
-        let asker = self.keepers.people.near(a.user);
+        let asker = self.state.people.near(a.user);
         match &a.request {
             Request::Enter(m) => Near {
-                stock: self.keepers.book.near(m.stock),
+                stock: self.state.book.near(m.stock),
                 ..asker
             },
             _ => asker,
@@ -24,7 +24,7 @@ impl Gate {
     pub(crate) fn near_named(&self, asker: Near, known: &Facts) -> Near {
         match &known.named {
             Some(order) => Near {
-                stock: self.keepers.book.near(order.terms.stock),
+                stock: self.state.book.near(order.terms.stock),
                 ..asker
             },
             None => asker,
@@ -34,7 +34,7 @@ impl Gate {
     /// Of the stock of an order that waits. Its user and its account are looked up where it is executed or expires.
     pub(crate) fn near_waiting(&self, order: &LiveOrder) -> Near {
         Near {
-            stock: self.keepers.book.near(order.terms.stock),
+            stock: self.state.book.near(order.terms.stock),
             ..Near::FIRST
         }
     }

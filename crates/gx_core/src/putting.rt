@@ -3,12 +3,12 @@
 ghost use Rattle.std.specs.{Prelude.{◌≡◌, ◌+◌, length, max, IfOk, OnOk}, List.AllByRecursion};
 ghost use Rattle.gx_policy.specs.Lists.{slice};
 ghost use Rattle.gx_streams.specs.Recorded.{IsRecorded};
-ghost use Rattle.gx_core.specs.Kept.{is_past_the_end, told_kept};
+ghost use Rattle.gx_core.specs.Kept.{is_past_the_end, reports_of_user};
 
 use gx_answers::Reached;
+use gx_gate_state::GateState;
 use gx_history::records::Records;
 use gx_history::report::Report;
-use gx_keepers::keepers::Keepers;
 use gx_units::{Firm, OutOfMemory, UserName};
 
 /// Puts the user's reports from this number on, 0 counting as 1, and at most so many, into this list, in place of what
@@ -19,7 +19,7 @@ use gx_units::{Firm, OutOfMemory, UserName};
 ///
 /// `OutOfMemory` where memory was refused.
 pub(crate) fn put_pull(
-    keepers: &Keepers,
+    state: &GateState,
     records: &Records<'_>,
     house: Option<Firm>,
     user: UserName,
@@ -29,17 +29,17 @@ pub(crate) fn put_pull(
     list: &mut Vec<Report>,
 ) -> Result<Reached, OutOfMemory>
     requires recorded { AllByRecursion (IsRecorded house records.now)
-        (slice (told_kept keepers.now user) from most) }
+        (slice (reports_of_user state.now user) from most) }
     ensures reports { OnOk result
-        (list.new.items ≡ slice (told_kept keepers.now user) from most) }
+        (list.new.items ≡ slice (reports_of_user state.now user) from most) }
     ensures next { IfOk result (λ r. r.next ≡ max 1 from + length list.new.items) }
-    ensures ended { IfOk result (λ r. r.ended ≡ is_past_the_end keepers.now user r.next) }
+    ensures ended { IfOk result (λ r. r.ended ≡ is_past_the_end state.now user r.next) }
 {
-    let owed = keepers
+    let owed = state
         .streams
         .put_slice(records, house, user, near, from, most, list)?;
     let next = from.max(1) + list.len() as u64;
-    let ended = keepers.day.is_closed() && (owed.count as u64) < next;
+    let ended = state.status.is_closed() && (owed.count as u64) < next;
     Ok(Reached {
         next,
         ended,

@@ -1,4 +1,4 @@
-//! What stands after the gate's records, as its keepers have it.
+//! What stands after the gate's records, as its state has it.
 
 ghost use Rattle.std.specs.Prelude.{◌≡◌, length, option_map, position, unwrap_or, IfSome};
 ghost use Rattle.gx_units.specs.Names.{same_rule};
@@ -67,24 +67,24 @@ fn net_of(sums: Option<NetSums>) -> Option<i128>
 }
 
 impl ShowsState for Gate {
-    #[tactic(auto, using(crate::proofs::Standing::live_is_known))]
+    #[tactic(auto, using(crate::proofs::Figures_call::live_is_known))]
     fn live_orders(&self) -> LiveOrders<'_> {
-        self.keepers.orders.live()
+        self.state.orders.live()
     }
 
-    #[tactic(auto, using(crate::proofs::Standing::orders_of_account_are_known))]
+    #[tactic(auto, using(crate::proofs::Figures_call::orders_of_account_are_known))]
     fn live_orders_of(&self, account: AccountName) -> LiveOrders<'_> {
-        self.keepers.orders.live_of(account)
+        self.state.orders.live_of(account)
     }
 
-    #[tactic(auto, using(crate::proofs::Standing::count_is_known))]
+    #[tactic(auto, using(crate::proofs::Figures_call::count_is_known))]
     fn live_count_of(&self, user: UserName) -> usize {
-        self.keepers.orders.count_of(user, 0)
+        self.state.orders.count_of(user, 0)
     }
 
-    #[tactic(auto, using(crate::proofs::Standing::order_is_known))]
+    #[tactic(auto, using(crate::proofs::Figures_call::order_is_known))]
     fn live_order(&self, number: u64) -> Option<LiveOrder> {
-        self.keepers.orders.numbered(number)
+        self.state.orders.numbered(number)
     }
 
     fn is_day_closed(&self) -> bool {
@@ -95,30 +95,30 @@ impl ShowsState for Gate {
         self.last_moment()
     }
 
-    #[tactic(auto, using(crate::proofs::Standing::limit_is_known))]
+    #[tactic(auto, using(crate::proofs::Figures_call::limit_is_known))]
     fn limit(&self, rule: RuleId) -> Option<u64> {
-        self.keepers.rules.limit(rule)
+        self.state.rules.limit(rule)
     }
 
-    #[tactic(auto, using(crate::proofs::Commanding::stock_is_listed))]
+    #[tactic(auto, using(crate::proofs::Command_call::stock_is_listed))]
     fn lists(&self, rule: RuleId, stock: Symbol) -> bool {
-        self.keepers.rules.lists(rule, stock)
+        self.state.rules.lists(rule, stock)
     }
 
-    #[tactic(auto, using(crate::proofs::Standing::sight_is_known))]
+    #[tactic(auto, using(crate::proofs::Figures_call::sight_is_known))]
     fn is_entitled(&self, reader: UserName, account: AccountName) -> bool {
         // that the policy is sound, which what readers see rests on
         let _ = self.policy.rules();
-        self.keepers.people.sees(reader, account)
+        self.state.people.sees(reader, account)
     }
 
     fn gross_used(&self, rule: RuleId, account: AccountName) -> Option<u128> {
         let place = rule_place(self.policy.rules(), rule);
-        gross_of(self.keepers.ledger.gross(place, account))
+        gross_of(self.state.ledger.gross(place, account))
     }
 
     fn net_used(&self, rule: RuleId, account: AccountName, side: StockSide) -> Option<i128> {
         let place = rule_place(self.policy.rules(), rule);
-        net_of(self.keepers.ledger.net(place, account, side))
+        net_of(self.state.ledger.net(place, account, side))
     }
 }

@@ -2,7 +2,7 @@
 use Rattle.std.proofs.Common.{◌≡◌, ℕ, suc, true, List, [], ◌∷◌, map, refl, sym, ap, ◌∙◌}
 use Rattle.std.specs.{Prelude.{Option, Some, None, is_some}, Option.option_map_or}
 use Rattle.gx_units.specs.declared.names.AccountName.{AccountName}
-use Rattle.gx_history.specs.{declared.{facts.{Facts.Facts, RuleFigures.RuleFigures}, «record».Request.Request}, Figures.{Positions, figures, no_figures}, Rules.{figured, figured_from}, Verdicts.{figures_asked, with_figures}}
+use Rattle.gx_history.specs.{declared.{facts.{Facts.Facts, RuleFigures.RuleFigures}, «record».Request.Request}, Figures.{Positions, figures, no_figures}, Rules.{rules_with_figures, figured_from}, Verdicts.{figures_asked, with_figures}}
 use Rattle.gx_policy.specs.{declared.policy.{FileRule.FileRule, PolicyData.PolicyData}, People.account_named}
 use Rattle.gx_decide.specs.Deciding.{AskForTheSame, knows_asker}
 
@@ -34,15 +34,15 @@ none_told place (rule ∷ rules) = ap (λ (rs : List (FileRule × RuleFigures)).
 
 module _ (policy : PolicyData) (held : Positions) (q : Request) (given : Facts) (rules : List FileRule) where
   -- an asker without an account has no figures
-  pub none_asked : given.account ≡ None → figured (λ n. no_figures) rules ≡ with_figures (figures_asked policy held q given) rules
+  pub none_asked : given.account ≡ None → rules_with_figures (λ n. no_figures) rules ≡ with_figures (figures_asked policy held q given) rules
   none_asked none =
       none_told 0 rules
       ∙ ap (λ (asker : Option AccountName). with_figures (λ rule. option_map_or (λ (account : AccountName). figures policy held account q given.named given.moment rule) asker no_figures) rules) (sym none)
 
   -- the figures of the asker's account
   pub some_asked : (account : AccountName) (told : ℕ → RuleFigures) → given.account ≡ Some account
-      → figured told policy.rules ≡ with_figures (figures policy held account q given.named given.moment) policy.rules → AskForTheSame policy held rules
-      → figured told rules ≡ with_figures (figures_asked policy held q given) rules
+      → rules_with_figures told policy.rules ≡ with_figures (figures policy held account q given.named given.moment) policy.rules → AskForTheSame policy held rules
+      → rules_with_figures told rules ≡ with_figures (figures_asked policy held q given) rules
   some_asked account told is_his are same =
       joined told (figures policy held account q given.named given.moment) 0 rules policy.rules are
       (same account q given.named given.moment)

@@ -6,7 +6,7 @@ use Rattle.gx_history.specs.{declared.{facts.Facts.Facts, live_order.LiveOrder.L
 use Rattle.gx_policy.specs.{declared.policy.{FileRule.FileRule, PolicyData.PolicyData, User.User}, People.account_named}
 use Rattle.gx_people.specs.Entitled.{has, power_of}
 use Rattle.gx_laws.specs.Sound.{AreSound}
-use Rattle.gx_ledger.specs.{Keeping.Kept, StandsFor.StandsFor}
+use Rattle.gx_ledger.specs.{Keeping.LedgerData, StandsFor.StandsFor}
 
 -- the facts, with what these people say of the asker's power
 abbrev pub with_powers : List User → Asked → Facts → Facts
@@ -23,11 +23,11 @@ knows_asker policy given = option_map_or (λ (account : AccountName). is_some (a
 
 -- The verdict is that of the first rule that forbids, on these facts and the figures of the lists that the ledger stands
 -- for, whichever these are.
-abbrev pub Judges : List FileRule → Kept → Facts → Asked → Verdict → Type 0
+abbrev pub Judges : List FileRule → LedgerData → Facts → Asked → Verdict → Type 0
 Judges rules ledger facts a result = (policy : PolicyData) (held : Positions)
     → StandsFor policy ledger held → AreSound policy held → AskForTheSame policy held rules → IsTrue (knows_asker policy facts)
     → result ≡ verdict_by (first_forbidding (with_figures (figures_asked policy held a.request facts) rules) facts a.request)
 
 -- so it is on the powers of these people
-abbrev pub Decides : List User → List FileRule → Kept → Facts → Asked → Verdict → Type 0
+abbrev pub Decides : List User → List FileRule → LedgerData → Facts → Asked → Verdict → Type 0
 Decides people rules ledger given a result = Judges rules ledger (with_powers people a given) a result

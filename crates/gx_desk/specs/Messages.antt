@@ -1,6 +1,6 @@
 -- The messages from officers, and to officers and readers: type, length, and the offset and length of each field.
 use Rattle.std.specs.Prelude.{ℕ, [], ◌∷◌, ◌++◌}
-use Rattle.gx_ouch.specs.{Layout.{Layout, field}, Messages.executed}
+use Rattle.gx_ouch.specs.{Layout.{Layout, field}, Messages.executed_layout}
 
 -- a command about an account: Kill and Lift
 abbrev pub account_command : ℕ → Layout
@@ -85,10 +85,10 @@ answer = record {
 -- drop copy: that side's Executed, and what only a reader is told
 abbrev pub drop_copy : Layout
 drop_copy = record {
-  kind = executed.kind;
+  kind = executed_layout.kind;
   size = 49;
   fields =
-      executed.fields ++
+      executed_layout.fields ++
       field 40 8 ∷  -- account
       field 48 1 ∷  -- side of the order
       [];

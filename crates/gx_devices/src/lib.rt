@@ -1,10 +1,10 @@
 //! Readers and writers whose calls and failures are counted, so that whoever gives up says rightly why.
 #![tactic(auto)]
 
-mod counted;
+mod call_counter;
 mod fault;
 mod write;
 
-pub use counted::Counted;
+pub use call_counter::CallCounter;
 pub use fault::WriteFault;
 pub use write::{WriteFailed, write_flushing, write_whole};

@@ -3,7 +3,7 @@
 ghost use Rattle.std.specs.{Prelude.{◌≡◌, ◌+◌, ◌-◌, ◌^◌, ◌<◌, OnOk, OnErr}, Io.KnownBytes.Appends};
 ghost use Rattle.gx_devices.specs.Devices.{IsFront};
 
-use crate::counted::Counted;
+use crate::call_counter::CallCounter;
 use std::io::Write;
 
 /// The writer failed, at a write or at a flush, or took none of some bytes.
@@ -11,7 +11,7 @@ use std::io::Write;
 pub struct WriteFailed;
 
 /// Writes all of the bytes, and flushes the writer; where the writer fails, a front of them, or all.
-pub fn write_whole<W: Write>(writer: &mut Counted<W>, bytes: &[u8]) -> Result<(), WriteFailed>
+pub fn write_whole<W: Write>(writer: &mut CallCounter<W>, bytes: &[u8]) -> Result<(), WriteFailed>
     requires { writer.old.failed < 2 ^ 64 - 1 }
     ensures whole { OnOk result (Appends
         (W.contents writer.old.device) (W.contents writer.new.device) bytes.now) }
@@ -26,7 +26,7 @@ pub fn write_whole<W: Write>(writer: &mut Counted<W>, bytes: &[u8]) -> Result<()
 /// Writes all of the bytes, and flushes the writer behind them only where that is asked for; where the writer fails, a
 /// front of them, or all. Who flushes later must do so before waiting for whoever is to see the bytes.
 pub fn write_flushing<W: Write>(
-    writer: &mut Counted<W>,
+    writer: &mut CallCounter<W>,
     bytes: &[u8],
     flushes: bool,
 ) -> Result<(), WriteFailed>

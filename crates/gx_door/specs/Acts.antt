@@ -4,13 +4,13 @@ use mathlib.Core.List.{IsPrefix}
 use Rattle.gx_units.specs.{declared.names.{Password.Password, SessionName.SessionName, UserName.UserName}, Spelling.{folded_password, folded_session, folded_user}}
 use Rattle.gx_policy.specs.{declared.policy.PolicyData.PolicyData, Lists.slice}
 use Rattle.gx_history.specs.{declared.record.{Asked.Asked, RecordData.RecordData, Request.Request}, Logins.login_asked, Verdicts.IsLegal}
-use Rattle.gx_answers.specs.{declared.{outcome.{LoginAnswer.LoginAnswer, Outcome.Outcome, StepFault.StepFault}, pulled.Pulled.Pulled}, Gates.{GateData, left_by}, Logins.login_answered, Steps.{IsFull, has_its_places}, Told.{ends_before, stream_of}}
+use Rattle.gx_answers.specs.{declared.{outcome.{LoginAnswer.LoginAnswer, Outcome.Outcome, StepFault.StepFault}, pulled.Pulled.Pulled}, Gates.{GateData, left_by}, Logins.login_answered, Steps.{IsFull, never_refuses}, Told.{ends_before, stream_of}}
 use Rattle.gx_pass.specs.{declared.view.Holds.Holds, Views.{holds, mine}}
 
 -- what a pass has met that may be away for the time of a call
-abbrev pub met : {T : Type 0} → (T → Holds) → Option T → Holds
-met held None = holds 0 [] 0
-met held (Some pass) = held pass
+abbrev pub history_met : {T : Type 0} → (T → Holds) → Option T → Holds
+history_met held None = holds 0 [] 0
+history_met held (Some pass) = held pass
 
 -- a gate with these records
 abbrev pub gate_at : PolicyData → List RecordData → GateData
@@ -60,7 +60,7 @@ IsToldFull gate fault = fault ≡ StepFault.DayFull ↔ IsFull gate
 
 -- these records do not make the request a granted Kill or Logout
 abbrev pub MayBeRefused : GateData → Asked → Type 0
-MayBeRefused gate a = IsFalse (has_its_places gate a)
+MayBeRefused gate a = IsFalse (never_refuses gate a)
 
 -- the most reports of one pull
 abbrev pub most_pulled : ℕ

@@ -1,27 +1,19 @@
 -- Live orders are no more than records.
 use Rattle.std.proofs.{Common.{◌≡◌, ℕ, ◌+◌, ◌<◌, ◌≤◌, ◌^◌, arith, List, [], ◌∷◌, ◌++◌, length, length-append}, lemmas.List.Sums.{count_by-le-length, length-filter}}
-use Rattle.std.specs.{Prelude.{Option, Some, None, fold, filter_map}, Option.option_map_or, List.cons_option}
+use Rattle.std.specs.{Prelude.{Option, Some, None, fold}, Option.option_map_or}
 use Rattle.gx_units.specs.{Names.same_account, declared.names.{AccountName.AccountName, UserName.UserName}}
 use Rattle.gx_policy.specs.{declared.policy.PolicyData.PolicyData, People.account_of}
-use Rattle.gx_history.specs.{declared.{live_order.LiveOrder.LiveOrder, «record».{Asked.Asked, RecordData.RecordData, Request.Request}}, Executions.executions, Live.{live, open_now}, Orders.{Order, entered, order_under, orders, orders_added, orders_made, orders_with, replacing}, Requests.granted}
+use Rattle.gx_history.specs.{declared.{live_order.LiveOrder.LiveOrder, «record».{Asked.Asked, RecordData.RecordData, Request.Request}}, Executions.executions, Live.{live, open_now}, Orders.{Order, order_entered, order_under, orders, orders_added, orders_made, orders_with, order_replacing}, Requests.granted_of}
 use Rattle.gx_slab.specs.Slabs.{of_account}
-
--- a list is no longer with some of it mapped
-found_are_few : {X Y : Type 0} (f : X → Option Y) (xs : List X) → length (filter_map f xs) ≤ length xs
-found_are_few f [] = omega arith
-found_are_few {X} {Y} f (x ∷ xs) = by (f x) (found_are_few f xs)
-  where
-    by : (found : Option Y) → length (filter_map f xs) ≤ length xs → length (cons_option found (filter_map f xs)) ≤ length (x ∷ xs)
-    by None fewer = omega arith
-    by (Some y) fewer = omega arith
+use Rattle.gx_laws.proofs.Sound.{few_found}
 
 at_most_one : {X : Type 0} (f : X → Order) (found : Option X) → length (option_map_or (λ (x : X). f x ∷ []) found []) ≤ 1
 at_most_one f None = omega arith
 at_most_one f (Some x) = omega arith
 
 one_is_made : (policy : PolicyData) (known : List Order) (r : RecordData) (user : UserName) (q : Request) → length (orders_made policy known r user q) ≤ 1
-one_is_made policy known r user (Request.Enter m) = at_most_one (λ (account : AccountName). entered policy r user account m) (account_of policy user)
-one_is_made policy known r user (Request.Replace m) = at_most_one (λ (o : Order). replacing r m o) (order_under known user m.existing_token)
+one_is_made policy known r user (Request.Enter m) = at_most_one (λ (account : AccountName). order_entered policy r user account m) (account_of policy user)
+one_is_made policy known r user (Request.Replace m) = at_most_one (λ (o : Order). order_replacing r m o) (order_under known user m.existing_token)
 one_is_made policy known r user (Request.Login m) = omega arith
 one_is_made policy known r user Request.Logout = omega arith
 one_is_made policy known r user (Request.Unreadable m) = omega arith
@@ -29,7 +21,7 @@ one_is_made policy known r user (Request.Cancel m) = omega arith
 one_is_made policy known r user (Request.Command c) = omega arith
 
 one_is_added : (policy : PolicyData) (known : List Order) (r : RecordData) → length (orders_added policy known r) ≤ 1
-one_is_added policy known r = by (granted r)
+one_is_added policy known r = by (granted_of r)
   where
     by : (found : Option Asked) → length (option_map_or (λ (a : Asked). orders_made policy known r a.user a.request) found []) ≤ 1
     by None = omega arith
@@ -52,7 +44,7 @@ orders_are_few policy records = omega (arith, orders_from policy [] records)
 -- where the records are, so are the live orders
 pub live_are_few : (policy : PolicyData) (records : List RecordData) (n : ℕ) → n ≡ length records → n < 2 ^ 63 → length (live policy records) < 2 ^ 63
 unfolding live
-live_are_few policy records n is few = omega (arith, found_are_few (open_now (executions policy records) records) (orders policy records), orders_are_few policy records)
+live_are_few policy records n is few = omega (arith, few_found (open_now (executions policy records) records) (orders policy records), orders_are_few policy records)
 
 -- and those of an account
 pub those_are_few : (account : AccountName) (policy : PolicyData) (records : List RecordData) (n : ℕ) → n ≡ length records → n < 2 ^ 63 → length (of_account account (live policy records)) < 2 ^ 63

@@ -1,14 +1,10 @@
 -- What is kept, once one more record is looked at.
-use Rattle.std.proofs.{Common.{◌≡◌, List, [], ◌∷◌, ◌++◌, refl, ap, sym, ◌∙◌}, lemmas.{Grind.flat_map-append, List.{append-nil, Elements.filter_map-append}}}
-use Rattle.std.specs.{Prelude.{Option, Some, None, filter_map, option_to_list}, List.{cons_option, flat_map}}
+use Rattle.std.proofs.{Common.{◌≡◌, List, [], ◌∷◌, ◌++◌, ap, sym, ◌∙◌}, lemmas.{Grind.flat_map-append, List.{Elements.filter_map-append, append-nil}}}
+use Rattle.std.specs.{Prelude.{Option, filter_map, option_to_list}, List.flat_map}
 use Rattle.gx_policy.specs.{declared.policy.PolicyData.PolicyData, Lists.each_with_earlier}
 use Rattle.gx_history.specs.declared.record.RecordData.{RecordData}
-use Rattle.gx_laws.proofs.Pushing.{each_after_next}
+use Rattle.gx_laws.proofs.{Pushing.each_after_next, Order.one_found}
 use Rattle.gx_endings.specs.{declared.{commands.CommandRow.CommandRow, endings.Ending.Ending, order_ends.OrderEnd.OrderEnd}, Commands.{command_by, command_rows}, Endings.{Grows, ending_by, endings, order_ends, order_ends_by}}
-
-one_found : {Y : Type 0} (found : Option Y) → cons_option found [] ≡ option_to_list found
-one_found None = refl
-one_found (Some y) = refl
 
 -- what each record gives with those before it, of one more
 found_next : {X Y : Type 0} (f : List X → X → Option Y) (xs : List X) (x : X)

@@ -3,7 +3,7 @@ use Rattle.std.specs.{Prelude.{ℕ, Bool, List, Option, Some, None, option_and_t
 use Rattle.gx_units.specs.declared.names.UserName.{UserName}
 use Rattle.gx_desk.specs.declared.Action.{Action}
 use Rattle.gx_policy.specs.{declared.{policy.PolicyData.PolicyData, rule_name.RuleName.RuleName}, Lists.each_with_earlier}
-use Rattle.gx_history.specs.{declared.record.{Asked.Asked, RecordData.RecordData, Verdict.Verdict}, InForce.is_killed, Requests.{action_of, asked}}
+use Rattle.gx_history.specs.{declared.record.{Asked.Asked, RecordData.RecordData, Verdict.Verdict}, InForce.is_killed, Requests.{action_of, asked_of}}
 use Rattle.gx_records.specs.State.{limit_in_force}
 use Rattle.gx_endings.specs.declared.commands.CommandRow.{CommandRow}
 
@@ -41,7 +41,7 @@ command_asked policy earlier r a = option_map (command_row policy earlier r a.us
 
 -- the command that the record shows, if it shows one
 abbrev pub command_by : PolicyData → List RecordData → RecordData → Option CommandRow
-command_by policy earlier r = option_and_then (command_asked policy earlier r) (asked r.step)
+command_by policy earlier r = option_and_then (command_asked policy earlier r) (asked_of r.step)
 
 -- all commands, granted or denied, in their order
 abbrev pub command_rows : PolicyData → List RecordData → List CommandRow

@@ -3,7 +3,7 @@ use Rattle.std.proofs.{Common.{◌≡◌, ℕ, ◌+◌, Bool, true, false, not, 
 use Rattle.std.specs.{Prelude.{Option, Some, None, ◌==◌, filter, unwrap_or, option_map, if◌then◌else◌}, Option.{option_map_or, option_or}, List.last_or}
 use Rattle.gx_policy.specs.Lists.{behind_last, where_true}
 use Rattle.gx_history.specs.{declared.record.RecordData.RecordData, Verdicts.last_moment}
-use Rattle.gx_events.specs.Known.{counted, denied_within, denies_login, minute_of, most_counted, within}
+use Rattle.gx_events.specs.Known.{one_more_if, denied_within, denies_login, minute_of, most_counted, within}
 
 -- one more that does not pass the test stands behind the last that does
 kept_behind : {X : Type 0} (test : X → Bool) (xs : List X) (x : X) → test x ≡ false
@@ -46,7 +46,7 @@ none_within minute [] other = refl
 none_within minute (x ∷ xs) other = ap (λ (o : Option (List RecordData)). unwrap_or o (x ∷ xs)) (none_behind minute x xs other)
 
 -- how many are counted, with one more if there is one
-counted_more : (count more : ℕ) (b : Bool) → more ≡ cond b 1 0 → min most_counted (count + more) ≡ counted b (min most_counted count)
+counted_more : (count more : ℕ) (b : Bool) → more ≡ cond b 1 0 → min most_counted (count + more) ≡ one_more_if b (min most_counted count)
 counted_more count more true one = grind (arith, nat_tests)
 counted_more count more false none = grind (arith, nat_tests)
 
@@ -55,7 +55,7 @@ one_denied r = elim (denies_login r) as (λ b. length (cond b (r ∷ []) []) ≡
 
 -- the count within the minute of one more record
 pub denied_more : (minute : ℕ) (records : List RecordData) (r : RecordData) → (minute_of r.moment == minute) ≡ true
-    → denied_within minute (records ++ r ∷ []) ≡ counted (denies_login r) (denied_within minute records)
+    → denied_within minute (records ++ r ∷ []) ≡ one_more_if (denies_login r) (denied_within minute records)
 denied_more minute records r same =
     ap (λ (rs : List RecordData). min most_counted (length (filter denies_login rs))) (within_more minute records r same)
     ∙ ap (λ (rs : List RecordData). min most_counted (length rs)) (filter-append denies_login (within minute records) (r ∷ []))

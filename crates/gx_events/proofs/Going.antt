@@ -6,17 +6,12 @@ use Rattle.gx_history.specs.{declared.record.RecordData.RecordData, InForce.rule
 use Rattle.gx_text.specs.declared.form.Form.{Form}
 use Rattle.gx_events.specs.{Known.{Known, known_next, known_of}, Laws.{LimitsAreInForce, LogsGoOn}, Lines.{line_of, lines_behind, record_lines}}
 use Rattle.gx_events.proofs.{Knowing.known_more, Limiting.limit_is_in}
-
-each_after_both : {X : Type 0} (before xs ys : List X) → each_after before (xs ++ ys) ≡ each_after before xs ++ each_after (before ++ xs) ys
-each_after_both {X} before [] ys = ap (λ (front : List X). each_after front ys) (sym (append-nil before))
-each_after_both {X} before (x ∷ xs) ys =
-    ap (λ (rest : List (List X × X)). (before, x) ∷ rest)
-    (each_after_both (before ++ x ∷ []) xs ys ∙ ap (λ (front : List X). each_after (before ++ x ∷ []) xs ++ each_after front ys) (append_assoc before (x ∷ []) xs))
+use Rattle.gx_laws.proofs.After.{each_after-append}
 
 lines_both : (form : Form) (policy : PolicyData) (before xs ys : List RecordData)
     → lines_behind form policy before (xs ++ ys) ≡ lines_behind form policy before xs ++ lines_behind form policy (before ++ xs) ys
 lines_both form policy before xs ys =
-    ap (flat_map (λ (e : List RecordData × RecordData). line_of form policy e.0 e.1)) (each_after_both before xs ys)
+    ap (flat_map (λ (e : List RecordData × RecordData). line_of form policy e.0 e.1)) (each_after-append before xs ys)
     ∙ flat_map-append (λ (e : List RecordData × RecordData). line_of form policy e.0 e.1) (each_after before xs) (each_after (before ++ xs) ys)
 
 pub logs_go_on : LogsGoOn

@@ -4,7 +4,7 @@ use Rattle.std.specs.{Prelude.{Option, Some, None}, Option.option_map_or, List.{
 use Rattle.gx_policy.specs.declared.policy.PolicyData.{PolicyData}
 use Rattle.gx_history.specs.{declared.record.RecordData.RecordData, InForce.rules_in_force, Requests.granted_action, Verdicts.last_moment}
 use Rattle.gx_laws.proofs.NextInForce.{last_moment_next, rules_in_force_next, rules_in_force_none}
-use Rattle.gx_events.specs.Known.{counted, denied_within, denies_login, highest_line, known_next, known_of, limits_of, login_line, minute_of}
+use Rattle.gx_events.specs.Known.{one_more_if, denied_within, denies_login, highest_line, known_next, known_of, limits_of, login_line, minute_of}
 use Rattle.gx_events.proofs.{Counting.{denied_is, denied_more}, Limiting.limits_changed}
 
 by_one : (highest : ℕ) (line : Option ℕ) → fold max highest (cons_option line []) ≡ option_map_or (max highest) line highest
@@ -18,7 +18,7 @@ highest_more records r =
     ∙ by_one (highest_line records) (login_line r)
 
 denied_next : (records : List RecordData) (r : RecordData)
-    → denied_within (minute_of (last_moment (records ++ r ∷ []))) (records ++ r ∷ []) ≡ counted (denies_login r) (denied_within (minute_of r.moment) records)
+    → denied_within (minute_of (last_moment (records ++ r ∷ []))) (records ++ r ∷ []) ≡ one_more_if (denies_login r) (denied_within (minute_of r.moment) records)
 denied_next records r =
     ap (λ moment. denied_within (minute_of moment) (records ++ r ∷ [])) (last_moment_next records r)
     ∙ denied_more (minute_of r.moment) records r (eq-eqb (minute_of r.moment) (minute_of r.moment) refl)
@@ -34,6 +34,6 @@ unfolding known_of
 known_more policy records r = λ i. record {
   limits = (ap limits_of (rules_in_force_next policy records r) ∙ limits_changed (rules_in_force policy records) (granted_action r)) i;
   moment = last_moment_next records r i;
-  denied = (denied_next records r ∙ ap (counted (denies_login r)) (denied_is (minute_of r.moment) records)) i;
+  denied = (denied_next records r ∙ ap (one_more_if (denies_login r)) (denied_is (minute_of r.moment) records)) i;
   highest = highest_more records r i;
 }

@@ -4,7 +4,7 @@ use Rattle.std.proofs.Common.{◌≡◌, ℕ, Bool, true, false, List, [], ◌�
 use Rattle.std.specs.{Prelude.{◌&&◌, Option, Some, None, is_some, option_and_then, find}, Option.option_map_or}
 use Rattle.gx_units.specs.{Names.same_rule, declared.names.{RuleId.RuleId, Symbol.Symbol}}
 use Rattle.gx_desk.specs.declared.Action.{Action}
-use Rattle.gx_history.specs.InForce.{adding, change_rule, changed, removing}
+use Rattle.gx_history.specs.InForce.{with_stock, change_rule, rules_after, without_stock}
 use Rattle.gx_rules.specs.Settings.{limit_in}
 use Rattle.gx_events.specs.{declared.limits.RuleLimit.RuleLimit, Known.{limit_entry, limit_named, limit_set, limits_after, limits_of}}
 
@@ -61,10 +61,10 @@ all_kept name change (rule ∷ rules) =
     ap (λ (l : RuleLimit). l ∷ limits_of (map (change_rule name (with_stocks change)) rules)) (one_kept name change rule)
     ∙ ap (λ (ls : List RuleLimit). limit_entry rule ∷ ls) (all_kept name change rules)
 
-by_action : (rules : List FileRule) (action : Action) → limits_of (changed rules action) ≡ limits_after (limits_of rules) action
+by_action : (rules : List FileRule) (action : Action) → limits_of (rules_after rules action) ≡ limits_after (limits_of rules) action
 by_action rules (Action.SetLimit name limit) = all_set name limit rules
-by_action rules (Action.Restrict name stock) = all_kept name (adding stock) rules
-by_action rules (Action.Unrestrict name stock) = all_kept name (removing stock) rules
+by_action rules (Action.Restrict name stock) = all_kept name (with_stock stock) rules
+by_action rules (Action.Unrestrict name stock) = all_kept name (without_stock stock) rules
 by_action rules (Action.Kill account) = refl
 by_action rules (Action.Lift account) = refl
 by_action rules (Action.Grant reader account) = refl
@@ -73,7 +73,7 @@ by_action rules Action.CloseDay = refl
 
 -- the limits of the rules after a granted command, if there is one
 pub limits_changed : (rules : List FileRule) (action : Option Action)
-    → limits_of (option_map_or (changed rules) action rules) ≡ option_map_or (limits_after (limits_of rules)) action (limits_of rules)
+    → limits_of (option_map_or (rules_after rules) action rules) ≡ option_map_or (limits_after (limits_of rules)) action (limits_of rules)
 limits_changed rules None = refl
 limits_changed rules (Some action) = by_action rules action
 

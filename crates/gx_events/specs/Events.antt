@@ -3,7 +3,7 @@ use Rattle.std.specs.Prelude.{ℕ, ◌-◌, ◌*◌, ◌==◌, Bool, not, ◌&&�
 use Rattle.gx_units.specs.declared.names.UserName.{UserName}
 use Rattle.gx_desk.specs.declared.Action.{Action}
 use Rattle.gx_policy.specs.Lists.{where_true}
-use Rattle.gx_history.specs.{declared.record.{Asked.Asked, RecordData.RecordData, Request.Request, Verdict.Verdict}, Requests.asked, Verdicts.day_limit}
+use Rattle.gx_history.specs.{declared.record.{Asked.Asked, RecordData.RecordData, Request.Request, Verdict.Verdict}, Requests.asked_of, Verdicts.day_limit}
 use Rattle.gx_events.specs.{declared.event.Event.Event, Known.{Known, denied_so_far, limit_named, login_line, minute_of}}
 
 -- a login: a denied one only where it is the first within its minute
@@ -42,7 +42,7 @@ is_first_within known r = denied_so_far known (minute_of r.moment) == 0
 -- what is told of the record itself
 abbrev pub own_event : Known → RecordData → Option Event
 own_event known r =
-    option_and_then (λ (a : Asked). request_event known (is_first_within known r) r.verdict a.user a.line a.request) (asked r.step)
+    option_and_then (λ (a : Asked). request_event known (is_first_within known r) r.verdict a.user a.line a.request) (asked_of r.step)
 
 -- how many more logins were denied within the minute of the last record
 abbrev pub untold_denials : Known → Option Event

@@ -3,7 +3,7 @@ use Rattle.gx_policy.specs.{Kinds.limit_of, declared.policy.{FileRule.FileRule, 
 use Rattle.std.specs.{Prelude.{ℕ, ◌+◌, ◌/◌, ◌==◌, Bool, true, false, not, ◌&&◌, max, min, fold, if◌then◌else◌, List, map, find, length, filter, Option, Some, is_some, unwrap_or, option_and_then, option_map}, Option.option_map_or, List.filter_map}
 use Rattle.gx_units.specs.{Names.same_rule, declared.names.RuleId.RuleId}
 use Rattle.gx_desk.specs.declared.Action.{Action}
-use Rattle.gx_history.specs.{declared.record.{Asked.Asked, RecordData.RecordData, Verdict.Verdict}, InForce.rules_in_force, Requests.{asked, granted_action, is_login}, Verdicts.last_moment}
+use Rattle.gx_history.specs.{declared.record.{Asked.Asked, RecordData.RecordData, Verdict.Verdict}, InForce.rules_in_force, Requests.{asked_of, granted_action, is_login}, Verdicts.last_moment}
 use Rattle.gx_events.specs.declared.limits.RuleLimit.{RuleLimit}
 
 -- the minute behind midnight
@@ -21,7 +21,7 @@ is_denied other = false
 
 -- the login that is asked for, if one is
 abbrev pub login_asked : RecordData → Option Asked
-login_asked r = option_and_then (λ (a : Asked). where_true (is_login a.request) a) (asked r.step)
+login_asked r = option_and_then (λ (a : Asked). where_true (is_login a.request) a) (asked_of r.step)
 
 -- the record denies a login
 abbrev pub denies_login : RecordData → Bool
@@ -87,13 +87,13 @@ abbrev pub denied_so_far : Known → ℕ → ℕ
 denied_so_far known minute = if minute_of known.moment == minute then known.denied else 0
 
 -- the count with one more, where there is one
-abbrev pub counted : Bool → ℕ → ℕ
-counted one_more count = if one_more then min most_counted (count + 1) else count
+abbrev pub one_more_if : Bool → ℕ → ℕ
+one_more_if one_more count = if one_more then min most_counted (count + 1) else count
 
 abbrev pub known_next : Known → RecordData → Known
 known_next known r = record {
   limits = option_map_or (limits_after known.limits) (granted_action r) known.limits;
   moment = r.moment;
-  denied = counted (denies_login r) (denied_so_far known (minute_of r.moment));
+  denied = one_more_if (denies_login r) (denied_so_far known (minute_of r.moment));
   highest = option_map_or (max known.highest) (login_line r) known.highest;
 }

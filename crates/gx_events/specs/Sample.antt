@@ -51,8 +51,8 @@ morning = 37783698373412
 abbrev pub night : ℕ
 night = 86401000000000
 
-abbrev pub shown : ℕ → ℕ → UserName → ℕ → Request → Verdict → RecordData
-shown number moment user line request verdict = record {
+abbrev pub shown_record : ℕ → ℕ → UserName → ℕ → Request → Verdict → RecordData
+shown_record number moment user line request verdict = record {
   number = number;
   moment = moment;
   step = Step.Asked (record { line = line; user = user; request = request; handed = moment });
@@ -68,33 +68,33 @@ command action = Request.Command (record { tag = record { bytes = codes "T      
 -- a login, four that are denied within one minute, and the first record of another minute; two changes of one limit
 abbrev pub people : List RecordData
 people =
-    shown 1 morning olga 7 login Verdict.Granted
-    ∷ shown 2 morning mallory 8 login (Verdict.Denied RuleName.L1)
-    ∷ shown 3 morning mallory 9 login (Verdict.Denied RuleName.L1)
-    ∷ shown 4 morning mallory 10 login (Verdict.Denied RuleName.L1)
-    ∷ shown 5 morning olga 7 (command (Action.SetLimit gross 5000000)) Verdict.Granted
-    ∷ shown 6 night olga 7 (command (Action.SetLimit gross 6000000)) Verdict.Granted
-    ∷ shown 7 night mallory 11 login (Verdict.Denied RuleName.L3)
-    ∷ shown 8 night olga 7 Request.Logout Verdict.Granted
+    shown_record 1 morning olga 7 login Verdict.Granted
+    ∷ shown_record 2 morning mallory 8 login (Verdict.Denied RuleName.L1)
+    ∷ shown_record 3 morning mallory 9 login (Verdict.Denied RuleName.L1)
+    ∷ shown_record 4 morning mallory 10 login (Verdict.Denied RuleName.L1)
+    ∷ shown_record 5 morning olga 7 (command (Action.SetLimit gross 5000000)) Verdict.Granted
+    ∷ shown_record 6 night olga 7 (command (Action.SetLimit gross 6000000)) Verdict.Granted
+    ∷ shown_record 7 night mallory 11 login (Verdict.Denied RuleName.L3)
+    ∷ shown_record 8 night olga 7 Request.Logout Verdict.Granted
     ∷ []
 
 -- each command that is not Set Limit, a denied one, an order's cancel and a matching step
 abbrev pub commands : List RecordData
 commands =
-    shown 1 morning olga 7 (command (Action.Kill alfa)) Verdict.Granted
-    ∷ shown 2 morning bob 6 (command (Action.Kill alfa)) (Verdict.Denied RuleName.Q2)
-    ∷ shown 3 morning bob 6 (command (Action.SetLimit gross 9)) (Verdict.Denied RuleName.Q3)
+    shown_record 1 morning olga 7 (command (Action.Kill alfa)) Verdict.Granted
+    ∷ shown_record 2 morning bob 6 (command (Action.Kill alfa)) (Verdict.Denied RuleName.Q2)
+    ∷ shown_record 3 morning bob 6 (command (Action.SetLimit gross 9)) (Verdict.Denied RuleName.Q3)
     ∷ record { number = 4; moment = morning; step = Step.Matching morning; verdict = Verdict.Rested 1 }
-    ∷ shown 5 morning olga 7 (command (Action.Lift alfa)) Verdict.Granted
-    ∷ shown 6 morning olga 7 (command (Action.Restrict halt test_stock)) Verdict.Granted
-    ∷ shown 7 morning olga 7 (command (Action.Grant (record { bytes = codes "rita  " }) alfa)) Verdict.Granted
-    ∷ shown 8 morning olga 7 (command Action.CloseDay) Verdict.Granted
-    ∷ shown 9 morning olga 7 (Request.Unreadable (record { length = 1; first = 63 })) (Verdict.Denied RuleName.G3)
+    ∷ shown_record 5 morning olga 7 (command (Action.Lift alfa)) Verdict.Granted
+    ∷ shown_record 6 morning olga 7 (command (Action.Restrict halt test_stock)) Verdict.Granted
+    ∷ shown_record 7 morning olga 7 (command (Action.Grant (record { bytes = codes "rita  " }) alfa)) Verdict.Granted
+    ∷ shown_record 8 morning olga 7 (command Action.CloseDay) Verdict.Granted
+    ∷ shown_record 9 morning olga 7 (Request.Unreadable (record { length = 1; first = 63 })) (Verdict.Denied RuleName.G3)
     ∷ []
 
 -- the first record at 90 hundredths of the day's records, with a login on the last line
 abbrev pub full : List RecordData
-full = shown 15099495 morning olga 65535 login Verdict.Granted ∷ []
+full = shown_record 15099495 morning olga 65535 login Verdict.Granted ∷ []
 
 abbrev pub PeopleAreTold : Type 0
 PeopleAreTold = log_of Text sample people ≡

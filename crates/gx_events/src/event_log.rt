@@ -3,7 +3,7 @@
 ghost use Rattle.std.specs.Prelude.{◌≡◌, ◌++◌, [], List, IfOk, OnErr, OnOk};
 ghost use Rattle.gx_policy.specs.declared.policy.PolicyData.{PolicyData};
 ghost use Rattle.gx_history.specs.declared.record.RecordData.{RecordData};
-ghost use Rattle.gx_events.specs.{Events.{earlier_limit, is_first_within, lines_used, more_denied, own_event, untold_denials}, Known.{counted, denied_so_far, known_next, known_of, minute_of}, Lines.{closing_line, lines_behind, record_lines}};
+ghost use Rattle.gx_events.specs.{Events.{earlier_limit, is_first_within, lines_used, more_denied, own_event, untold_denials}, Known.{one_more_if, denied_so_far, known_next, known_of, minute_of}, Lines.{closing_line, lines_behind, record_lines}};
 
 use crate::event::Event;
 use crate::judged::{command_event, denies_login, login_event, login_line, logout_event};
@@ -58,7 +58,7 @@ fn minute_of(moment: Moment) -> u64
 
 /// The count with one more, where there is one.
 fn counted(one_more: bool, count: u64) -> u64
-    ensures { result ≡ counted one_more count }
+    ensures { result ≡ one_more_if one_more count }
 {
     if one_more {
         count.saturating_add(1)

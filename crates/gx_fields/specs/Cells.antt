@@ -4,7 +4,7 @@ use Rattle.gx_units.specs.declared.names.{AccountName.AccountName, Firm.Firm, Ru
 use Rattle.gx_desk.specs.declared.{Tag.Tag, WrittenName.WrittenName}
 use Rattle.gx_ouch.specs.Letters.{reject_letter}
 use Rattle.gx_policy.specs.RuleNames.{rule_id}
-use Rattle.gx_text.specs.{Moments.moment_text, Shown.{shown, shown_name}, declared.moments.Decimals.Decimals}
+use Rattle.gx_text.specs.{Moments.moment_text, Shown.{shown_text, shown_name}, declared.moments.Decimals.Decimals}
 use Rattle.gx_fields.specs.{Reasons.reason_words, declared.{cell.{Beside.Beside, Cell.Cell, EndedOrders.EndedOrders}, row.{Row.Row, RowKind.RowKind, RowVerdict.RowVerdict}}}
 
 -- the cells, in the order of their names
@@ -93,7 +93,7 @@ cell_text (Cell.Number32 n) = option_map_or decimal n []
 cell_text (Cell.Number16 n) = option_map_or decimal n []
 cell_text (Cell.Number8 n) = option_map_or decimal n []
 cell_text (Cell.Clock moment) = moment_text Decimals.Nine moment
-cell_text (Cell.Letter byte) = option_map_or (λ (b : ℕ). shown (b ∷ [])) byte []
+cell_text (Cell.Letter byte) = option_map_or (λ (b : ℕ). shown_text (b ∷ [])) byte []
 cell_text (Cell.User name) = option_map_or (λ (n : UserName). shown_name n.bytes) name []
 cell_text (Cell.Account name) = option_map_or (λ (n : AccountName). shown_name n.bytes) name []
 cell_text (Cell.Stock name) = option_map_or (λ (n : Symbol). shown_name n.bytes) name []
@@ -107,7 +107,7 @@ cell_text (Cell.Verdict verdict) = verdict_words verdict
 cell_text (Cell.Right answer) = option_map_or right_words answer []
 cell_text (Cell.Rule name) = option_map_or (λ n. shown_name (rule_id n).bytes) name []
 cell_text (Cell.Reason reason) = option_map_or reason_words reason []
-cell_text (Cell.Reject reason) = option_map_or (λ r. shown (reject_letter r ∷ [])) reason []
+cell_text (Cell.Reject reason) = option_map_or (λ r. shown_text (reject_letter r ∷ [])) reason []
 
 -- the number in a cell, if it has one
 abbrev pub number_in : Cell → Option ℕ

@@ -4,7 +4,7 @@ ghost use Rattle.std.specs.{Prelude.{◌≡◌, ◌≢◌, ◌+◌, ◌-◌, ◌
 ghost use Rattle.gx_files.specs.declared.reading.ReadFault.TheVariants as faults;
 ghost use Rattle.gx_files.specs.Reading.{IsBlamed, ReadsMore, TakesAtMost};
 
-use gx_devices::Counted;
+use gx_devices::CallCounter;
 use gx_units::OutOfMemory;
 use std::alloc::Global;
 use std::io::Read;
@@ -33,7 +33,7 @@ impl From<OutOfMemory> for ReadFault {
 
 /// Reads once, by way of this room, at most so many bytes, and puts them last: how many came.
 fn read_more<R: Read>(
-    reader: &mut Counted<R>,
+    reader: &mut CallCounter<R>,
     room: &mut [u8; PIECE],
     bytes: &mut Vec<u8>,
     most: usize,
@@ -79,7 +79,7 @@ fn put(bytes: &mut Vec<u8>, piece: &[u8]) -> Result<usize, ReadFault>
 /// `TooLong` only where there is more, `ReadFailed` where a read failed, `OutOfMemory` where memory was refused.
 pub fn read_within<R: Read>(
     alloc: Global,
-    reader: &mut Counted<R>,
+    reader: &mut CallCounter<R>,
     most: usize,
     expected: usize,
 ) -> Result<Vec<u8>, ReadFault>

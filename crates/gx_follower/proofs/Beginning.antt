@@ -6,7 +6,7 @@ use Rattle.gx_history.specs.declared.record.RecordData.{RecordData}
 use Rattle.gx_audit.specs.{declared.fault.AuditFault.AuditFault, Replaying.IsHeaderFault}
 use Rattle.gx_audit_bytes.specs.{declared.version.AuditVersion.AuditVersion, Versions.{has_header, version_of}, Headers.{front_of, header_in}, Audits.{whole_audit}}
 use Rattle.gx_audit_bytes.proofs.{HeaderParts.size_in, Joined.no_bytes}
-use Rattle.gx_audit.proofs.{Fronts.{front_is, no_front}, Walking.none_shown}
+use Rattle.gx_audit.proofs.{Header_call.{front_is, no_front}, Audit_walk.none_shown}
 use Rattle.gx_follower.specs.Readings.{IsKnown, IsTold}
 use Rattle.gx_follower.proofs.Growing.{version_on}
 

@@ -4,7 +4,7 @@ use Rattle.std.specs.Prelude.{Option, Some, None, unwrap_or, IfSome, IsTrue}
 use Rattle.gx_answers.specs.Gates.{GateData}
 use Rattle.gx_audit.specs.{declared.fault.AuditFault.AuditFault, Replaying.{EndsAt, IsReplayFault}, Resuming.{IsNew, Stands}}
 use Rattle.gx_audit_bytes.specs.{declared.version.AuditVersion.AuditVersion, Versions.{has_header, version_of}, Audits.whole_audit}
-use Rattle.gx_audit.proofs.Fronts.{is_headed}
+use Rattle.gx_audit.proofs.Header_call.{is_headed}
 use Rattle.gx_follower.specs.{Followers.AreWhole, Readings.{read_of, whole_of, HasBegun, IsKnown, IsSettled}, declared.piece.Reading.Reading}
 use Rattle.gx_follower.proofs.Growing.{version_on}
 

@@ -4,7 +4,7 @@ use Rattle.gx_policy.specs.declared.policy.PolicyData.{PolicyData}
 use Rattle.gx_history.specs.{declared.record.RecordData.RecordData, Verdicts.IsLegal}
 use Rattle.gx_audit.specs.{declared.fault.AuditFault.AuditFault, Auditing.{IsOneMore, IsRecordFault}}
 use Rattle.gx_audit_bytes.specs.{declared.version.AuditVersion.AuditVersion, Versions.version_of, Audits.{whole_audit, AreShown}}
-use Rattle.gx_audit.proofs.{Only.shown_size, Walking.{answer_of_records, fault_told, shown_further, whole_more}}
+use Rattle.gx_audit.proofs.{Bytes_only.shown_size, Audit_walk.{answer_of_records, fault_told, shown_further, whole_more}}
 use Rattle.gx_follower.specs.Readings.{IsKnown, IsTold}
 use Rattle.gx_follower.proofs.Growing.{version_on}
 

@@ -81,7 +81,7 @@ fn take_record<G: AccessGate, W: Watches<G>>(
 }
 
 /// Takes the first bytes, so many as a header or a record has: the version is the one that they show.
-#[tactic(auto, using(crate::proofs::Beginning::begins_bare, crate::proofs::Beginning::none_whole, crate::proofs::Beginning::told_at_first, gx_audit::proofs::Walking::none_shown))]
+#[tactic(auto, using(crate::proofs::Beginning::begins_bare, crate::proofs::Beginning::none_whole, crate::proofs::Beginning::told_at_first, gx_audit::proofs::Audit_walk::none_shown))]
 fn begin<G: AccessGate, W: Watches<G>>(
     gate: &mut G,
     watcher: &mut W,

@@ -1,11 +1,8 @@
 -- What rows stand for, part by part.
-use Rattle.std.proofs.{Common.{◌≡◌, ◌≢◌, ℕ, zero, suc, ◌+◌, ◌<◌, ◌≤◌, List, [], ◌∷◌, ◌++◌, get_or, length, take, drop, refl, ◌∙◌, sym, ap, subst, arith}, lemmas.List.{length-append, length-map, map-append}}
-use Rattle.std.specs.{Prelude.{Option, Some, None, IsTrue, unwrap_or, slice_get}, Option.option_map_or}
+use Rattle.std.proofs.{Common.{◌≡◌, ◌≢◌, ℕ, zero, suc, ◌+◌, ◌<◌, ◌≤◌, List, [], ◌∷◌, ◌++◌, get_or, length, take, drop, refl, ◌∙◌, sym, ap, subst, arith}, lemmas.{List.{length-append, length-map, map-append}, Option.same_Some}}
+use Rattle.std.specs.{Prelude.{Option, Some, None, IsTrue, slice_get}, Option.option_map_or}
 use Rattle.gx_policy.specs.declared.rule_name.RuleName.{RuleName}
 use Rattle.gx_history.specs.{declared.{«record».{Asked.Asked, Step.Step, Fill.Fill, Verdict.Verdict, RecordData.RecordData}, rows.{Event.Event, Row.Row}}, Showing.is_showable, Rows.{AllShowable, AllThere, AreKept, IsThere, KeptLists, Lists, asked_of, fills_of, record_in, records_in, rules_of, step_in, verdict_in, with_details}}
-
-some_same : {X : Type 0} {x y : X} → Some x ≡ Some y → x ≡ y
-some_same {x = x} same = ap (λ o. unwrap_or o x) same
 
 pub records_length : (lists : Lists) (rows : List Row) → length (records_in lists rows) ≡ length rows
 records_length lists rows = length-map rows (record_in lists)
@@ -20,12 +17,12 @@ found_within (x ∷ xs) (suc place) h = found_within xs place (omega (arith, h))
 -- as a loop knows an item
 pub item_at : {X : Type 0} (xs : List X) (place : ℕ) (x : X) → slice_get xs place ≡ Some x → x ≡ get_or xs place x
 item_at [] place x is = refl
-item_at (y ∷ xs) zero x is = sym (some_same is)
+item_at (y ∷ xs) zero x is = sym (same_Some _ _ is)
 item_at (y ∷ xs) (suc place) x is = item_at xs place x is
 
 pub one_more_taken : {X : Type 0} (xs : List X) (place : ℕ) (x : X) → slice_get xs place ≡ Some x → take (place + 1) xs ≡ take place xs ++ x ∷ []
 one_more_taken [] place x found = cc
-one_more_taken (y ∷ xs) zero x found = ap (λ z. z ∷ []) (some_same found)
+one_more_taken (y ∷ xs) zero x found = ap (λ z. z ∷ []) (same_Some _ _ found)
 one_more_taken (y ∷ xs) (suc place) x found = ap (λ n. take n (y ∷ xs)) (one_more place) ∙ ap (λ rest. y ∷ rest) (one_more_taken xs place x found)
   where
     one_more : (n : ℕ) → suc n + 1 ≡ suc (n + 1)
@@ -59,7 +56,7 @@ showable_taken (r ∷ records) (suc most) all = (all.0, showable_taken records m
 
 pub showable_at : (records : List RecordData) (place : ℕ) (r : RecordData) → slice_get records place ≡ Some r → AllShowable records → IsTrue (is_showable r)
 showable_at [] place r found all = cc
-showable_at (x ∷ records) zero r found all = subst (λ (y : RecordData). IsTrue (is_showable y)) (some_same found) all.0
+showable_at (x ∷ records) zero r found all = subst (λ (y : RecordData). IsTrue (is_showable y)) (same_Some _ _ found) all.0
 showable_at (x ∷ records) (suc place) r found all = showable_at records place r found all.1
 
 showable_last : (records : List RecordData) (r : RecordData) → AllShowable records → IsTrue (is_showable r) → AllShowable (records ++ r ∷ [])

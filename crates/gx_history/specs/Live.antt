@@ -2,7 +2,7 @@
 use Rattle.std.specs.{Prelude.{◌≡◌, IsTrue, IsFalse, ℕ, Bool, ◌&&◌, ◌==◌, nat_lt, not, List, Option, Some, None, if◌then◌else◌}, List.{filter, filter_map, find, list_any}}
 use Rattle.gx_units.specs.{declared.names.{AccountName.AccountName, Symbol.Symbol, Token.Token, UserName.UserName}, Names.{same_account, same_stock}}
 use Rattle.gx_policy.specs.{declared.policy.PolicyData.PolicyData, Lists.{in_order, last_such}}
-use Rattle.gx_history.specs.{declared.{live_order.LiveOrder.LiveOrder, «record».RecordData.RecordData}, Book.{is_buy, is_on, rested}, Executions.{Execution, done, executions}, LiveOrders.is_under, Orders.{Order, is_dead, orders, total}}
+use Rattle.gx_history.specs.{declared.{live_order.LiveOrder.LiveOrder, «record».RecordData.RecordData}, Book.{is_buy, is_on, rest_numbers}, Executions.{Execution, done, executions}, LiveOrders.is_under, Orders.{Order, is_dead, orders, total}}
 
 -- the order, with this size, of which so much is executed
 abbrev pub open_order : Order → ℕ → ℕ → Bool → LiveOrder
@@ -18,7 +18,7 @@ has_come came number = list_any (λ n. n == number) came
 
 -- the order as it is live after these records, if it is
 abbrev pub open_now : List Execution → List RecordData → Order → Option LiveOrder
-open_now made history o = open_with o (is_dead history o) (total history o) (done made o) (not (has_come (rested history) o.number))
+open_now made history o = open_with o (is_dead history o) (total history o) (done made o) (not (has_come (rest_numbers history) o.number))
 
 -- the live orders, by number
 unfoldable pub live : PolicyData → List RecordData → List LiveOrder
@@ -50,7 +50,7 @@ ahead buy a b = if buy then nat_lt b.terms.price a.terms.price else nat_lt a.ter
 
 -- those that rest on one side of a stock, the earlier to rest first
 abbrev pub by_time : PolicyData → List RecordData → Symbol → Bool → List LiveOrder
-by_time policy history stock buy = filter (is_there stock buy) (filter_map (live_numbered (live policy history)) (rested history))
+by_time policy history stock buy = filter (is_there stock buy) (filter_map (live_numbered (live policy history)) (rest_numbers history))
 
 -- and these, the better price first, then the earlier to rest
 unfoldable pub side : PolicyData → List RecordData → Symbol → Bool → List LiveOrder

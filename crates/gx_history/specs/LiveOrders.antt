@@ -16,6 +16,10 @@ key user token = record { user = user; token = token }
 abbrev pub token_of : LiveOrder → UserToken
 token_of o = key o.user o.token
 
+-- the order is the user's
+abbrev pub is_of_user : UserName → LiveOrder → Bool
+is_of_user user o = same_user o.user user
+
 -- an order of the user under the token
 abbrev pub is_under : UserName → Token → LiveOrder → Bool
 is_under user token o = same_user o.user user && same_token o.token token

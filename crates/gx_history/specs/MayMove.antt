@@ -1,7 +1,7 @@
 -- Why a record may move the world as it does: what is known of its move before it.
 use Rattle.std.specs.{Prelude.{◌≡◌, ℕ, ◌-◌, ◌<◌, ◌==◌, not, is_some, IsTrue, IsFalse, List, ◌∷◌, Some, None}, List.AllByRecursion}
 use Rattle.gx_policy.specs.{declared.policy.PolicyData.PolicyData, Lists.where_true, People.account_of}
-use Rattle.gx_history.specs.{declared.{live_order.LiveOrder.LiveOrder, «record».{Fill.Fill, RecordData.RecordData, Step.Step}, moves.Move.{Move, TheVariants.{Nothing, Denies, PutsOn, Adds, Sizes, Replaces, Commands, Fills, Rests, Expires}}}, Asking.names_known_by, Live.{is_buy_order, live_under}, LiveOrders.shares_open, Matching.{crosses, fill_with, is_immediate, meets_none}, Orders.{Order, ends, size_set}, Requests.asked, Verdicts.{IsLegal, next}, World.{World, move_of, world}}
+use Rattle.gx_history.specs.{declared.{live_order.LiveOrder.LiveOrder, «record».{Fill.Fill, RecordData.RecordData, Step.Step}, moves.Move.{Move, TheVariants.{Nothing, Denies, PutsOn, Adds, Sizes, Replaces, Commands, Fills, Rests, Expires}}}, Asking.names_known_by, Live.{is_buy_order, live_under}, LiveOrders.shares_open, Matching.{crosses, fill_with, is_immediate, meets_none}, Orders.{Order, ends, size_set}, Requests.asked_of, Verdicts.{IsLegal, next}, World.{World, move_of, world}}
 
 -- those that rest on the other side of the order's stock, the best first
 abbrev pub opposite : World → LiveOrder → List LiveOrder
@@ -37,7 +37,7 @@ pub record MayReplace (w : World) (r : RecordData) (old new : LiveOrder) : Type 
 
 -- a matching step fills the first that waits and the best that rests on the other side, which cross, by what both have open, at the price of the one that rests
 pub record MayFill (w : World) (r : RecordData) (f : Fill) : Type 0 where
-  pub is_match : asked r.step ≡ None
+  pub is_match : asked_of r.step ≡ None
   pub taker : LiveOrder
   pub waiting : List LiveOrder
   pub maker : LiveOrder
@@ -49,7 +49,7 @@ pub record MayFill (w : World) (r : RecordData) (f : Fill) : Type 0 where
 
 -- a matching step puts the first that waits to rest: it meets nothing, and may rest
 pub record MayRest (w : World) (r : RecordData) (number : ℕ) : Type 0 where
-  pub is_match : asked r.step ≡ None
+  pub is_match : asked_of r.step ≡ None
   pub first : LiveOrder
   pub waiting : List LiveOrder
   pub comes_first : w.waiting ≡ first ∷ waiting
@@ -59,7 +59,7 @@ pub record MayRest (w : World) (r : RecordData) (number : ℕ) : Type 0 where
 
 -- a matching step ends the first that waits: it meets nothing, and may not rest
 pub record MayExpire (w : World) (r : RecordData) (number : ℕ) : Type 0 where
-  pub is_match : asked r.step ≡ None
+  pub is_match : asked_of r.step ≡ None
   pub first : LiveOrder
   pub waiting : List LiveOrder
   pub comes_first : w.waiting ≡ first ∷ waiting

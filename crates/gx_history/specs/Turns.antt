@@ -3,8 +3,8 @@ use Rattle.std.specs.{Option.option_map_or, Prelude.{ℕ, ◌+◌, Bool, true, f
 use Rattle.gx_units.specs.declared.names.{AccountName.AccountName, Symbol.Symbol, UserName.UserName}
 use Rattle.gx_ouch.specs.declared.inbound.EnterOrder.{EnterOrder}
 use Rattle.gx_desk.specs.declared.Action.{Action}
-use Rattle.gx_policy.specs.{declared.policy.PolicyData.PolicyData, Lists.placed}
-use Rattle.gx_history.specs.{declared.{live_order.LiveOrder.LiveOrder, «record».{Fill.Fill, RecordData.RecordData}}, Live.{ahead, is_there, live_numbered, open_order}, Orders.{ends_account, entered}}
+use Rattle.gx_policy.specs.{declared.policy.PolicyData.PolicyData, Lists.inserted_behind}
+use Rattle.gx_history.specs.{declared.{live_order.LiveOrder.LiveOrder, «record».{Fill.Fill, RecordData.RecordData}}, Live.{ahead, is_there, live_numbered, open_order}, Orders.{ends_account, order_entered}}
 
 -- what a record does to the live orders: nothing, or it adds one, sizes the one of a number, puts one in the place of that of a number, ends those of the
 -- accounts that an action is for, fills two, puts one to rest, or ends one
@@ -39,20 +39,20 @@ new_in (Replaces number new) = new ∷ []
 new_in other = []
 
 -- the live orders then
-abbrev pub turned : Turn → List LiveOrder → List LiveOrder
-turned turn found = filter_map (becomes turn) found ++ new_in turn
+abbrev pub live_after : Turn → List LiveOrder → List LiveOrder
+live_after turn found = filter_map (becomes turn) found ++ new_in turn
 
 -- the order of a granted Enter: nothing of it is executed, and it waits
 abbrev pub new_order : PolicyData → RecordData → UserName → AccountName → EnterOrder → LiveOrder
-new_order policy r user account m = open_order (entered policy r user account m) m.shares 0 true
+new_order policy r user account m = open_order (order_entered policy r user account m) m.shares 0 true
 
 -- those that wait then: of them one may come to rest
-abbrev pub waiting_turned : Turn → List LiveOrder → List LiveOrder
-waiting_turned (Rests number) found = filter (λ (o : LiveOrder). not (number == o.number)) found
-waiting_turned turn found = turned turn found
+abbrev pub waiting_after : Turn → List LiveOrder → List LiveOrder
+waiting_after (Rests number) found = filter (λ (o : LiveOrder). not (number == o.number)) found
+waiting_after turn found = live_after turn found
 
 -- and those that rest on one side of a stock, where these were live
-abbrev pub side_turned : Turn → List LiveOrder → Symbol → Bool → List LiveOrder → List LiveOrder
-side_turned (Rests number) before stock buy found =
-    option_map_or (λ (o : LiveOrder). if is_there stock buy o then placed (ahead buy) found (record o { waits = false }) else found) (live_numbered before number) found
-side_turned turn before stock buy found = filter_map (becomes turn) found
+abbrev pub side_after : Turn → List LiveOrder → Symbol → Bool → List LiveOrder → List LiveOrder
+side_after (Rests number) before stock buy found =
+    option_map_or (λ (o : LiveOrder). if is_there stock buy o then inserted_behind (ahead buy) found (record o { waits = false }) else found) (live_numbered before number) found
+side_after turn before stock buy found = filter_map (becomes turn) found

@@ -1,6 +1,6 @@
 -- All that a record can change, as one value, and what each record makes of it.
 use Rattle.gx_policy.specs.{Kinds.{with_limit, with_stocks}, declared.{policy.{FileRule.FileRule, PolicyData.PolicyData}, rule_name.RuleName.RuleName}, People.{account_of, is_reader, role_in}}
-use Rattle.gx_history.specs.{declared.{moves.Move.{Move, TheVariants.{Nothing, Denies, PutsOn, Adds, Sizes, Replaces, Commands, Fills, Rests, Expires}}, live_order.LiveOrder.LiveOrder, «record».{Asked.Asked, RecordData.RecordData, Request.Request, Step.Step, Verdict.Verdict}, report.{Message.Message, Report.Report}}, Executions.{Execution, executions, sides_in}, InForce.{adding, change_rule, is_closed, is_entitled, kill_after, kill_in_force, line_of, removing, rules_in_force}, Live.{live, live_under, side, waiting}, LiveOrders.{replacement_order, shares_open}, Orders.{Order, is_token_used, orders, orders_with, record_uses}, Streams.{answer, canceled_of, copy_of, day_end, ended_of, expired_of, lift_code, replaced_of, reported, reports_of_denial, reports_of_execution, stream, to_user}, Turns.{Turn, new_order, side_turned, turned, waiting_turned}, Verdicts.{IsLegal, last_moment, next}}
+use Rattle.gx_history.specs.{declared.{moves.Move.{Move, TheVariants.{Nothing, Denies, PutsOn, Adds, Sizes, Replaces, Commands, Fills, Rests, Expires}}, live_order.LiveOrder.LiveOrder, «record».{Asked.Asked, RecordData.RecordData, Request.Request, Step.Step, Verdict.Verdict}, report.{Message.Message, Report.Report}}, Executions.{Execution, executions, sides_in}, InForce.{with_stock, change_rule, is_closed, is_entitled, kill_after, kill_in_force, line_of, without_stock, rules_in_force}, Live.{live, live_under, side, waiting}, LiveOrders.{replacement_order, shares_open}, Orders.{Order, is_token_used, orders, orders_with, record_uses}, Streams.{answer, canceled_of, copy_of, day_end, ended_of, expired_of, lift_code, replaced_of, report_of, reports_of_denial, reports_of_execution, stream, to_user}, Turns.{Turn, new_order, side_after, live_after, waiting_after}, Verdicts.{IsLegal, last_moment, next}}
 use Rattle.std.specs.{Option.option_map_or, Prelude.{◌≡◌, ℕ, ◌+◌, ◌-◌, Bool, true, false, ◌&&◌, ◌||◌, is_some, length, List, [], ◌∷◌, ◌++◌, map, fold, Option, Some, None, if◌then◌else◌}, List.flat_map}
 use Rattle.gx_units.specs.{declared.names.{AccountName.AccountName, Symbol.Symbol, Token.Token, UserName.UserName}, Names.{same_account, same_user}}
 use Rattle.gx_ouch.specs.declared.{letters.CancelReason.CancelReason, outbound.Outbound.Outbound}
@@ -95,16 +95,16 @@ abbrev pub turn_of : PolicyData → World → RecordData → Turn
 turn_of policy w r = turn_in (move_of policy w r)
 
 -- the world with the orders that live, wait and rest turned so
-abbrev pub turned_world : Turn → World → World
-turned_world turn w = record w { live = turned turn w.live; waiting = waiting_turned turn w.waiting; resting = λ stock buy. side_turned turn w.live stock buy (w.resting stock buy) }
+abbrev pub world_after_turn : Turn → World → World
+world_after_turn turn w = record w { live = live_after turn w.live; waiting = waiting_after turn w.waiting; resting = λ stock buy. side_after turn w.live stock buy (w.resting stock buy) }
 
 -- this user is told so, and nobody else of anything
 abbrev pub tell : RecordData → UserName → List Message → (UserName → List Report) → UserName → List Report
-tell r receiver told streams user = streams user ++ map (reported r) (to_user receiver user told)
+tell r receiver told streams user = streams user ++ map (report_of r) (to_user receiver user told)
 
 -- each user is told what is for him
 abbrev pub tell_each : RecordData → (UserName → List Message) → (UserName → List Report) → UserName → List Report
-tell_each r told streams user = streams user ++ map (reported r) (told user)
+tell_each r told streams user = streams user ++ map (report_of r) (told user)
 
 -- Accepted: the order, with the number of its record
 abbrev pub accepted_of : LiveOrder → List Message
@@ -124,43 +124,43 @@ abbrev pub with_kill : AccountName → (Option (List UserName) → Option (List 
 with_kill account change kills other = if same_account account other then change (kills other) else kills other
 
 -- what the officer's granted command makes of the world
-abbrev pub commanded : PolicyData → RecordData → UserName → Command → Action → World → World
-commanded policy r officer c (Action.Kill account) w = record (turned_world (turns.EndsAll (Action.Kill account)) w) {
+abbrev pub world_after_command : PolicyData → RecordData → UserName → Command → Action → World → World
+world_after_command policy r officer c (Action.Kill account) w = record (world_after_turn (turns.EndsAll (Action.Kill account)) w) {
   kills = with_kill account (λ before. Some []) w.kills;
   streams = tell_each r (λ user. ended_of w.live (Action.Kill account) user ++ to_user officer user (answer r c AnswerCode.Done)) w.streams;
 }
-commanded policy r officer c (Action.Lift account) w = record w {
+world_after_command policy r officer c (Action.Lift account) w = record w {
   kills = with_kill account (kill_after policy.lifters (Some (Some officer))) w.kills;
   streams = tell r officer (answer r c (lift_code (is_some (kill_after policy.lifters (Some (Some officer)) (w.kills account))))) w.streams;
 }
-commanded policy r officer c (Action.SetLimit name limit) w = with_rule r officer c (map (change_rule name (with_limit limit)) w.rules) w
-commanded policy r officer c (Action.Restrict name stock) w = with_rule r officer c (map (change_rule name (with_stocks (adding stock))) w.rules) w
-commanded policy r officer c (Action.Unrestrict name stock) w = with_rule r officer c (map (change_rule name (with_stocks (removing stock))) w.rules) w
-commanded policy r officer c (Action.Grant written account) w = record w { sight = with_sight policy written account true w.sight; streams = tell r officer (answer r c AnswerCode.Done) w.streams }
-commanded policy r officer c (Action.Revoke written account) w = record w { sight = with_sight policy written account false w.sight; streams = tell r officer (answer r c AnswerCode.Done) w.streams }
-commanded policy r officer c Action.CloseDay w = record (turned_world (turns.EndsAll Action.CloseDay) w) {
+world_after_command policy r officer c (Action.SetLimit name limit) w = with_rule r officer c (map (change_rule name (with_limit limit)) w.rules) w
+world_after_command policy r officer c (Action.Restrict name stock) w = with_rule r officer c (map (change_rule name (with_stocks (with_stock stock))) w.rules) w
+world_after_command policy r officer c (Action.Unrestrict name stock) w = with_rule r officer c (map (change_rule name (with_stocks (without_stock stock))) w.rules) w
+world_after_command policy r officer c (Action.Grant written account) w = record w { sight = with_sight policy written account true w.sight; streams = tell r officer (answer r c AnswerCode.Done) w.streams }
+world_after_command policy r officer c (Action.Revoke written account) w = record w { sight = with_sight policy written account false w.sight; streams = tell r officer (answer r c AnswerCode.Done) w.streams }
+world_after_command policy r officer c Action.CloseDay w = record (world_after_turn (turns.EndsAll Action.CloseDay) w) {
   closed = true;
   streams = tell_each r (λ user. ended_of w.live Action.CloseDay user ++ day_end policy Action.CloseDay user ++ to_user officer user (answer r c AnswerCode.Done)) w.streams;
 }
 
 -- what a move makes of the world
-abbrev pub moved : PolicyData → RecordData → Move → World → World
-moved policy r Nothing w = w
-moved policy r (Denies a rule) w = record w { streams = tell r a.user (reports_of_denial policy r rule a.request) w.streams }
-moved policy r (PutsOn user line) w = record w { lines = λ other. if same_user user other then line else w.lines other }
-moved policy r (Adds new) w = record (turned_world (turns.Adds new) w) { streams = tell r new.user (accepted_of new) w.streams }
-moved policy r (Sizes cut size) w = record (turned_world (turns.Sizes cut.number size) w) { streams = tell r cut.user (canceled_of CancelReason.UserRequested (shares_open cut - (size - cut.done)) cut) w.streams }
-moved policy r (Replaces old new) w = record (turned_world (turns.Replaces old.number new) w) { streams = tell r old.user (replaced_of old new) w.streams }
-moved policy r (Commands officer c) w = commanded policy r officer c c.action w
-moved policy r (Fills f) w = record (turned_world (turns.Fills f) w) {
+abbrev pub world_after_move : PolicyData → RecordData → Move → World → World
+world_after_move policy r Nothing w = w
+world_after_move policy r (Denies a rule) w = record w { streams = tell r a.user (reports_of_denial policy r rule a.request) w.streams }
+world_after_move policy r (PutsOn user line) w = record w { lines = λ other. if same_user user other then line else w.lines other }
+world_after_move policy r (Adds new) w = record (world_after_turn (turns.Adds new) w) { streams = tell r new.user (accepted_of new) w.streams }
+world_after_move policy r (Sizes cut size) w = record (world_after_turn (turns.Sizes cut.number size) w) { streams = tell r cut.user (canceled_of CancelReason.UserRequested (shares_open cut - (size - cut.done)) cut) w.streams }
+world_after_move policy r (Replaces old new) w = record (world_after_turn (turns.Replaces old.number new) w) { streams = tell r old.user (replaced_of old new) w.streams }
+world_after_move policy r (Commands officer c) w = world_after_command policy r officer c c.action w
+world_after_move policy r (Fills f) w = record (world_after_turn (turns.Fills f) w) {
   streams = tell_each r (λ user. flat_map (reports_of_execution r user) (sides_in w.orders (Verdict.Filled f)) ++ flat_map (copy_of w.sight r user) (sides_in w.orders (Verdict.Filled f))) w.streams;
 }
-moved policy r (Rests number) w = turned_world (turns.Rests number) w
-moved policy r (Expires number) w = record (turned_world (turns.Ends number) w) { streams = tell_each r (expired_of w.live number) w.streams }
+world_after_move policy r (Rests number) w = world_after_turn (turns.Rests number) w
+world_after_move policy r (Expires number) w = record (world_after_turn (turns.Ends number) w) { streams = tell_each r (expired_of w.live number) w.streams }
 
 -- the world after one more record that does so: moved by that, with the orders that it makes, the fills, the token that it uses, its number and its moment
 abbrev pub stepped_by : PolicyData → World → RecordData → Move → World
-stepped_by policy w r m = record (moved policy r m w) {
+stepped_by policy w r m = record (world_after_move policy r m w) {
   count = w.count + 1;
   moment = r.moment;
   orders = orders_with policy w.orders r;
@@ -169,8 +169,8 @@ stepped_by policy w r m = record (moved policy r m w) {
 }
 
 -- the world after one more record
-abbrev pub stepped : PolicyData → World → RecordData → World
-stepped policy w r = stepped_by policy w r (move_of policy w r)
+abbrev pub world_after_record : PolicyData → World → RecordData → World
+world_after_record policy w r = stepped_by policy w r (move_of policy w r)
 
 -- the record is next after a legal day, and this is what it does
 pub record Does (policy : PolicyData) (history : List RecordData) (r : RecordData) (m : Move) : Type 0 where
@@ -182,24 +182,24 @@ pub record Does (policy : PolicyData) (history : List RecordData) (r : RecordDat
 abbrev pub LiveGoesOn : Type 0
 LiveGoesOn = (policy : PolicyData) (history : List RecordData) (step : Step) (r : RecordData)
     → IsLegal policy history → next policy history step ≡ Some r
-    → live policy (history ++ r ∷ []) ≡ turned (turn_of policy (world policy history) r) (live policy history)
+    → live policy (history ++ r ∷ []) ≡ live_after (turn_of policy (world policy history) r) (live policy history)
 
 abbrev pub WaitingGoesOn : Type 0
 WaitingGoesOn = (policy : PolicyData) (history : List RecordData) (step : Step) (r : RecordData)
     → IsLegal policy history → next policy history step ≡ Some r
-    → waiting policy (history ++ r ∷ []) ≡ waiting_turned (turn_of policy (world policy history) r) (waiting policy history)
+    → waiting policy (history ++ r ∷ []) ≡ waiting_after (turn_of policy (world policy history) r) (waiting policy history)
 
 abbrev pub SidesGoOn : Type 0
 SidesGoOn = (policy : PolicyData) (history : List RecordData) (step : Step) (r : RecordData) (stock : Symbol) (buy : Bool)
     → IsLegal policy history → next policy history step ≡ Some r
-    → side policy (history ++ r ∷ []) stock buy ≡ side_turned (turn_of policy (world policy history) r) (live policy history) stock buy (side policy history stock buy)
+    → side policy (history ++ r ∷ []) stock buy ≡ side_after (turn_of policy (world policy history) r) (live policy history) stock buy (side policy history stock buy)
 
 -- one more record moves the world by what it does
 abbrev pub WorldGoesOn : Type 0
 WorldGoesOn = (policy : PolicyData) (history : List RecordData) (step : Step) (r : RecordData)
     → IsLegal policy history → next policy history step ≡ Some r
-    → world policy (history ++ r ∷ []) ≡ stepped policy (world policy history) r
+    → world policy (history ++ r ∷ []) ≡ world_after_record policy (world policy history) r
 
 -- so a legal day is its records, one after the other
 abbrev pub WorldsAreRuns : Type 0
-WorldsAreRuns = (policy : PolicyData) (history : List RecordData) → IsLegal policy history → world policy history ≡ fold (stepped policy) (world policy []) history
+WorldsAreRuns = (policy : PolicyData) (history : List RecordData) → IsLegal policy history → world policy history ≡ fold (world_after_record policy) (world policy []) history

@@ -2,7 +2,7 @@
 
 ghost use Rattle.std.specs.{Prelude.{◌≡◌, ◌<◌, IfOk, length, option_and_then, option_copied, option_map, take, drop}, List.slice_get};
 ghost use Rattle.gx_policy.specs.Lists.{slice};
-ghost use Rattle.gx_history.specs.{Requests.{asked, kind_of}, Rows.{AllShowable, records_in}};
+ghost use Rattle.gx_history.specs.{Requests.{asked_of, kind_of}, Rows.{AllShowable, records_in}};
 
 use crate::record::{Asked, Record, VerdictKind};
 use crate::rows::{Details, Row};
@@ -90,7 +90,7 @@ impl<'a> Records<'a> {
     #[inline(always)]
     pub fn asked_at(&self, place: usize) -> Option<&Asked>
         ensures { option_copied result
-            ≡ option_and_then (λ r. asked r.step) (slice_get self.now place) }
+            ≡ option_and_then (λ r. asked_of r.step) (slice_get self.now place) }
     {
         let row = self.rows.get(place)?;
         self.details.asked(&row.event)

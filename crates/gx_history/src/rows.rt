@@ -1,7 +1,7 @@
 //! How a day's records lie in memory: a row for each, and what is long in lists of its own.
 
 ghost use Rattle.std.specs.Prelude.{◌≡◌, ◌+◌, ◌<◌, ◌≤◌, option_copied, IsTrue, OnErr, OnOk};
-ghost use Rattle.gx_history.specs.{Requests.{asked, kind_of}, Rows.{IsThere, no_lists, record_in, step_at, step_in, verdict_in, with_details}, Showing.{is_verdict_of}};
+ghost use Rattle.gx_history.specs.{Requests.{asked_of, kind_of}, Rows.{IsThere, no_lists, record_in, step_at, step_in, verdict_in, with_details}, Showing.{is_verdict_of}};
 
 use crate::record::{Asked, Fill, RecordData, Step, Verdict, VerdictKind};
 use gx_policy::RuleName;
@@ -174,7 +174,7 @@ impl Details {
     /// What was asked for in this event, where it lies, if it is no matching step.
     #[inline(always)]
     pub(crate) fn asked(&self, event: &Event) -> Option<&Asked>
-        ensures { option_copied result ≡ asked (step_in self.now.lists.asked event.now) }
+        ensures { option_copied result ≡ asked_of (step_in self.now.lists.asked event.now) }
     {
         match event {
             Event::Granted(place) | Event::Denied(place, _) => self.asked.get(*place),

@@ -1,6 +1,6 @@
 -- The user and the password that the fields of a request name.
 use Rattle.std.specs.Prelude.{ℕ, ◌+◌, ◌==◌, ◌&&◌, Bool, List, length, take, drop, find, position, Option, Some, None, option_map, option_and_then, if◌then◌else◌, nat_le, nat_lt, codes}
-use Rattle.gx_units.specs.{Spelling.padded, declared.names.{Password.Password, UserName.UserName}}
+use Rattle.gx_units.specs.{Spelling.padded_to, declared.names.{Password.Password, UserName.UserName}}
 use Rattle.http1.specs.{Fields.{Header, is_named}, Text.eq_ignore_case}
 use Rattle.base64.specs.{Engines.standard, GeneralPurpose.decoded_of}
 use Rattle.gx_http.specs.declared.credentials.Credentials.{Credentials}
@@ -11,7 +11,7 @@ value_named name fields = option_map (λ (h : Header). h.1) (find (is_named name
 
 -- the text with spaces behind it, where it has so many bytes at the most
 abbrev pub padded_in : ℕ → List ℕ → Option (List ℕ)
-padded_in n text = if nat_le (length text) n then Some (padded n text) else None
+padded_in n text = if nat_le (length text) n then Some (padded_to n text) else None
 
 abbrev pub is_colon : ℕ → Bool
 is_colon byte = byte == 58

@@ -2,7 +2,7 @@
 use Rattle.std.specs.Prelude.{◌≡◌, ◌⊎◌, ⊤, ℕ, ◌+◌, ◌<◌, ◌≤◌, Bool, not, ◌==◌, ◌&&◌, ◌||◌, List, length, map, take, Option, Some, None, Result, Ok, Err, if◌then◌else◌, nat_lt}
 use Rattle.httparse.specs.{Grammar.{RequestHead, print_request, ReadsRequest, HasNoRequest, MayBecomeRequest}, Spans.{RequestOverflows, header_bytes, name_and_value, span_bytes}, declared.spans.{HeaderSpan.HeaderSpan, RequestSpans.RequestSpans}}
 use Rattle.http1.specs.{Fields.{Header, known_fields}, Framing.{method_kind, request_framing}, declared.{fields.KnownFields.KnownFields, framing.{Framing.Framing, FramingError.FramingError}}}
-use Rattle.gx_http.specs.{declared.{credentials.Credentials.Credentials, forms.KillForm.KillForm, request.{Asked.Asked, Request.Request, RequestFault.RequestFault}, routes.Route.Route}, Credentials.credentials_in, Forms.kill_form, Routes.routed, Words.◌>>=◌}
+use Rattle.gx_http.specs.{declared.{credentials.Credentials.Credentials, forms.KillForm.KillForm, request.{Asked.Asked, Request.Request, RequestFault.RequestFault}, routes.Route.Route}, Credentials.credentials_in, Forms.kill_form, Routes.route_of, Words.◌>>=◌}
 
 -- a request has no more bytes than these
 abbrev pub most_bytes : ℕ
@@ -84,7 +84,7 @@ abbrev pub request_in : HeadParts → List ℕ → Result Request RequestFault
 request_in head rest = do
   told ← body_length head.method head.minor (known_fields head.fields)
   fitting ← within_bounds head.length told
-  route ← routed head.method head.target
+  route ← route_of head.method head.target
   body ← whole_body fitting rest
   asked ← asked_by route body
   request_by (credentials_in head.fields) asked

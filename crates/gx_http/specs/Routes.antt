@@ -30,5 +30,5 @@ by_its_method method (Some route) =
     if bytes_eq method (method_text (method_of route)) then Ok route else Err (RequestFault.MethodNotAllowed (method_of route))
 
 -- what a request of this method and this path asks for
-abbrev pub routed : List ℕ → List ℕ → Result Route RequestFault
-routed method path = by_its_method method (route_at path)
+abbrev pub route_of : List ℕ → List ℕ → Result Route RequestFault
+route_of method path = by_its_method method (route_at path)

@@ -1,7 +1,7 @@
 //! What may be asked for, by its path and its method.
 
 ghost use Rattle.std.specs.Prelude.{◌≡◌};
-ghost use Rattle.gx_http.specs.Routes.{method_of, method_text, route_at, routed};
+ghost use Rattle.gx_http.specs.Routes.{method_of, method_text, route_at, route_of};
 
 use crate::request::RequestFault;
 
@@ -82,7 +82,7 @@ impl Route {
 
 /// What a request of this method and this path asks for.
 pub(crate) fn routed(method: &[u8], path: &[u8]) -> Result<Route, RequestFault>
-    ensures { result ≡ routed method.now path.now }
+    ensures { result ≡ route_of method.now path.now }
 {
     let Some(route) = Route::at(path) else {
         return Err(RequestFault::NotFound);

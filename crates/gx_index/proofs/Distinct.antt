@@ -1,5 +1,5 @@
 -- Among entries of distinct keys, one with an equal key is the only one.
-use Rattle.std.proofs.{Common.{◌≡◌, ◌∙◌, ◌+◌, ◌<◌, ℕ, zero, suc, Bool, true, false, cond, not, nat_lt, lt-ltb, arith, length, List, [], ◌∷◌, Some, None, IfSome, refl, sym, ap, subst, true≢false, is_some, unwrap_or, slice_get, position}, lemmas.{Map.{NonePasses, none_passes_from_lookup, Entries.place_from_lookup}, Option.slice_get_within}}
+use Rattle.std.proofs.{Common.{◌≡◌, ◌∙◌, ◌+◌, ◌<◌, ℕ, zero, suc, Bool, true, false, cond, not, nat_lt, lt-ltb, arith, length, List, [], ◌∷◌, Some, None, IfSome, refl, sym, ap, subst, true≢false, is_some, unwrap_or, slice_get, position}, lemmas.{Map.{Entries.place_from_lookup, NonePasses, none_passes_from_lookup}, Option.{slice_get_within, same_Some}}}
 use Rattle.std.specs.{Cmp.IsEquivalence, List.{AllByRecursion, IsDistinct, position_or_len}, Map.{keys_of, values_of, lookup, set_value}}
 use Rattle.indexmap.specs.IndexMap.{IndexMap, UpdatesBy, WritesThrough, set_value_at, with_value_at}
 use Rattle.indexmap.proofs.{CallerLemmas.{index_map_len-with_value_at, keys-with_value_at, updates-with_value_at}, MapLemmas.{Found-position, Missing-position, some_index, value_index}}
@@ -61,13 +61,10 @@ module _ {K V : Type 0} (test : K → Bool) where
   set_none (e ∷ es) w apart = ap (λ rest. e ∷ rest) (set_none es w apart.1) ∙ sym (ap (λ b. cond b ((e.0, w) ∷ es) (e ∷ set_value test es w)) apart.0)
 
 module _ {K V S : Type 0} {R : K → K → Bool} (equal : IsEquivalence R) (m : IndexMap K V S) (key : K) where
-  some_is : {X : Type 0} {x y : X} → Some x ≡ Some y → x ≡ y
-  some_is {X} {x} e = ap (λ o. unwrap_or o x) e
-
   updates : (i : ℕ) (v w : V) → IsDistinct R (keys_of m.entries) → position (R key) (keys_of m.entries) ≡ Some i → lookup (R key) m.entries ≡ Some v → UpdatesBy R (R key) m (with_value_at m i w) (Some w)
   updates i v w distinct at found =
       let there = place_from_lookup (R key) m.entries v found in
-      let same : there.0 ≡ i = some_is (sym (index_at equal m.entries there.0 key there.1 v distinct there.2 (equal.symm there.1 key ∙ there.3)) ∙ at) in
+      let same : there.0 ≡ i = same_Some _ _ (sym (index_at equal m.entries there.0 key there.1 v distinct there.2 (equal.symm there.1 key ∙ there.3)) ∙ at) in
       let here : slice_get m.entries i ≡ Some (there.1, v) = subst (λ n. slice_get m.entries n ≡ Some (there.1, v)) same there.2 in
       let one_test : R there.1 ≡ R key = λ j q. sym (equal.congr key there.1 q there.3) j in
       subst (λ test. UpdatesBy R test m (with_value_at m i w) (Some w)) one_test (updates-with_value_at m i w equal distinct there.1 v here)

@@ -1,2 +1,2 @@
-pub mod Rolling
-pub mod Keeping
+pub mod Journal_next
+pub mod Journal_call

@@ -25,8 +25,8 @@ abbrev pub journal_bytes : AuditVersion → List RecordData → List ℕ
 journal_bytes version records = all_bytes version records
 
 -- the records behind the first `count`, up to those that are done
-abbrev pub added : ℕ → ℕ → List RecordData → List RecordData
-added count done records = drop count (take done records)
+abbrev pub records_between : ℕ → ℕ → List RecordData → List RecordData
+records_between count done records = drop count (take done records)
 
 -- where it is known what was held, this is held: that, and the text behind it
 abbrev pub IsGrown : (before after : Option (List ℕ)) → List ℕ → Type 0
@@ -39,12 +39,12 @@ met_by held None = holds 0 [] 0
 
 -- how many records were added with a pass that may be out
 abbrev pub added_by : {T : Type 0} → (T → ℕ) → Option T → ℕ
-added_by added (Some pass) = added pass
-added_by added None = 0
+added_by records_between (Some pass) = records_between pass
+added_by records_between None = 0
 
 -- so many records there are at least, as the pass knows
-abbrev pub known : Holds → ℕ
-known h = max h.told (length h.front)
+abbrev pub known_length : Holds → ℕ
+known_length h = max h.told (length h.front)
 
 -- The day begins with its earlier records. The device holds what it held at first, and behind it the bytes of the records that are done; once it is broken, a
 -- front of the bytes of all records that the pass has met.
@@ -53,5 +53,5 @@ pub record IsKept (begun : Option (List ℕ)) (count : ℕ) (earlier : List Reco
   pub begins : take (length earlier) j.met.front ≡ earlier
   pub first : count ≤ j.writer.done
   pub met : j.writer.done ≤ length j.met.front
-  pub whole : IsFalse (is_broken j.writer) → IsGrown begun j.writer.contents (journal_bytes version (added count j.writer.done j.met.front))
+  pub whole : IsFalse (is_broken j.writer) → IsGrown begun j.writer.contents (journal_bytes version (records_between count j.writer.done j.met.front))
   pub cut : IsTrue (is_broken j.writer) → ∥ IsFront begun j.writer.contents (journal_bytes version (drop count j.met.front)) ∥₁

@@ -6,7 +6,7 @@ ghost use Rattle.gx_devices.specs.Devices.{IsFront};
 ghost use Rattle.gx_policy.specs.Lists.{slice};
 ghost use Rattle.gx_pass.specs.Views.{retold};
 ghost use Rattle.gx_door.specs.Acts.{IsLater};
-ghost use Rattle.gx_journal.specs.Journals.{added, is_broken, journal_bytes, known, IsGrown, IsKept};
+ghost use Rattle.gx_journal.specs.Journals.{records_between, is_broken, journal_bytes, known_length, IsGrown, IsKept};
 
 use crate::name::JournalName;
 use crate::writer::JournalWriter;
@@ -76,7 +76,7 @@ impl<D: Door, W: Write, J: JournalName> Journal<D, W, J> {
     /// Writes what records there are, and answers whether they are all on the device: at least as many as the pass has
     /// met, or was told of. Once it is broken it writes nothing, and the answer is no.
     pub fn keep<R: Wait>(&mut self, rt: &R, door: &D) -> bool
-        ensures kept { IsTrue result → known self.old.met ≤ self.new.writer.done }
+        ensures kept { IsTrue result → known_length self.old.met ≤ self.new.writer.done }
         ensures sound { IsTrue result → self.new.writer.fault ≡ None }
         ensures broken { IsFalse result → IsTrue (is_broken self.new.writer) }
         ensures met { IsPrefix self.old.met.front self.new.met.front }
@@ -104,7 +104,7 @@ impl<D: Door, W: Write, J: JournalName> Journal<D, W, J> {
 
     /// Writes records until so many are on the device. Answers whether they are.
     fn write_up_to<R: Wait>(&mut self, rt: &R, door: &D, count: u64) -> bool
-        requires known { count ≤ known self.old.met }
+        requires known { count ≤ known_length self.old.met }
         ensures written { IsTrue result → count ≤ self.new.writer.done }
         ensures sound { IsTrue result → self.new.writer.fault ≡ None }
         ensures broken { IsFalse result → IsTrue (is_broken self.new.writer) }
@@ -125,10 +125,10 @@ impl<D: Door, W: Write, J: JournalName> Journal<D, W, J> {
 
     /// Writes the next records, at most up to so many. Answers whether it did.
     fn write_piece<R: Wait>(&mut self, rt: &R, door: &D, count: u64) -> bool
-        requires known { count ≤ known self.old.met }
+        requires known { count ≤ known_length self.old.met }
         requires left { self.old.writer.done < count }
         requires sound { IsFalse (is_broken self.old.writer) }
-        ensures known { count ≤ known self.new.met }
+        ensures known { count ≤ known_length self.new.met }
         ensures met { IsPrefix self.old.met.front self.new.met.front }
         ensures more { IsTrue result → self.old.writer.done < self.new.writer.done }
         ensures sound { IsTrue result → IsFalse (is_broken self.new.writer) }

@@ -6,7 +6,7 @@ ghost use Rattle.gx_devices.specs.declared.fault.WriteFault.TheVariants as fault
 ghost use Rattle.gx_journal.specs.Journals.{is_broken, journal_bytes};
 
 use gx_audit_bytes::{AuditVersion, audit_bytes};
-use gx_devices::{Counted, WriteFault, write_whole};
+use gx_devices::{CallCounter, WriteFault, write_whole};
 use gx_history::record::Record;
 use std::alloc::Global;
 use std::io::Write;
@@ -17,7 +17,7 @@ use std::marker::Model;
 /// fault.
 pub struct JournalWriter<W: Write> {
     alloc: Global,
-    writer: Counted<W>,
+    writer: CallCounter<W>,
     version: AuditVersion,
     done: u64,
     fault: Option<WriteFault>,
@@ -43,7 +43,7 @@ impl<W: Write> Model for JournalWriter<W> {
 fn put_on<W: Write>(
     alloc: Global,
     version: AuditVersion,
-    writer: &mut Counted<W>,
+    writer: &mut CallCounter<W>,
     records: &[Record],
 ) -> Result<(), WriteFault>
     requires { writer.old.failed < 2 ^ 64 - 1 }
@@ -71,7 +71,7 @@ impl<W: Write> JournalWriter<W> {
     {
         JournalWriter {
             alloc,
-            writer: Counted::new(device),
+            writer: CallCounter::new(device),
             version,
             done,
             fault: None,

@@ -1,10 +1,10 @@
 -- What a record that follows adds to the orders: nothing, or the one order of a granted Enter or Replace.
-use Rattle.std.proofs.{Common.{◌≡◌, ℕ, Bool, true, false, List, [], ◌∷◌, refl, ◌∙◌, ap, sym, cond, inl, inr, ◌⊎◌}, lemmas.Slice.Eq.bytes_eq-Decides}
+use Rattle.std.proofs.{Common.{◌≡◌, ℕ, Bool, true, false, List, [], ◌∷◌, refl, ◌∙◌, ap, sym, cond, inl, inr, ◌⊎◌}, lemmas.{Slice.Eq.bytes_eq-Decides, Bool.and_parts}}
 use Rattle.std.specs.{Prelude.{Option, Some, None, is_none, ◌&&◌, ◌||◌, nat_lt, not, filter}, Option.option_map_or, List.{cons_option, filter_map, list_any, last_or, AllByRecursion}}
 use Rattle.gx_units.specs.{declared.names.{AccountName.AccountName, Token.Token, UserName.UserName}, Names.{same_user, same_token}}
 use Rattle.gx_ouch.specs.declared.inbound.{EnterOrder.EnterOrder, ReplaceOrder.ReplaceOrder}
 use Rattle.gx_policy.specs.{declared.{policy.PolicyData.PolicyData, rule_name.RuleName.TheVariants.{I1, I2}}, Lists.last_such, People.role_in}
-use Rattle.gx_history.specs.{declared.{live_order.LiveOrder.LiveOrder, «record».{Asked.Asked, RecordData.RecordData, Request.Request, Step.Step, Verdict.Verdict}}, Asking.{facts, live_named}, Book.rested, Executions.{Execution, done, executions}, Live.{has_come, live, live_under, open_now, open_order}, LiveOrders.is_under, Orders.{is_dead, total, Order, orders, orders_added, orders_made, order_under, entered, replacing, is_token_used}, Requests.{granted, asked, is_granted, is_order, new_token}, Rules.forbids, Verdicts.{next, facts_now, Follows}}
+use Rattle.gx_history.specs.{declared.{live_order.LiveOrder.LiveOrder, «record».{Asked.Asked, RecordData.RecordData, Request.Request, Step.Step, Verdict.Verdict}}, Asking.{facts, live_named}, Book.rest_numbers, Executions.{Execution, done, executions}, Live.{has_come, live, live_under, open_now, open_order}, LiveOrders.is_under, Orders.{is_dead, total, Order, orders, orders_added, orders_made, order_under, order_entered, order_replacing, is_token_used}, Requests.{granted_of, asked_of, is_granted, is_order, new_token}, Rules.forbids, Verdicts.{next, facts_now, Follows}}
 use Rattle.gx_laws.specs.HistoryLaws.{grants_order}
 use Rattle.gx_laws.proofs.{Entering.{HasAccount, entered_has_account}, Granting.is_no_bar, Owners.{found_last, nothing_found}}
 
@@ -70,7 +70,7 @@ any_live made history user token (o ∷ os) h = at (not (is_dead history o) && n
     rest : List LiveOrder
     rest = filter_map (open_now made history) os
 
-    at : (b c : Bool) → (same_user o.user user && same_token o.token token) ≡ c → list_any (is_under user token) (cons_option (cond b (Some (open_order o (total history o) (done made o) (not (has_come (rested history) o.number)))) None) rest) ≡ true
+    at : (b c : Bool) → (same_user o.user user && same_token o.token token) ≡ c → list_any (is_under user token) (cons_option (cond b (Some (open_order o (total history o) (done made o) (not (has_come (rest_numbers history) o.number)))) None) rest) ≡ true
         → (list_any (is_under user token) rest ≡ true → list_any (λ (o : Order). same_user o.user user && same_token o.token token) os ≡ true) → (c || list_any (λ (o : Order). same_user o.user user && same_token o.token token) os) ≡ true
     at b true e k deeper = refl
     at true false e k deeper = deeper (ap (λ (c : Bool). c || list_any (is_under user token) rest) (sym e) ∙ k)
@@ -92,9 +92,9 @@ named_at policy history a m e = ap (live_named policy history a.user) e
 replaced_is_known : (policy : PolicyData) (history : List RecordData) (a : Asked) (r : RecordData) (m : ReplaceOrder)
     → next policy history (Step.Asked a) ≡ Some r → r.verdict ≡ Verdict.Granted → a.request ≡ Request.Replace m
     → is_none (order_under (orders policy history) a.user m.existing_token) ≡ false
-replaced_is_known policy history a r m e granted asks =
+replaced_is_known policy history a r m e granted_of asks =
     under_known policy history a.user m.existing_token
-    (sym (ap is_none (named_at policy history a m asks)) ∙ sym (ap (forbids I2 (facts_now policy history a)) asks) ∙ is_no_bar policy history a r e granted I2)
+    (sym (ap is_none (named_at policy history a m asks)) ∙ sym (ap (forbids I2 (facts_now policy history a)) asks) ∙ is_no_bar policy history a r e granted_of I2)
 
 pub record AddsNone (policy : PolicyData) (history : List RecordData) (r : RecordData) : Type 0 where
   pub adds : orders_added policy (orders policy history) r ≡ []
@@ -111,16 +111,16 @@ pub record AddsOne (policy : PolicyData) (history : List RecordData) (r : Record
   pub numbered : o.number ≡ r.number
   pub adds : orders_added policy (orders policy history) r ≡ o ∷ []
 
-pub granted_is : (r : RecordData) (a : Asked) → r.step ≡ Step.Asked a → r.verdict ≡ Verdict.Granted → granted r ≡ Some a
-granted_is r a asks grants = ap (λ (v : Verdict). cond (is_granted v) (asked r.step) None) grants ∙ ap asked asks
+pub granted_is : (r : RecordData) (a : Asked) → r.step ≡ Step.Asked a → r.verdict ≡ Verdict.Granted → granted_of r ≡ Some a
+granted_is r a asks grants = ap (λ (v : Verdict). cond (is_granted v) (asked_of r.step) None) grants ∙ ap asked_of asks
 
-nothing_granted : (policy : PolicyData) (history : List RecordData) (r : RecordData) → granted r ≡ None → AddsNone policy history r
+nothing_granted : (policy : PolicyData) (history : List RecordData) (r : RecordData) → granted_of r ≡ None → AddsNone policy history r
 nothing_granted policy history r e = record {
   adds = ap (λ (g : Option Asked). option_map_or (λ (a : Asked). orders_made policy (orders policy history) r a.user a.request) g []) e;
   grants_none = ap (λ (g : Option Asked). option_map_or (λ (a : Asked). is_order a.request) g false) e;
 }
 
-no_order : (policy : PolicyData) (history : List RecordData) (r : RecordData) (a : Asked) (q : Request) → granted r ≡ Some a → a.request ≡ q
+no_order : (policy : PolicyData) (history : List RecordData) (r : RecordData) (a : Asked) (q : Request) → granted_of r ≡ Some a → a.request ≡ q
     → orders_made policy (orders policy history) r a.user q ≡ [] → is_order q ≡ false → AddsNone policy history r
 no_order policy history r a q g e makes is_none_for = record {
   adds = ap (λ (found : Option Asked). option_map_or (λ (x : Asked). orders_made policy (orders policy history) r x.user x.request) found []) g
@@ -147,8 +147,8 @@ enter_adds : (policy : PolicyData) (history : List RecordData) (r : RecordData) 
     → r.step ≡ Step.Asked a → r.verdict ≡ Verdict.Granted → a.request ≡ Request.Enter m → AddsOne policy history r
 enter_adds policy history r a m left asks grants e =
     let his : HasAccount (role_in policy.users a.user) = entered_has_account policy history a r m left grants e in
-    one_order policy history r a (Request.Enter m) (entered policy r a.user his.0 m) asks grants e
-    (ap (λ (found : Option AccountName). option_map_or (λ (account : AccountName). entered policy r a.user account m ∷ []) found []) his.1) refl refl refl refl
+    one_order policy history r a (Request.Enter m) (order_entered policy r a.user his.0 m) asks grants e
+    (ap (λ (found : Option AccountName). option_map_or (λ (account : AccountName). order_entered policy r a.user account m ∷ []) found []) his.1) refl refl refl refl
 
 replace_adds : (policy : PolicyData) (history : List RecordData) (r : RecordData) (a : Asked) (m : ReplaceOrder) → next policy history (Step.Asked a) ≡ Some r
     → r.step ≡ Step.Asked a → r.verdict ≡ Verdict.Granted → a.request ≡ Request.Replace m → AddsOne policy history r
@@ -157,23 +157,19 @@ replace_adds policy history r a m left asks grants e = at (order_under (orders p
     is_his : Order → Bool
     is_his o = same_user o.user a.user && same_token o.token m.existing_token
 
-    first : (b c : Bool) → (b && c) ≡ true → b ≡ true
-    first true c h = refl
-    first false c h = h
-
     at : (found : Option Order) → order_under (orders policy history) a.user m.existing_token ≡ found → is_none found ≡ false → AddsOne policy history r
     at None f h = cc
     at (Some o) f h =
-        one_order policy history r a (Request.Replace m) (replacing r m o) asks grants e
-        (ap (λ (found : Option Order). option_map_or (λ (x : Order). replacing r m x ∷ []) found []) f) refl refl
-        (user_is o.user a.user (first (same_user o.user a.user) (same_token o.token m.existing_token)
-        (found_passes (λ (x : Order). same_user x.user a.user && same_token x.token m.existing_token) (orders policy history) o f))) refl
+        one_order policy history r a (Request.Replace m) (order_replacing r m o) asks grants e
+        (ap (λ (found : Option Order). option_map_or (λ (x : Order). order_replacing r m x ∷ []) found []) f) refl refl
+        (user_is o.user a.user (and_parts (same_user o.user a.user) (same_token o.token m.existing_token)
+        (found_passes (λ (x : Order). same_user x.user a.user && same_token x.token m.existing_token) (orders policy history) o f)).0) refl
 
 pub what_is_added : (policy : PolicyData) (history : List RecordData) (r : RecordData) → Follows policy (history, r) → AddsNone policy history r ⊎ AddsOne policy history r
 what_is_added policy history r follows = by_verdict r.verdict refl
   where
     none_of : (v : Verdict) → r.verdict ≡ v → is_granted v ≡ false → AddsNone policy history r
-    none_of v e h = nothing_granted policy history r (ap (λ (w : Verdict). cond (is_granted w) (asked r.step) None) e ∙ ap (λ (b : Bool). cond b (asked r.step) None) h)
+    none_of v e h = nothing_granted policy history r (ap (λ (w : Verdict). cond (is_granted w) (asked_of r.step) None) e ∙ ap (λ (b : Bool). cond b (asked_of r.step) None) h)
 
     by_request : (a : Asked) (q : Request) → r.step ≡ Step.Asked a → r.verdict ≡ Verdict.Granted → a.request ≡ q → next policy history (Step.Asked a) ≡ Some r
         → AddsNone policy history r ⊎ AddsOne policy history r
@@ -187,7 +183,7 @@ what_is_added policy history r follows = by_verdict r.verdict refl
 
     by_step : (s : Step) → r.step ≡ s → r.verdict ≡ Verdict.Granted → AddsNone policy history r ⊎ AddsOne policy history r
     by_step (Step.Asked a) asks grants = by_request a a.request asks grants refl (ap (next policy history) (sym asks) ∙ follows.is_next)
-    by_step (Step.Matching handed) asks grants = inl (nothing_granted policy history r (ap (λ (v : Verdict). cond (is_granted v) (asked r.step) None) grants ∙ ap asked asks))
+    by_step (Step.Matching handed) asks grants = inl (nothing_granted policy history r (ap (λ (v : Verdict). cond (is_granted v) (asked_of r.step) None) grants ∙ ap asked_of asks))
 
     by_verdict : (v : Verdict) → r.verdict ≡ v → AddsNone policy history r ⊎ AddsOne policy history r
     by_verdict Verdict.Granted e = by_step r.step refl e

@@ -5,7 +5,7 @@ use Rattle.gx_units.specs.declared.names.AccountName.{AccountName}
 use Rattle.gx_policy.specs.{declared.policy.PolicyData.PolicyData, Lists.{each_after, each_with_earlier}}
 use Rattle.gx_history.specs.{declared.record.RecordData.RecordData, Executions.{Execution, executions, sides}, Figures.{Positions, done_of_chosen, of_accounts, positions}, Orders.{Order, orders, orders_added}, Verdicts.{Follows, IsLegal}}
 use Rattle.gx_ouch.specs.declared.outbound.OrderTerms.{OrderTerms}
-use Rattle.gx_laws.proofs.{NextFigures.done_more, NextOrders.{executions_next, orders_next}, NextReports.legal_next, Steps.{AddsNone, AreWorth, adds_none, all_in_parts, gained-append, no_more_shares, no_more_value, shares_held, value_held}, Worth.executions_are_worth}
+use Rattle.gx_laws.proofs.{NextFigures.done_more, NextOrders.{executions_next, orders_next}, NextReports.legal_next, Steps.{AddsNone, AreWorth, adds_none, gained-append, no_more_shares, no_more_value, shares_held, value_held}, Worth.executions_are_worth, Ordered.all_parted}
 use Rattle.gx_laws.specs.{PositionLaws.{PositionsAreSound, PositionsGoOn, RecordsMayCome, granted_after, turn_after}, Exposure.{executions_after, gained, gross_value, is_such, shares_of_chosen}}
 
 -- what is known of positions
@@ -14,7 +14,7 @@ pub record GoOn : Type 0 where
   pub may_come : RecordsMayCome
   pub are_sound : PositionsAreSound
 
-each_after-append : {X : Type 0} (earlier xs ys : List X) → each_after earlier (xs ++ ys) ≡ each_after earlier xs ++ each_after (earlier ++ xs) ys
+pub each_after-append : {X : Type 0} (earlier xs ys : List X) → each_after earlier (xs ++ ys) ≡ each_after earlier xs ++ each_after (earlier ++ xs) ys
 each_after-append {X} earlier [] ys = ap (λ (before : List X). each_after before ys) (sym (append-nil earlier))
 each_after-append {X} earlier (x ∷ xs) ys =
     ap (λ (rest : List (List X × X)). (earlier, x) ∷ rest)
@@ -23,7 +23,7 @@ each_after-append {X} earlier (x ∷ xs) ys =
 -- a legal history's records follow a legal history
 pub legal_in_parts : (policy : PolicyData) (earlier later : List RecordData) → IsLegal policy (earlier ++ later) → IsLegal policy earlier × AllByRecursion (Follows policy) (each_after earlier later)
 legal_in_parts policy earlier later legal =
-    let parts = all_in_parts (Follows policy) (each_with_earlier earlier) (each_after earlier later)
+    let parts = all_parted (Follows policy) (each_with_earlier earlier) (each_after earlier later)
     (subst (λ (steps : List (List RecordData × RecordData)). AllByRecursion (Follows policy) steps) (each_after-append [] earlier later) legal.follows) in
     (record { follows = parts.0 }, parts.1)
 

@@ -1,5 +1,5 @@
 -- Lists in which no two have one key.
-use Rattle.std.proofs.{Common.{◌≡◌, ℕ, Bool, true, false, List, [], ◌∷◌, ◌++◌, refl, ◌∙◌, ap, sym, cond, inl, inr}, lemmas.Bool.{eq-eqb, ne_eqb}}
+use Rattle.std.proofs.{Common.{◌≡◌, ℕ, Bool, true, List, [], ◌∷◌, ◌++◌, refl, ◌∙◌, ap, sym, cond, inl, inr}, lemmas.Bool.{eq-eqb, ne_eqb, or_right}}
 use Rattle.std.specs.{Prelude.{Some, find, ◌==◌, ◌||◌}, List.{list_any, AllByRecursion}}
 use Rattle.gx_laws.proofs.{Numbers.all_weaker, Owners.all_both, Among.{IsIn, IsItOrOther, of_all}}
 
@@ -37,12 +37,8 @@ pub all_members : (ns : List ℕ) → AllByRecursion (λ (n : ℕ). list_any (λ
 all_members [] = tt
 all_members (n ∷ ns) = (
   ap (λ (b : Bool). b || list_any (λ m. m == n) ns) (eq-eqb n n refl),
-  all_weaker (λ (k : ℕ). list_any (λ m. m == k) ns ≡ true) (λ (k : ℕ). (n == k || list_any (λ m. m == k) ns) ≡ true) (λ k h. at (n == k) h) ns (all_members ns),
+  all_weaker (λ (k : ℕ). list_any (λ m. m == k) ns ≡ true) (λ (k : ℕ). (n == k || list_any (λ m. m == k) ns) ≡ true) (λ k h. or_right (n == k) _ h) ns (all_members ns),
 )
-  where
-    at : (b : Bool) {c : Bool} → c ≡ true → (b || c) ≡ true
-    at true h = refl
-    at false h = h
 
 -- each is x itself, or has another key
 pub others_apart : {X : Type 0} (key : X → ℕ) (x : X) (xs : List X) → AreApart key xs → IsIn x xs → AllByRecursion (IsItOrOther (λ a b. key a == key b) x) xs

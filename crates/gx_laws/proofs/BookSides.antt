@@ -1,9 +1,9 @@
 -- A side of the book has the live orders that rest there, and no other.
-use Rattle.std.proofs.{Common.{◌≡◌, ℕ, Bool, true, false, not, List, [], ◌∷◌, refl, ◌∙◌, ap, sym, cond}, Math.Path.subst, lemmas.Bool.{eq-eqb, eqb-true}}
+use Rattle.std.proofs.{Common.{◌≡◌, ℕ, Bool, true, false, List, [], ◌∷◌, refl, ◌∙◌, ap, sym, cond}, Math.Path.subst, lemmas.Bool.{eq-eqb, eqb-true, not-false, both_ways}}
 use Rattle.std.specs.{Prelude.{Option, Some, None, ◌==◌, ◌||◌, find}, List.{AllByRecursion, cons_option, filter_map}}
 use Rattle.gx_units.specs.declared.names.Symbol.{Symbol}
 use Rattle.gx_policy.specs.declared.policy.PolicyData.{PolicyData}
-use Rattle.gx_history.specs.{declared.{live_order.LiveOrder.LiveOrder, «record».RecordData.RecordData}, Book.rested, Live.{IsAtRest, by_time, ahead, is_there, side, has_come, live_numbered, live}, Verdicts.IsLegal}
+use Rattle.gx_history.specs.{declared.{live_order.LiveOrder.LiveOrder, «record».RecordData.RecordData}, Book.rest_numbers, Live.{IsAtRest, by_time, ahead, is_there, side, has_come, live_numbered, live}, Verdicts.IsLegal}
 use Rattle.gx_laws.proofs.{Numbers.all_weaker, Known.{IsKnown, RestsThere, all_resting, live_known, number_found, waits_is}, NewOrders.found_is, Ordered.{all_in_order, all_unfiltered}, Orderly.{IsOrderly, legal_is_orderly}}
 
 -- no other
@@ -22,9 +22,6 @@ none_such {X} p (x ∷ xs) h = at (p x) refl h (none_such p xs)
     at true e k deeper = cc
     at false e k deeper = (e, deeper k)
 
-clash : {b : Bool} → b ≡ true → b ≡ false → ⊥
-clash h k = cc
-
 -- what holds of all that are found holds of what is found under a number that has come
 of_come : (P : LiveOrder → Type 0) (f : ℕ → Option LiveOrder) (ns : List ℕ) (n : ℕ) (o : LiveOrder) → AllByRecursion P (filter_map f ns) → has_come ns n ≡ true → f n ≡ Some o → P o
 of_come P f [] n o h k e = cc
@@ -42,16 +39,12 @@ of_come P f (m ∷ ns) n o h k e = at (m == n) refl k (f m) refl h (λ x. of_com
 
 -- what holds of all that rest on a side holds of each that came to rest there
 pub side_has : (policy : PolicyData) (history : List RecordData) (P : LiveOrder → Type 0) (stock : Symbol) (buy : Bool) (o : LiveOrder) → AllByRecursion P (side policy history stock buy)
-    → live_numbered (live policy history) o.number ≡ Some o → has_come (rested history) o.number ≡ true → is_there stock buy o ≡ true → P o
+    → live_numbered (live policy history) o.number ≡ Some o → has_come (rest_numbers history) o.number ≡ true → is_there stock buy o ≡ true → P o
 unfolding side
 side_has policy history P stock buy o all found come there =
-    of_come (λ (x : LiveOrder). is_there stock buy x ≡ true → P x) (live_numbered (live policy history)) (rested history) o.number o
-    (all_unfiltered P (is_there stock buy) (filter_map (live_numbered (live policy history)) (rested history)) (all_in_order P (ahead buy) [] (by_time policy history stock buy) all).1)
+    of_come (λ (x : LiveOrder). is_there stock buy x ≡ true → P x) (live_numbered (live policy history)) (rest_numbers history) o.number o
+    (all_unfiltered P (is_there stock buy) (filter_map (live_numbered (live policy history)) (rest_numbers history)) (all_in_order P (ahead buy) [] (by_time policy history stock buy) all).1)
     come found there
-
-was_true : (b : Bool) → not b ≡ false → b ≡ true
-was_true true h = refl
-was_true false h = cc
 
 -- each is found under its number
 is_found_there : (policy : PolicyData) (history : List RecordData) (stock : Symbol) (buy : Bool) (o : LiveOrder) → IsOrderly policy history → IsKnown policy history o
@@ -60,9 +53,10 @@ is_found_there policy history stock buy o orderly known rests there = at (live_n
   where
     at : (found : Option LiveOrder) → live_numbered (side policy history stock buy) o.number ≡ found → live_numbered (side policy history stock buy) o.number ≡ Some o
     at None e =
-        absurd (clash (eq-eqb o.number o.number refl)
+        absurd (both_ways (o.number == o.number)
         (side_has policy history (λ (x : LiveOrder). (x.number == o.number) ≡ false) stock buy o (none_such (λ (x : LiveOrder). x.number == o.number) (side policy history stock buy) e)
-        known.is_found (was_true (has_come (rested history) o.number) (sym (waits_is policy history o known.of) ∙ rests)) there))
+        known.is_found (not-false (has_come (rest_numbers history) o.number) (sym (waits_is policy history o known.of) ∙ rests)) there)
+        (eq-eqb o.number o.number refl))
     at (Some y) e =
         let that : RestsThere policy history stock buy y × ((y.number == o.number) ≡ true) = (
           found_is (RestsThere policy history stock buy) (λ (x : LiveOrder). x.number == o.number) (side policy history stock buy) y (all_resting policy history stock buy orderly) e,

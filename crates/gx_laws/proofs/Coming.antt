@@ -1,11 +1,11 @@
 -- What one more record does to the live orders may be done.
-use Rattle.std.proofs.{Common.{◌≡◌, ℕ, ◌+◌, ◌<◌, ◌≤◌, ◌^◌, true, false, List, [], ◌∷◌, refl, ◌∙◌, ap, sym, Bool, cond, length, arith}, Math.Path.subst, lemmas.Bool.{eqb-true, lt-ltb, ne_eqb}}
+use Rattle.std.proofs.{Common.{◌≡◌, ℕ, ◌+◌, ◌<◌, ◌≤◌, ◌^◌, true, false, List, [], ◌∷◌, refl, ◌∙◌, ap, sym, Bool, cond, length, arith}, Math.Path.subst, lemmas.Bool.{eqb-true, lt-ltb, ne_eqb, and_parts}}
 use Rattle.std.specs.{Prelude.{Option, Some, None, ◌==◌, is_some, nat_eq, not, IsTrue}, Option.option_map_or, List.{AllByRecursion, IsDistinct}}
 use Rattle.gx_units.specs.{Names.same_stock, declared.names.AccountName.AccountName}
 use Rattle.gx_ouch.specs.declared.inbound.{CancelOrder.CancelOrder, EnterOrder.EnterOrder, ReplaceOrder.ReplaceOrder}
 use Rattle.gx_policy.specs.{declared.policy.PolicyData.PolicyData, People.{account_of, stock_named}}
-use Rattle.gx_history.specs.{declared.{live_order.LiveOrder.LiveOrder, «record».{Asked.Asked, Fill.Fill, RecordData.RecordData, Request.Request, Step.Step, Verdict.Verdict}, moves.Move.{Move, TheVariants.{Adds, Expires, Fills, Nothing, Replaces, Sizes}}}, Book.is_on, Figures.{Positions, positions}, Live.{is_buy_order, live, live_numbered, live_under}, LiveOrders.{is_under, replacement_order, terms_then}, Matched.IsFair, MayMove.{MayExpire, MayMove}, Orders.{Order, entered, order_numbered, orders, orders_added, replacing}, Requests.is_judged, Turns.new_order, Verdicts.{IsLegal, next}, World.{move_asked, move_by, turn_by, turn_in, world}}
-use Rattle.gx_laws.proofs.{Entering.entered_has_shares, Granting.asked_is_judged, Judging.both, Listed.{entered_is_listed, orders_are_listed}, Numbers.{all_weaker, number_left, numbers_are_within}, Owners.last_such_is, Runs.step_left, Among.of_all, Apart.{AreApart, IsApartFrom}, FairFills.fills_are_fair, Entered.all_mapped, Known.{IsKnown, IsWaiting, all_waiting, live_apart, live_known, number_found, number_in}, Moving.may_by, Naming.{FindsOne, finds_one}, NewOrders.found_is, Orderly.legal_is_orderly, OrderRequests.{adds_by, it_grants}, Granted.{entered_price, entered_shares, replaced_price, replaced_shares}, Moments.granted_last}
+use Rattle.gx_history.specs.{declared.{live_order.LiveOrder.LiveOrder, «record».{Asked.Asked, Fill.Fill, RecordData.RecordData, Request.Request, Step.Step, Verdict.Verdict}, moves.Move.{Move, TheVariants.{Adds, Expires, Fills, Nothing, Replaces, Sizes}}}, Book.is_on, Figures.{Positions, positions}, Live.{is_buy_order, live, live_numbered, live_under}, LiveOrders.{is_under, replacement_order, terms_then}, Matched.IsFair, MayMove.{MayExpire, MayMove}, Orders.{Order, order_entered, order_numbered, orders, orders_added, order_replacing}, Requests.is_judged, Turns.new_order, Verdicts.{IsLegal, next}, World.{move_asked, move_by, turn_by, turn_in, world}}
+use Rattle.gx_laws.proofs.{Entering.entered_has_shares, Granting.asked_is_judged, Listed.{entered_is_listed, orders_are_listed}, Numbers.{all_weaker, number_left, numbers_are_within}, Owners.last_such_is, Runs.step_left, Among.of_all, Apart.{AreApart, IsApartFrom}, FairFills.fills_are_fair, Entered.all_mapped, Known.{IsKnown, IsWaiting, all_waiting, live_apart, live_known, number_found, number_in}, Moving.may_by, Naming.{FindsOne, finds_one}, NewOrders.found_is, Orderly.legal_is_orderly, OrderRequests.{adds_by, it_grants}, Granted.{entered_price, entered_shares, replaced_price, replaced_shares}, Moments.granted_last}
 use Rattle.gx_laws.specs.{PositionLaws.RecordsMayCome, Sound.{IsListed, IsLive, IsNoLater, IsOf, IsThere, MayChange, MayCome, numbers_of}}
 
 -- what is known of a live order says of which grant it is
@@ -113,9 +113,9 @@ module _ (policy : PolicyData) (history : List RecordData) (r : RecordData) (leg
         → Comes (option_map_or (λ (account : AccountName). Adds (new_order policy r a.user account m)) found Nothing)
     by_enter m asks None his moves = tt
     by_enter m asks (Some account) his moves =
-        new_comes (new_order policy r a.user account m) (entered policy r a.user account m)
+        new_comes (new_order policy r a.user account m) (order_entered policy r a.user account m)
         (adds_by policy (orders policy history) r a (Request.Enter m) (it_grants policy history a r (Request.Enter m) left asks grants)
-        ∙ ap (λ (found : Option AccountName). option_map_or (λ account. entered policy r a.user account m ∷ []) found []) his)
+        ∙ ap (λ (found : Option AccountName). option_map_or (λ account. order_entered policy r a.user account m ∷ []) found []) his)
         (record { number = refl; account = refl; terms = refl }) refl (entered_is_listed policy history a r m left grants asks) (entered_has_shares policy history a r m left grants asks)
         (entered_shares policy history a r m left grants asks) (entered_price policy history a r m left grants asks)
 
@@ -129,9 +129,9 @@ module _ (policy : PolicyData) (history : List RecordData) (r : RecordData) (leg
           is_there = there old.number old (known_under m.existing_token old named).is_found;
           is_his = refl;
           may_come =
-              new_comes (replacement_order r m old) (replacing r m one.known.order)
+              new_comes (replacement_order r m old) (order_replacing r m one.known.order)
               (adds_by policy (orders policy history) r a (Request.Replace m) (it_grants policy history a r (Request.Replace m) left asks grants)
-              ∙ ap (λ (found : Option Order). option_map_or (λ o. replacing r m o ∷ []) found []) one.is_last)
+              ∙ ap (λ (found : Option Order). option_map_or (λ o. order_replacing r m o ∷ []) found []) one.is_last)
               (record { number = refl; account = ap (λ (x : LiveOrder). x.account) one.known.is_it; terms = ap (λ (x : LiveOrder). terms_then m x.terms) one.known.is_it }) refl
               (last_such_is (IsListed policy) (is_under a.user m.existing_token) (live policy history) old (live_are_listed policy history legal) named) (lt-ltb old.done m.shares moves.some_open)
               (replaced_shares policy history a r m old left grants asks named) (replaced_price policy history a r m old left grants asks named);
@@ -165,7 +165,7 @@ module _ (policy : PolicyData) (history : List RecordData) (r : RecordData) (leg
     taker = there f.taker fair.taker fair.taker_lives;
     maker = there f.maker fair.maker fair.maker_lives;
     they_differ = fair.they_differ;
-    of_one_stock = (both (same_stock fair.maker.terms.stock fair.taker.terms.stock) (is_on (not (is_buy_order fair.taker)) fair.maker.terms.side) fair.other_side).0;
+    of_one_stock = (and_parts (same_stock fair.maker.terms.stock fair.taker.terms.stock) (is_on (not (is_buy_order fair.taker)) fair.maker.terms.side) fair.other_side).0;
     taker_has = fair.taker_has_them;
     maker_has = fair.maker_has_them;
     at_its_price = fair.at_its_price;

@@ -5,7 +5,7 @@ use Rattle.gx_units.specs.{declared.names.{AccountName.AccountName, UserName.Use
 use Rattle.gx_ouch.specs.declared.letters.CancelReason.{CancelReason}
 use Rattle.gx_desk.specs.declared.{Action.Action, Command.Command}
 use Rattle.gx_policy.specs.declared.policy.PolicyData.{PolicyData}
-use Rattle.gx_history.specs.{declared.{live_order.LiveOrder.LiveOrder, «record».{Asked.Asked, RecordData.RecordData, Request.Request, Step.Step, Verdict.Verdict}, report.Report.Report}, Book.rested_of, Executions.sides, InForce.{kill_or_lift_of, is_entitled, kill_after, kill_in_force}, Live.live, LiveOrders.shares_open, Orders.{Order, orders, size_asked, size_set, ends, ends_account, ends_by_request, expires}, Requests.{granted, granted_action, granted_mark, action_of, is_granted, asked}, Streams.{stream, answer, canceled_of, granted_code, reports_of_verdict, reports_of_grant, reported, copy_of, ended_of, day_end, to_user}, Verdicts.next}
+use Rattle.gx_history.specs.{declared.{live_order.LiveOrder.LiveOrder, «record».{Asked.Asked, RecordData.RecordData, Request.Request, Step.Step, Verdict.Verdict}, report.Report.Report}, Book.rested_of, Executions.sides, InForce.{kill_or_lift_of, is_entitled, kill_after, kill_in_force}, Live.live, LiveOrders.shares_open, Orders.{Order, orders, size_asked, size_set, ends, ends_account, ends_by_request, expires}, Requests.{granted_of, granted_action, granted_mark, action_of, is_granted, asked_of}, Streams.{stream, answer, canceled_of, granted_code, reports_of_verdict, reports_of_grant, report_of, copy_of, ended_of, day_end, to_user}, Verdicts.next}
 use Rattle.gx_laws.proofs.{Adding.granted_is, Ends.none_added, Keeping.AddsNothing, KillsNext.kill_in_force_next, NextReports.stream_next, Runs.step_left}
 
 -- the record grants the user's command, which asks for the action
@@ -31,15 +31,15 @@ command_of (Request.Command c) action h = (c, refl, some_is c.action action h)
 
 pub grants_command : (policy : PolicyData) (history : List RecordData) (a : Asked) (r : RecordData) (action : Action)
     → next policy history (Step.Asked a) ≡ Some r → action_of a.request ≡ Some action → r.verdict ≡ Verdict.Granted → GrantsCommand r a action
-grants_command policy history a r action left asks granted =
+grants_command policy history a r action left asks granted_of =
     let c : (c : Command) × (a.request ≡ Request.Command c) × (c.action ≡ action) = command_of a.request action asks in
-    record { asks = step_left policy history (Step.Asked a) r left; grants = granted; command = c.0; is_command = c.1; is_for = c.2 }
+    record { asks = step_left policy history (Step.Asked a) r left; grants = granted_of; command = c.0; is_command = c.1; is_for = c.2 }
 
 -- the record of a command that was granted
 pub grants_the_command : (policy : PolicyData) (history : List RecordData) (a : Asked) (r : RecordData) (c : Command) (action : Action)
     → next policy history (Step.Asked a) ≡ Some r → a.request ≡ Request.Command c → c.action ≡ action → r.verdict ≡ Verdict.Granted → GrantsCommand r a action
-grants_the_command policy history a r c action left asks is granted =
-    record { asks = step_left policy history (Step.Asked a) r left; grants = granted; command = c; is_command = asks; is_for = is }
+grants_the_command policy history a r c action left asks is granted_of =
+    record { asks = step_left policy history (Step.Asked a) r left; grants = granted_of; command = c; is_command = asks; is_for = is }
 
 pub asks_action : (r : RecordData) (a : Asked) (action : Action) → GrantsCommand r a action → action_of a.request ≡ Some action
 asks_action r a action g = ap action_of g.is_command ∙ ap (λ (x : Action). Some x) g.is_for
@@ -71,8 +71,8 @@ command_adds_nothing policy history r a action g = record {
 -- it ends the earlier orders of the accounts that it is for
 pub ends_by_command : (o : Order) (r : RecordData) (a : Asked) (action : Action) → GrantsCommand r a action → ends o r ≡ (nat_lt o.number r.number && ends_account o.account action)
 ends_by_command o r a action g =
-    ap (λ (v : Verdict). nat_lt o.number r.number && (expires o.number v || option_map_or (λ (x : Asked). ends_by_request o x.user x.request) (cond (is_granted v) (asked r.step) None) false)) g.grants
-    ∙ ap (λ (s : Step). nat_lt o.number r.number && option_map_or (λ (x : Asked). ends_by_request o x.user x.request) (asked s) false) g.asks
+    ap (λ (v : Verdict). nat_lt o.number r.number && (expires o.number v || option_map_or (λ (x : Asked). ends_by_request o x.user x.request) (cond (is_granted v) (asked_of r.step) None) false)) g.grants
+    ∙ ap (λ (s : Step). nat_lt o.number r.number && option_map_or (λ (x : Asked). ends_by_request o x.user x.request) (asked_of s) false) g.asks
     ∙ ap (λ (q : Request). nat_lt o.number r.number && ends_by_request o a.user q) g.is_command
     ∙ ap (λ (x : Action). nat_lt o.number r.number && ends_account o.account x) g.is_for
 
@@ -84,20 +84,20 @@ kill_by_command policy history r a action account mark g marks =
 
 -- what a user is told of a granted command
 abbrev pub tells : PolicyData → List RecordData → RecordData → UserName → Verdict → Step → List Report
-tells policy history r user v s = map (reported r) (reports_of_verdict policy history r v s user) ++ map (reported r) (flat_map (copy_of (is_entitled policy history) r user) (sides policy history v))
+tells policy history r user v s = map (report_of r) (reports_of_verdict policy history r v s user) ++ map (report_of r) (flat_map (copy_of (is_entitled policy history) r user) (sides policy history v))
 
 pub told_by_command : (policy : PolicyData) (history : List RecordData) (r : RecordData) (a : Asked) (c : Command) (action : Action) (user : UserName)
     → GrantsCommand r a action → a.request ≡ Request.Command c → c.action ≡ action
     → stream policy (history ++ r ∷ []) user
-    ≡ stream policy history user ++ map (reported r) (ended_of (live policy history) action user ++ day_end policy action user ++ to_user a.user user (answer r c (granted_code policy (history ++ r ∷ []) action)))
+    ≡ stream policy history user ++ map (report_of r) (ended_of (live policy history) action user ++ day_end policy action user ++ to_user a.user user (answer r c (granted_code policy (history ++ r ∷ []) action)))
 told_by_command policy history r a c action user g asks is =
     stream_next policy history r user
     ∙ ap (λ (more : List Report). stream policy history user ++ more)
     (ap (λ (v : Verdict). tells policy history r user v r.step) g.grants
     ∙ ap (λ (s : Step). tells policy history r user Verdict.Granted s) g.asks
-    ∙ ap (λ (q : Request). map (reported r) (reports_of_grant policy history r a.user q user) ++ []) asks
-    ∙ append-nil (map (reported r) (reports_of_grant policy history r a.user (Request.Command c) user))
-    ∙ ap (λ (x : Action). map (reported r) (ended_of (live policy history) x user ++ day_end policy x user ++ to_user a.user user (answer r c (granted_code policy (history ++ r ∷ []) x)))) is)
+    ∙ ap (λ (q : Request). map (report_of r) (reports_of_grant policy history r a.user q user) ++ []) asks
+    ∙ append-nil (map (report_of r) (reports_of_grant policy history r a.user (Request.Command c) user))
+    ∙ ap (λ (x : Action). map (report_of r) (ended_of (live policy history) x user ++ day_end policy x user ++ to_user a.user user (answer r c (granted_code policy (history ++ r ∷ []) x)))) is)
 
 -- and nobody is told of the end of an order by it
 pub none_ended : (policy : PolicyData) (history : List RecordData) (action : Action) (user : UserName) → ((account : AccountName) → ends_account account action ≡ false)

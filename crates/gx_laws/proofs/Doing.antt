@@ -4,7 +4,7 @@ use Rattle.std.specs.{Prelude.{Option, Some, None}, Option.option_map_or}
 use Rattle.gx_units.specs.declared.names.{AccountName.AccountName, Symbol.Symbol, UserName.UserName}
 use Rattle.gx_desk.specs.declared.Command.{Command}
 use Rattle.gx_policy.specs.{People.account_of, declared.{policy.PolicyData.PolicyData, rule_name.RuleName.RuleName}}
-use Rattle.gx_history.specs.{declared.{live_order.LiveOrder.LiveOrder, moves.Move.Move, «record».{Asked.Asked, Fill.Fill, RecordData.RecordData, Request.Request, Step.Step, Verdict.Verdict}}, Live.{live, live_under, side}, LiveOrders.replacement_order, MayMove.MayMove, Requests.asked, Turns.{new_order, side_turned, turned}, World.{Does, World, move_asked, move_by, stepped_by, turn_in, turn_of, world}}
+use Rattle.gx_history.specs.{declared.{live_order.LiveOrder.LiveOrder, moves.Move.Move, «record».{Asked.Asked, Fill.Fill, RecordData.RecordData, Request.Request, Step.Step, Verdict.Verdict}}, Live.{live, live_under, side}, LiveOrders.replacement_order, MayMove.MayMove, Requests.asked_of, Turns.{new_order, side_after, live_after}, World.{Does, World, move_asked, move_by, stepped_by, turn_in, turn_of, world}}
 use Rattle.gx_laws.proofs.{Live.live_next, Moving.may_move, Sides.side_next, World.world_next}
 
 -- it may do so
@@ -20,13 +20,13 @@ pub turn_does : (policy : PolicyData) (history : List RecordData) (r : RecordDat
 turn_does policy history r m d = ap turn_in d.moves
 
 pub live_does : (policy : PolicyData) (history : List RecordData) (r : RecordData) (m : Move) → Does policy history r m
-    → live policy (history ++ r ∷ []) ≡ turned (turn_in m) (live policy history)
-live_does policy history r m d = live_next policy history r.step r d.legal d.is_next ∙ ap (λ (x : Move). turned (turn_in x) (live policy history)) d.moves
+    → live policy (history ++ r ∷ []) ≡ live_after (turn_in m) (live policy history)
+live_does policy history r m d = live_next policy history r.step r d.legal d.is_next ∙ ap (λ (x : Move). live_after (turn_in x) (live policy history)) d.moves
 
 pub side_does : (policy : PolicyData) (history : List RecordData) (r : RecordData) (m : Move) (stock : Symbol) (buy : Bool) → Does policy history r m
-    → side policy (history ++ r ∷ []) stock buy ≡ side_turned (turn_in m) (live policy history) stock buy (side policy history stock buy)
+    → side policy (history ++ r ∷ []) stock buy ≡ side_after (turn_in m) (live policy history) stock buy (side policy history stock buy)
 side_does policy history r m stock buy d =
-    side_next policy history r.step r stock buy d.legal d.is_next ∙ ap (λ (x : Move). side_turned (turn_in x) (live policy history) stock buy (side policy history stock buy)) d.moves
+    side_next policy history r.step r stock buy d.legal d.is_next ∙ ap (λ (x : Move). side_after (turn_in x) (live policy history) stock buy (side policy history stock buy)) d.moves
 
 -- a verdict and a step that deny so
 pub record IsDenied (v : Verdict) (s : Step) (a : Asked) (rule : RuleName) : Type 0 where
@@ -92,14 +92,11 @@ command_does policy history r officer c d = known_of policy history r (Move.Comm
 pub fill_does : (policy : PolicyData) (history : List RecordData) (r : RecordData) (f : Fill) → Does policy history r (Move.Fills f) → r.verdict ≡ Verdict.Filled f
 fill_does policy history r f d = known_of policy history r (Move.Fills f) d
 
-pub rest_does : (policy : PolicyData) (history : List RecordData) (r : RecordData) (number : ℕ) → Does policy history r (Move.Rests number) → r.verdict ≡ Verdict.Rested number
-rest_does policy history r number d = known_of policy history r (Move.Rests number) d
-
 pub expiry_does : (policy : PolicyData) (history : List RecordData) (r : RecordData) (number : ℕ) → Does policy history r (Move.Expires number) → r.verdict ≡ Verdict.Expired number
 expiry_does policy history r number d = known_of policy history r (Move.Expires number) d
 
 -- a step that is no request is a matching step
-pub matches_at : (s : Step) → asked s ≡ None → (handed : ℕ) × (s ≡ Step.Matching handed)
+pub matches_at : (s : Step) → asked_of s ≡ None → (handed : ℕ) × (s ≡ Step.Matching handed)
 matches_at (Step.Asked a) none = cc
 matches_at (Step.Matching handed) none = (handed, refl)
 
@@ -117,8 +114,8 @@ IsMatchMove (Move.Rests number) = Unit {0}
 IsMatchMove (Move.Expires number) = Unit {0}
 IsMatchMove other = ⊥
 
-is_asked : (a : Asked) (s : Step) → s ≡ Step.Asked a → asked s ≡ None → ⊥
-is_asked a s asks none = let no : Some a ≡ None = sym (ap asked asks) ∙ none in cc
+is_asked : (a : Asked) (s : Step) → s ≡ Step.Asked a → asked_of s ≡ None → ⊥
+is_asked a s asks none = let no : Some a ≡ None = sym (ap asked_of asks) ∙ none in cc
 
 pub asked_does : (policy : PolicyData) (history : List RecordData) (r : RecordData) (a : Asked) (m : Move) → Does policy history r m → r.step ≡ Step.Asked a → IsAskedMove m
 asked_does policy history r a m d asks = by m (may_do policy history r m d)
@@ -135,7 +132,7 @@ asked_does policy history r a m d asks = by m (may_do policy history r m d)
     by (Move.Rests number) may = is_asked a r.step asks may.is_match
     by (Move.Expires number) may = is_asked a r.step asks may.is_match
 
-pub match_does : (policy : PolicyData) (history : List RecordData) (r : RecordData) (m : Move) → Does policy history r m → asked r.step ≡ None → IsMatchMove m
+pub match_does : (policy : PolicyData) (history : List RecordData) (r : RecordData) (m : Move) → Does policy history r m → asked_of r.step ≡ None → IsMatchMove m
 match_does policy history r m d none =
     subst IsMatchMove d.moves
     (subst (λ (s : Step). IsMatchMove (move_by policy (world policy history) r r.verdict s)) (sym s.1)

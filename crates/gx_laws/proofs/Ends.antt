@@ -4,12 +4,13 @@ use Rattle.std.specs.{Prelude.{Option, Some, None, option_and_then, ◌&&◌, �
 use Rattle.gx_units.specs.declared.names.UserName.{UserName}
 use Rattle.gx_desk.specs.declared.Action.{Action}
 use Rattle.gx_policy.specs.declared.policy.PolicyData.{PolicyData}
-use Rattle.gx_history.specs.{declared.{live_order.LiveOrder.LiveOrder, «record».{Asked.Asked, RecordData.RecordData, Request.Request}}, Book.{rested, rested_of}, Executions.{Execution, done, executions, sides}, Live.{has_come, live, open_now, open_order, open_with}, Orders.{Order, orders, orders_added, orders_made, total, is_dead, ends, ends_account, ends_by_request, expires, size_set}, Requests.{granted, granted_action, action_of}, Verdicts.{IsLegal, Follows}}
+use Rattle.gx_history.specs.{declared.{live_order.LiveOrder.LiveOrder, «record».{Asked.Asked, RecordData.RecordData, Request.Request}}, Book.{rest_numbers, rested_of}, Executions.{Execution, done, executions, sides}, Live.{has_come, live, open_now, open_order, open_with}, Orders.{Order, orders, orders_added, orders_made, total, is_dead, ends, ends_account, ends_by_request, expires, size_set}, Requests.{granted_of, granted_action, action_of}, Verdicts.{IsLegal, Follows}}
 use Rattle.gx_laws.proofs.{NextOrders.{live_next, open_next}, NextReports.legal_before, Numbers.{numbers_are_within, next_number}, Order.some_same}
+use Rattle.gx_units.proofs.Tests.{or_true}
 
 -- a granted command makes no order
 pub none_added : (policy : PolicyData) (known : List Order) (r : RecordData) (action : Action) → granted_action r ≡ Some action → orders_added policy known r ≡ []
-none_added policy known r action h = of_asked (granted r) h
+none_added policy known r action h = of_asked (granted_of r) h
   where
     of_request : (user : UserName) (q : Request) → action_of q ≡ Some action → orders_made policy known r user q ≡ []
     of_request user (Request.Command c) k = refl
@@ -28,14 +29,10 @@ none_added policy known r action h = of_asked (granted r) h
 -- a granted command ends the earlier orders that it is for
 pub ended : (o : Order) (r : RecordData) (action : Action) → granted_action r ≡ Some action → o.number < r.number → ends_account o.account action ≡ true → ends o r ≡ true
 ended o r action h early for_it =
-    ap (λ (b : Bool). b && (expires o.number r.verdict || option_map_or (λ (a : Asked). ends_by_request o a.user a.request) (granted r) false)) (lt-ltb o.number r.number early)
-    ∙ ap (λ (b : Bool). expires o.number r.verdict || b) (of_asked (granted r) h)
+    ap (λ (b : Bool). b && (expires o.number r.verdict || option_map_or (λ (a : Asked). ends_by_request o a.user a.request) (granted_of r) false)) (lt-ltb o.number r.number early)
+    ∙ ap (λ (b : Bool). expires o.number r.verdict || b) (of_asked (granted_of r) h)
     ∙ or_true (expires o.number r.verdict)
   where
-    or_true : (b : Bool) → (b || true) ≡ true
-    or_true true = refl
-    or_true false = refl
-
     of_request : (user : UserName) (q : Request) → action_of q ≡ Some action → ends_by_request o user q ≡ true
     of_request user (Request.Command c) k = ap (ends_account o.account) (some_same k) ∙ for_it
     of_request user (Request.Login m) k = cc
@@ -58,7 +55,7 @@ sooner limit number e (o ∷ os) h = (omega arith, sooner limit number e os h.1)
 none_open : (policy : PolicyData) (history : List RecordData) (r : RecordData) (o : Order) → ends o r ≡ true → open_now (executions policy (history ++ r ∷ [])) (history ++ r ∷ []) o ≡ None
 none_open policy history r o h = open_next policy history r o true (size_set o r) (done (sides policy history r.verdict) o) h refl refl ∙ at (is_dead history o)
   where
-    at : (b : Bool) → open_with o (b || true) (unwrap_or (size_set o r) (total history o)) (done (executions policy history) o + done (sides policy history r.verdict) o) (not (has_come (rested history ++ option_to_list (rested_of r.verdict)) o.number)) ≡ None
+    at : (b : Bool) → open_with o (b || true) (unwrap_or (size_set o r) (total history o)) (done (executions policy history) o + done (sides policy history r.verdict) o) (not (has_come (rest_numbers history ++ option_to_list (rested_of r.verdict)) o.number)) ≡ None
     at true = refl
     at false = refl
 
@@ -70,7 +67,7 @@ for_account : (made : List Execution) (history : List RecordData) (o : Order) (a
     → list_any (is_for action) (cons_option (open_now made history o) found) ≡ false
 for_account made history o action found rest e = at (not (is_dead history o) && nat_lt (done made o) (total history o))
   where
-    at : (b : Bool) → list_any (is_for action) (cons_option (cond b (Some (open_order o (total history o) (done made o) (not (has_come (rested history) o.number)))) None) found) ≡ false
+    at : (b : Bool) → list_any (is_for action) (cons_option (cond b (Some (open_order o (total history o) (done made o) (not (has_come (rest_numbers history) o.number)))) None) found) ≡ false
     at true = ap (λ (b : Bool). b || list_any (is_for action) found) e ∙ rest
     at false = rest
 
@@ -101,7 +98,7 @@ only_open made history [] = tt
 only_open made history (o ∷ os) = at (not (is_dead history o)) (nat_lt (done made o) (total history o)) refl (only_open made history os)
   where
     x : LiveOrder
-    x = open_order o (total history o) (done made o) (not (has_come (rested history) o.number))
+    x = open_order o (total history o) (done made o) (not (has_come (rest_numbers history) o.number))
 
     at : (b c : Bool) → nat_lt (done made o) (total history o) ≡ c → AllByRecursion (λ (o : LiveOrder). o.done < o.total) (filter_map (open_now made history) os)
         → AllByRecursion (λ (o : LiveOrder). o.done < o.total) (cons_option (cond (b && c) (Some x) None) (filter_map (open_now made history) os))

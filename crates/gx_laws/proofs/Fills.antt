@@ -3,12 +3,12 @@ use Rattle.std.proofs.{Common.{◌≡◌, ℕ, ◌+◌, Bool, true, false, not, 
 use Rattle.std.specs.{Prelude.{Option, Some, None, ◌==◌, ◌||◌, option_to_list}, List.{list_any, AllByRecursion}}
 use Rattle.gx_ouch.specs.declared.letters.Liquidity.{Liquidity}
 use Rattle.gx_policy.specs.declared.policy.PolicyData.{PolicyData}
-use Rattle.gx_history.specs.{declared.{live_order.LiveOrder.LiveOrder, «record».{Fill.Fill, RecordData.RecordData, Step.Step, Verdict.Verdict}}, Book.rested, Executions.{Execution, done, executed, shares_for, side_of, sides}, Live.{is_buy_order, has_come}, MayMove.MayFill, Orders.{Order, orders, order_numbered, is_dead}, Requests.granted, Verdicts.next, World.world}
+use Rattle.gx_history.specs.{declared.{live_order.LiveOrder.LiveOrder, «record».{Fill.Fill, RecordData.RecordData, Step.Step, Verdict.Verdict}}, Book.rest_numbers, Executions.{Execution, done, executed_shares, shares_for, side_of, sides}, Live.{is_buy_order, has_come}, MayMove.MayFill, Orders.{Order, orders, order_numbered, is_dead}, Requests.granted_of, Verdicts.next, World.world}
 use Rattle.gx_laws.proofs.{Numbers.all_weaker, Order.some_same, Runs.step_left, Known.{IsKnown, IsWaiting, RestsThere, all_resting, first_waiting}, Matches.may_match, Naming.IsOfKnown, Orderly.{IsOrderly, IsGone, HasGone}, Ungranted.match_grants_nothing}
 
 -- a record of this fill, between the first that waits and the best that rests
 pub record IsFill (policy : PolicyData) (history : List RecordData) (r : RecordData) (f : Fill) : Type 0 where
-  pub grants_nothing : granted r ≡ None
+  pub grants_nothing : granted_of r ≡ None
   pub is_fill : r.verdict ≡ Verdict.Filled f
   pub may : MayFill (world policy history) r f
   pub taker_waits : IsWaiting policy history may.taker
@@ -91,8 +91,8 @@ brought t m n shares differ = at (t == n) refl (m == n) refl
             clash : (a b : ℕ) → (a == b) ≡ false → (a == b) ≡ true → ⊥
             clash a b h k = cc
 
-pub executed_of_both : (f : Fill) (taker maker : Order) (n : ℕ) → executed (both_sides f taker maker) n ≡ bring taker.number n f.shares + (bring maker.number n f.shares + 0)
-unfolding executed
+pub executed_of_both : (f : Fill) (taker maker : Order) (n : ℕ) → executed_shares (both_sides f taker maker) n ≡ bring taker.number n f.shares + (bring maker.number n f.shares + 0)
+unfolding executed_shares
 executed_of_both f taker maker n =
     sum_by-cons (shares_for n) (taker_side f taker) (maker_side f maker ∷ [])
     ∙ ap (λ (rest : ℕ). bring taker.number n f.shares + rest) (sum_by-cons (shares_for n) (maker_side f maker) [])
@@ -120,9 +120,9 @@ pub number_of_known : (policy : PolicyData) (history : List RecordData) (o : Liv
 number_of_known policy history o k = ap (λ (p : LiveOrder). p.number) k.is_it
 
 -- taker and maker are two orders
-pub taker_is_not_maker : (policy : PolicyData) (history : List RecordData) (taker maker : LiveOrder) → has_come (rested history) taker.number ≡ false → has_come (rested history) maker.number ≡ true → taker.number ≡ maker.number → ⊥
+pub taker_is_not_maker : (policy : PolicyData) (history : List RecordData) (taker maker : LiveOrder) → has_come (rest_numbers history) taker.number ≡ false → has_come (rest_numbers history) maker.number ≡ true → taker.number ≡ maker.number → ⊥
 taker_is_not_maker policy history taker maker not_yet rests same =
-    clash (ap (λ (n : ℕ). list_any (λ m. m == n) (rested history)) same) not_yet rests
+    clash (ap (λ (n : ℕ). list_any (λ m. m == n) (rest_numbers history)) same) not_yet rests
   where
     clash : {b c : Bool} → b ≡ c → b ≡ false → c ≡ true → ⊥
     clash e h k = cc
@@ -133,10 +133,10 @@ pub done_by_fill : (policy : PolicyData) (history : List RecordData) (r : Record
 unfolding done
 done_by_fill policy history r f is o gone =
     let those : List Execution = both_sides f is.taker_waits.known.of.order is.maker_rests.known.of.order in
-    let whole : sum_by (executed those) (o.number ∷ o.replaced) ≡ executed those o.number + sum_by (executed those) o.replaced = sum_by-cons (executed those) o.number o.replaced in
-    let rest : sum_by (executed those) o.replaced ≡ 0 =
-    sum_of_none (executed those) o.replaced (all_weaker (IsGone policy history) (λ (n : ℕ). executed those n ≡ 0) (λ n g. none_of n g) o.replaced gone) in
-    let own : executed those o.number ≡ cond (o.number == is.may.taker.number || o.number == is.may.maker.number) f.shares 0 =
+    let whole : sum_by (executed_shares those) (o.number ∷ o.replaced) ≡ executed_shares those o.number + sum_by (executed_shares those) o.replaced = sum_by-cons (executed_shares those) o.number o.replaced in
+    let rest : sum_by (executed_shares those) o.replaced ≡ 0 =
+    sum_of_none (executed_shares those) o.replaced (all_weaker (IsGone policy history) (λ (n : ℕ). executed_shares those n ≡ 0) (λ n g. none_of n g) o.replaced gone) in
+    let own : executed_shares those o.number ≡ cond (o.number == is.may.taker.number || o.number == is.may.maker.number) f.shares 0 =
     both_of o.number
     ∙ brought is.may.taker.number is.may.maker.number o.number f.shares
     (taker_is_not_maker policy history is.may.taker is.may.maker is.taker_waits.has_not_rested is.maker_rests.has_come_to_rest) in
@@ -145,13 +145,13 @@ done_by_fill policy history r f is o gone =
     ∙ ap (λ (n : ℕ). cond (o.number == f.taker || o.number == n) f.shares 0) (sym is.of_maker) in
     omega arith
   where
-    both_of : (n : ℕ) → executed (both_sides f is.taker_waits.known.of.order is.maker_rests.known.of.order) n ≡ bring is.may.taker.number n f.shares + (bring is.may.maker.number n f.shares + 0)
+    both_of : (n : ℕ) → executed_shares (both_sides f is.taker_waits.known.of.order is.maker_rests.known.of.order) n ≡ bring is.may.taker.number n f.shares + (bring is.may.maker.number n f.shares + 0)
     both_of n =
         executed_of_both f is.taker_waits.known.of.order is.maker_rests.known.of.order n
         ∙ ap (λ (t : ℕ). bring t n f.shares + (bring is.maker_rests.known.of.order.number n f.shares + 0)) (number_of_known policy history is.may.taker is.taker_waits.known.of)
         ∙ ap (λ (k : ℕ). bring is.may.taker.number n f.shares + (bring k n f.shares + 0)) (number_of_known policy history is.may.maker is.maker_rests.known.of)
 
-    none_of : (n : ℕ) → IsGone policy history n → executed (both_sides f is.taker_waits.known.of.order is.maker_rests.known.of.order) n ≡ 0
+    none_of : (n : ℕ) → IsGone policy history n → executed_shares (both_sides f is.taker_waits.known.of.order is.maker_rests.known.of.order) n ≡ 0
     none_of n g =
         both_of n
         ∙ ap (λ (b : Bool). cond b f.shares 0 + (bring is.may.maker.number n f.shares + 0)) (ne_eqb is.may.taker.number n (live_is_not_gone policy history is.may.taker n is.taker_waits.known g))

@@ -15,7 +15,7 @@ found_nothing : (found : Option RuleName) → verdict_by found ≡ Verdict.Grant
 found_nothing None h = refl
 found_nothing (Some rule) h = cc
 
-found_that : (found : Option RuleName) (name : RuleName) → verdict_by found ≡ Verdict.Denied name → found ≡ Some name
+pub found_that : (found : Option RuleName) (name : RuleName) → verdict_by found ≡ Verdict.Denied name → found ≡ Some name
 found_that None name h = cc
 found_that (Some rule) name h = cc
 

@@ -1,11 +1,11 @@
 -- What the record of a granted order shows: the figures that it was judged on, and what its order makes of them.
-use Rattle.std.proofs.{Common.{◌≡◌, ℕ, ◌+◌, Bool, true, false, cond, List, [], ◌∷◌, ◌++◌, refl, sym, ap, ◌∙◌, arith, inl, inr, ◌⊎◌}, Math.Path.subst, lemmas.List.append-nil}
+use Rattle.std.proofs.{Common.{◌≡◌, ℕ, ◌+◌, Bool, true, false, cond, List, [], ◌∷◌, ◌++◌, refl, sym, ap, ◌∙◌, arith, inl, inr, ◌⊎◌}, Math.Path.subst, lemmas.{List.append-nil, Bool.and_parts}}
 use Rattle.std.specs.{Prelude.{Option, Some, None, option_map, ◌||◌}, Option.option_map_or, List.{filter_map, list_any}}
 use Rattle.gx_units.specs.{Money.value, Names.{same_token, same_user}, declared.names.AccountName.AccountName}
 use Rattle.gx_ouch.specs.declared.{inbound.{EnterOrder.EnterOrder, ReplaceOrder.ReplaceOrder}, outbound.OrderTerms.OrderTerms}
-use Rattle.gx_history.specs.{declared.{live_order.LiveOrder.LiveOrder, facts.{ProposedOrder.ProposedOrder, StockSide.StockSide}, «record».{Asked.Asked, RecordData.RecordData, Request.Request, Step.Step, Verdict.Verdict}, moves.Move.Move}, Asking.{facts, live_named}, Book.is_buy, Executions.Execution, Figures.{Positions, done_of_chosen, done_value, live_value, on_side, open_of_chosen, open_value, positions, side_asked}, Live.live, LiveOrders.{is_under, replacement_order, shares_open}, Orders.{Order, orders, orders_added}, Requests.is_order, Rules.{new_open, proposed}, Turns.{Turn, Adds, Replaces, becomes, new_in, new_order}, World.{move_asked, turn_by, turn_in, world}, Verdicts.{Follows, IsLegal, facts_now, next}}
+use Rattle.gx_history.specs.{declared.{live_order.LiveOrder.LiveOrder, facts.{ProposedOrder.ProposedOrder, StockSide.StockSide}, «record».{Asked.Asked, RecordData.RecordData, Request.Request, Step.Step, Verdict.Verdict}, moves.Move.Move}, Asking.{facts, live_named}, Book.is_buy, Executions.Execution, Figures.{Positions, done_of_chosen, done_value, live_value, on_side, open_of_chosen, open_value, positions, side_asked}, Live.live, LiveOrders.{is_under, replacement_order, shares_open}, Orders.{Order, orders, orders_added}, Requests.is_order, Rules.{new_open, proposed_order}, Turns.{Turn, Adds, Replaces, becomes, new_in, new_order}, World.{move_asked, turn_by, turn_in, world}, Verdicts.{Follows, IsLegal, facts_now, next}}
 use Rattle.gx_policy.specs.{declared.policy.PolicyData.PolicyData, People.account_of}
-use Rattle.gx_laws.proofs.{Adding.{AddsNone, AddsOne, found_passes, user_is, what_is_added}, Entering.{HasAccount, entered_has_account}, Judging.both, Owners.{IsHisAccounts, last_such_is, orders_are_their_users}, Runs.step_left, Among.of_all, Known.{IsKnown, live_known}, NamedOrders.{Names, named_is, names_live}, Orderly.legal_is_orderly, World.all_stay, Granted.proposed_by, Sums.{added, is_chosen, lost_by, replaced_loses, shares_of, value_of}, After.GoOn, Steps.{shares_held, value_held}}
+use Rattle.gx_laws.proofs.{Adding.{AddsNone, AddsOne, found_passes, user_is, what_is_added}, Entering.{HasAccount, entered_has_account}, Owners.{IsHisAccounts, last_such_is, orders_are_their_users}, Runs.step_left, Among.of_all, Known.{IsKnown, live_known}, NamedOrders.{Names, named_is, names_live}, Orderly.legal_is_orderly, World.all_stay, Granted.proposed_by, Sums.{added, is_chosen, lost_by, replaced_loses, shares_of, value_of}, After.GoOn, Steps.{shares_held, value_held}}
 use Rattle.gx_laws.specs.{Changing.{executed_by, positions_with}, PositionLaws.{granted_after, turn_after}, Sound.{MayChange, MayCome}, Exposure.{gross_value, is_such, shares_of_chosen}}
 
 -- the record grants an order to the asker's account, on the side that the request is for, where the order is live that it replaces
@@ -17,7 +17,7 @@ pub record GrantsOrder (policy : PolicyData) (before : List RecordData) (r : Rec
   pub is_left : next policy before (Step.Asked asked) ≡ Some r
   pub is_granted : r.verdict ≡ Verdict.Granted
   pub is_his : account_of policy asked.user ≡ Some order.account
-  pub is_shown : proposed (facts_now policy before asked) asked.request ≡ Some shown
+  pub is_shown : proposed_order (facts_now policy before asked) asked.request ≡ Some shown
   pub is_replaced : (facts_now policy before asked).named ≡ old
   pub is_there : side_asked asked.request old ≡ Some (record { stock = order.terms.stock; buys = is_buy order.terms.side })
   pub theirs : (chosen : AccountName → OrderTerms → Bool) → list_any (is_such chosen) (orders_added policy (orders policy before) r) ≡ true → is_chosen chosen order ≡ true
@@ -110,7 +110,7 @@ module _ (laws : GoOn) (policy : PolicyData) (before : List RecordData) (r : Rec
         is_left = left;
         is_granted = is_granted;
         is_his = his.1;
-        is_shown = ap (proposed (facts_now policy before a)) asks;
+        is_shown = ap (proposed_order (facts_now policy before a)) asks;
         is_replaced = ap (live_named policy before a.user) asks;
         is_there = ap (λ (q : Request). side_asked q None) asks;
         theirs = is_theirs new come;
@@ -134,7 +134,7 @@ module _ (laws : GoOn) (policy : PolicyData) (before : List RecordData) (r : Rec
       let known : IsKnown policy before old = last_such_is (IsKnown policy before) (is_under a.user m.existing_token) (live policy before) old (live_known policy before (legal_is_orderly policy before legal)) named.1 in
       let his : account_of policy old.user ≡ Some old.account =
       subst (λ (o : LiveOrder). account_of policy o.user ≡ Some o.account) known.of.is_it (of_all (IsHisAccounts policy) known.of.order (orders policy before) (orders_are_their_users policy before) known.of.is_known) in
-      let same : old.user ≡ a.user = user_is old.user a.user (both (same_user old.user a.user) (same_token old.token m.existing_token) (found_passes (is_under a.user m.existing_token) (live policy before) old named.1)).0 in
+      let same : old.user ≡ a.user = user_is old.user a.user (and_parts (same_user old.user a.user) (same_token old.token m.existing_token) (found_passes (is_under a.user m.existing_token) (live policy before) old named.1)).0 in
       let turns : turn_after policy before r ≡ Replaces old.number new =
       turn_is (Request.Replace m) asks ∙ ap (λ (found : Option LiveOrder). turn_in (option_map_or (λ (o : LiveOrder). Move.Replaces o (replacement_order r m o)) found Move.Nothing)) named.1 in
       let come : MayCome policy held new grants = (may (Replaces old.number new) turns).may_come in
@@ -149,7 +149,7 @@ module _ (laws : GoOn) (policy : PolicyData) (before : List RecordData) (r : Rec
         is_left = left;
         is_granted = is_granted;
         is_his = ap (account_of policy) (sym same) ∙ his;
-        is_shown = ap (proposed (facts_now policy before a)) asks ∙ ap (option_map (proposed_by m)) names;
+        is_shown = ap (proposed_order (facts_now policy before a)) asks ∙ ap (option_map (proposed_by m)) names;
         is_replaced = names;
         is_there = ap (λ (q : Request). side_asked q (Some old)) asks;
         theirs = is_theirs new come;

@@ -1,11 +1,11 @@
 -- A rule on gross shares, gross value or net shares that was in force at the last grant of some accounts keeps its limit.
 use Rattle.gx_policy.specs.{declared.{kinds.ExposureLimit.ExposureLimit, policy.{Count.Count, FileRule.FileRule, PolicyData.PolicyData, RuleKind.RuleKind, Scope.Scope}}, People.covers}
-use Rattle.std.proofs.{Common.{◌≡◌, ℕ, ◌+◌, ◌-◌, ◌≤◌, pos, ◌+ℤ◌, ◌-ℤ◌, int_lt, Bool, true, false, cond, not, List, [], ◌∷◌, ◌++◌, length, refl, sym, ap, ◌∙◌, arith, append_assoc}, Math.Path.subst, lemmas.{Bool.ltb-false, Int.ints}}
+use Rattle.std.proofs.{Common.{◌≡◌, ℕ, ◌+◌, ◌-◌, ◌≤◌, pos, ◌+ℤ◌, ◌-ℤ◌, int_lt, Bool, true, false, cond, List, [], ◌∷◌, ◌++◌, length, refl, sym, ap, ◌∙◌, arith, append_assoc}, Math.Path.subst, lemmas.{Bool.{ltb-false, and_parts, not-true}, Int.ints}}
 use Rattle.std.specs.{Prelude.{Option, Some, ◌&&◌}, Option.option_map_or, List.{AllByRecursion, list_any}}
 use Rattle.gx_units.specs.{Names.same_stock, Money.value, declared.names.AccountName.AccountName}
 use Rattle.gx_history.specs.{declared.{facts.{Facts.Facts, ProposedOrder.ProposedOrder, RuleFigures.RuleFigures, StockSide.StockSide}, live_order.LiveOrder.LiveOrder, «record».{Asked.Asked, RecordData.RecordData, Request.Request, Step.Step, Verdict.Verdict}}, Asking.facts, Book.{is_buy, is_on}, Executions.executions, Live.live, LiveOrders.shares_open, Figures.{counts_account, figures, kind_figures, net_done, no_figures, of_accounts, on_side, open_value, other_side, positions, side_done, side_live}, InForce.rules_in_force, Orders.Order, Rules.{kind_forbids, new_open, of_proposed, rule_forbids}, Verdicts.{Follows, IsLegal, facts_now, figures_asked, next, rules_now, with_figures}}
 use Rattle.gx_ouch.specs.declared.outbound.OrderTerms.{OrderTerms}
-use Rattle.gx_laws.proofs.{Granting.{granted_passes, left_false, none_of_file, right_false}, Judging.both, Names.{account_is, stock_is}, NextReports.legal_before, Numbers.all_weaker, Sums.is_chosen, Among.{IsIn, all_are_in, of_all}, After.{GoOn, done_stays, granted_to, legal_in_parts, no_more_shares_after, no_more_value_after}, Grants.{GrantsOrder, grants_order}}
+use Rattle.gx_laws.proofs.{Granting.{granted_passes, left_false, none_of_file, right_false}, Names.{account_is, stock_is}, NextReports.legal_before, Numbers.all_weaker, Sums.is_chosen, Among.{IsIn, all_are_in, of_all}, After.{GoOn, done_stays, granted_to, legal_in_parts, no_more_shares_after, no_more_value_after}, Grants.{GrantsOrder, grants_order}}
 use Rattle.gx_laws.specs.{Exposure.{IsLastGrant, KeepsNet, KeepsShares, KeepsValue, executions_after, gained, gross_shares, gross_value, side_shares}, ExposureLaws.{GrossSharesAreKept, GrossValuesAreKept, NetSharesAreKept}}
 
 -- the file's rule passes the request
@@ -69,17 +69,13 @@ counts_the_same Count.Together scope account asker covered counted = (counted, r
 stands_there : (among : AccountName → Bool) (side : StockSide) (o : LiveOrder) → is_chosen (on_side among side) o ≡ true
     → (among o.account ≡ true) × (record { stock = o.terms.stock; buys = is_buy o.terms.side } ≡ side)
 stands_there among side o h =
-    let first = both (among o.account && same_stock o.terms.stock side.stock) (is_on side.buys o.terms.side) h in
-    let theirs = both (among o.account) (same_stock o.terms.stock side.stock) first.0 in
+    let first = and_parts (among o.account && same_stock o.terms.stock side.stock) (is_on side.buys o.terms.side) h in
+    let theirs = and_parts (among o.account) (same_stock o.terms.stock side.stock) first.0 in
     (theirs.0, λ i. record { stock = stock_is o.terms.stock side.stock theirs.1 i; buys = buys_is side.buys first.1 i })
   where
-    turned : (b : Bool) → not b ≡ true → b ≡ false
-    turned true k = sym k
-    turned false k = refl
-
     buys_is : (b : Bool) → is_on b o.terms.side ≡ true → is_buy o.terms.side ≡ b
     buys_is true k = k
-    buys_is false k = turned (is_buy o.terms.side) k
+    buys_is false k = not-true (is_buy o.terms.side) k
 
 -- what a rule passes is within its limit
 net_low : (limit done other live new old : ℕ) → int_lt (pos limit) ((pos done -ℤ pos other) +ℤ pos live +ℤ pos new -ℤ pos old) ≡ false → live + done + new ≤ limit + old + other

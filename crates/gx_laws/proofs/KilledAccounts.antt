@@ -4,7 +4,7 @@ use Rattle.std.specs.{Prelude.{Option, Some, None, is_some, ◌||◌, ◌==◌},
 use Rattle.gx_units.specs.{declared.names.{AccountName.AccountName, Symbol.Symbol, UserName.UserName}, Names.same_account}
 use Rattle.gx_desk.specs.declared.{Action.Action, Command.Command}
 use Rattle.gx_policy.specs.declared.policy.PolicyData.{PolicyData}
-use Rattle.gx_history.specs.{declared.{live_order.LiveOrder.LiveOrder, «record».RecordData.RecordData, moves.Move.{Move, TheVariants.{Nothing, Denies, PutsOn, Adds, Sizes, Replaces, Commands, Fills, Rests, Expires}}}, Book.rested, InForce.{is_killed, kill_after}, Live.{live, live_numbered, waiting, ahead, is_there, side}, LiveOrders.is_under, Matched.HasNoOrders, MayMove.MayMove, Orders.orders, Turns.{Turn, becomes, new_in, turned}, Verdicts.IsLegal, World.{World, world, commanded, move_of, moved}}
+use Rattle.gx_history.specs.{declared.{live_order.LiveOrder.LiveOrder, «record».RecordData.RecordData, moves.Move.{Move, TheVariants.{Nothing, Denies, PutsOn, Adds, Sizes, Replaces, Commands, Fills, Rests, Expires}}}, Book.rest_numbers, InForce.{is_killed, kill_after}, Live.{live, live_numbered, waiting, ahead, is_there, side}, LiveOrders.is_under, Matched.HasNoOrders, MayMove.MayMove, Orders.orders, Turns.{Turn, becomes, new_in, live_after}, Verdicts.IsLegal, World.{World, world, world_after_command, move_of, world_after_move}}
 use Rattle.gx_history.specs.Turns as turns
 use Rattle.gx_laws.proofs.{Granting.legal_keeps, Names.account_is, NextReports.{legal_next, legal_none}, Numbers.all_weaker, Order.some_same, Owners.{all_both, last_such_is, filtered}, Entered.all_found_of, Known.all_placed, Moving.may_move, NewOrders.found_is, Sides.becomes_same, World.world_next}
 use Rattle.gx_laws.specs.EffectLaws.{KilledAreNotLive}
@@ -18,12 +18,12 @@ abbrev Spared : World → Type 0
 Spared w = AllByRecursion (IsSpared w) w.live
 
 -- those that go on are for the same accounts
-goes_on : (w : World) (turn : Turn) → Spared w → AllByRecursion (IsSpared w) (new_in turn) → AllByRecursion (IsSpared w) (turned turn w.live)
+goes_on : (w : World) (turn : Turn) → Spared w → AllByRecursion (IsSpared w) (new_in turn) → AllByRecursion (IsSpared w) (live_after turn w.live)
 goes_on w turn h new =
     all_both (IsSpared w) (filter_map (becomes turn) w.live) (new_in turn)
     (all_found_of (IsSpared w) (IsSpared w) (becomes turn) (λ o x spared e. ap (λ (account : AccountName). is_some (w.kills account)) (becomes_same turn o x e).3 ∙ spared) w.live h) new
 
-commanded_spares : (policy : PolicyData) (r : RecordData) (officer : UserName) (c : Command) (w : World) (action : Action) → Spared w → Spared (commanded policy r officer c action w)
+commanded_spares : (policy : PolicyData) (r : RecordData) (officer : UserName) (c : Command) (w : World) (action : Action) → Spared w → Spared (world_after_command policy r officer c action w)
 commanded_spares policy r officer c w (Action.Kill killed) h =
     all_both IsLeft (filter_map (becomes (turns.EndsAll (Action.Kill killed))) w.live) [] (all_found_of (IsSpared w) IsLeft (becomes (turns.EndsAll (Action.Kill killed))) left w.live h) tt
   where
@@ -51,7 +51,7 @@ commanded_spares policy r officer c w (Action.Grant reader named) h = h
 commanded_spares policy r officer c w (Action.Revoke reader named) h = h
 commanded_spares policy r officer c w Action.CloseDay h = goes_on w (turns.EndsAll Action.CloseDay) h tt
 
-moved_spares : (policy : PolicyData) (r : RecordData) (w : World) (m : Move) → MayMove policy w r m → Spared w → Spared (moved policy r m w)
+moved_spares : (policy : PolicyData) (r : RecordData) (w : World) (m : Move) → MayMove policy w r m → Spared w → Spared (world_after_move policy r m w)
 moved_spares policy r w Nothing may h = h
 moved_spares policy r w (Denies a rule) may h = h
 moved_spares policy r w (PutsOn user line) may h = h
@@ -104,9 +104,9 @@ waiting_others policy history account h = filtered (IsOthers account) (λ (o : L
 resting_others : (policy : PolicyData) (history : List RecordData) (account : AccountName) (stock : Symbol) (buy : Bool) → AllByRecursion (IsOthers account) (live policy history) → AllByRecursion (IsOthers account) (side policy history stock buy)
 unfolding side
 resting_others policy history account stock buy h =
-    all_placed (IsOthers account) (ahead buy) [] (filter (is_there stock buy) (filter_map (live_numbered (live policy history)) (rested history))) tt
-    (filtered (IsOthers account) (is_there stock buy) (filter_map (live_numbered (live policy history)) (rested history))
-    (all_found_of (λ (n : ℕ). Unit {0}) (IsOthers account) (live_numbered (live policy history)) (λ n o any e. found_is (IsOthers account) (λ (x : LiveOrder). x.number == n) (live policy history) o h e) (rested history) (any_number (rested history))))
+    all_placed (IsOthers account) (ahead buy) [] (filter (is_there stock buy) (filter_map (live_numbered (live policy history)) (rest_numbers history))) tt
+    (filtered (IsOthers account) (is_there stock buy) (filter_map (live_numbered (live policy history)) (rest_numbers history))
+    (all_found_of (λ (n : ℕ). Unit {0}) (IsOthers account) (live_numbered (live policy history)) (λ n o any e. found_is (IsOthers account) (λ (x : LiveOrder). x.number == n) (live policy history) o h e) (rest_numbers history) (any_number (rest_numbers history))))
   where
     any_number : (ns : List ℕ) → AllByRecursion (λ (n : ℕ). Unit {0}) ns
     any_number [] = tt

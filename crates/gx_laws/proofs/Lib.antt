@@ -4,7 +4,6 @@ pub mod NextInForce
 pub mod NextOrders
 pub mod NextReports
 pub mod Order
-pub mod Judging
 pub mod Keeping
 pub mod Legality
 pub mod NextFigures
@@ -76,3 +75,8 @@ pub mod Grants
 pub mod None
 pub mod Kept
 pub mod Gross
+pub mod Lines
+pub mod Passing
+pub mod ReservedOrders
+pub mod ReservedKills
+pub mod ReservedRequests

@@ -4,20 +4,20 @@ use Rattle.std.specs.{Prelude.{Option, Some, None, is_some, option_and_then, ◌
 use Rattle.gx_units.specs.{declared.names.{AccountName.AccountName, UserName.UserName}, Names.{same_account, same_user}}
 use Rattle.gx_desk.specs.declared.Action.{Action}
 use Rattle.gx_policy.specs.{declared.policy.{Lifters.Lifters, PolicyData.PolicyData, Role.Role}, Lists.{is_shorter, where_true}, People.{covers, role_in}}
-use Rattle.gx_history.specs.{declared.record.{Asked.Asked, RecordData.RecordData, Step.Step, Verdict.Verdict}, Asking.{has_power, are_his}, InForce.{fewer_than, has_lifted, is_killed, kill_after, kill_in_force, kill_or_lift_of, lifted_since_kill, lifters_asked, with_officer}, Requests.{asked, granted, granted_mark, is_granted, action_of}, Verdicts.{next, Follows, IsLegal}}
+use Rattle.gx_history.specs.{declared.record.{Asked.Asked, RecordData.RecordData, Step.Step, Verdict.Verdict}, Asking.{has_power, are_his}, InForce.{fewer_than, has_lifted, is_killed, kill_after, kill_in_force, kill_or_lift_of, lifted_since_kill, lifters_asked, with_officer}, Requests.{asked_of, granted_of, granted_mark, is_granted, action_of}, Verdicts.{next, Follows, IsLegal}}
 use Rattle.gx_laws.proofs.{Granting.legal_keeps, KillsNext.{is_killed_next, kill_in_force_next, kill_in_force_none}, Names.account_is, Order.some_same, Allowed.{has_the_power, has_the_accounts}, Commanding.{GrantsCommand, grants_command, asks_action}}
 use Rattle.gx_laws.specs.Lifts.{EndsKill, IsEntitled, IsGrantedLift, may_lift}
 
 -- what a granted record has
-granted_parts : (r : RecordData) (a : Asked) → granted r ≡ Some a → (r.verdict ≡ Verdict.Granted) × (r.step ≡ Step.Asked a)
+granted_parts : (r : RecordData) (a : Asked) → granted_of r ≡ Some a → (r.verdict ≡ Verdict.Granted) × (r.step ≡ Step.Asked a)
 granted_parts r a h = by_verdict r.verdict refl
   where
-    by_step : (s : Step) → r.step ≡ s → r.verdict ≡ Verdict.Granted → asked s ≡ Some a → (r.verdict ≡ Verdict.Granted) × (r.step ≡ Step.Asked a)
+    by_step : (s : Step) → r.step ≡ s → r.verdict ≡ Verdict.Granted → asked_of s ≡ Some a → (r.verdict ≡ Verdict.Granted) × (r.step ≡ Step.Asked a)
     by_step (Step.Asked b) e g k = (g, e ∙ ap (λ (x : Asked). Step.Asked x) (some_same k))
     by_step (Step.Matching handed) e g k = cc
 
-    asked_in : (v : Verdict) → r.verdict ≡ v → cond (is_granted v) (asked r.step) None ≡ Some a
-    asked_in v e = sym (ap (λ (w : Verdict). cond (is_granted w) (asked r.step) None) e) ∙ h
+    asked_in : (v : Verdict) → r.verdict ≡ v → cond (is_granted v) (asked_of r.step) None ≡ Some a
+    asked_in v e = sym (ap (λ (w : Verdict). cond (is_granted w) (asked_of r.step) None) e) ∙ h
 
     by_verdict : (v : Verdict) → r.verdict ≡ v → (r.verdict ≡ Verdict.Granted) × (r.step ≡ Step.Asked a)
     by_verdict Verdict.Granted e = by_step r.step refl e (asked_in Verdict.Granted e)
@@ -79,9 +79,9 @@ lift_of account officer by Action.CloseDay h = cc
 
 lifted_by : (policy : PolicyData) (history : List RecordData) (r : RecordData) (account : AccountName) (by : UserName) → Follows policy (history, r) → granted_mark (kill_or_lift_of account) r ≡ Some (Some by)
     → LiftBy policy account r by
-lifted_by policy history r account by follows h = of_asked (granted r) refl h
+lifted_by policy history r account by follows h = of_asked (granted_of r) refl h
   where
-    of_action : (a : Asked) → granted r ≡ Some a → (found : Option Action) → action_of a.request ≡ found → option_and_then (kill_or_lift_of account a.user) found ≡ Some (Some by) → LiftBy policy account r by
+    of_action : (a : Asked) → granted_of r ≡ Some a → (found : Option Action) → action_of a.request ≡ found → option_and_then (kill_or_lift_of account a.user) found ≡ Some (Some by) → LiftBy policy account r by
     of_action a is None asks k = cc
     of_action a is (Some action) asks k =
         let parts : (r.verdict ≡ Verdict.Granted) × (r.step ≡ Step.Asked a) = granted_parts r a is in
@@ -90,7 +90,7 @@ lifted_by policy history r account by follows h = of_asked (granted r) refl h
         let lift : action_of a.request ≡ Some (Action.Lift account) = asks ∙ ap (λ (x : Action). Some x) his.0 in
         lifts policy history a r account (grants_command policy history a r (Action.Lift account) left lift parts.0) left by his.1
 
-    of_asked : (found : Option Asked) → granted r ≡ found → option_and_then (λ (a : Asked). option_and_then (kill_or_lift_of account a.user) (action_of a.request)) found ≡ Some (Some by)
+    of_asked : (found : Option Asked) → granted_of r ≡ found → option_and_then (λ (a : Asked). option_and_then (kill_or_lift_of account a.user) (action_of a.request)) found ≡ Some (Some by)
         → LiftBy policy account r by
     of_asked None is k = cc
     of_asked (Some a) is k = of_action a is (action_of a.request) refl k

@@ -2,7 +2,7 @@
 use Rattle.std.proofs.{Common.{◌≡◌, ℕ, ◌+◌, Bool, true, false, not, List, [], ◌∷◌, refl, ap, length, ◌∙◌}, Math.Path.subst}
 use Rattle.std.specs.Prelude.{Option, Some, None, option_map, ◌↔◌}
 use Rattle.gx_policy.specs.declared.policy.PolicyData.{PolicyData}
-use Rattle.gx_history.specs.{declared.{live_order.LiveOrder.LiveOrder, «record».{RecordData.RecordData, Step.Step, Verdict.Verdict}}, Live.waiting, Matching.{crosses, fill_with, first_outcome, is_immediate, matching, meets_none, outcome, unmatched}, MayMove.{MayMove, opposite}, Requests.{asked, is_judged}, Verdicts.{moment_of, next, step_verdict}, World.{World, move_by, world}}
+use Rattle.gx_history.specs.{declared.{live_order.LiveOrder.LiveOrder, «record».{RecordData.RecordData, Step.Step, Verdict.Verdict}}, Live.waiting, Matching.{crosses, fill_with, first_outcome, is_immediate, matching, meets_none, outcome, unmatched_outcome}, MayMove.{MayMove, opposite}, Requests.{asked_of, is_judged}, Verdicts.{moment_of, next, step_verdict}, World.{World, move_by, world}}
 use Rattle.gx_laws.proofs.{Order.some_same, Runs.step_left}
 
 abbrev matched : ℕ → ℕ → ℕ → Verdict → RecordData
@@ -22,8 +22,8 @@ abbrev pub MayMatch : PolicyData → World → RecordData → ℕ → Verdict �
 MayMatch policy w r handed v = MayMove policy w r (move_by policy w r v (Step.Matching handed))
 
 -- the first that waits may end or come to rest, where it meets nothing
-unmatched_may : (policy : PolicyData) (w : World) (r : RecordData) (handed : ℕ) (first : LiveOrder) (others : List LiveOrder) → asked r.step ≡ None → w.waiting ≡ first ∷ others
-    → meets_none first (opposite w first) ≡ true → MayMatch policy w r handed (unmatched first)
+unmatched_may : (policy : PolicyData) (w : World) (r : RecordData) (handed : ℕ) (first : LiveOrder) (others : List LiveOrder) → asked_of r.step ≡ None → w.waiting ≡ first ∷ others
+    → meets_none first (opposite w first) ≡ true → MayMatch policy w r handed (unmatched_outcome first)
 unmatched_may policy w r handed first others s e none = at (is_immediate first) refl
   where
     at : (b : Bool) → is_immediate first ≡ b → MayMatch policy w r handed (elim b [ true ↦ Verdict.Expired first.number | false ↦ Verdict.Rested first.number ])
@@ -31,12 +31,12 @@ unmatched_may policy w r handed first others s e none = at (is_immediate first) 
     at false k = record { is_match = s; first = first; waiting = others; comes_first = e; has_number = refl; meets_nothing = none; is_to_rest = k }
 
 -- or trade with the best of the other side
-outcome_may : (policy : PolicyData) (w : World) (r : RecordData) (handed : ℕ) (first : LiveOrder) (others against : List LiveOrder) → asked r.step ≡ None → w.waiting ≡ first ∷ others
+outcome_may : (policy : PolicyData) (w : World) (r : RecordData) (handed : ℕ) (first : LiveOrder) (others against : List LiveOrder) → asked_of r.step ≡ None → w.waiting ≡ first ∷ others
     → opposite w first ≡ against → MayMatch policy w r handed (outcome first against)
 outcome_may policy w r handed first others [] s e k = unmatched_may policy w r handed first others s e (ap (meets_none first) k)
 outcome_may policy w r handed first others (best ∷ behind) s e k = at (crosses first best) refl
   where
-    at : (b : Bool) → crosses first best ≡ b → MayMatch policy w r handed (elim b [ true ↦ Verdict.Filled (fill_with first best) | false ↦ unmatched first ])
+    at : (b : Bool) → crosses first best ≡ b → MayMatch policy w r handed (elim b [ true ↦ Verdict.Filled (fill_with first best) | false ↦ unmatched_outcome first ])
     at true c = record { is_match = s; taker = first; waiting = others; maker = best; behind = behind; comes_first = e; is_best = k; cross = c; is_theirs = refl }
     at false c = unmatched_may policy w r handed first others s e (ap (meets_none first) k ∙ ap not c)
 
@@ -49,7 +49,7 @@ may_match policy history handed r v left is = subst (MayMatch policy (world poli
     at [] e k = cc
     at (first ∷ others) e k =
         subst (MayMatch policy (world policy history) r handed) (some_same k)
-        (outcome_may policy (world policy history) r handed first others (opposite (world policy history) first) (ap asked (step_left policy history (Step.Matching handed) r left)) e refl)
+        (outcome_may policy (world policy history) r handed first others (opposite (world policy history) first) (ap asked_of (step_left policy history (Step.Matching handed) r left)) e refl)
 
 -- so it judges no request
 judges_none : (policy : PolicyData) (w : World) (r : RecordData) (handed : ℕ) (v : Verdict) → MayMatch policy w r handed v → is_judged v ≡ false

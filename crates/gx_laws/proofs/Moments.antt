@@ -4,7 +4,7 @@ use Rattle.std.specs.{Prelude.{Option, Some, None}, Option.option_map_or, List.A
 use Rattle.gx_units.specs.declared.names.{AccountName.AccountName, UserName.UserName}
 use Rattle.gx_ouch.specs.declared.inbound.{EnterOrder.EnterOrder, ReplaceOrder.ReplaceOrder}
 use Rattle.gx_policy.specs.{declared.policy.PolicyData.PolicyData, People.account_of}
-use Rattle.gx_history.specs.{declared.record.{Asked.Asked, RecordData.RecordData, Request.Request, Step.Step}, Orders.{Order, orders, orders_added, orders_made, order_under, entered, replacing}, Requests.{granted, handed_moment}, Verdicts.{IsLegal, last_moment, next, Follows}}
+use Rattle.gx_history.specs.{declared.record.{Asked.Asked, RecordData.RecordData, Request.Request, Step.Step}, Orders.{Order, orders, orders_added, orders_made, order_under, order_entered, order_replacing}, Requests.{granted_of, handed_moment}, Verdicts.{IsLegal, last_moment, next, Follows}}
 use Rattle.gx_laws.proofs.{Granting.legal_keeps, NextInForce.last_moment_next, NextOrders.{orders_none, orders_next}, Numbers.all_weaker, Owners.all_both, Runs.moment_left}
 use Rattle.gx_laws.specs.Sound.{IsNoLater}
 
@@ -13,12 +13,12 @@ abbrev IsAt : RecordData → Order → Type 0
 IsAt r o = o.moment ≡ r.moment
 
 enter_at : (policy : PolicyData) (r : RecordData) (user : UserName) (m : EnterOrder) (found : Option AccountName)
-    → AllByRecursion (IsAt r) (option_map_or (λ account. entered policy r user account m ∷ []) found [])
+    → AllByRecursion (IsAt r) (option_map_or (λ account. order_entered policy r user account m ∷ []) found [])
 enter_at policy r user m None = tt
 enter_at policy r user m (Some account) = (refl, tt)
 
 replace_at : (r : RecordData) (m : ReplaceOrder) (found : Option Order)
-    → AllByRecursion (IsAt r) (option_map_or (λ o. replacing r m o ∷ []) found [])
+    → AllByRecursion (IsAt r) (option_map_or (λ o. order_replacing r m o ∷ []) found [])
 replace_at r m None = tt
 replace_at r m (Some o) = (refl, tt)
 
@@ -58,7 +58,7 @@ one_more_by policy history r known follows =
     subst (AreBy then) (sym (orders_next policy history r))
     (all_both (λ (o : Order). o.moment ≤ then) (orders policy history) added
     (all_weaker (λ (o : Order). o.moment ≤ last_moment history) (λ (o : Order). o.moment ≤ then) (λ o h. omega (arith, h, later, now)) (orders policy history) known)
-    (all_weaker (IsAt r) (λ (o : Order). o.moment ≤ then) (λ o h. omega (arith, h, now)) added (added_at policy (orders policy history) r (granted r))))
+    (all_weaker (IsAt r) (λ (o : Order). o.moment ≤ then) (λ o h. omega (arith, h, now)) added (added_at policy (orders policy history) r (granted_of r))))
 
 -- so no order is granted later than the last record
 orders_by_now : (policy : PolicyData) (history : List RecordData) → IsLegal policy history → AreBy (last_moment history) (orders policy history)
@@ -73,4 +73,4 @@ granted_last policy history step r legal left =
     let later : last_moment history ≤ r.moment = no_earlier policy history step r left in
     all_weaker (IsAt r) (λ (o : Order). AllByRecursion (IsNoLater o) (orders policy history))
     (λ o here. all_weaker (λ (x : Order). x.moment ≤ last_moment history) (IsNoLater o) (λ x h. omega (arith, h, later, here)) (orders policy history) (orders_by_now policy history legal))
-    (orders_added policy (orders policy history) r) (added_at policy (orders policy history) r (granted r))
+    (orders_added policy (orders policy history) r) (added_at policy (orders policy history) r (granted_of r))

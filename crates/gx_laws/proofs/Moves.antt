@@ -4,8 +4,9 @@ use Rattle.std.specs.{Prelude.{Option, Some, None, ◌||◌, ◌&&◌, option_an
 use Rattle.gx_units.specs.{declared.names.{AccountName.AccountName, UserName.UserName}, Names.{same_account, same_user}}
 use Rattle.gx_desk.specs.{declared.{Action.Action, Command.Command}, Names.is_written}
 use Rattle.gx_policy.specs.{declared.policy.PolicyData.PolicyData, Lists.where_true, People.{account_of, is_reader, role_in}}
-use Rattle.gx_history.specs.{declared.{live_order.LiveOrder.LiveOrder, «record».{Asked.Asked, RecordData.RecordData, Request.Request, Step.Step, Verdict.Verdict}, moves.Move.{Move, TheVariants.{Nothing, PutsOn, Adds, Sizes, Replaces, Commands}}}, InForce.{changed, grant_or_revoke_of, is_close, is_closed, is_entitled, kill_after, kill_in_force, kill_or_lift_of, line_by, line_of, rules_in_force}, Live.live_under, LiveOrders.replacement_order, Requests.{action_of, asked, is_granted, granted, granted_mark}, Turns.new_order, World.{World, world, commanded, move_asked, move_by, move_of, moved}}
+use Rattle.gx_history.specs.{declared.{live_order.LiveOrder.LiveOrder, «record».{Asked.Asked, RecordData.RecordData, Request.Request, Step.Step, Verdict.Verdict}, moves.Move.{Move, TheVariants.{Nothing, PutsOn, Adds, Sizes, Replaces, Commands}}}, InForce.{rules_after, grant_or_revoke_of, is_close, is_closed, is_entitled, kill_after, kill_in_force, kill_or_lift_of, line_by, line_of, rules_in_force}, Live.live_under, LiveOrders.replacement_order, Requests.{action_of, asked_of, is_granted, granted_of, granted_mark}, Turns.new_order, World.{World, world, world_after_command, move_asked, move_by, move_of, world_after_move}}
 use Rattle.gx_laws.proofs.{Keeping.others_not, KillsNext.kill_in_force_next, NextInForce.{is_closed_next, is_entitled_next, line_of_next, rules_in_force_next, rules_with}}
+use Rattle.gx_units.proofs.Tests.{or_false, or_true}
 
 -- of what a move does, what concerns lines and settings
 data Force : Type 0 where
@@ -50,7 +51,7 @@ force_of_asked policy w r a (Request.Replace m) = found_keeps (λ (old : LiveOrd
 force_of_asked policy w r a (Request.Cancel m) = found_keeps (λ (cut : LiveOrder). Sizes cut m.shares) (λ cut. refl) (live_under w.live a.user m.token)
 force_of_asked policy w r a other = refl
 
-force_of : (policy : PolicyData) (w : World) (r : RecordData) (v : Verdict) (s : Step) → force_in (move_by policy w r v s) ≡ force_granted (cond (is_granted v) (asked s) None)
+force_of : (policy : PolicyData) (w : World) (r : RecordData) (v : Verdict) (s : Step) → force_in (move_by policy w r v s) ≡ force_granted (cond (is_granted v) (asked_of s) None)
 force_of policy w r Verdict.Granted (Step.Asked a) = force_of_asked policy w r a a.request
 force_of policy w r Verdict.Granted (Step.Matching handed) = refl
 force_of policy w r (Verdict.Denied rule) (Step.Asked a) = refl
@@ -98,7 +99,7 @@ lined user (Some a) = elim a.request as (λ (q : Request). line_by user a q ≡ 
 
 -- each word in force, moved
 kill_commanded : (policy : PolicyData) (r : RecordData) (officer : UserName) (c : Command) (account : AccountName) (w : World) (action : Action)
-    → kill_after policy.lifters (kill_or_lift_of account officer action) (w.kills account) ≡ (commanded policy r officer c action w).kills account
+    → kill_after policy.lifters (kill_or_lift_of account officer action) (w.kills account) ≡ (world_after_command policy r officer c action w).kills account
 kill_commanded policy r officer c account w (Action.Kill named) =
     elim (same_account named account) as (λ b. kill_after policy.lifters (where_true b None) (w.kills account) ≡ cond b (Some []) (w.kills account)) [ true ↦ refl | false ↦ refl ]
 kill_commanded policy r officer c account w (Action.Lift named) =
@@ -107,14 +108,14 @@ kill_commanded policy r officer c account w (Action.Lift named) =
 kill_commanded policy r officer c account w other = refl
 
 kill_moved : (policy : PolicyData) (r : RecordData) (account : AccountName) (w : World) (m : Move)
-    → kill_after policy.lifters (mark_in (kill_or_lift_of account) (force_in m)) (w.kills account) ≡ (moved policy r m w).kills account
+    → kill_after policy.lifters (mark_in (kill_or_lift_of account) (force_in m)) (w.kills account) ≡ (world_after_move policy r m w).kills account
 kill_moved policy r account w (Commands officer c) = kill_commanded policy r officer c account w c.action
 kill_moved policy r account w other = refl
 
-line_moved : (policy : PolicyData) (r : RecordData) (user : UserName) (w : World) (m : Move) → unwrap_or (line_in user (force_in m)) (w.lines user) ≡ (moved policy r m w).lines user
+line_moved : (policy : PolicyData) (r : RecordData) (user : UserName) (w : World) (m : Move) → unwrap_or (line_in user (force_in m)) (w.lines user) ≡ (world_after_move policy r m w).lines user
 line_moved policy r user w (PutsOn named line) =
     elim (same_user named user) as (λ b. unwrap_or (where_true b line) (w.lines user) ≡ cond b line (w.lines user)) [ true ↦ refl | false ↦ refl ]
-line_moved policy r user w (Commands officer c) = elim c.action as (λ (x : Action). w.lines user ≡ (commanded policy r officer c x w).lines user) [
+line_moved policy r user w (Commands officer c) = elim c.action as (λ (x : Action). w.lines user ≡ (world_after_command policy r officer c x w).lines user) [
   | Action.Kill account ↦ refl
   | Action.Lift account ↦ refl
   | Action.SetLimit rule limit ↦ refl
@@ -126,29 +127,21 @@ line_moved policy r user w (Commands officer c) = elim c.action as (λ (x : Acti
 ]
 line_moved policy r user w other = refl
 
-or_never : (b : Bool) → (b || false) ≡ b
-or_never true = refl
-or_never false = refl
-
-or_ever : (b : Bool) → (b || true) ≡ true
-or_ever true = refl
-or_ever false = refl
-
-closed_moved : (policy : PolicyData) (r : RecordData) (w : World) (m : Move) → (w.closed || option_map_or is_close (mark_in as_it_is (force_in m)) false) ≡ (moved policy r m w).closed
-closed_moved policy r w (Commands officer c) = elim c.action as (λ (x : Action). (w.closed || is_close x) ≡ (commanded policy r officer c x w).closed) [
-  | Action.Kill account ↦ or_never w.closed
-  | Action.Lift account ↦ or_never w.closed
-  | Action.SetLimit rule limit ↦ or_never w.closed
-  | Action.Restrict rule stock ↦ or_never w.closed
-  | Action.Unrestrict rule stock ↦ or_never w.closed
-  | Action.Grant reader account ↦ or_never w.closed
-  | Action.Revoke reader account ↦ or_never w.closed
-  | Action.CloseDay ↦ or_ever w.closed
+closed_moved : (policy : PolicyData) (r : RecordData) (w : World) (m : Move) → (w.closed || option_map_or is_close (mark_in as_it_is (force_in m)) false) ≡ (world_after_move policy r m w).closed
+closed_moved policy r w (Commands officer c) = elim c.action as (λ (x : Action). (w.closed || is_close x) ≡ (world_after_command policy r officer c x w).closed) [
+  | Action.Kill account ↦ or_false w.closed
+  | Action.Lift account ↦ or_false w.closed
+  | Action.SetLimit rule limit ↦ or_false w.closed
+  | Action.Restrict rule stock ↦ or_false w.closed
+  | Action.Unrestrict rule stock ↦ or_false w.closed
+  | Action.Grant reader account ↦ or_false w.closed
+  | Action.Revoke reader account ↦ or_false w.closed
+  | Action.CloseDay ↦ or_true w.closed
 ]
-closed_moved policy r w other = or_never w.closed
+closed_moved policy r w other = or_false w.closed
 
-rules_moved : (policy : PolicyData) (r : RecordData) (w : World) (m : Move) → rules_with w.rules (mark_in as_it_is (force_in m)) ≡ (moved policy r m w).rules
-rules_moved policy r w (Commands officer c) = elim c.action as (λ (x : Action). changed w.rules x ≡ (commanded policy r officer c x w).rules) [
+rules_moved : (policy : PolicyData) (r : RecordData) (w : World) (m : Move) → rules_with w.rules (mark_in as_it_is (force_in m)) ≡ (world_after_move policy r m w).rules
+rules_moved policy r w (Commands officer c) = elim c.action as (λ (x : Action). rules_after w.rules x ≡ (world_after_command policy r officer c x w).rules) [
   | Action.Kill account ↦ refl
   | Action.Lift account ↦ refl
   | Action.SetLimit rule limit ↦ refl
@@ -174,13 +167,13 @@ same_either true x = refl
 same_either false x = refl
 
 sight_commanded : (policy : PolicyData) (r : RecordData) (officer : UserName) (c : Command) (reader : UserName) (account : AccountName) (w : World) (action : Action)
-    → cond (is_reader (role_in policy.users reader)) (unwrap_or (grant_or_revoke_of reader account officer action) (w.sight reader account)) (w.sight reader account) ≡ (commanded policy r officer c action w).sight reader account
+    → cond (is_reader (role_in policy.users reader)) (unwrap_or (grant_or_revoke_of reader account officer action) (w.sight reader account)) (w.sight reader account) ≡ (world_after_command policy r officer c action w).sight reader account
 sight_commanded policy r officer c reader account w (Action.Grant written named) = sight_by (is_reader (role_in policy.users reader)) (is_written written reader && same_account named account) true (w.sight reader account)
 sight_commanded policy r officer c reader account w (Action.Revoke written named) = sight_by (is_reader (role_in policy.users reader)) (is_written written reader && same_account named account) false (w.sight reader account)
 sight_commanded policy r officer c reader account w other = same_either (is_reader (role_in policy.users reader)) (w.sight reader account)
 
 sight_moved : (policy : PolicyData) (r : RecordData) (reader : UserName) (account : AccountName) (w : World) (m : Move)
-    → cond (is_reader (role_in policy.users reader)) (unwrap_or (mark_in (grant_or_revoke_of reader account) (force_in m)) (w.sight reader account)) (w.sight reader account) ≡ (moved policy r m w).sight reader account
+    → cond (is_reader (role_in policy.users reader)) (unwrap_or (mark_in (grant_or_revoke_of reader account) (force_in m)) (w.sight reader account)) (w.sight reader account) ≡ (world_after_move policy r m w).sight reader account
 sight_moved policy r reader account w (Commands officer c) = sight_commanded policy r officer c reader account w c.action
 sight_moved policy r reader account w other = same_either (is_reader (role_in policy.users reader)) (w.sight reader account)
 
@@ -207,27 +200,27 @@ pub record InForce (policy : PolicyData) (after : List RecordData) (then : World
   pub lines : (user : UserName) → line_of after user ≡ then.lines user
   pub sight : (reader : UserName) (account : AccountName) → is_entitled policy after reader account ≡ then.sight reader account
 
-pub in_force_next : (policy : PolicyData) (history : List RecordData) (r : RecordData) → InForce policy (history ++ r ∷ []) (moved policy r (move_of policy (world policy history) r) (world policy history))
+pub in_force_next : (policy : PolicyData) (history : List RecordData) (r : RecordData) → InForce policy (history ++ r ∷ []) (world_after_move policy r (move_of policy (world policy history) r) (world policy history))
 in_force_next policy history r =
     let w : World = world policy history in
     let m : Move = move_of policy w r in
-    let force : force_granted (granted r) ≡ force_in m = sym (force_of policy w r r.verdict r.step) in
+    let force : force_granted (granted_of r) ≡ force_in m = sym (force_of policy w r r.verdict r.step) in
     record {
       rules =
           rules_in_force_next policy history r
-          ∙ ap (rules_with w.rules) (acted (granted r) ∙ ap (mark_in as_it_is) force) ∙ rules_moved policy r w m;
+          ∙ ap (rules_with w.rules) (acted (granted_of r) ∙ ap (mark_in as_it_is) force) ∙ rules_moved policy r w m;
       kills = λ account.
           kill_in_force_next policy history r account
-          ∙ ap (λ (x : Option (Option UserName)). kill_after policy.lifters x (w.kills account)) (marked (kill_or_lift_of account) (granted r) ∙ ap (mark_in (kill_or_lift_of account)) force)
+          ∙ ap (λ (x : Option (Option UserName)). kill_after policy.lifters x (w.kills account)) (marked (kill_or_lift_of account) (granted_of r) ∙ ap (mark_in (kill_or_lift_of account)) force)
           ∙ kill_moved policy r account w m;
       closed =
           is_closed_next history r
-          ∙ ap (λ (x : Option Action). w.closed || option_map_or is_close x false) (acted (granted r) ∙ ap (mark_in as_it_is) force) ∙ closed_moved policy r w m;
+          ∙ ap (λ (x : Option Action). w.closed || option_map_or is_close x false) (acted (granted_of r) ∙ ap (mark_in as_it_is) force) ∙ closed_moved policy r w m;
       lines = λ user.
-          line_of_next history r user ∙ ap (λ (x : Option (Option ℕ)). unwrap_or x (w.lines user)) (lined user (granted r) ∙ ap (line_in user) force) ∙ line_moved policy r user w m;
+          line_of_next history r user ∙ ap (λ (x : Option (Option ℕ)). unwrap_or x (w.lines user)) (lined user (granted_of r) ∙ ap (line_in user) force) ∙ line_moved policy r user w m;
       sight = λ reader account.
           sight_next policy history r reader account
           ∙ ap (λ (x : Option Bool). cond (is_reader (role_in policy.users reader)) (unwrap_or x (w.sight reader account)) (w.sight reader account))
-          (marked (grant_or_revoke_of reader account) (granted r) ∙ ap (mark_in (grant_or_revoke_of reader account)) force)
+          (marked (grant_or_revoke_of reader account) (granted_of r) ∙ ap (mark_in (grant_or_revoke_of reader account)) force)
           ∙ sight_moved policy r reader account w m;
     }

@@ -1,11 +1,11 @@
 -- Each record may move the world as it does.
-use Rattle.std.proofs.{Common.{◌≡◌, ℕ, ◌-◌, ◌<◌, Bool, true, false, List, refl, ◌∙◌, ap, sym, arith}, Math.Path.subst, lemmas.Bool.{leb-false, lt-ltb, ltb-true}}
+use Rattle.std.proofs.{Common.{◌≡◌, ℕ, ◌-◌, ◌<◌, Bool, true, false, List, refl, ◌∙◌, ap, sym, arith}, Math.Path.subst, lemmas.Bool.{leb-false, lt-ltb, ltb-true, and_parts}}
 use Rattle.std.specs.{Prelude.{Option, Some, ◌==◌, ◌&&◌}, Option.option_map_or, List.AllByRecursion}
 use Rattle.gx_units.specs.{declared.names.{AccountName.AccountName, Token.Token, UserName.UserName}, Names.{same_token, same_user}}
 use Rattle.gx_ouch.specs.declared.inbound.{CancelOrder.CancelOrder, ReplaceOrder.ReplaceOrder}
 use Rattle.gx_policy.specs.{declared.{policy.PolicyData.PolicyData, rule_name.RuleName.TheVariants.{G3, I1, I3}}, Lists.where_true}
 use Rattle.gx_history.specs.{declared.{live_order.LiveOrder.LiveOrder, «record».{Asked.Asked, RecordData.RecordData, Request.Request, Step.Step, Verdict.Verdict}, moves.Move.TheVariants.{Nothing, Adds, Sizes, Replaces}}, Asking.facts, Live.{live, live_under}, LiveOrders.{is_under, replacement_order}, MayMove.{MayMove, MayReplace, MaySize, MovesAreAllowed}, Orders.{Order, ends, is_token_used, orders, size_set, total}, Requests.{is_judged, is_order, is_unreadable, new_token}, Rules.{forbids, takes_nothing}, Turns.new_order, Verdicts.{IsLegal, facts_now, next}, World.{world, move_asked, move_by}}
-use Rattle.gx_laws.proofs.{Adding.{found_passes, token_is, user_is}, Entering.{HasAccount, entered_has_account, entered_has_shares}, Granting.{asked_is_judged, is_no_bar}, Judging.both, Numbers.{all_weaker, number_left}, Runs.step_left, Allowed.names_are_known, Among.all_and, Commanding.grants_the_command, Killed.granted_is_not_killed, Matches.may_match, NamedOrders.{IsEarlier, Names, all_earlier, named_is, names_live}, Naming.{FindsOne, IsToldApart, finds_one, is_under_swapped}, OrderRequests.{Grants, ends_by, it_grants}, Replacing.{more_than_done, size_of}}
+use Rattle.gx_laws.proofs.{Adding.{found_passes, token_is, user_is}, Entering.{HasAccount, entered_has_account, entered_has_shares}, Granting.{asked_is_judged, is_no_bar}, Numbers.{all_weaker, number_left}, Runs.step_left, Allowed.names_are_known, Among.all_and, Commanding.grants_the_command, Killed.granted_is_not_killed, Matches.may_match, NamedOrders.{IsEarlier, Names, all_earlier, named_is, names_live}, Naming.{FindsOne, IsToldApart, finds_one, is_under_swapped}, OrderRequests.{Grants, ends_by, it_grants}, Replacing.{more_than_done, size_of}}
 
 orders_have_tokens : (q : Request) (token : Token) → new_token q ≡ Some token → is_order q ≡ true
 orders_have_tokens (Request.Login m) token h = cc
@@ -31,13 +31,13 @@ token_unused policy history a r token left granted under = sym (token_fact polic
 
 -- an order that is found under a user's token is his
 pub his_own : (user : UserName) (token : Token) (os : List LiveOrder) (o : LiveOrder) → live_under os user token ≡ Some o → o.user ≡ user
-his_own user token os o found = user_is o.user user (both (same_user o.user user) (same_token o.token token) (found_passes (is_under user token) os o found)).0
+his_own user token os o found = user_is o.user user (and_parts (same_user o.user user) (same_token o.token token) (found_passes (is_under user token) os o found)).0
 
 -- an order that is found under a user's token is under its own user's own token
 is_named : (policy : PolicyData) (history : List RecordData) (user : UserName) (token : Token) (o : LiveOrder) → live_under (live policy history) user token ≡ Some o
     → live_under (live policy history) o.user o.token ≡ Some o
 is_named policy history user token o found =
-    let is : (same_user o.user user ≡ true) × (same_token o.token token ≡ true) = both (same_user o.user user) (same_token o.token token) (found_passes (is_under user token) (live policy history) o found) in
+    let is : (same_user o.user user ≡ true) × (same_token o.token token ≡ true) = and_parts (same_user o.user user) (same_token o.token token) (found_passes (is_under user token) (live policy history) o found) in
     ap (λ (u : UserName). live_under (live policy history) u o.token) (user_is o.user user is.0) ∙ ap (λ (t : Token). live_under (live policy history) user t) (token_is o.token token is.1) ∙ found
 
 -- the day's orders, each earlier than the record, and told apart from this one

@@ -1,12 +1,12 @@
 -- The live order that a Cancel or a Replace names is the one order of its user under the token.
-use Rattle.std.proofs.{Common.{◌≡◌, ℕ, ◌+◌, ◌-◌, ◌<◌, Bool, true, false, List, refl, ◌∙◌, ap, sym, arith, inl, inr}, lemmas.Bool.eq-eqb}
+use Rattle.std.proofs.{Common.{◌≡◌, ℕ, ◌+◌, ◌-◌, ◌<◌, Bool, true, false, List, refl, ◌∙◌, ap, sym, arith, inl, inr}, lemmas.Bool.{eq-eqb, and_parts}}
 use Rattle.std.specs.{Prelude.{Option, Some, None, ◌&&◌, ◌==◌, is_none, nat_lt, not, option_and_then}, List.AllByRecursion}
 use Rattle.gx_units.specs.{declared.names.{Token.Token, UserName.UserName}, Names.{same_user, same_token}}
 use Rattle.gx_policy.specs.declared.policy.PolicyData.{PolicyData}
-use Rattle.gx_history.specs.{declared.{live_order.LiveOrder.LiveOrder, «record».RecordData.RecordData}, Book.rested, Executions.{done, executions}, Live.{has_come, live, live_under, open_now, open_order}, LiveOrders.shares_open, Orders.{Order, is_dead, orders, order_under, total}, Verdicts.IsLegal}
+use Rattle.gx_history.specs.{declared.{live_order.LiveOrder.LiveOrder, «record».RecordData.RecordData}, Book.rest_numbers, Executions.{done, executions}, Live.{has_come, live, live_under, open_now, open_order}, LiveOrders.shares_open, Orders.{Order, is_dead, orders, order_under, total}, Verdicts.IsLegal}
 use Rattle.gx_history.specs.LiveOrders as lives
 use Rattle.gx_laws.specs.{HistoryLaws.is_same_token, EffectLaws.{LiveOrdersAreTheOne, TotalsAreOpenAndDone}}
-use Rattle.gx_laws.proofs.{Adding.{user_is, token_is, user_is_itself, token_is_itself, found_passes, under_known}, Ends.live_have_open, Judging.both, Names.{same_token_flip, same_user_flip}, Numbers.all_weaker, Owners.last_such_is, Tokens.tokens_differ, Among.{IsIn, all_and, all_are_in, IsItOrOther, others_differ}, Apart.others_apart, Entered.{all_found_of, open_parts}, Orderly.{legal_is_orderly, number_of}}
+use Rattle.gx_laws.proofs.{Adding.{user_is, token_is, user_is_itself, token_is_itself, found_passes, under_known}, Ends.live_have_open, Names.{same_token_flip, same_user_flip}, Numbers.all_weaker, Owners.last_such_is, Tokens.tokens_differ, Among.{IsIn, all_and, all_are_in, IsItOrOther, others_differ}, Apart.others_apart, Entered.{all_found_of, open_parts}, Orderly.{legal_is_orderly, number_of}}
 
 abbrev same_number : Order → Order → Bool
 same_number a b = a.number == b.number
@@ -31,8 +31,8 @@ pairs_swap a b = ap (λ (x : Bool). x && same_token a.token b.token) (same_user_
 -- an order under the token has the same token as another under it
 same_under : (user : UserName) (token : Token) (x o : Order) → is_under user token x ≡ true → is_under user token o ≡ true → is_same_token x o ≡ true
 same_under user token x o h k =
-    let of_x : (same_user x.user user ≡ true) × (same_token x.token token ≡ true) = both (same_user x.user user) (same_token x.token token) h in
-    let of_o : (same_user o.user user ≡ true) × (same_token o.token token ≡ true) = both (same_user o.user user) (same_token o.token token) k in
+    let of_x : (same_user x.user user ≡ true) × (same_token x.token token ≡ true) = and_parts (same_user x.user user) (same_token x.token token) h in
+    let of_o : (same_user o.user user ≡ true) × (same_token o.token token ≡ true) = and_parts (same_user o.user user) (same_token o.token token) k in
     ap (λ (u : UserName). same_user u o.user && same_token x.token o.token) (user_is x.user user of_x.0 ∙ sym (user_is o.user user of_o.0))
     ∙ ap (λ (t : Token). same_user o.user o.user && same_token t o.token) (token_is x.token token of_x.1 ∙ sym (token_is o.token token of_o.1))
     ∙ ap (λ (b : Bool). b && same_token o.token o.token) (user_is_itself o.user)
@@ -63,15 +63,15 @@ pub record IsOfKnown (policy : PolicyData) (history : List RecordData) (o : Live
   pub is_now : open_now (executions policy history) history order ≡ Some o
   pub is_not_dead : is_dead history order ≡ false
   pub has_some : nat_lt (done (executions policy history) order) (total history order) ≡ true
-  pub is_it : open_order order (total history order) (done (executions policy history) order) (not (has_come (rested history) order.number)) ≡ o
+  pub is_it : open_order order (total history order) (done (executions policy history) order) (not (has_come (rest_numbers history) order.number)) ≡ o
 
 pub live_of_known : (policy : PolicyData) (history : List RecordData) → AllByRecursion (IsOfKnown policy history) (live policy history)
 unfolding live
 live_of_known policy history =
     all_found_of (λ (x : Order). IsIn x (orders policy history)) (IsOfKnown policy history) (open_now (executions policy history) history)
     (λ x o among h.
-    let parts : (is_dead history x ≡ false) × (nat_lt (done (executions policy history) x) (total history x) ≡ true) × (open_order x (total history x) (done (executions policy history) x) (not (has_come (rested history) x.number)) ≡ o) =
-    open_parts x (is_dead history x) (total history x) (done (executions policy history) x) (not (has_come (rested history) x.number)) o h in
+    let parts : (is_dead history x ≡ false) × (nat_lt (done (executions policy history) x) (total history x) ≡ true) × (open_order x (total history x) (done (executions policy history) x) (not (has_come (rest_numbers history) x.number)) ≡ o) =
+    open_parts x (is_dead history x) (total history x) (done (executions policy history) x) (not (has_come (rest_numbers history) x.number)) o h in
     record { order = x; is_known = among; is_now = h; is_not_dead = parts.0; has_some = parts.1; is_it = parts.2 })
     (orders policy history) (all_are_in (orders policy history))
 

@@ -1,10 +1,10 @@
 -- No book is crossed: an invariant of the sides, by what each record does.
-use Rattle.std.proofs.{Common.{◌≡◌, ℕ, ◌<◌, ◌≤◌, Bool, true, false, not, List, [], ◌∷◌, ◌++◌, refl, ◌∙◌, ap, sym, cond, arith}, Math.Path.subst, lemmas.Bool.{leb-false, ltb-false, lt-leb, and_parts}}
+use Rattle.std.proofs.{Common.{◌≡◌, ℕ, ◌<◌, ◌≤◌, Bool, true, false, not, List, [], ◌∷◌, ◌++◌, refl, ◌∙◌, ap, sym, cond, arith}, Math.Path.subst, lemmas.Bool.{leb-false, ltb-false, lt-leb, and_parts, not-true}}
 use Rattle.std.specs.{Prelude.{Option, Some, None, ◌&&◌, nat_le}, Option.option_map_or, List.{AllByRecursion, filter_map}}
 use Rattle.gx_units.specs.{declared.names.Symbol.Symbol, Names.same_stock}
 use Rattle.gx_ouch.specs.declared.outbound.OrderTerms.{OrderTerms}
-use Rattle.gx_policy.specs.{declared.policy.PolicyData.PolicyData, Lists.{IsInOrder, placed}}
-use Rattle.gx_history.specs.{declared.{live_order.LiveOrder.LiveOrder, «record».{RecordData.RecordData, Step.Step, Verdict.Verdict}}, Book.{is_buy, rested_of}, Live.{ahead, is_buy_order, is_there, side, live_numbered, live}, Matched.AreUncrossed, Matching.{crosses, meets_none}, MayMove.{MayRest, opposite}, Requests.is_judged, Turns.{Turn, becomes, side_turned}, Verdicts.{IsLegal, next}, World.{turn_by, world}}
+use Rattle.gx_policy.specs.{declared.policy.PolicyData.PolicyData, Lists.{IsInOrder, inserted_behind}}
+use Rattle.gx_history.specs.{declared.{live_order.LiveOrder.LiveOrder, «record».{RecordData.RecordData, Step.Step, Verdict.Verdict}}, Book.{is_buy, rested_of}, Live.{ahead, is_buy_order, is_there, side, live_numbered, live}, Matched.AreUncrossed, Matching.{crosses, meets_none}, MayMove.{MayRest, opposite}, Requests.is_judged, Turns.{Turn, becomes, side_after}, Verdicts.{IsLegal, next}, World.{turn_by, world}}
 use Rattle.gx_laws.proofs.{Granting.{asked_is_judged, legal_keeps}, Names.stock_is, NextReports.{legal_next, legal_none}, Numbers.all_weaker, Among.all_and, Entered.all_found_of, Known.{RestsThere, all_placed, all_resting, first_waiting}, Matches.may_match, Ordered.resting_ordered, Orderly.{IsOrderly, legal_is_orderly}, Sides.{becomes_same, goes, other_turn, side_next}}
 
 -- no buy crosses a sell
@@ -24,14 +24,10 @@ turned_apart turn buys sells h =
     (λ b c all e. all_found_of (λ (s : LiveOrder). crosses b s ≡ false) (λ (t : LiveOrder). crosses c t ≡ false) (becomes turn)
     (λ s t k f. cross_alike b s c t (becomes_same turn b c e).1 (becomes_same turn s t f).1 ∙ k) sells all) buys h
 
-was_false : (b : Bool) → not b ≡ true → b ≡ false
-was_false true h = cc
-was_false false h = refl
-
 -- who does not meet the best meets none of those behind it
 meets_no_other : (o : LiveOrder) (there : List LiveOrder) → IsInOrder (ahead (not (is_buy_order o))) there → meets_none o there ≡ true → AllByRecursion (λ (s : LiveOrder). crosses o s ≡ false) there
 meets_no_other o [] h k = tt
-meets_no_other o (best ∷ others) h k = (was_false (crosses o best) k, all_weaker _ (λ (s : LiveOrder). crosses o s ≡ false) (λ s behind. at (is_buy_order o) s behind (was_false (crosses o best) k)) others h.0)
+meets_no_other o (best ∷ others) h k = (not-true (crosses o best) k, all_weaker _ (λ (s : LiveOrder). crosses o s ≡ false) (λ s behind. at (is_buy_order o) s behind (not-true (crosses o best) k)) others h.0)
   where
     at : (b : Bool) (s : LiveOrder) → ahead (not b) s best ≡ false → elim b [ true ↦ nat_le best.terms.price o.terms.price | false ↦ nat_le o.terms.price best.terms.price ] ≡ false
         → elim b [ true ↦ nat_le s.terms.price o.terms.price | false ↦ nat_le o.terms.price s.terms.price ] ≡ false
@@ -46,18 +42,18 @@ meets_no_other o (best ∷ others) h k = (was_false (crosses o best) k, all_weak
 
 -- an order is placed on its side, and on no other
 abbrev placed_on : Bool → Bool → LiveOrder → List LiveOrder → List LiveOrder
-placed_on goes buy o found = cond goes (placed (ahead buy) found (record o { waits = false })) found
+placed_on goes buy o found = cond goes (inserted_behind (ahead buy) found (record o { waits = false })) found
 
 side_rests : (policy : PolicyData) (history : List RecordData) (step : Step) (r : RecordData) (number : ℕ) (stock : Symbol) (buy : Bool) → IsLegal policy history → next policy history step ≡ Some r
     → r.verdict ≡ Verdict.Rested number
     → (may : MayRest (world policy history) r number) → side policy (history ++ r ∷ []) stock buy ≡ placed_on (is_there stock buy may.first) buy may.first (side policy history stock buy)
 side_rests policy history step r number stock buy legal left rests may =
     side_next policy history step r stock buy legal left
-    ∙ ap (λ (v : Verdict). side_turned (turn_by policy (world policy history) r v r.step) (live policy history) stock buy (side policy history stock buy)) rests
+    ∙ ap (λ (v : Verdict). side_after (turn_by policy (world policy history) r v r.step) (live policy history) stock buy (side policy history stock buy)) rests
     ∙ ap (λ (x : Option LiveOrder). option_map_or (λ (o : LiveOrder). placed_on (is_there stock buy o) buy o (side policy history stock buy)) x (side policy history stock buy))
     (ap (live_numbered (live policy history)) may.has_number ∙ (first_waiting policy history may.first may.waiting (legal_is_orderly policy history legal) may.comes_first).known.is_found)
 
-one_placed : (P : LiveOrder → Type 0) (buy : Bool) (found : List LiveOrder) (o : LiveOrder) → AllByRecursion P found → P o → AllByRecursion P (placed (ahead buy) found o)
+one_placed : (P : LiveOrder → Type 0) (buy : Bool) (found : List LiveOrder) (o : LiveOrder) → AllByRecursion P found → P o → AllByRecursion P (inserted_behind (ahead buy) found o)
 one_placed P buy found o h k = all_placed P (ahead buy) found (o ∷ []) h (k, tt)
 
 placed_apart : (policy : PolicyData) (history : List RecordData) (stock : Symbol) (o : LiveOrder) → IsOrderly policy history → meets_none o (opposite (world policy history) o) ≡ true
@@ -81,7 +77,7 @@ placed_apart policy history stock o orderly none h = at (same_stock o.terms.stoc
     at true true same buys = one_placed (λ (b : LiveOrder). AllByRecursion (λ (s : LiveOrder). crosses b s ≡ false) (side policy history stock false)) true (side policy history stock true) (record o { waits = false }) h (meets true same buys)
     at true false same sells =
         all_weaker (λ (b : LiveOrder). (AllByRecursion (λ (s : LiveOrder). crosses b s ≡ false) (side policy history stock false) × RestsThere policy history stock true b) × (crosses o b ≡ false))
-        (λ (b : LiveOrder). AllByRecursion (λ (s : LiveOrder). crosses b s ≡ false) (placed (ahead false) (side policy history stock false) (record o { waits = false })))
+        (λ (b : LiveOrder). AllByRecursion (λ (s : LiveOrder). crosses b s ≡ false) (inserted_behind (ahead false) (side policy history stock false) (record o { waits = false })))
         (λ b k. one_placed (λ (s : LiveOrder). crosses b s ≡ false) false (side policy history stock false) (record o { waits = false }) k.0.0 (turned_round b sells k.0.1.there k.1)) (side policy history stock true)
         (all_and (λ (b : LiveOrder). AllByRecursion (λ (s : LiveOrder). crosses b s ≡ false) (side policy history stock false) × RestsThere policy history stock true b) (λ (b : LiveOrder). crosses o b ≡ false) (side policy history stock true)
         (all_and (λ (b : LiveOrder). AllByRecursion (λ (s : LiveOrder). crosses b s ≡ false) (side policy history stock false)) (RestsThere policy history stock true) (side policy history stock true) h (all_resting policy history stock true orderly)) (meets false same sells))
@@ -103,7 +99,7 @@ one_more policy history step r stock legal left h = by step r.verdict left refl
         let turn : Turn = turn_by policy (world policy history) r v r.step in
         sides (λ buy. filter_map (becomes turn) (side policy history stock buy))
         (λ buy. side_next policy history step r stock buy legal left
-        ∙ ap (λ (x : Verdict). side_turned (turn_by policy (world policy history) r x r.step) (live policy history) stock buy (side policy history stock buy)) e
+        ∙ ap (λ (x : Verdict). side_after (turn_by policy (world policy history) r x r.step) (live policy history) stock buy (side policy history stock buy)) e
         ∙ sym (other_turn turn (live policy history) stock buy (side policy history stock buy) (goes policy (world policy history) r v r.step none)))
         (turned_apart turn (side policy history stock true) (side policy history stock false) h)
 

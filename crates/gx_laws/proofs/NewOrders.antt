@@ -1,8 +1,8 @@
 -- An order numbered past all records is not dead, has its full size, and has no fills.
-use Rattle.std.proofs.{Common.{◌≡◌, ℕ, ◌+◌, ◌<◌, ◌≤◌, Bool, true, false, List, [], ◌∷◌, ◌++◌, refl, ◌∙◌, ap, sym, map, length, arith, cond, length-append, sum_by}, Math.Path.subst, lemmas.{Bool.{le-ltb, ne_eqb}, List.Sums.sum_by-cons}}
-use Rattle.std.specs.{Prelude.{Option, Some, None, ◌&&◌, ◌||◌, ◌==◌, nat_lt, filter_map, find, unwrap_or, option_to_list}, List.{list_any, cons_option, last_or, AllByRecursion}}
+use Rattle.std.proofs.{Common.{◌≡◌, ℕ, ◌+◌, ◌<◌, ◌≤◌, Bool, true, false, List, [], ◌∷◌, ◌++◌, refl, ◌∙◌, ap, sym, map, length, arith, cond, length-append, sum_by}, Math.Path.subst, lemmas.{Bool.{le-ltb, ne_eqb, and_left}, List.Sums.sum_by-cons}}
+use Rattle.std.specs.{Prelude.{Option, Some, None, ◌||◌, ◌==◌, nat_lt, filter_map, find, unwrap_or, option_to_list}, List.{list_any, cons_option, last_or, AllByRecursion}}
 use Rattle.gx_policy.specs.declared.policy.PolicyData.{PolicyData}
-use Rattle.gx_history.specs.{declared.record.{Fill.Fill, RecordData.RecordData, Verdict.Verdict}, Orders.{Order, orders, order_numbered, total, is_dead, ends, size_set}, Executions.{Execution, executions, executed, shares_for, sides, side_of, done}, Verdicts.IsLegal}
+use Rattle.gx_history.specs.{declared.record.{Fill.Fill, RecordData.RecordData, Verdict.Verdict}, Orders.{Order, orders, order_numbered, total, is_dead, ends, size_set}, Executions.{Execution, executions, executed_shares, shares_for, sides, side_of, done}, Verdicts.IsLegal}
 use Rattle.gx_ouch.specs.declared.letters.Liquidity.{Liquidity}
 use Rattle.gx_laws.proofs.{Granting.legal_keeps, NextOrders.{executions_none, executions_next}, Numbers.{all_weaker, NumbersAreWithin, none_within, one_more_within}, Order.some_same, Owners.all_both}
 
@@ -10,16 +10,12 @@ use Rattle.gx_laws.proofs.{Granting.legal_keeps, NextOrders.{executions_none, ex
 abbrev pub AreBefore : ℕ → List RecordData → Type 0
 AreBefore number history = AllByRecursion (λ (r : RecordData). r.number < number) history
 
-pub and_late : (b x : Bool) → b ≡ false → (b && x) ≡ false
-and_late true x h = cc
-and_late false x h = refl
-
 pub none_late : {X : Type 0} (b : Bool) (x : Option X) → b ≡ false → cond b x None ≡ None
 none_late true x h = cc
 none_late false x h = refl
 
 end_late : (o : Order) (r : RecordData) → r.number < o.number → ends o r ≡ false
-end_late o r h = and_late (nat_lt o.number r.number) _ (le-ltb o.number r.number (omega arith))
+end_late o r h = and_left (nat_lt o.number r.number) _ (le-ltb o.number r.number (omega arith))
 
 size_late : (o : Order) (r : RecordData) → r.number < o.number → size_set o r ≡ None
 size_late o r h = none_late (nat_lt o.number r.number) _ (le-ltb o.number r.number (omega arith))
@@ -100,11 +96,11 @@ none_executed (e ∷ made) number h =
     let rest : sum_by (shares_for number) made ≡ 0 = none_executed made number h.1 in
     omega arith
 
-done_of_one : (made : List Execution) (number : ℕ) → AllByRecursion (λ (e : Execution). e.order.number < number) made → sum_by (executed made) (number ∷ []) ≡ 0
-unfolding executed
+done_of_one : (made : List Execution) (number : ℕ) → AllByRecursion (λ (e : Execution). e.order.number < number) made → sum_by (executed_shares made) (number ∷ []) ≡ 0
+unfolding executed_shares
 done_of_one made number h =
-    let whole : sum_by (executed made) (number ∷ []) ≡ executed made number + 0 = sum_by-cons (executed made) number [] in
-    let none : executed made number ≡ 0 = none_executed made number h in
+    let whole : sum_by (executed_shares made) (number ∷ []) ≡ executed_shares made number + 0 = sum_by-cons (executed_shares made) number [] in
+    let none : executed_shares made number ≡ 0 = none_executed made number h in
     omega arith
 
 -- an order that replaced none and is numbered past all records
@@ -112,6 +108,6 @@ pub new_has_no_fills : (policy : PolicyData) (history : List RecordData) (o : Or
     → done (executions policy history) o ≡ 0
 unfolding done
 new_has_no_fills policy history o legal late alone =
-    ap (λ (ns : List ℕ). sum_by (executed (executions policy history)) (o.number ∷ ns)) alone
+    ap (λ (ns : List ℕ). sum_by (executed_shares (executions policy history)) (o.number ∷ ns)) alone
     ∙ done_of_one (executions policy history) o.number
     (all_weaker (λ (e : Execution). e.order.number ≤ length history) (λ (e : Execution). e.order.number < o.number) (λ e h. omega arith) (executions policy history) (fills_are_within policy history legal))

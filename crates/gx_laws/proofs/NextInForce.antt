@@ -3,7 +3,7 @@ use Rattle.std.proofs.{Common.{◌≡◌, Bool, true, false, List, [], ◌∷◌
 use Rattle.std.specs.{Prelude.{Option, Some, None, unwrap_or, ◌||◌, ◌&&◌}, Option.option_map_or, List.{filter_map, cons_option}}
 use Rattle.gx_units.specs.declared.names.{UserName.UserName, AccountName.AccountName}
 use Rattle.gx_desk.specs.declared.Action.{Action}
-use Rattle.gx_history.specs.{declared.record.RecordData.RecordData, Requests.{granted_action, granted_actions, granted_mark}, InForce.{is_closed, record_closes, rules_in_force, changed, is_entitled, grant_or_revoke_of, in_role, line_of, login_or_logout_of, last_mark}, Verdicts.last_moment}
+use Rattle.gx_history.specs.{declared.record.RecordData.RecordData, Requests.{granted_action, granted_actions, granted_mark}, InForce.{is_closed, record_closes, rules_in_force, rules_after, is_entitled, grant_or_revoke_of, in_role, line_of, login_or_logout_of, last_mark}, Verdicts.last_moment}
 use Rattle.gx_policy.specs.{declared.policy.{PolicyData.PolicyData, FileRule.FileRule, Role.Role}, People.{role_in, is_reader}}
 use Rattle.gx_laws.proofs.Pushing.{last_value_next, list_any_next, last_or-append}
 
@@ -47,12 +47,12 @@ granted_next change first history r =
 
 -- the rules after one more command, if the record grants one
 abbrev pub rules_with : List FileRule → Option Action → List FileRule
-rules_with rules action = option_map_or (changed rules) action rules
+rules_with rules action = option_map_or (rules_after rules) action rules
 
 pub rules_in_force_next : (policy : PolicyData) (history : List RecordData) (r : RecordData)
     → rules_in_force policy (history ++ r ∷ []) ≡ rules_with (rules_in_force policy history) (granted_action r)
 unfolding rules_in_force
-rules_in_force_next policy history r = granted_next changed policy.rules history r
+rules_in_force_next policy history r = granted_next rules_after policy.rules history r
 
 pub is_entitled_next : (policy : PolicyData) (history : List RecordData) (r : RecordData) (reader : UserName) (account : AccountName)
     → is_reader (role_in policy.users reader) ≡ true

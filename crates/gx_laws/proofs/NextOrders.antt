@@ -3,7 +3,7 @@ use Rattle.std.proofs.{Common.{◌≡◌, ℕ, ◌+◌, Bool, true, false, List,
 use Rattle.std.specs.{Prelude.{Option, Some, None, unwrap_or, ◌||◌, not, option_to_list}, List.{filter_map, cons_option}}
 use Rattle.gx_units.specs.declared.names.{Token.Token, UserName.UserName}
 use Rattle.gx_policy.specs.declared.policy.PolicyData.{PolicyData}
-use Rattle.gx_history.specs.{declared.{live_order.LiveOrder.LiveOrder, «record».RecordData.RecordData}, Book.{rested, rested_of}, Executions.{Execution, done, executed, executions, executions_of, shares_for, sides}, Live.{has_come, live, open_now, open_with}, Orders.{Order, orders, orders_with, orders_added, total, size_set, is_dead, ends, is_token_used, record_uses}}
+use Rattle.gx_history.specs.{declared.{live_order.LiveOrder.LiveOrder, «record».RecordData.RecordData}, Book.{rest_numbers, rested_of}, Executions.{Execution, done, executed_shares, executions, executions_of, shares_for, sides}, Live.{has_come, live, open_now, open_with}, Orders.{Order, orders, orders_with, orders_added, total, size_set, is_dead, ends, is_token_used, record_uses}}
 use Rattle.gx_laws.proofs.Pushing.{last_value_next, list_any_next, flat_map_next, sum_same, sum_of_both, sum_of_nothing}
 
 pub orders_none : (policy : PolicyData) → orders policy [] ≡ []
@@ -38,19 +38,19 @@ unfolding executions
 executions_next policy history r = flat_map_next (executions_of policy) history r
 
 -- shares executed by more sides are added
-pub executed_more : (made more : List Execution) (number : ℕ) → executed (made ++ more) number ≡ executed made number + executed more number
-unfolding executed
+pub executed_more : (made more : List Execution) (number : ℕ) → executed_shares (made ++ more) number ≡ executed_shares made number + executed_shares more number
+unfolding executed_shares
 executed_more made more number = sum_by-append (shares_for number) made more
 
 pub done_none : (o : Order) → done [] o ≡ 0
-unfolding done executed
+unfolding done executed_shares
 done_none o = sum_of_nothing (o.number ∷ o.replaced)
 
 pub done_more : (made more : List Execution) (o : Order) → done (made ++ more) o ≡ done made o + done more o
 unfolding done
 done_more made more o =
-    sum_same (executed (made ++ more)) (λ n. executed made n + executed more n) (λ n. executed_more made more n) (o.number ∷ o.replaced)
-    ∙ sum_of_both (executed made) (executed more) (o.number ∷ o.replaced)
+    sum_same (executed_shares (made ++ more)) (λ n. executed_shares made n + executed_shares more n) (λ n. executed_more made more n) (o.number ∷ o.replaced)
+    ∙ sum_of_both (executed_shares made) (executed_shares more) (o.number ∷ o.replaced)
 
 pub done_next : (policy : PolicyData) (history : List RecordData) (r : RecordData) (o : Order)
     → done (executions policy (history ++ r ∷ [])) o ≡ done (executions policy history) o + done (sides policy history r.verdict) o
@@ -65,21 +65,21 @@ one_rested : (found : Option ℕ) → cons_option found [] ≡ option_to_list fo
 one_rested None = refl
 one_rested (Some n) = refl
 
-pub rested_next : (history : List RecordData) (r : RecordData) → rested (history ++ r ∷ []) ≡ rested history ++ option_to_list (rested_of r.verdict)
+pub rested_next : (history : List RecordData) (r : RecordData) → rest_numbers (history ++ r ∷ []) ≡ rest_numbers history ++ option_to_list (rested_of r.verdict)
 rested_next history r =
     filter_map-append (λ (x : RecordData). rested_of x.verdict) history (r ∷ [])
-    ∙ ap (λ ns. rested history ++ ns) (one_rested (rested_of r.verdict))
+    ∙ ap (λ ns. rest_numbers history ++ ns) (one_rested (rested_of r.verdict))
 
 -- an order after one more record, by what the record says of it
 pub open_next : (policy : PolicyData) (history : List RecordData) (r : RecordData) (o : Order) (e : Bool) (z : Option ℕ) (k : ℕ) → ends o r ≡ e → size_set o r ≡ z → done (sides policy history r.verdict) o ≡ k
     → open_now (executions policy (history ++ r ∷ [])) (history ++ r ∷ []) o
-    ≡ open_with o (is_dead history o || e) (unwrap_or z (total history o)) (done (executions policy history) o + k) (not (has_come (rested history ++ option_to_list (rested_of r.verdict)) o.number))
+    ≡ open_with o (is_dead history o || e) (unwrap_or z (total history o)) (done (executions policy history) o + k) (not (has_come (rest_numbers history ++ option_to_list (rested_of r.verdict)) o.number))
 open_next policy history r o e z k ends_so sizes_so fills_so =
     let now : List RecordData = history ++ r ∷ [] in
     let gone : done (executions policy now) o ≡ done (executions policy history) o + k = done_next policy history r o ∙ ap (λ (n : ℕ). done (executions policy history) o + n) fills_so in
-    ap (λ (b : Bool). open_with o b (total now o) (done (executions policy now) o) (not (has_come (rested now) o.number))) (is_dead_next history r o ∙ ap (λ (b : Bool). is_dead history o || b) ends_so)
-    ∙ ap (λ (n : ℕ). open_with o (is_dead history o || e) n (done (executions policy now) o) (not (has_come (rested now) o.number))) (total_next history r o ∙ ap (λ (m : Option ℕ). unwrap_or m (total history o)) sizes_so)
-    ∙ ap (λ (n : ℕ). open_with o (is_dead history o || e) (unwrap_or z (total history o)) n (not (has_come (rested now) o.number))) gone
+    ap (λ (b : Bool). open_with o b (total now o) (done (executions policy now) o) (not (has_come (rest_numbers now) o.number))) (is_dead_next history r o ∙ ap (λ (b : Bool). is_dead history o || b) ends_so)
+    ∙ ap (λ (n : ℕ). open_with o (is_dead history o || e) n (done (executions policy now) o) (not (has_come (rest_numbers now) o.number))) (total_next history r o ∙ ap (λ (m : Option ℕ). unwrap_or m (total history o)) sizes_so)
+    ∙ ap (λ (n : ℕ). open_with o (is_dead history o || e) (unwrap_or z (total history o)) n (not (has_come (rest_numbers now) o.number))) gone
     ∙ ap (λ (ns : List ℕ). open_with o (is_dead history o || e) (unwrap_or z (total history o)) (done (executions policy history) o + k) (not (has_come ns o.number))) (rested_next history r)
 
 pub live_next : (policy : PolicyData) (history : List RecordData) (r : RecordData)

@@ -5,7 +5,7 @@ use Rattle.gx_units.specs.{Money.value, declared.names.AccountName.AccountName}
 use Rattle.gx_ouch.specs.declared.{letters.Liquidity.Liquidity, outbound.OrderTerms.OrderTerms}
 use Rattle.gx_policy.specs.declared.policy.PolicyData.{PolicyData}
 use Rattle.gx_history.specs.{declared.{«record».{Fill.Fill, RecordData.RecordData, Verdict.Verdict}, live_order.LiveOrder.LiveOrder}, Executions.{Execution, executions, side_of, sides}, Figures.of_accounts, Live.live, Orders.{Order, order_numbered, orders, orders_added}, Verdicts.IsLegal}
-use Rattle.gx_laws.proofs.{Granting.legal_keeps, NextOrders.{executions_next, executions_none, orders_next}, Owners.all_both, NewOrders.found_is, Coming.of_live, Sums.{done_are, done_value_are, is_chosen, none_of, shares_of, sum_of_none, value_of}, Steps.all_in_parts}
+use Rattle.gx_laws.proofs.{Granting.legal_keeps, NextOrders.{executions_next, executions_none, orders_next}, Owners.all_both, NewOrders.found_is, Coming.of_live, Sums.{done_are, done_value_are, is_chosen, none_of, shares_of, sum_of_none, value_of}, Ordered.all_parted}
 use Rattle.gx_laws.specs.Exposure.{HasNothing, NoneIsGranted, is_such, shares_of_chosen}
 
 none_passes : {X : Type 0} (p : X → Bool) (xs : List X) → filter p xs ≡ [] → AllByRecursion (λ (x : X). p x ≡ false) xs
@@ -41,7 +41,7 @@ module _ (P : Order → Type 0) where
       legal_keeps policy (λ (h : List RecordData). AllByRecursion P (orders policy h) → AllByRecursion (λ (e : Execution). P e.order) (executions policy h))
       (λ _. subst (AllByRecursion (λ (e : Execution). P e.order)) (sym (executions_none policy)) tt)
       (λ h r kept follows all.
-      let parts = all_in_parts P (orders policy h) (orders_added policy (orders policy h) r) (subst (AllByRecursion P) (orders_next policy h r) all) in
+      let parts = all_parted P (orders policy h) (orders_added policy (orders policy h) r) (subst (AllByRecursion P) (orders_next policy h r) all) in
       subst (AllByRecursion (λ (e : Execution). P e.order)) (sym (executions_next policy h r))
       (all_both (λ (e : Execution). P e.order) (executions policy h) (sides policy h r.verdict) (kept parts.0) (sides_have policy h r.verdict parts.0)))
       history legal

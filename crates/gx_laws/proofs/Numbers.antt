@@ -3,7 +3,7 @@ use Rattle.std.proofs.{Common.{◌≡◌, ◌+◌, ◌≤◌, List, [], ◌∷�
 use Rattle.std.specs.{Prelude.{Option, Some, None}, Option.option_map_or, List.AllByRecursion}
 use Rattle.gx_units.specs.declared.names.{AccountName.AccountName, UserName.UserName}
 use Rattle.gx_ouch.specs.declared.inbound.{EnterOrder.EnterOrder, ReplaceOrder.ReplaceOrder}
-use Rattle.gx_history.specs.{declared.record.{Asked.Asked, RecordData.RecordData, Request.Request, Step.Step}, Requests.granted, Orders.{Order, orders, orders_added, orders_made, order_under, entered, replacing}, Verdicts.{Follows, IsLegal, moment_of, next, step_verdict}}
+use Rattle.gx_history.specs.{declared.record.{Asked.Asked, RecordData.RecordData, Request.Request, Step.Step}, Requests.granted_of, Orders.{Order, orders, orders_added, orders_made, order_under, order_entered, order_replacing}, Verdicts.{Follows, IsLegal, moment_of, next, step_verdict}}
 use Rattle.gx_policy.specs.{declared.policy.PolicyData.PolicyData, People.account_of}
 use Rattle.gx_laws.proofs.{Granting.legal_keeps, Legality.some_number, NextOrders.{orders_none, orders_next}, Owners.all_both, Pushing.all_next}
 
@@ -14,11 +14,11 @@ all_weaker P Q step (x ∷ xs) h = (step x h.0, all_weaker P Q step xs h.1)
 abbrev IsOf : RecordData → Order → Type 0
 IsOf r o = o.number ≡ r.number
 
-enter_of : (policy : PolicyData) (r : RecordData) (user : UserName) (m : EnterOrder) (found : Option AccountName) → AllByRecursion (IsOf r) (option_map_or (λ account. entered policy r user account m ∷ []) found [])
+enter_of : (policy : PolicyData) (r : RecordData) (user : UserName) (m : EnterOrder) (found : Option AccountName) → AllByRecursion (IsOf r) (option_map_or (λ account. order_entered policy r user account m ∷ []) found [])
 enter_of policy r user m None = tt
 enter_of policy r user m (Some account) = (refl, tt)
 
-replace_of : (r : RecordData) (m : ReplaceOrder) (found : Option Order) → AllByRecursion (IsOf r) (option_map_or (λ o. replacing r m o ∷ []) found [])
+replace_of : (r : RecordData) (m : ReplaceOrder) (found : Option Order) → AllByRecursion (IsOf r) (option_map_or (λ o. order_replacing r m o ∷ []) found [])
 replace_of r m None = tt
 replace_of r m (Some o) = (refl, tt)
 
@@ -38,7 +38,7 @@ added_of policy known r (Some a) = made_of_record policy known r a.user a.reques
 
 -- an added order has its record's number
 pub added_has_number : (policy : PolicyData) (known : List Order) (r : RecordData) → AllByRecursion (IsOf r) (orders_added policy known r)
-added_has_number policy known r = added_of policy known r (granted r)
+added_has_number policy known r = added_of policy known r (granted_of r)
 
 -- the number of the record that a step leaves
 pub number_left : (policy : PolicyData) (history : List RecordData) (step : Step) (r : RecordData) → next policy history step ≡ Some r → r.number ≡ length history + 1

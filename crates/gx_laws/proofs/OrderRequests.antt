@@ -3,7 +3,7 @@ use Rattle.std.proofs.Common.{◌≡◌, ℕ, Bool, true, false, List, [], refl,
 use Rattle.std.specs.{Prelude.{Option, Some, None, ◌||◌, ◌&&◌, option_and_then, nat_lt}, Option.option_map_or}
 use Rattle.gx_units.specs.declared.names.UserName.{UserName}
 use Rattle.gx_policy.specs.declared.policy.PolicyData.{PolicyData}
-use Rattle.gx_history.specs.{declared.record.{Asked.Asked, Login.Login, RecordData.RecordData, Request.Request, Step.Step, Verdict.Verdict}, Book.rested_of, Executions.sides, Orders.{Order, orders, orders_added, orders_made, size_asked, size_set, ends, ends_by_request, expires}, Requests.granted, Verdicts.next}
+use Rattle.gx_history.specs.{declared.record.{Asked.Asked, Login.Login, RecordData.RecordData, Request.Request, Step.Step, Verdict.Verdict}, Book.rested_of, Executions.sides, Orders.{Order, orders, orders_added, orders_made, size_asked, size_set, ends, ends_by_request, expires}, Requests.granted_of, Verdicts.next}
 use Rattle.gx_laws.proofs.{Adding.granted_is, Keeping.{AddsNothing, EndsNone}, Runs.step_left}
 
 -- the record grants this request of a
@@ -14,19 +14,19 @@ pub record Grants (r : RecordData) (a : Asked) (q : Request) : Type 0 where
 
 pub it_grants : (policy : PolicyData) (history : List RecordData) (a : Asked) (r : RecordData) (q : Request)
     → next policy history (Step.Asked a) ≡ Some r → a.request ≡ q → r.verdict ≡ Verdict.Granted → Grants r a q
-it_grants policy history a r q left asks granted = record { asks = step_left policy history (Step.Asked a) r left; grants = granted; is_for = asks }
+it_grants policy history a r q left asks granted_of = record { asks = step_left policy history (Step.Asked a) r left; grants = granted_of; is_for = asks }
 
 -- what the record says of an earlier order
 pub size_by : (r : RecordData) (a : Asked) (q : Request) (o : Order) → Grants r a q → nat_lt o.number r.number ≡ true → size_set o r ≡ size_asked o a.user q
 size_by r a q o g early =
-    ap (λ (b : Bool). cond b (option_and_then (λ (x : Asked). size_asked o x.user x.request) (granted r)) None) early
+    ap (λ (b : Bool). cond b (option_and_then (λ (x : Asked). size_asked o x.user x.request) (granted_of r)) None) early
     ∙ ap (option_and_then (λ (x : Asked). size_asked o x.user x.request)) (granted_is r a g.asks g.grants)
     ∙ ap (size_asked o a.user) g.is_for
 
 pub ends_by : (r : RecordData) (a : Asked) (q : Request) (o : Order) → Grants r a q → nat_lt o.number r.number ≡ true → ends o r ≡ ends_by_request o a.user q
 ends_by r a q o g early =
-    ap (λ (b : Bool). b && (expires o.number r.verdict || option_map_or (λ (x : Asked). ends_by_request o x.user x.request) (granted r) false)) early
-    ∙ ap (λ (v : Verdict). expires o.number v || option_map_or (λ (x : Asked). ends_by_request o x.user x.request) (granted r) false) g.grants
+    ap (λ (b : Bool). b && (expires o.number r.verdict || option_map_or (λ (x : Asked). ends_by_request o x.user x.request) (granted_of r) false)) early
+    ∙ ap (λ (v : Verdict). expires o.number v || option_map_or (λ (x : Asked). ends_by_request o x.user x.request) (granted_of r) false) g.grants
     ∙ ap (λ (found : Option Asked). option_map_or (λ (x : Asked). ends_by_request o x.user x.request) found false) (granted_is r a g.asks g.grants)
     ∙ ap (ends_by_request o a.user) g.is_for
 
@@ -67,7 +67,7 @@ quiet_adds_nothing policy history r a q g quiet = record {
 
 pub quiet_ends_none : (r : RecordData) (a : Asked) (q : Request) → Grants r a q → IsQuiet q → EndsNone r
 quiet_ends_none r a q g quiet o =
-    ap (λ (v : Verdict). nat_lt o.number r.number && (expires o.number v || option_map_or (λ (x : Asked). ends_by_request o x.user x.request) (granted r) false)) g.grants
+    ap (λ (v : Verdict). nat_lt o.number r.number && (expires o.number v || option_map_or (λ (x : Asked). ends_by_request o x.user x.request) (granted_of r) false)) g.grants
     ∙ ap (λ (found : Option Asked). nat_lt o.number r.number && option_map_or (λ (x : Asked). ends_by_request o x.user x.request) found false) (granted_is r a g.asks g.grants)
     ∙ ap (λ (b : Bool). nat_lt o.number r.number && b) (ap (ends_by_request o a.user) g.is_for ∙ quiet.ends_none o a.user)
     ∙ elim (nat_lt o.number r.number) as (λ b. (b && false) ≡ false) [ true ↦ refl | false ↦ refl ]

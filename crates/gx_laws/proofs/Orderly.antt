@@ -1,11 +1,12 @@
 -- What every run keeps of its orders: numbers that differ, replaced orders that have ended, and one rest an order.
-use Rattle.std.proofs.{Common.{◌≡◌, ℕ, ◌+◌, ◌<◌, ◌≤◌, Bool, true, false, not, List, [], ◌∷◌, ◌++◌, refl, ◌∙◌, ap, sym, cond, length, arith, length-append, inl, inr, ◌⊎◌}, Math.Path.subst, lemmas.{Bool.{lt-ltb, eq-eqb}, List.append-nil}}
+use Rattle.std.proofs.{Common.{◌≡◌, ℕ, ◌+◌, ◌<◌, ◌≤◌, Bool, true, false, not, List, [], ◌∷◌, ◌++◌, refl, ◌∙◌, ap, sym, cond, length, arith, length-append, inl, inr, ◌⊎◌}, Math.Path.subst, lemmas.{Bool.{lt-ltb, eq-eqb, and_parts, not-true}, List.append-nil}}
 use Rattle.std.specs.{Prelude.{Option, Some, None, find, option_to_list, ◌&&◌, ◌||◌, ◌==◌}, Option.option_map_or, List.{list_any, AllByRecursion}}
 use Rattle.gx_units.specs.{declared.names.{AccountName.AccountName, Token.Token, UserName.UserName}, Names.{same_user, same_token}}
 use Rattle.gx_ouch.specs.declared.inbound.{EnterOrder.EnterOrder, ReplaceOrder.ReplaceOrder}
 use Rattle.gx_policy.specs.{declared.policy.PolicyData.PolicyData, People.account_of}
-use Rattle.gx_history.specs.{declared.{live_order.LiveOrder.LiveOrder, «record».{Asked.Asked, RecordData.RecordData, Request.Request, Step.Step, Verdict.Verdict}}, Book.{rested, rested_of}, Executions.{done, executions}, Live.{waiting, has_come, live, open_now}, MayMove.MayRest, Orders.{total, Order, orders, orders_added, orders_made, order_under, order_numbered, entered, replacing, is_dead, ends, ends_by_request, expires}, Requests.{granted, is_judged}, Verdicts.{next, IsLegal}, World.world}
-use Rattle.gx_laws.proofs.{Adding.{user_is, token_is, user_is_itself, token_is_itself, found_passes, all_pass}, Granting.{legal_keeps, asked_is_judged}, Judging.both, NextOrders.{orders_none, orders_next, is_dead_next, rested_next}, Numbers.{all_weaker, number_left}, Owners.{all_both, filtered, last_such_is}, Among.all_and, Apart.{AreApart, IsApartFrom, apart_next, apart_are_found}, Entered.{all_found_of, open_parts}, Matches.may_match}
+use Rattle.gx_history.specs.{declared.{live_order.LiveOrder.LiveOrder, «record».{Asked.Asked, RecordData.RecordData, Request.Request, Step.Step, Verdict.Verdict}}, Book.{rest_numbers, rested_of}, Executions.{done, executions}, Live.{waiting, has_come, live, open_now}, MayMove.MayRest, Orders.{total, Order, orders, orders_added, orders_made, order_under, order_numbered, order_entered, order_replacing, is_dead, ends, ends_by_request, expires}, Requests.{granted_of, is_judged}, Verdicts.{next, IsLegal}, World.world}
+use Rattle.gx_laws.proofs.{Adding.{user_is, token_is, user_is_itself, token_is_itself, found_passes, all_pass}, Granting.{legal_keeps, asked_is_judged}, NextOrders.{orders_none, orders_next, is_dead_next, rested_next}, Numbers.{all_weaker, number_left}, Owners.{all_both, filtered, last_such_is}, Among.all_and, Apart.{AreApart, IsApartFrom, apart_next, apart_are_found}, Entered.{all_found_of, open_parts}, Matches.may_match}
+use Rattle.gx_units.proofs.Tests.{or_true}
 
 abbrev pub number_of : Order → ℕ
 number_of o = o.number
@@ -23,8 +24,8 @@ pub record IsOrderly (policy : PolicyData) (history : List RecordData) : Type 0 
   pub within : AllByRecursion (λ (o : Order). o.number ≤ length history) (orders policy history)
   pub apart : AreApart number_of (orders policy history)
   pub gone : AllByRecursion (HasGone policy history) (orders policy history)
-  pub rested_within : AllByRecursion (λ (n : ℕ). n ≤ length history) (rested history)
-  pub rested_apart : AreApart (λ (n : ℕ). n) (rested history)
+  pub rested_within : AllByRecursion (λ (n : ℕ). n ≤ length history) (rest_numbers history)
+  pub rested_apart : AreApart (λ (n : ℕ). n) (rest_numbers history)
 
 -- what was found is found where more is added
 found_still : {X : Type 0} (p : X → Bool) (xs more : List X) (x : X) → find p xs ≡ Some x → find p (xs ++ more) ≡ Some x
@@ -66,12 +67,12 @@ all_kept policy history orderly =
     zipped (o ∷ os) a b c = ((a.0, b.0, c.0), zipped os a.1 b.1 c.1)
 
 -- the record of a granted Replace ends the order in whose place it puts another
-replaced_has_ended : (o : Order) (r : RecordData) (a : Asked) (m : ReplaceOrder) → granted r ≡ Some a → a.request ≡ Request.Replace m → o.number < r.number
+replaced_has_ended : (o : Order) (r : RecordData) (a : Asked) (m : ReplaceOrder) → granted_of r ≡ Some a → a.request ≡ Request.Replace m → o.number < r.number
     → same_user o.user a.user ≡ true → same_token o.token m.existing_token ≡ true → ends o r ≡ true
 replaced_has_ended o r a m grants asks early his under =
     let user : o.user ≡ a.user = user_is o.user a.user his in
     let token : o.token ≡ m.existing_token = token_is o.token m.existing_token under in
-    ap (λ (b : Bool). b && (expires o.number r.verdict || option_map_or (λ (x : Asked). ends_by_request o x.user x.request) (granted r) false)) (lt-ltb o.number r.number early)
+    ap (λ (b : Bool). b && (expires o.number r.verdict || option_map_or (λ (x : Asked). ends_by_request o x.user x.request) (granted_of r) false)) (lt-ltb o.number r.number early)
     ∙ ap (λ (g : Option Asked). expires o.number r.verdict || option_map_or (λ (x : Asked). ends_by_request o x.user x.request) g false) grants
     ∙ ap (λ (q : Request). expires o.number r.verdict || ends_by_request o a.user q) asks
     ∙ ap (λ (u : UserName). expires o.number r.verdict || (same_user a.user u && same_token m.existing_token o.token)) user
@@ -79,10 +80,6 @@ replaced_has_ended o r a m grants asks early his under =
     ∙ ap (λ (t : Token). expires o.number r.verdict || same_token m.existing_token t) token
     ∙ ap (λ (b : Bool). expires o.number r.verdict || b) (token_is_itself m.existing_token)
     ∙ or_true (expires o.number r.verdict)
-  where
-    or_true : (b : Bool) → (b || true) ≡ true
-    or_true true = refl
-    or_true false = refl
 
 -- the order in whose place another stands is gone
 replaced_is_gone : (policy : PolicyData) (history : List RecordData) (r : RecordData) (o : Order) → IsKept policy history o → ends o r ≡ true → IsGone policy (history ++ r ∷ []) o.number
@@ -93,14 +90,10 @@ replaced_is_gone policy history r o kept ending = record {
       ∙ found_still (λ (x : Order). x.number == o.number) (orders policy history) (orders_added policy (orders policy history) r) o kept.0;
   has_ended = is_dead_next history r o ∙ ap (λ (b : Bool). is_dead history o || b) ending ∙ or_true (is_dead history o);
 }
-  where
-    or_true : (b : Bool) → (b || true) ≡ true
-    or_true true = refl
-    or_true false = refl
 
 pub what_it_adds : (policy : PolicyData) (history : List RecordData) (r : RecordData) → IsOrderly policy history → r.number ≡ length history + 1
     → (orders_added policy (orders policy history) r ≡ []) ⊎ AddsOrder policy history r
-what_it_adds policy history r orderly place = by_grant (granted r) refl
+what_it_adds policy history r orderly place = by_grant (granted_of r) refl
   where
     known : List Order
     known = orders policy history
@@ -108,16 +101,16 @@ what_it_adds policy history r orderly place = by_grant (granted r) refl
     adds : List Order → Type 0
     adds os = (orders_added policy known r ≡ os)
 
-    by_replace : (a : Asked) (m : ReplaceOrder) → granted r ≡ Some a → a.request ≡ Request.Replace m → (found : Option Order) → order_under known a.user m.existing_token ≡ found
-        → orders_added policy known r ≡ option_map_or (λ (o : Order). replacing r m o ∷ []) found [] → (orders_added policy known r ≡ []) ⊎ AddsOrder policy history r
+    by_replace : (a : Asked) (m : ReplaceOrder) → granted_of r ≡ Some a → a.request ≡ Request.Replace m → (found : Option Order) → order_under known a.user m.existing_token ≡ found
+        → orders_added policy known r ≡ option_map_or (λ (o : Order). order_replacing r m o ∷ []) found [] → (orders_added policy known r ≡ []) ⊎ AddsOrder policy history r
     by_replace a m g asks None e same = inl same
     by_replace a m g asks (Some o) e same =
         let is_his : Order → Bool = λ (x : Order). same_user x.user a.user && same_token x.token m.existing_token in
         let kept : IsKept policy history o = last_such_is (IsKept policy history) is_his known o (all_kept policy history orderly) e in
-        let passes : (same_user o.user a.user ≡ true) × (same_token o.token m.existing_token ≡ true) = both (same_user o.user a.user) (same_token o.token m.existing_token) (found_passes is_his known o e) in
+        let passes : (same_user o.user a.user ≡ true) × (same_token o.token m.existing_token ≡ true) = and_parts (same_user o.user a.user) (same_token o.token m.existing_token) (found_passes is_his known o e) in
         let early : o.number < r.number = sooner o.number kept.2 in
         inr (record {
-          order = replacing r m o;
+          order = order_replacing r m o;
           adds = same;
           has_number = refl;
           has_gone = (
@@ -130,11 +123,11 @@ what_it_adds policy history r orderly place = by_grant (granted r) refl
         sooner n h = omega arith
 
     by_enter : (a : Asked) (m : EnterOrder) → (found : Option AccountName)
-        → orders_added policy known r ≡ option_map_or (λ (account : AccountName). entered policy r a.user account m ∷ []) found [] → (orders_added policy known r ≡ []) ⊎ AddsOrder policy history r
+        → orders_added policy known r ≡ option_map_or (λ (account : AccountName). order_entered policy r a.user account m ∷ []) found [] → (orders_added policy known r ≡ []) ⊎ AddsOrder policy history r
     by_enter a m None same = inl same
-    by_enter a m (Some account) same = inr (record { order = entered policy r a.user account m; adds = same; has_number = refl; has_gone = tt })
+    by_enter a m (Some account) same = inr (record { order = order_entered policy r a.user account m; adds = same; has_number = refl; has_gone = tt })
 
-    by_request : (a : Asked) → granted r ≡ Some a → (q : Request) → a.request ≡ q → orders_added policy known r ≡ orders_made policy known r a.user q
+    by_request : (a : Asked) → granted_of r ≡ Some a → (q : Request) → a.request ≡ q → orders_added policy known r ≡ orders_made policy known r a.user q
         → (orders_added policy known r ≡ []) ⊎ AddsOrder policy history r
     by_request a g (Request.Login m) asks same = inl same
     by_request a g Request.Logout asks same = inl same
@@ -144,7 +137,7 @@ what_it_adds policy history r orderly place = by_grant (granted r) refl
     by_request a g (Request.Cancel m) asks same = inl same
     by_request a g (Request.Command c) asks same = inl same
 
-    by_grant : (found : Option Asked) → granted r ≡ found → (orders_added policy known r ≡ []) ⊎ AddsOrder policy history r
+    by_grant : (found : Option Asked) → granted_of r ≡ found → (orders_added policy known r ≡ []) ⊎ AddsOrder policy history r
     by_grant None g = inl (ap (λ (x : Option Asked). option_map_or (λ (a : Asked). orders_made policy known r a.user a.request) x []) g)
     by_grant (Some a) g = by_request a g a.request refl (ap (λ (x : Option Asked). option_map_or (λ (y : Asked). orders_made policy known r y.user y.request) x []) g)
 
@@ -200,27 +193,23 @@ orders_after policy history r orderly place = by (what_it_adds policy history r 
 
 -- those that wait have not come to rest, and have an order's number
 abbrev pub WaitsWithin : List RecordData → LiveOrder → Type 0
-WaitsWithin history o = (has_come (rested history) o.number ≡ false) × (o.number ≤ length history)
+WaitsWithin history o = (has_come (rest_numbers history) o.number ≡ false) × (o.number ≤ length history)
 
 pub waiting_within : (policy : PolicyData) (history : List RecordData) → AllByRecursion (λ (o : Order). o.number ≤ length history) (orders policy history)
     → AllByRecursion (WaitsWithin history) (waiting policy history)
 unfolding waiting live
 waiting_within policy history within =
-    all_weaker (λ (o : LiveOrder). (o.waits ≡ true) × ((o.number ≤ length history) × (o.waits ≡ not (has_come (rested history) o.number)))) (WaitsWithin history) (λ o h. (was_false (has_come (rested history) o.number) (sym h.1.1 ∙ h.0), h.1.0)) (waiting policy history)
-    (all_and (λ (o : LiveOrder). o.waits ≡ true) (λ (o : LiveOrder). (o.number ≤ length history) × (o.waits ≡ not (has_come (rested history) o.number))) (waiting policy history)
+    all_weaker (λ (o : LiveOrder). (o.waits ≡ true) × ((o.number ≤ length history) × (o.waits ≡ not (has_come (rest_numbers history) o.number)))) (WaitsWithin history) (λ o h. (not-true (has_come (rest_numbers history) o.number) (sym h.1.1 ∙ h.0), h.1.0)) (waiting policy history)
+    (all_and (λ (o : LiveOrder). o.waits ≡ true) (λ (o : LiveOrder). (o.number ≤ length history) × (o.waits ≡ not (has_come (rest_numbers history) o.number))) (waiting policy history)
     (all_pass (λ (o : LiveOrder). o.waits) (live policy history))
-    (filtered (λ (o : LiveOrder). (o.number ≤ length history) × (o.waits ≡ not (has_come (rested history) o.number))) (λ (o : LiveOrder). o.waits) (live policy history)
-    (all_found_of (λ (x : Order). x.number ≤ length history) (λ (o : LiveOrder). (o.number ≤ length history) × (o.waits ≡ not (has_come (rested history) o.number))) (open_now (executions policy history) history)
-    (λ x o small h. subst (λ (y : LiveOrder). (y.number ≤ length history) × (y.waits ≡ not (has_come (rested history) y.number)))
-    (open_parts x (is_dead history x) (total history x) (done (executions policy history) x) (not (has_come (rested history) x.number)) o h).2 (small, refl)) (orders policy history) within)))
-  where
-    was_false : (b : Bool) → not b ≡ true → b ≡ false
-    was_false true h = cc
-    was_false false h = refl
+    (filtered (λ (o : LiveOrder). (o.number ≤ length history) × (o.waits ≡ not (has_come (rest_numbers history) o.number))) (λ (o : LiveOrder). o.waits) (live policy history)
+    (all_found_of (λ (x : Order). x.number ≤ length history) (λ (o : LiveOrder). (o.number ≤ length history) × (o.waits ≡ not (has_come (rest_numbers history) o.number))) (open_now (executions policy history) history)
+    (λ x o small h. subst (λ (y : LiveOrder). (y.number ≤ length history) × (y.waits ≡ not (has_come (rest_numbers history) y.number)))
+    (open_parts x (is_dead history x) (total history x) (done (executions policy history) x) (not (has_come (rest_numbers history) x.number)) o h).2 (small, refl)) (orders policy history) within)))
 
 -- the order that comes to rest, if one does
 pub record NewRest (history : List RecordData) (number : ℕ) : Type 0 where
-  pub has_not : list_any (λ n. n == number) (rested history) ≡ false
+  pub has_not : list_any (λ n. n == number) (rest_numbers history) ≡ false
   pub within : number ≤ length history
 
 new_rest : (policy : PolicyData) (history : List RecordData) (r : RecordData) (number : ℕ) → IsOrderly policy history → next policy history r.step ≡ Some r → r.verdict ≡ Verdict.Rested number → NewRest history number
@@ -235,14 +224,14 @@ new_rest policy history r number orderly left rests = by_step r.step refl
         let may : MayRest (world policy history) r number = may_match policy history handed r (Verdict.Rested number) (ap (next policy history) (sym asks) ∙ left) rests in
         let his : WaitsWithin history may.first = (subst (AllByRecursion (WaitsWithin history)) may.comes_first (waiting_within policy history orderly.within)).0 in
         record {
-          has_not = ap (λ (k : ℕ). list_any (λ n. n == k) (rested history)) may.has_number ∙ his.0;
+          has_not = ap (λ (k : ℕ). list_any (λ n. n == k) (rest_numbers history)) may.has_number ∙ his.0;
           within = subst (λ (k : ℕ). k ≤ length history) (sym may.has_number) his.1;
         }
 
 -- the rests after the record: of earlier orders, and apart
 pub record RestsAreOrderly (history now : List RecordData) : Type 0 where
-  pub within : AllByRecursion (λ (n : ℕ). n ≤ length history) (rested now)
-  pub apart : AreApart (λ (n : ℕ). n) (rested now)
+  pub within : AllByRecursion (λ (n : ℕ). n ≤ length history) (rest_numbers now)
+  pub apart : AreApart (λ (n : ℕ). n) (rest_numbers now)
 
 pub rests_after : (policy : PolicyData) (history : List RecordData) (r : RecordData) → IsOrderly policy history → next policy history r.step ≡ Some r → RestsAreOrderly history (history ++ r ∷ [])
 rests_after policy history r orderly left = by_verdict r.verdict refl
@@ -250,14 +239,14 @@ rests_after policy history r orderly left = by_verdict r.verdict refl
     now : List RecordData
     now = history ++ r ∷ []
 
-    of_list : (ns : List ℕ) → rested now ≡ ns → AllByRecursion (λ (n : ℕ). n ≤ length history) ns → AreApart (λ (n : ℕ). n) ns → RestsAreOrderly history now
+    of_list : (ns : List ℕ) → rest_numbers now ≡ ns → AllByRecursion (λ (n : ℕ). n ≤ length history) ns → AreApart (λ (n : ℕ). n) ns → RestsAreOrderly history now
     of_list ns e a b = record {
       within = subst (λ (xs : List ℕ). AllByRecursion (λ (n : ℕ). n ≤ length history) xs) (sym e) a;
       apart = subst (λ (xs : List ℕ). AreApart (λ (n : ℕ). n) xs) (sym e) b;
     }
 
     none : rested_of r.verdict ≡ None → RestsAreOrderly history now
-    none e = of_list (rested history) (rested_next history r ∙ ap (λ (found : Option ℕ). rested history ++ option_to_list found) e ∙ append-nil (rested history)) orderly.rested_within orderly.rested_apart
+    none e = of_list (rest_numbers history) (rested_next history r ∙ ap (λ (found : Option ℕ). rest_numbers history ++ option_to_list found) e ∙ append-nil (rest_numbers history)) orderly.rested_within orderly.rested_apart
 
     apart_from : (k : ℕ) (ns : List ℕ) → list_any (λ n. n == k) ns ≡ false → AllByRecursion (λ (n : ℕ). n ≡ k → ⊥) ns
     apart_from k [] h = tt
@@ -278,9 +267,9 @@ rests_after policy history r orderly left = by_verdict r.verdict refl
     by_verdict (Verdict.Expired n) e = none (ap rested_of e)
     by_verdict (Verdict.Rested n) e =
         let new : NewRest history n = new_rest policy history r n orderly left e in
-        of_list (rested history ++ n ∷ []) (rested_next history r ∙ ap (λ (found : Option ℕ). rested history ++ option_to_list found) (ap rested_of e))
-        (all_both (λ (k : ℕ). k ≤ length history) (rested history) (n ∷ []) orderly.rested_within (new.within, tt))
-        (apart_next (λ (k : ℕ). k) (rested history) n orderly.rested_apart (apart_from n (rested history) new.has_not))
+        of_list (rest_numbers history ++ n ∷ []) (rested_next history r ∙ ap (λ (found : Option ℕ). rest_numbers history ++ option_to_list found) (ap rested_of e))
+        (all_both (λ (k : ℕ). k ≤ length history) (rest_numbers history) (n ∷ []) orderly.rested_within (new.within, tt))
+        (apart_next (λ (k : ℕ). k) (rest_numbers history) n orderly.rested_apart (apart_from n (rest_numbers history) new.has_not))
 
 pub orderly_none : (policy : PolicyData) → IsOrderly policy []
 orderly_none policy = record {
@@ -301,7 +290,7 @@ orderly_next policy history r orderly left =
       within = those.within;
       apart = those.apart;
       gone = those.gone;
-      rested_within = all_weaker (λ (n : ℕ). n ≤ length history) (λ (n : ℕ). n ≤ length (history ++ r ∷ [])) (λ n h. omega arith) (rested (history ++ r ∷ [])) rests.within;
+      rested_within = all_weaker (λ (n : ℕ). n ≤ length history) (λ (n : ℕ). n ≤ length (history ++ r ∷ [])) (λ n h. omega arith) (rest_numbers (history ++ r ∷ [])) rests.within;
       rested_apart = rests.apart;
     }
 

@@ -3,7 +3,7 @@ use Rattle.std.proofs.{Common.{◌≡◌, Bool, true, false, List, [], ◌∷◌
 use Rattle.std.specs.{Prelude.{Option, Some, None, fold, ◌&&◌}, Option.option_map_or, List.{AllByRecursion, filter, last_or}}
 use Rattle.gx_units.specs.{Names.{same_user, same_token}, declared.names.{AccountName.AccountName, UserName.UserName}}
 use Rattle.gx_ouch.specs.declared.inbound.{EnterOrder.EnterOrder, ReplaceOrder.ReplaceOrder}
-use Rattle.gx_history.specs.{declared.record.{Asked.Asked, RecordData.RecordData, Request.Request}, Requests.granted, Orders.{Order, orders, orders_with, orders_added, orders_made, order_under, entered, replacing}}
+use Rattle.gx_history.specs.{declared.record.{Asked.Asked, RecordData.RecordData, Request.Request}, Requests.granted_of, Orders.{Order, orders, orders_with, orders_added, orders_made, order_under, order_entered, order_replacing}}
 use Rattle.gx_policy.specs.{declared.policy.PolicyData.PolicyData, Lists.last_such, People.account_of}
 use Rattle.gx_laws.proofs.Order.{some_same}
 
@@ -35,12 +35,12 @@ abbrev pub IsHisAccounts : PolicyData → Order → Type 0
 IsHisAccounts policy o = account_of policy o.user ≡ Some o.account
 
 enter_is : (policy : PolicyData) (r : RecordData) (user : UserName) (m : EnterOrder) (found : Option AccountName) → account_of policy user ≡ found
-    → AllByRecursion (IsHisAccounts policy) (option_map_or (λ account. entered policy r user account m ∷ []) found [])
+    → AllByRecursion (IsHisAccounts policy) (option_map_or (λ account. order_entered policy r user account m ∷ []) found [])
 enter_is policy r user m None e = tt
 enter_is policy r user m (Some account) e = (e, tt)
 
 replace_is : (policy : PolicyData) (known : List Order) (r : RecordData) (user : UserName) (m : ReplaceOrder) (found : Option Order) → order_under known user m.existing_token ≡ found
-    → AllByRecursion (IsHisAccounts policy) known → AllByRecursion (IsHisAccounts policy) (option_map_or (λ o. replacing r m o ∷ []) found [])
+    → AllByRecursion (IsHisAccounts policy) known → AllByRecursion (IsHisAccounts policy) (option_map_or (λ o. order_replacing r m o ∷ []) found [])
 replace_is policy known r user m None e h = tt
 replace_is policy known r user m (Some o) e h =
     (last_such_is (IsHisAccounts policy) (λ (x : Order). same_user x.user user && same_token x.token m.existing_token) known o h e, tt)
@@ -65,7 +65,7 @@ all_orders_are : (policy : PolicyData) (known : List Order) (history : List Reco
 all_orders_are policy known [] h = h
 all_orders_are policy known (r ∷ history) h =
     all_orders_are policy (known ++ orders_added policy known r) history
-    (all_both (IsHisAccounts policy) known (orders_added policy known r) h (added_is policy known r (granted r) h))
+    (all_both (IsHisAccounts policy) known (orders_added policy known r) h (added_is policy known r (granted_of r) h))
 
 pub orders_are_their_users : (policy : PolicyData) (history : List RecordData) → AllByRecursion (IsHisAccounts policy) (orders policy history)
 unfolding orders

@@ -2,7 +2,7 @@
 use Rattle.std.proofs.{Common.{◌≡◌, ℕ, Bool, true, false, not, List, [], ◌∷◌, ◌++◌, refl, ◌∙◌, ap, sym, cond, fold, append_assoc}, lemmas.{Bool.eqb-true, List.append-nil}}
 use Rattle.std.specs.{Prelude.nat_lt, List.{filter, AllByRecursion}}
 use Rattle.gx_units.specs.declared.names.Symbol.{Symbol}
-use Rattle.gx_policy.specs.{declared.policy.PolicyData.PolicyData, Lists.placed}
+use Rattle.gx_policy.specs.{declared.policy.PolicyData.PolicyData, Lists.inserted_behind}
 use Rattle.gx_history.specs.{declared.{live_order.LiveOrder.LiveOrder, «record».RecordData.RecordData}, Live.{by_time, has_price, ahead, side}}
 use Rattle.gx_laws.proofs.{Adding.all_pass, Ordered.not_ahead_of_itself, Priority.in_order_filter, Sides.prices_rank}
 
@@ -26,7 +26,7 @@ none_kept buy price x [] h k = refl
 none_kept buy price x (y ∷ ys) h k =
     ap (λ (b : Bool). cond b (y ∷ filter (ahead buy x) ys) (filter (ahead buy x) ys)) (none_ahead buy price x y h k.0) ∙ none_kept buy price x ys h k.1
 
-goes_last : (buy : Bool) (price : ℕ) (x : LiveOrder) (earlier : List LiveOrder) → HasPrice price x → AllByRecursion (HasPrice price) earlier → placed (ahead buy) earlier x ≡ earlier ++ x ∷ []
+goes_last : (buy : Bool) (price : ℕ) (x : LiveOrder) (earlier : List LiveOrder) → HasPrice price x → AllByRecursion (HasPrice price) earlier → inserted_behind (ahead buy) earlier x ≡ earlier ++ x ∷ []
 goes_last buy price x earlier h k =
     ap (λ (zs : List LiveOrder). zs ++ x ∷ filter (ahead buy x) earlier) (all_kept buy price x earlier h k) ∙ ap (λ (zs : List LiveOrder). earlier ++ x ∷ zs) (none_kept buy price x earlier h k)
 
@@ -34,10 +34,10 @@ one_more : (price : ℕ) (xs : List LiveOrder) (x : LiveOrder) → AllByRecursio
 one_more price [] x h k = (k, tt)
 one_more price (y ∷ ys) x h k = (h.0, one_more price ys x h.1 k)
 
-in_turn : (buy : Bool) (price : ℕ) (earlier xs : List LiveOrder) → AllByRecursion (HasPrice price) earlier → AllByRecursion (HasPrice price) xs → fold (placed (ahead buy)) earlier xs ≡ earlier ++ xs
+in_turn : (buy : Bool) (price : ℕ) (earlier xs : List LiveOrder) → AllByRecursion (HasPrice price) earlier → AllByRecursion (HasPrice price) xs → fold (inserted_behind (ahead buy)) earlier xs ≡ earlier ++ xs
 in_turn buy price earlier [] h k = sym (append-nil earlier)
 in_turn buy price earlier (x ∷ xs) h k =
-    ap (λ (zs : List LiveOrder). fold (placed (ahead buy)) zs xs) (goes_last buy price x earlier k.0 h)
+    ap (λ (zs : List LiveOrder). fold (inserted_behind (ahead buy)) zs xs) (goes_last buy price x earlier k.0 h)
     ∙ in_turn buy price (earlier ++ x ∷ []) xs (one_more price earlier x h k.0) k.1
     ∙ append_assoc earlier (x ∷ []) xs
 

@@ -1,7 +1,7 @@
 -- What a filter leaves of a list in the order of prices is the order of what the filter leaves.
-use Rattle.std.proofs.{Common.{◌≡◌, ℕ, ◌<◌, ◌≤◌, Bool, true, false, not, List, [], ◌∷◌, ◌++◌, refl, ◌∙◌, ap, sym, cond, arith, append_assoc, fold}, lemmas.{Bool.{lt-ltb, le-ltb, ltb-true, ltb-false}, List.{append-nil, Elements.filter-append}}}
+use Rattle.std.proofs.{Common.{◌≡◌, ℕ, ◌<◌, ◌≤◌, Bool, true, false, not, List, [], ◌∷◌, ◌++◌, refl, ◌∙◌, ap, sym, cond, arith, append_assoc, fold}, lemmas.{Bool.{lt-ltb, le-ltb, ltb-true, ltb-false, not-true}, List.{Elements.filter-append, append-nil}}}
 use Rattle.std.specs.{Prelude.nat_lt, List.filter}
-use Rattle.gx_policy.specs.Lists.{placed, in_order}
+use Rattle.gx_policy.specs.Lists.{inserted_behind, in_order}
 use Rattle.gx_laws.proofs.Placing.{filter_swap, placed_filter}
 
 -- being better goes on, and so does being no better
@@ -37,12 +37,8 @@ parted_filter {X} better p xs parted x =
     ∙ sym (filter-append p (filter (λ y. not (better x y)) xs) (filter (better x) xs))
     ∙ ap (filter p) (parted x)
 
-not_true : (b : Bool) → not b ≡ true → b ≡ false
-not_true true h = cc
-not_true false h = refl
-
 -- and so is such a list with one more in its place
-pub placed_parted : {X : Type 0} (better : X → X → Bool) → IsRanking better → (xs : List X) (z : X) → IsParted better xs → IsParted better (placed better xs z)
+pub placed_parted : {X : Type 0} (better : X → X → Bool) → IsRanking better → (xs : List X) (z : X) → IsParted better xs → IsParted better (inserted_behind better xs z)
 placed_parted {X} better ranks xs z parted x =
     ap (λ (ys : List X). ys ++ filter (better x) (ahead ++ z ∷ behind)) (filter-append no_worse ahead (z ∷ behind))
     ∙ ap (λ (ys : List X). (filter no_worse ahead ++ filter no_worse (z ∷ behind)) ++ ys) (filter-append (better x) ahead (z ∷ behind))
@@ -69,24 +65,24 @@ placed_parted {X} better ranks xs z parted x =
         ∙ ap (λ (ys : List X). ys ++ z ∷ behind) (parted_filter better (λ y. not (better z y)) xs parted x)
     at false e =
         ap (λ (ys : List X). (ys ++ z ∷ filter no_worse behind) ++ (filter (better x) ahead ++ filter (better x) behind))
-        (filter_keeps (λ y. not (better z y)) no_worse (λ y k. ap not (ranks.stays_behind x z y e (not_true (better z y) k))) xs)
+        (filter_keeps (λ y. not (better z y)) no_worse (λ y k. ap not (ranks.stays_behind x z y e (not-true (better z y) k))) xs)
         ∙ ap (λ (ys : List X). (ahead ++ z ∷ filter no_worse behind) ++ (ys ++ filter (better x) behind))
-        (filter_drops (λ y. not (better z y)) (better x) (λ y k. ranks.stays_behind x z y e (not_true (better z y) k)) xs)
+        (filter_drops (λ y. not (better z y)) (better x) (λ y k. ranks.stays_behind x z y e (not-true (better z y) k)) xs)
         ∙ append_assoc ahead (z ∷ filter no_worse behind) (filter (better x) behind)
         ∙ ap (λ (ys : List X). ahead ++ z ∷ ys) (parted_filter better (better z) xs parted x)
 
 filter_places : {X : Type 0} (better : X → X → Bool) → IsRanking better → (q : X → Bool) (earlier xs : List X) → IsParted better earlier
-    → fold (placed better) (filter q earlier) (filter q xs) ≡ filter q (fold (placed better) earlier xs)
+    → fold (inserted_behind better) (filter q earlier) (filter q xs) ≡ filter q (fold (inserted_behind better) earlier xs)
 filter_places better ranks q earlier [] parted = refl
 filter_places {X} better ranks q earlier (x ∷ xs) parted =
-    at (q x) (placed_filter better q earlier x) ∙ filter_places better ranks q (placed better earlier x) xs (placed_parted better ranks earlier x parted)
+    at (q x) (placed_filter better q earlier x) ∙ filter_places better ranks q (inserted_behind better earlier x) xs (placed_parted better ranks earlier x parted)
   where
     at : (b : Bool)
-        → filter q (placed better earlier x) ≡ cond b (placed better (filter q earlier) x) (filter q (filter (λ y. not (better x y)) earlier) ++ filter q (filter (better x) earlier))
-        → fold (placed better) (filter q earlier) (cond b (x ∷ filter q xs) (filter q xs)) ≡ fold (placed better) (filter q (placed better earlier x)) (filter q xs)
-    at true e = ap (λ (ys : List X). fold (placed better) ys (filter q xs)) (sym e)
+        → filter q (inserted_behind better earlier x) ≡ cond b (inserted_behind better (filter q earlier) x) (filter q (filter (λ y. not (better x y)) earlier) ++ filter q (filter (better x) earlier))
+        → fold (inserted_behind better) (filter q earlier) (cond b (x ∷ filter q xs) (filter q xs)) ≡ fold (inserted_behind better) (filter q (inserted_behind better earlier x)) (filter q xs)
+    at true e = ap (λ (ys : List X). fold (inserted_behind better) ys (filter q xs)) (sym e)
     at false e =
-        ap (λ (ys : List X). fold (placed better) ys (filter q xs))
+        ap (λ (ys : List X). fold (inserted_behind better) ys (filter q xs))
         (sym (e ∙ sym (filter-append q (filter (λ y. not (better x y)) earlier) (filter (better x) earlier)) ∙ ap (filter q) (parted x)))
 
 -- a filter leaves the others in their order

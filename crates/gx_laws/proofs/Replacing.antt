@@ -1,10 +1,10 @@
 -- A granted Replace asks for more than its chain has executed, and its own record neither ends nor sizes the order that it makes; the size that a Cancel sets.
-use Rattle.std.proofs.{Common.{◌≡◌, ℕ, ◌+◌, ◌<◌, ◌≤◌, Bool, true, false, not, List, [], ◌∷◌, refl, ◌∙◌, ap, sym, length, arith}, lemmas.Bool.{le-ltb, leb-false}}
+use Rattle.std.proofs.{Common.{◌≡◌, ℕ, ◌+◌, ◌<◌, ◌≤◌, Bool, true, false, not, List, [], ◌∷◌, refl, ◌∙◌, ap, sym, length, arith}, lemmas.Bool.{le-ltb, leb-false, and_left}}
 use Rattle.std.specs.{Prelude.{Option, Some, None, ◌&&◌, ◌==◌, nat_lt, nat_le, option_map}, Option.option_map_or}
 use Rattle.gx_ouch.specs.declared.inbound.{CancelOrder.CancelOrder, ReplaceOrder.ReplaceOrder}
 use Rattle.gx_policy.specs.{declared.{policy.PolicyData.PolicyData, rule_name.RuleName.TheVariants.P12}, Lists.where_true}
-use Rattle.gx_history.specs.{declared.{facts.ProposedOrder.ProposedOrder, live_order.LiveOrder.LiveOrder, «record».{Asked.Asked, RecordData.RecordData, Request.Request, Step.Step, Verdict.Verdict}}, Executions.{Execution, done, executed, executions}, Live.{live, live_under}, Orders.{Order, orders, orders_made, replacing, ends, size_set}, Rules.forbids, Verdicts.{next, facts_now, IsLegal}}
-use Rattle.gx_laws.proofs.{Granting.is_no_bar, Legality.done_of_replacement, Numbers.all_weaker, NamedOrders.named_is, Naming.{IsToldApart, FindsOne, is_under_swapped}, NewOrders.{none_executed, fills_are_within, and_late, none_late}, OrderRequests.{Grants, size_by}}
+use Rattle.gx_history.specs.{declared.{facts.ProposedOrder.ProposedOrder, live_order.LiveOrder.LiveOrder, «record».{Asked.Asked, RecordData.RecordData, Request.Request, Step.Step, Verdict.Verdict}}, Executions.{Execution, done, executed_shares, executions}, Live.{live, live_under}, Orders.{Order, orders, orders_made, order_replacing, ends, size_set}, Rules.forbids, Verdicts.{next, facts_now, IsLegal}}
+use Rattle.gx_laws.proofs.{Granting.is_no_bar, Legality.done_of_replacement, Numbers.all_weaker, NamedOrders.named_is, Naming.{IsToldApart, FindsOne, is_under_swapped}, NewOrders.{none_executed, fills_are_within, none_late}, OrderRequests.{Grants, size_by}}
 
 -- the order that a Replace proposes
 abbrev proposed_by : ReplaceOrder → LiveOrder → ProposedOrder
@@ -39,25 +39,25 @@ never_before : (n : ℕ) → nat_lt n n ≡ false
 never_before n = le-ltb n n (omega arith)
 
 pub ends_not_itself : (o : Order) (r : RecordData) → o.number ≡ r.number → ends o r ≡ false
-ends_not_itself o r e = and_late (nat_lt o.number r.number) _ (ap (λ (n : ℕ). nat_lt n r.number) e ∙ never_before r.number)
+ends_not_itself o r e = and_left (nat_lt o.number r.number) _ (ap (λ (n : ℕ). nat_lt n r.number) e ∙ never_before r.number)
 
 pub sizes_not_itself : (o : Order) (r : RecordData) → o.number ≡ r.number → size_set o r ≡ None
 sizes_not_itself o r e = none_late (nat_lt o.number r.number) _ (ap (λ (n : ℕ). nat_lt n r.number) e ∙ never_before r.number)
 
 pub done_before : (policy : PolicyData) (history : List RecordData) (r : RecordData) (m : ReplaceOrder) (o : Order) → IsLegal policy history → r.number ≡ length history + 1
-    → done (executions policy history) (replacing r m o) ≡ done (executions policy history) o
-unfolding executed
+    → done (executions policy history) (order_replacing r m o) ≡ done (executions policy history) o
+unfolding executed_shares
 done_before policy history r m o legal place =
-    let whole : done (executions policy history) (replacing r m o) ≡ executed (executions policy history) r.number + done (executions policy history) o =
-    done_of_replacement (executions policy history) (replacing r m o) o refl in
-    let none : executed (executions policy history) r.number ≡ 0 =
+    let whole : done (executions policy history) (order_replacing r m o) ≡ executed_shares (executions policy history) r.number + done (executions policy history) o =
+    done_of_replacement (executions policy history) (order_replacing r m o) o refl in
+    let none : executed_shares (executions policy history) r.number ≡ 0 =
     none_executed (executions policy history) r.number
     (all_weaker (λ (e : Execution). e.order.number ≤ length history) (λ (e : Execution). e.order.number < r.number) (λ e h. omega arith) (executions policy history) (fills_are_within policy history legal)) in
     omega arith
 
 pub made : (policy : PolicyData) (history : List RecordData) (r : RecordData) (a : Asked) (m : ReplaceOrder) (s : LiveOrder) → (one : FindsOne policy history a.user m.existing_token s)
-    → orders_made policy (orders policy history) r a.user (Request.Replace m) ≡ replacing r m one.known.order ∷ []
-made policy history r a m s one = ap (λ (found : Option Order). option_map_or (λ (o : Order). replacing r m o ∷ []) found []) one.is_last
+    → orders_made policy (orders policy history) r a.user (Request.Replace m) ≡ order_replacing r m one.known.order ∷ []
+made policy history r a m s one = ap (λ (found : Option Order). option_map_or (λ (o : Order). order_replacing r m o ∷ []) found []) one.is_last
 
 -- the size that it sets
 pub size_of : (r : RecordData) (a : Asked) (m : CancelOrder) (o x : Order) → Grants r a (Request.Cancel m) → nat_lt x.number r.number ≡ true → IsToldApart a.user m.token o x

@@ -1,15 +1,12 @@
 -- What is known of each live order, by its number alone.
-use Rattle.std.proofs.{Common.{◌≡◌, ℕ, Bool, true, false, not, List, ◌∷◌, refl, ◌∙◌, ap, sym, cond}, Math.Path.subst}
+use Rattle.std.proofs.{Common.{◌≡◌, ℕ, Bool, true, false, not, List, ◌∷◌, refl, ◌∙◌, ap, sym, cond}, Math.Path.subst, lemmas.Bool.both_ways}
 use Rattle.std.specs.{Prelude.{Some, None, ◌&&◌, is_some, nat_lt}, List.{AllByRecursion, filter}}
 use Rattle.gx_policy.specs.{declared.policy.PolicyData.PolicyData, People.stock_named}
-use Rattle.gx_history.specs.{declared.{live_order.LiveOrder.LiveOrder, «record».RecordData.RecordData}, Book.rested, Executions.{done, executions}, Live.{has_come, live, live_numbered, open_now, open_order, waiting}, Orders.{Order, is_dead, orders, total}, Verdicts.IsLegal}
+use Rattle.gx_history.specs.{declared.{live_order.LiveOrder.LiveOrder, «record».RecordData.RecordData}, Book.rest_numbers, Executions.{done, executions}, Live.{has_come, live, live_numbered, open_now, open_order, waiting}, Orders.{Order, is_dead, orders, total}, Verdicts.IsLegal}
 use Rattle.gx_laws.proofs.{Adding.all_pass, Listed.{IsListed, orders_are_listed}, Numbers.all_weaker, Order.some_same, Owners.filtered, Among.all_and, Apart.apart_are_found, Entered.all_found_of, Known.live_apart, Orderly.legal_is_orderly}
 
-clash : {b : Bool} → b ≡ true → b ≡ false → ⊥
-clash h k = cc
-
 -- what holds of all orders holds of the live ones, each of which waits until it comes to rest
-pub of_live : (policy : PolicyData) (history : List RecordData) (P : Order → Type 0) (Q : LiveOrder → Type 0) → ((o : Order) (size gone : ℕ) → P o → Q (open_order o size gone (not (has_come (rested history) o.number))))
+pub of_live : (policy : PolicyData) (history : List RecordData) (P : Order → Type 0) (Q : LiveOrder → Type 0) → ((o : Order) (size gone : ℕ) → P o → Q (open_order o size gone (not (has_come (rest_numbers history) o.number))))
     → AllByRecursion P (orders policy history) → AllByRecursion Q (live policy history)
 unfolding live
 of_live policy history P Q as_live = all_found_of P Q (open_now (executions policy history) history) by (orders policy history)
@@ -22,11 +19,11 @@ of_live policy history P Q as_live = all_found_of P Q (open_now (executions poli
     by o x h e =
         let size : ℕ = total history o in
         let gone : ℕ = done (executions policy history) o in
-        at (not (is_dead history o) && nat_lt gone size) (open_order o size gone (not (has_come (rested history) o.number))) x (as_live o size gone h) e
+        at (not (is_dead history o) && nat_lt gone size) (open_order o size gone (not (has_come (rest_numbers history) o.number))) x (as_live o size gone h) e
 
 -- it waits until it comes to rest, and is in a stock of the policy
 abbrev IsMade : PolicyData → List RecordData → LiveOrder → Type 0
-IsMade policy history o = (o.waits ≡ not (has_come (rested history) o.number)) × (is_some (stock_named policy o.terms.stock) ≡ true)
+IsMade policy history o = (o.waits ≡ not (has_come (rest_numbers history) o.number)) × (is_some (stock_named policy o.terms.stock) ≡ true)
 
 all_made : (policy : PolicyData) (history : List RecordData) → IsLegal policy history → AllByRecursion (IsMade policy history) (live policy history)
 all_made policy history legal = of_live policy history (IsListed policy) (IsMade policy history) (λ o size gone listed. (refl, listed)) (orders_are_listed policy history legal)
@@ -34,7 +31,7 @@ all_made policy history legal = of_live policy history (IsListed policy) (IsMade
 -- a live order, found under its number
 pub record IsLiving (policy : PolicyData) (history : List RecordData) (o : LiveOrder) : Type 0 where
   pub found : live_numbered (live policy history) o.number ≡ Some o
-  pub waits : o.waits ≡ not (has_come (rested history) o.number)
+  pub waits : o.waits ≡ not (has_come (rest_numbers history) o.number)
   pub listed : is_some (stock_named policy o.terms.stock) ≡ true
 
 pub all_living : (policy : PolicyData) (history : List RecordData) → IsLegal policy history → AllByRecursion (IsLiving policy history) (live policy history)
@@ -63,4 +60,4 @@ pub does_not_rest : (policy : PolicyData) (history : List RecordData) (first : L
     → (o : LiveOrder) → live_numbered (live policy history) o.number ≡ Some o → o.waits ≡ false → o.number ≡ first.number → ⊥
 does_not_rest policy history first others legal e o found rests same =
     let lives : IsLiving policy history first × (first.waits ≡ true) = first_lives policy history first others legal e in
-    clash (ap (λ (x : LiveOrder). x.waits) (same_order policy history first o lives.0.found found same) ∙ lives.1) rests
+    both_ways _ rests (ap (λ (x : LiveOrder). x.waits) (same_order policy history first o lives.0.found found same) ∙ lives.1)

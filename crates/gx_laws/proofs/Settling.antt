@@ -1,8 +1,8 @@
 -- Matching steps end: each leaves fewer orders that wait or fewer that live.
-use Rattle.std.proofs.{Common.{◌≡◌, ℕ, zero, suc, ◌+◌, ◌<◌, ◌≤◌, Bool, true, false, not, List, [], ◌∷◌, ◌++◌, refl, ◌∙◌, ap, sym, cond, length, arith, append_assoc}, Math.Path.subst, lemmas.{Bool.{eq-eqb, le-ltb, ltb-false, ltb-true}, List.append-nil}}
+use Rattle.std.proofs.{Common.{◌≡◌, ℕ, zero, suc, ◌+◌, ◌<◌, ◌≤◌, Bool, true, false, not, List, [], ◌∷◌, ◌++◌, refl, ◌∙◌, ap, sym, cond, length, arith, append_assoc}, Math.Path.subst, lemmas.{Bool.{eq-eqb, le-ltb, ltb-false, ltb-true, or_left, or_right}, List.append-nil}}
 use Rattle.std.specs.{Prelude.{Option, Some, None, min, ◌==◌, ◌||◌, nat_lt}, List.{AllByRecursion, cons_option, filter, filter_map}}
 use Rattle.gx_policy.specs.declared.policy.PolicyData.{PolicyData}
-use Rattle.gx_history.specs.{declared.{live_order.LiveOrder.LiveOrder, «record».{Fill.Fill, RecordData.RecordData, Step.Step, Verdict.Verdict}}, Live.{waiting, live_numbered, live}, LiveOrders.shares_open, Matching.matching, MayMove.{MayExpire, MayRest}, Settling.{most_matches, settle_on, settled_within, settled, AddsMatches}, Turns.{Turn, becomes, new_in, turned, while_open}, Verdicts.next, World.{turn_by, world}}
+use Rattle.gx_history.specs.{declared.{live_order.LiveOrder.LiveOrder, «record».{Fill.Fill, RecordData.RecordData, Step.Step, Verdict.Verdict}}, Live.{waiting, live_numbered, live}, LiveOrders.shares_open, Matching.matching, MayMove.{MayExpire, MayRest}, Settling.{most_matches, settle_on, settled_within, settled, AddsMatches}, Turns.{Turn, becomes, new_in, live_after, while_open}, Verdicts.next, World.{turn_by, world}}
 use Rattle.gx_history.specs.Turns as turns
 use Rattle.gx_laws.proofs.{Owners.all_both, Runs.{step_left, idle_where_none_waits}, Fills.{IsFill, is_fill}, Live.by_match, Matches.{idle_where_empty, may_match}, Orderly.{IsOrderly, orderly_next}, Sides.{puts_to_rest, waits_rested, waits_turned}}
 
@@ -35,24 +35,16 @@ all_filled f o side all =
     ap (λ (b : Bool). cond b (while_open (record o { done = o.done + f.shares })) (Some o)) side
     ∙ ap (λ (b : Bool). cond b (Some (record o { done = o.done + f.shares })) None) (le-ltb (o.done + f.shares) o.total (omega arith))
 
-first_of : (a b : Bool) → a ≡ true → (a || b) ≡ true
-first_of true b h = refl
-first_of false b h = cc
-
-second_of : (a b : Bool) → b ≡ true → (a || b) ≡ true
-second_of true b h = refl
-second_of false b h = h
-
 -- the lists after a matching step
 live_then : (policy : PolicyData) (history : List RecordData) (handed : ℕ) (r : RecordData) (v : Verdict) → IsOrderly policy history → next policy history (Step.Matching handed) ≡ Some r → r.verdict ≡ v
-    → live policy (history ++ r ∷ []) ≡ turned (turn_by policy (world policy history) r v (Step.Matching handed)) (live policy history)
+    → live policy (history ++ r ∷ []) ≡ live_after (turn_by policy (world policy history) r v (Step.Matching handed)) (live policy history)
 live_then policy history handed r v orderly left e = by_match policy history handed r orderly left v e
 
 waits_then : (policy : PolicyData) (history : List RecordData) (handed : ℕ) (r : RecordData) (v : Verdict) (turn : Turn) → IsOrderly policy history → next policy history (Step.Matching handed) ≡ Some r → r.verdict ≡ v
     → turn_by policy (world policy history) r v (Step.Matching handed) ≡ turn → puts_to_rest turn ≡ false → new_in turn ≡ [] → waiting policy (history ++ r ∷ []) ≡ filter_map (becomes turn) (waiting policy history)
 unfolding waiting
 waits_then policy history handed r v turn orderly left e is goes none =
-    ap (filter (λ (o : LiveOrder). o.waits)) (live_then policy history handed r v orderly left e ∙ ap (λ (x : Turn). turned x (live policy history)) is)
+    ap (filter (λ (o : LiveOrder). o.waits)) (live_then policy history handed r v orderly left e ∙ ap (λ (x : Turn). live_after x (live policy history)) is)
     ∙ waits_turned r turn (live policy history) goes (subst (AllByRecursion (λ (o : LiveOrder). (o.number ≡ r.number) × (o.waits ≡ true))) (sym none) tt)
     ∙ ap (λ (os : List LiveOrder). filter_map (becomes turn) (filter (λ (o : LiveOrder). o.waits) (live policy history)) ++ os) none
     ∙ append-nil (filter_map (becomes turn) (filter (λ (o : LiveOrder). o.waits) (live policy history)))
@@ -94,11 +86,11 @@ fill_leaves_fewer policy history handed r f orderly left e is = at (nat_lt (shar
         let all : shares_open is.may.maker ≤ f.shares = omega arith in
         fewer_of _ _ _ _ few_wait (subst (λ (os : List LiveOrder). length os < length (live policy history)) (sym lives)
         (one_fewer (becomes (turns.Fills f)) (live policy history) is.may.maker.number is.may.maker is.maker_rests.known.is_found
-        (all_filled f is.may.maker (second_of (is.may.maker.number == f.taker) (is.may.maker.number == f.maker) (eq-eqb is.may.maker.number f.maker (sym is.of_maker))) all)))
+        (all_filled f is.may.maker (or_right (is.may.maker.number == f.taker) (is.may.maker.number == f.maker) (eq-eqb is.may.maker.number f.maker (sym is.of_maker))) all)))
     at false k shares =
         let smaller : shares_open is.may.taker ≤ shares_open is.may.maker = ltb-false (shares_open is.may.maker) (shares_open is.may.taker) k in
         let all : shares_open is.may.taker ≤ f.shares = omega arith in
-        fewer_first _ _ _ _ (without_first (all_filled f is.may.taker (first_of (is.may.taker.number == f.taker) (is.may.taker.number == f.maker) (eq-eqb is.may.taker.number f.taker (sym is.of_taker))) all)) few_live
+        fewer_first _ _ _ _ (without_first (all_filled f is.may.taker (or_left (is.may.taker.number == f.taker) (is.may.taker.number == f.maker) (eq-eqb is.may.taker.number f.taker (sym is.of_taker))) all)) few_live
 
 -- the first no longer waits
 first_leaves : (number : ℕ) (first : LiveOrder) (others : List LiveOrder) → number ≡ first.number → length (filter (λ (o : LiveOrder). not (number == o.number)) (first ∷ others)) ≤ length others

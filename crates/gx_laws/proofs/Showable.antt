@@ -1,14 +1,11 @@
 -- The audit can show what an askable step leaves under a sound policy.
 use Rattle.gx_policy.specs.{Kinds.{with_limit, with_stocks}, declared.{rule_name.RuleName.{RuleName, TheVariants.{L1, L2, L3, G1, G2, G3, File}}, policy.{PolicyData.PolicyData, FileRule.FileRule, RuleKind.RuleKind}}, RuleNames.{rules_before, rules_behind, is_built_in}, Soundness.{is_sound, is_rule_sound, is_name_letter, is_padded, is_kind_sound, is_scope}}
-use Rattle.std.proofs.{Common.{◌≡◌, ℕ, ◌+◌, Bool, true, false, List, [], ◌∷◌, ◌++◌, refl, ◌∙◌, ap, sym, map, cond, length, arith}, lemmas.{List.Folds.list_all-append, Bool.lt-ltb}}
+use Rattle.std.proofs.{Common.{◌≡◌, ℕ, ◌+◌, Bool, true, false, List, [], ◌∷◌, ◌++◌, refl, ◌∙◌, ap, sym, map, cond, length, arith}, lemmas.{List.Folds.list_all-append, Bool.{lt-ltb, and_parts, and_from}}}
 use Rattle.std.specs.{Prelude.{Option, Some, None, ◌&&◌, not, nat_lt, find, fold, drop, option_map}, List.{list_all, list_any}}
 use Rattle.gx_units.specs.{declared.names.RuleId.RuleId, Spelling.is_blank}
 use Rattle.gx_desk.specs.declared.Action.{Action}
-use Rattle.gx_history.specs.{declared.{«record».{Asked.Asked, RecordData.RecordData, Request.Request, Step.Step, Verdict.Verdict}, facts.{Facts.Facts, RuleFigures.RuleFigures}}, InForce.{rules_in_force, changed, change_rule, adding, removing}, Requests.{granted_actions, is_unreadable}, Rules.{Rule, BuiltIn, OfFile, name_of, applies, first_forbidding, written_order}, Showing.{is_askable, is_showable, is_rule_shown, answers}, Figures.positions, Verdicts.{facts_now, rules_now, next, step_verdict, verdict, verdict_by, with_figures, figures_asked}}
-use Rattle.gx_laws.proofs.{Judging.both, Order.{some_same, none_forbids, none_among}}
-
-all_true : (a b : Bool) → a ≡ true → b ≡ true → (a && b) ≡ true
-all_true a b h k = ap (λ c. c && b) h ∙ k
+use Rattle.gx_history.specs.{declared.{«record».{Asked.Asked, RecordData.RecordData, Request.Request, Step.Step, Verdict.Verdict}, facts.{Facts.Facts, RuleFigures.RuleFigures}}, InForce.{rules_in_force, rules_after, change_rule, with_stock, without_stock}, Requests.{granted_actions, is_unreadable}, Rules.{Rule, BuiltIn, OfFile, name_of, applies, first_forbidding, written_order}, Showing.{is_askable, is_showable, is_rule_shown, answers}, Figures.positions, Verdicts.{facts_now, rules_now, next, step_verdict, verdict, verdict_by, with_figures, figures_asked}}
+use Rattle.gx_laws.proofs.Order.{some_same, none_forbids, none_among}
 
 found_at : {X : Type 0} (p q : X → Bool) (y : X) (xs : List X) (x : X) → (list_all p xs ≡ true → find q xs ≡ Some x → p x ≡ true)
     → (b : Bool) → (p y ≡ true) × (list_all p xs ≡ true) → cond b (Some y) (find q xs) ≡ Some x → p x ≡ true
@@ -18,13 +15,13 @@ found_at p q y xs x deeper false parts e = deeper parts.1 e
 -- what was found passes what all pass
 found_passes : {X : Type 0} (p q : X → Bool) (xs : List X) (x : X) → list_all p xs ≡ true → find q xs ≡ Some x → p x ≡ true
 found_passes p q [] x h e = cc
-found_passes p q (y ∷ xs) x h e = found_at p q y xs x (found_passes p q xs x) (q y) (both (p y) (list_all p xs) h) e
+found_passes p q (y ∷ xs) x h e = found_at p q y xs x (found_passes p q xs x) (q y) (and_parts (p y) (list_all p xs) h) e
 
-all_imply : {X : Type 0} (p q : X → Bool) → ((x : X) → p x ≡ true → q x ≡ true) → (xs : List X) → list_all p xs ≡ true → list_all q xs ≡ true
+pub all_imply : {X : Type 0} (p q : X → Bool) → ((x : X) → p x ≡ true → q x ≡ true) → (xs : List X) → list_all p xs ≡ true → list_all q xs ≡ true
 all_imply p q step [] h = refl
 all_imply p q step (x ∷ xs) h =
-    let parts : (p x ≡ true) × (list_all p xs ≡ true) = both (p x) (list_all p xs) h in
-    all_true (q x) (list_all q xs) (step x parts.0) (all_imply p q step xs parts.1)
+    let parts : (p x ≡ true) × (list_all p xs ≡ true) = and_parts (p x) (list_all p xs) h in
+    and_from (q x) (list_all q xs) (step x parts.0) (all_imply p q step xs parts.1)
 
 abbrev shown : FileRule → Bool
 shown r = is_rule_shown (File r.name)
@@ -33,19 +30,19 @@ shown_mapped : (name : RuleId) (change : RuleKind → RuleKind) (rules : List Fi
 shown_mapped name change [] = refl
 shown_mapped name change (r ∷ rules) = ap (λ b. shown r && b) (shown_mapped name change rules)
 
-shown_changed : (rules : List FileRule) (action : Action) → list_all shown (changed rules action) ≡ list_all shown rules
+shown_changed : (rules : List FileRule) (action : Action) → list_all shown (rules_after rules action) ≡ list_all shown rules
 shown_changed rules (Action.SetLimit name limit) = shown_mapped name (with_limit limit) rules
-shown_changed rules (Action.Restrict name stock) = shown_mapped name (with_stocks (adding stock)) rules
-shown_changed rules (Action.Unrestrict name stock) = shown_mapped name (with_stocks (removing stock)) rules
+shown_changed rules (Action.Restrict name stock) = shown_mapped name (with_stocks (with_stock stock)) rules
+shown_changed rules (Action.Unrestrict name stock) = shown_mapped name (with_stocks (without_stock stock)) rules
 shown_changed rules (Action.Kill account) = refl
 shown_changed rules (Action.Lift account) = refl
 shown_changed rules (Action.Grant reader account) = refl
 shown_changed rules (Action.Revoke reader account) = refl
 shown_changed rules Action.CloseDay = refl
 
-shown_after : (rules : List FileRule) (made : List Action) → list_all shown (fold changed rules made) ≡ list_all shown rules
+shown_after : (rules : List FileRule) (made : List Action) → list_all shown (fold rules_after rules made) ≡ list_all shown rules
 shown_after rules [] = refl
-shown_after rules (action ∷ made) = shown_after (changed rules action) made ∙ shown_changed rules action
+shown_after rules (action ∷ made) = shown_after (rules_after rules action) made ∙ shown_changed rules action
 
 shown_in_force : (policy : PolicyData) (history : List RecordData) → list_all shown (rules_in_force policy history) ≡ list_all shown policy.rules
 unfolding rules_in_force
@@ -68,7 +65,7 @@ some_more n = lt-ltb 0 (n + 1) (omega arith)
 shown_where_sound : (policy : PolicyData) → is_sound policy ≡ true → list_all shown policy.rules ≡ true
 unfolding is_sound
 shown_where_sound policy h =
-    all_imply (is_rule_sound policy) shown (λ r k. rule_shown policy r k) policy.rules (both _ _ h).1
+    all_imply (is_rule_sound policy) shown (λ r k. rule_shown policy r k) policy.rules (and_parts _ _ h).1
 
 in_written : (asks : FileRule → RuleFigures) (rules : List FileRule) → list_all (λ (r : Rule). is_rule_shown (name_of r)) (map OfFile (with_figures asks rules)) ≡ list_all shown rules
 in_written asks [] = refl
@@ -133,6 +130,6 @@ pub next_is_showable : (policy : PolicyData) (history : List RecordData) (a : As
 unfolding next step_verdict
 next_is_showable policy history a r sound askable e =
     ap is_showable (sym (some_same e))
-    ∙ all_true (nat_lt 0 (length history + 1)) (is_askable a && answers a.request (verdict policy history a)) (some_more (length history))
-    (all_true (is_askable a) (answers a.request (verdict policy history a)) askable
+    ∙ and_from (nat_lt 0 (length history + 1)) (is_askable a && answers a.request (verdict policy history a)) (some_more (length history))
+    (and_from (is_askable a) (answers a.request (verdict policy history a)) askable
     (verdict_is_shown policy history a sound))

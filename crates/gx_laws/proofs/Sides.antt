@@ -1,10 +1,10 @@
 -- What one more record makes of those that wait, and of each side of the book.
-use Rattle.std.proofs.{Common.{◌≡◌, ℕ, ◌+◌, ◌≤◌, Bool, true, false, not, List, [], ◌∷◌, ◌++◌, refl, ◌∙◌, ap, sym, cond, fold, length, arith}, Math.Path.subst, lemmas.{Bool.{eq-eqb, eqb-true, ne_eqb}, List.{append-nil, Elements.{filter-append, filter_map-append}, Sums.fold-append}}}
+use Rattle.std.proofs.{Common.{◌≡◌, ℕ, ◌+◌, ◌≤◌, Bool, true, false, not, List, [], ◌∷◌, ◌++◌, refl, ◌∙◌, ap, sym, cond, fold, length, arith}, Math.Path.subst, lemmas.{Bool.{eq-eqb, eqb-true, ne_eqb}, List.{Elements.{filter-append, filter_map-append}, Sums.fold-append, append-nil}, Option.same_Some}}
 use Rattle.std.specs.{Prelude.{Option, Some, None, ◌||◌, ◌&&◌, ◌==◌, nat_lt, option_and_then, option_to_list}, Option.option_map_or, List.{AllByRecursion, cons_option, filter, filter_map}}
 use Rattle.gx_units.specs.{declared.names.{AccountName.AccountName, Symbol.Symbol}, Names.same_stock}
 use Rattle.gx_ouch.specs.declared.outbound.OrderTerms.{OrderTerms}
-use Rattle.gx_policy.specs.{declared.policy.PolicyData.PolicyData, Lists.{in_order, placed}, People.account_of}
-use Rattle.gx_history.specs.{declared.{live_order.LiveOrder.LiveOrder, «record».{Asked.Asked, RecordData.RecordData, Request.Request, Step.Step, Verdict.Verdict}, moves.Move.Move}, Book.{is_on, rested, rested_of}, Live.{waiting, ahead, is_there, side, has_come, live_numbered, live, live_under}, LiveOrders.replacement_order, MayMove.MayRest, Orders.ends_account, Requests.is_judged, Turns.{Turn, Keeps, Adds, Sizes, Replaces, EndsAll, Fills, Rests, Ends, becomes, new_in, new_order, side_turned, turned, waiting_turned, while_open}, Verdicts.{IsLegal, next}, World.{SidesGoOn, WaitingGoesOn, World, move_asked, turn_by, turn_in, turn_of, world}}
+use Rattle.gx_policy.specs.{declared.policy.PolicyData.PolicyData, Lists.{in_order, inserted_behind}, People.account_of}
+use Rattle.gx_history.specs.{declared.{live_order.LiveOrder.LiveOrder, «record».{Asked.Asked, RecordData.RecordData, Request.Request, Step.Step, Verdict.Verdict}, moves.Move.Move}, Book.{is_on, rest_numbers, rested_of}, Live.{waiting, ahead, is_there, side, has_come, live_numbered, live, live_under}, LiveOrders.replacement_order, MayMove.MayRest, Orders.ends_account, Requests.is_judged, Turns.{Turn, Keeps, Adds, Sizes, Replaces, EndsAll, Fills, Rests, Ends, becomes, new_in, new_order, side_after, live_after, waiting_after, while_open}, Verdicts.{IsLegal, next}, World.{SidesGoOn, WaitingGoesOn, World, move_asked, turn_by, turn_in, turn_of, world}}
 use Rattle.gx_laws.proofs.{Granting.asked_is_judged, NextOrders.rested_next, Numbers.{all_weaker, number_left}, Apart.AreApart, Known.{first_waiting, live_apart, number_found}, Live.{each_turned, live_next}, Matches.may_match, Orderly.{IsOrderly, legal_is_orderly}, Priority.{IsParted, IsRanking, lower, no_lower, placed_parted}}
 
 -- an order that goes on has its number, its terms, its account and its user, and waits as before unless it is put to rest
@@ -14,33 +14,30 @@ IsSame rests o x = (x.number ≡ o.number) × (x.terms ≡ o.terms) × (rests �
 it_is : (rests : Bool) (o x : LiveOrder) → o ≡ x → IsSame rests o x
 it_is rests o x e = (ap (λ (y : LiveOrder). y.number) (sym e), ap (λ (y : LiveOrder). y.terms) (sym e), λ h. ap (λ (y : LiveOrder). y.waits) (sym e), ap (λ (y : LiveOrder). y.account) (sym e), ap (λ (y : LiveOrder). y.user) (sym e))
 
-some_is : {X : Type 0} (x y : X) → Some x ≡ Some y → x ≡ y
-some_is x y e = cc
-
 open_is : (y x : LiveOrder) → while_open y ≡ Some x → y ≡ x
 open_is y x h = at (nat_lt y.done y.total) h
   where
     at : (b : Bool) → cond b (Some y) None ≡ Some x → y ≡ x
-    at true k = some_is y x k
+    at true k = same_Some y x k
     at false k = cc
 
 -- gone, or as it was
 gone_or_not : (b : Bool) (o x : LiveOrder) → cond b None (Some o) ≡ Some x → IsSame false o x
 gone_or_not true o x k = cc
-gone_or_not false o x k = it_is false o x (some_is o x k)
+gone_or_not false o x k = it_is false o x (same_Some o x k)
 
 -- changed, or as it was
 open_or_not : (b : Bool) (o y x : LiveOrder) → IsSame false o y → cond b (while_open y) (Some o) ≡ Some x → IsSame false o x
 open_or_not true o y x h k = subst (IsSame false o) (open_is y x k) h
-open_or_not false o y x h k = it_is false o x (some_is o x k)
+open_or_not false o y x h k = it_is false o x (same_Some o x k)
 
 abbrev pub puts_to_rest : Turn → Bool
 puts_to_rest (Rests number) = true
 puts_to_rest other = false
 
 pub becomes_same : (turn : Turn) (o x : LiveOrder) → becomes turn o ≡ Some x → IsSame (puts_to_rest turn) o x
-becomes_same Keeps o x h = it_is false o x (some_is o x h)
-becomes_same (Adds new) o x h = it_is false o x (some_is o x h)
+becomes_same Keeps o x h = it_is false o x (same_Some o x h)
+becomes_same (Adds new) o x h = it_is false o x (same_Some o x h)
 becomes_same (Sizes number size) o x h = open_or_not (o.number == number) o (record o { total = size }) x (refl, refl, λ k. refl, refl, refl) h
 becomes_same (Replaces number new) o x h = gone_or_not (o.number == number) o x h
 becomes_same (EndsAll action) o x h = gone_or_not (ends_account o.account action) o x h
@@ -51,8 +48,8 @@ becomes_same (Rests number) o x h = at (number == o.number) h
     never e = cc
 
     at : (b : Bool) → Some (cond b (record o { waits = false }) o) ≡ Some x → IsSame true o x
-    at true k = let e : record o { waits = false } ≡ x = some_is (record o { waits = false }) x k in (ap (λ (y : LiveOrder). y.number) (sym e), ap (λ (y : LiveOrder). y.terms) (sym e), λ l. never l, ap (λ (y : LiveOrder). y.account) (sym e), ap (λ (y : LiveOrder). y.user) (sym e))
-    at false k = it_is true o x (some_is o x k)
+    at true k = let e : record o { waits = false } ≡ x = same_Some (record o { waits = false }) x k in (ap (λ (y : LiveOrder). y.number) (sym e), ap (λ (y : LiveOrder). y.terms) (sym e), λ l. never l, ap (λ (y : LiveOrder). y.account) (sym e), ap (λ (y : LiveOrder). y.user) (sym e))
+    at false k = it_is true o x (same_Some o x k)
 becomes_same (Ends number) o x h = gone_or_not (number == o.number) o x h
 
 -- found by its number, before and after
@@ -89,9 +86,9 @@ filter_turned {X} p q f same (x ∷ xs) = at (f x) refl (q x) refl (filter_turne
 
 -- what goes on stands in the same order
 places_turned : {X : Type 0} (better : X → X → Bool) → IsRanking better → (f : X → Option X) → ((x y u v : X) → f x ≡ Some u → f y ≡ Some v → better u v ≡ better x y) → (earlier xs : List X) → IsParted better earlier
-    → fold (placed better) (filter_map f earlier) (filter_map f xs) ≡ filter_map f (fold (placed better) earlier xs)
+    → fold (inserted_behind better) (filter_map f earlier) (filter_map f xs) ≡ filter_map f (fold (inserted_behind better) earlier xs)
 places_turned better ranks f alike earlier [] parted = refl
-places_turned {X} better ranks f alike earlier (x ∷ xs) parted = at (f x) refl (places_turned better ranks f alike (placed better earlier x) xs (placed_parted better ranks earlier x parted))
+places_turned {X} better ranks f alike earlier (x ∷ xs) parted = at (f x) refl (places_turned better ranks f alike (inserted_behind better earlier x) xs (placed_parted better ranks earlier x parted))
   where
     no_worse : List X
     no_worse = filter (λ y. not (better x y)) earlier
@@ -99,17 +96,17 @@ places_turned {X} better ranks f alike earlier (x ∷ xs) parted = at (f x) refl
     worse : List X
     worse = filter (better x) earlier
 
-    in_parts : filter_map f (placed better earlier x) ≡ filter_map f no_worse ++ cons_option (f x) (filter_map f worse)
+    in_parts : filter_map f (inserted_behind better earlier x) ≡ filter_map f no_worse ++ cons_option (f x) (filter_map f worse)
     in_parts = filter_map-append f no_worse (x ∷ worse)
 
-    at : (found : Option X) → f x ≡ found → fold (placed better) (filter_map f (placed better earlier x)) (filter_map f xs) ≡ filter_map f (fold (placed better) (placed better earlier x) xs)
-        → fold (placed better) (filter_map f earlier) (cons_option found (filter_map f xs)) ≡ filter_map f (fold (placed better) (placed better earlier x) xs)
+    at : (found : Option X) → f x ≡ found → fold (inserted_behind better) (filter_map f (inserted_behind better earlier x)) (filter_map f xs) ≡ filter_map f (fold (inserted_behind better) (inserted_behind better earlier x) xs)
+        → fold (inserted_behind better) (filter_map f earlier) (cons_option found (filter_map f xs)) ≡ filter_map f (fold (inserted_behind better) (inserted_behind better earlier x) xs)
     at None e deeper =
-        ap (λ (ys : List X). fold (placed better) ys (filter_map f xs))
+        ap (λ (ys : List X). fold (inserted_behind better) ys (filter_map f xs))
         (ap (filter_map f) (sym (parted x)) ∙ filter_map-append f no_worse worse ∙ ap (λ (found : Option X). filter_map f no_worse ++ cons_option found (filter_map f worse)) (sym e) ∙ sym in_parts)
         ∙ deeper
     at (Some u) e deeper =
-        ap (λ (ys : List X). fold (placed better) ys (filter_map f xs))
+        ap (λ (ys : List X). fold (inserted_behind better) ys (filter_map f xs))
         (ap (λ (ys : List X). ys ++ u ∷ filter (better u) (filter_map f earlier)) (filter_turned (λ y. not (better u y)) (λ y. not (better x y)) f (λ y v k. ap not (alike x y u v e k)) earlier)
         ∙ ap (λ (ys : List X). filter_map f no_worse ++ u ∷ ys) (filter_turned (better u) (better x) f (λ y v k. alike x y u v e k) earlier)
         ∙ ap (λ (found : Option X). filter_map f no_worse ++ cons_option found (filter_map f worse)) (sym e)
@@ -154,13 +151,13 @@ new_by policy w r (Verdict.Rested number) s = tt
 new_by policy w r (Verdict.Expired number) s = tt
 
 -- those that wait
-pub waits_turned : (r : RecordData) (turn : Turn) (os : List LiveOrder) → puts_to_rest turn ≡ false → AreNew r turn → filter (λ (o : LiveOrder). o.waits) (turned turn os) ≡ turned turn (filter (λ (o : LiveOrder). o.waits) os)
+pub waits_turned : (r : RecordData) (turn : Turn) (os : List LiveOrder) → puts_to_rest turn ≡ false → AreNew r turn → filter (λ (o : LiveOrder). o.waits) (live_after turn os) ≡ live_after turn (filter (λ (o : LiveOrder). o.waits) os)
 waits_turned r turn os goes new =
     filter-append (λ (o : LiveOrder). o.waits) (filter_map (becomes turn) os) (new_in turn)
     ∙ ap (λ (more : List LiveOrder). filter (λ (o : LiveOrder). o.waits) (filter_map (becomes turn) os) ++ more) (all_wait (new_in turn) r.number new)
     ∙ ap (λ (found : List LiveOrder). found ++ new_in turn) (filter_turned (λ (o : LiveOrder). o.waits) (λ (o : LiveOrder). o.waits) (becomes turn) (λ o x k. (becomes_same turn o x k).2 goes) os)
 
-pub waits_rested : (number : ℕ) (os : List LiveOrder) → filter (λ (o : LiveOrder). o.waits) (turned (Rests number) os) ≡ filter (λ (o : LiveOrder). not (number == o.number)) (filter (λ (o : LiveOrder). o.waits) os)
+pub waits_rested : (number : ℕ) (os : List LiveOrder) → filter (λ (o : LiveOrder). o.waits) (live_after (Rests number) os) ≡ filter (λ (o : LiveOrder). not (number == o.number)) (filter (λ (o : LiveOrder). o.waits) os)
 waits_rested number os = ap (filter (λ (o : LiveOrder). o.waits)) (append-nil (filter_map (becomes (Rests number)) os)) ∙ each os
   where
     each : (os : List LiveOrder) → filter (λ (o : LiveOrder). o.waits) (filter_map (becomes (Rests number)) os) ≡ filter (λ (o : LiveOrder). not (number == o.number)) (filter (λ (o : LiveOrder). o.waits) os)
@@ -185,7 +182,7 @@ unfolding waiting
 waiting_next policy history step r legal left =
     ap (filter (λ (o : LiveOrder). o.waits)) (live_next policy history step r legal left) ∙ by (turn_of policy (world policy history) r) (new_by policy (world policy history) r r.verdict r.step)
   where
-    by : (turn : Turn) → AreNew r turn → filter (λ (o : LiveOrder). o.waits) (turned turn (live policy history)) ≡ waiting_turned turn (filter (λ (o : LiveOrder). o.waits) (live policy history))
+    by : (turn : Turn) → AreNew r turn → filter (λ (o : LiveOrder). o.waits) (live_after turn (live policy history)) ≡ waiting_after turn (filter (λ (o : LiveOrder). o.waits) (live policy history))
     by (Rests number) new = waits_rested number (live policy history)
     by Keeps new = waits_turned r Keeps (live policy history) refl new
     by (Adds o) new = waits_turned r (Adds o) (live policy history) refl new
@@ -217,11 +214,11 @@ side_of found came stock buy = in_order (ahead buy) (filter (is_there stock buy)
 
 -- where no order comes to rest
 side_goes_on : (turn : Turn) (r : RecordData) (os : List LiveOrder) (came : List ℕ) (stock : Symbol) (buy : Bool) → AreApart (λ (o : LiveOrder). o.number) os → AreNew r turn → AllByRecursion (λ (n : ℕ). r.number ≡ n → ⊥) came
-    → side_of (turned turn os) came stock buy ≡ filter_map (becomes turn) (side_of os came stock buy)
+    → side_of (live_after turn os) came stock buy ≡ filter_map (becomes turn) (side_of os came stock buy)
 side_goes_on turn r os came stock buy apart new others =
     ap (λ (found : List LiveOrder). in_order (ahead buy) (filter (is_there stock buy) found))
-    (each_turned (live_numbered os) (live_numbered (turned turn os)) (becomes turn) came
-    (all_weaker (λ (n : ℕ). r.number ≡ n → ⊥) (λ (n : ℕ). live_numbered (turned turn os) n ≡ option_and_then (becomes turn) (live_numbered os n))
+    (each_turned (live_numbered os) (live_numbered (live_after turn os)) (becomes turn) came
+    (all_weaker (λ (n : ℕ). r.number ≡ n → ⊥) (λ (n : ℕ). live_numbered (live_after turn os) n ≡ option_and_then (becomes turn) (live_numbered os n))
     (λ n other. found_front (filter_map (becomes turn) os) (new_in turn) n (none_new n r.number (new_in turn) other new) ∙ found_turned (becomes turn) (λ o x k. (becomes_same turn o x k).0) os apart n) came others))
     ∙ ap (in_order (ahead buy)) (filter_turned (is_there stock buy) (is_there stock buy) (becomes turn) (λ o x k. there_alike stock buy o x (becomes_same turn o x k).1) (filter_map (live_numbered os) came))
     ∙ places_turned (ahead buy) (prices_rank buy) (becomes turn) (λ x y u v e f. price_alike buy x y u v (becomes_same turn x u e).1 (becomes_same turn y v f).1) [] (filter (is_there stock buy) (filter_map (live_numbered os) came)) (λ x. refl)
@@ -236,12 +233,12 @@ same_found f g [] h = refl
 same_found f g (n ∷ ns) h = ap (λ (found : Option LiveOrder). cons_option found (filter_map f ns)) h.0 ∙ ap (cons_option (g n)) (same_found f g ns h.1)
 
 side_rests : (number : ℕ) (os : List LiveOrder) (came : List ℕ) (stock : Symbol) (buy : Bool) → AreApart (λ (o : LiveOrder). o.number) os → AllByRecursion (λ (n : ℕ). number ≡ n → ⊥) came
-    → side_of (turned (Rests number) os) (came ++ number ∷ []) stock buy ≡ side_turned (Rests number) os stock buy (side_of os came stock buy)
+    → side_of (live_after (Rests number) os) (came ++ number ∷ []) stock buy ≡ side_after (Rests number) os stock buy (side_of os came stock buy)
 side_rests number os came stock buy apart others =
     ap (λ (found : List LiveOrder). in_order (ahead buy) (filter (is_there stock buy) found))
-    (filter_map-append (live_numbered (turned (Rests number) os)) came (number ∷ [])
-    ∙ ap (λ (xs : List LiveOrder). xs ++ filter_map (live_numbered (turned (Rests number) os)) (number ∷ [])) (same_found (live_numbered (turned (Rests number) os)) (live_numbered os) came
-    (all_weaker (λ (n : ℕ). number ≡ n → ⊥) (λ (n : ℕ). live_numbered (turned (Rests number) os) n ≡ live_numbered os n) (λ n other. found n ∙ rests_beside number n (live_numbered os n) (number_found os n) other) came others))
+    (filter_map-append (live_numbered (live_after (Rests number) os)) came (number ∷ [])
+    ∙ ap (λ (xs : List LiveOrder). xs ++ filter_map (live_numbered (live_after (Rests number) os)) (number ∷ [])) (same_found (live_numbered (live_after (Rests number) os)) (live_numbered os) came
+    (all_weaker (λ (n : ℕ). number ≡ n → ⊥) (λ (n : ℕ). live_numbered (live_after (Rests number) os) n ≡ live_numbered os n) (λ n other. found n ∙ rests_beside number n (live_numbered os n) (number_found os n) other) came others))
     ∙ ap (λ (x : Option LiveOrder). rested_before ++ cons_option x []) (found number))
     ∙ ap (in_order (ahead buy)) (filter-append (is_there stock buy) rested_before (cons_option (option_and_then (becomes (Rests number)) (live_numbered os number)) []))
     ∙ at (live_numbered os number) (number_found os number)
@@ -249,16 +246,16 @@ side_rests number os came stock buy apart others =
     rested_before : List LiveOrder
     rested_before = filter_map (live_numbered os) came
 
-    found : (n : ℕ) → live_numbered (turned (Rests number) os) n ≡ option_and_then (becomes (Rests number)) (live_numbered os n)
+    found : (n : ℕ) → live_numbered (live_after (Rests number) os) n ≡ option_and_then (becomes (Rests number)) (live_numbered os n)
     found n = ap (λ (xs : List LiveOrder). live_numbered xs n) (append-nil (filter_map (becomes (Rests number)) os)) ∙ found_turned (becomes (Rests number)) (λ o x k. (becomes_same (Rests number) o x k).0) os apart n
 
-    placed_if : (b : Bool) (o : LiveOrder) → in_order (ahead buy) (filter (is_there stock buy) rested_before ++ cond b (o ∷ []) []) ≡ cond b (placed (ahead buy) (side_of os came stock buy) o) (side_of os came stock buy)
-    placed_if true o = fold-append (placed (ahead buy)) [] (filter (is_there stock buy) rested_before) (o ∷ [])
+    placed_if : (b : Bool) (o : LiveOrder) → in_order (ahead buy) (filter (is_there stock buy) rested_before ++ cond b (o ∷ []) []) ≡ cond b (inserted_behind (ahead buy) (side_of os came stock buy) o) (side_of os came stock buy)
+    placed_if true o = fold-append (inserted_behind (ahead buy)) [] (filter (is_there stock buy) rested_before) (o ∷ [])
     placed_if false o = ap (in_order (ahead buy)) (append-nil (filter (is_there stock buy) rested_before))
 
     at : (x : Option LiveOrder) → ((o : LiveOrder) → x ≡ Some o → (o.number == number) ≡ true)
         → in_order (ahead buy) (filter (is_there stock buy) rested_before ++ filter (is_there stock buy) (cons_option (option_and_then (becomes (Rests number)) x) []))
-        ≡ option_map_or (λ (o : LiveOrder). cond (is_there stock buy o) (placed (ahead buy) (side_of os came stock buy) (record o { waits = false })) (side_of os came stock buy)) x (side_of os came stock buy)
+        ≡ option_map_or (λ (o : LiveOrder). cond (is_there stock buy o) (inserted_behind (ahead buy) (side_of os came stock buy) (record o { waits = false })) (side_of os came stock buy)) x (side_of os came stock buy)
     at None is = ap (in_order (ahead buy)) (append-nil (filter (is_there stock buy) rested_before))
     at (Some o) is =
         ap (λ (b : Bool). in_order (ahead buy) (filter (is_there stock buy) rested_before ++ filter (is_there stock buy) (cond b (record o { waits = false }) o ∷ [])))
@@ -280,11 +277,11 @@ none_of number (n ∷ ns) h = at (n == number) refl h (none_of number ns)
         never : {b : Bool} → b ≡ true → b ≡ false → ⊥
         never h k = cc
 
-rested_stays : (history : List RecordData) (r : RecordData) (v : Verdict) → r.verdict ≡ v → rested_of v ≡ None → rested (history ++ r ∷ []) ≡ rested history
-rested_stays history r v e none = rested_next history r ∙ ap (λ (x : Verdict). rested history ++ option_to_list (rested_of x)) e ∙ ap (λ (x : Option ℕ). rested history ++ option_to_list x) none ∙ append-nil (rested history)
+rested_stays : (history : List RecordData) (r : RecordData) (v : Verdict) → r.verdict ≡ v → rested_of v ≡ None → rest_numbers (history ++ r ∷ []) ≡ rest_numbers history
+rested_stays history r v e none = rested_next history r ∙ ap (λ (x : Verdict). rest_numbers history ++ option_to_list (rested_of x)) e ∙ ap (λ (x : Option ℕ). rest_numbers history ++ option_to_list x) none ∙ append-nil (rest_numbers history)
 
 -- any turn but a rest
-pub other_turn : (turn : Turn) (os : List LiveOrder) (stock : Symbol) (buy : Bool) (found : List LiveOrder) → puts_to_rest turn ≡ false → filter_map (becomes turn) found ≡ side_turned turn os stock buy found
+pub other_turn : (turn : Turn) (os : List LiveOrder) (stock : Symbol) (buy : Bool) (found : List LiveOrder) → puts_to_rest turn ≡ false → filter_map (becomes turn) found ≡ side_after turn os stock buy found
 other_turn Keeps os stock buy found h = refl
 other_turn (Adds o) os stock buy found h = refl
 other_turn (Sizes number size) os stock buy found h = refl
@@ -314,29 +311,29 @@ goes policy w r (Verdict.Expired number) s h = refl
 
 -- a record that puts none to rest
 side_kept : (policy : PolicyData) (history : List RecordData) (step : Step) (r : RecordData) (stock : Symbol) (buy : Bool) → IsLegal policy history → next policy history step ≡ Some r → (v : Verdict) → r.verdict ≡ v → rested_of v ≡ None
-    → side policy (history ++ r ∷ []) stock buy ≡ side_turned (turn_by policy (world policy history) r v r.step) (live policy history) stock buy (side policy history stock buy)
+    → side policy (history ++ r ∷ []) stock buy ≡ side_after (turn_by policy (world policy history) r v r.step) (live policy history) stock buy (side policy history stock buy)
 unfolding side
 side_kept policy history step r stock buy legal left v e none =
     let turn : Turn = turn_by policy (world policy history) r v r.step in
     ap (λ (ns : List ℕ). side_of (live policy (history ++ r ∷ [])) ns stock buy) (rested_stays history r v e none)
-    ∙ ap (λ (os : List LiveOrder). side_of os (rested history) stock buy) (live_next policy history step r legal left ∙ ap (λ (x : Verdict). turned (turn_by policy (world policy history) r x r.step) (live policy history)) e)
-    ∙ side_goes_on turn r (live policy history) (rested history) stock buy (live_apart policy history (legal_is_orderly policy history legal)) (new_by policy (world policy history) r v r.step)
-    (later (length history) r.number (rested history) (number_left policy history step r left) (legal_is_orderly policy history legal).rested_within)
+    ∙ ap (λ (os : List LiveOrder). side_of os (rest_numbers history) stock buy) (live_next policy history step r legal left ∙ ap (λ (x : Verdict). live_after (turn_by policy (world policy history) r x r.step) (live policy history)) e)
+    ∙ side_goes_on turn r (live policy history) (rest_numbers history) stock buy (live_apart policy history (legal_is_orderly policy history legal)) (new_by policy (world policy history) r v r.step)
+    (later (length history) r.number (rest_numbers history) (number_left policy history step r left) (legal_is_orderly policy history legal).rested_within)
     ∙ other_turn turn (live policy history) stock buy (side policy history stock buy) (goes policy (world policy history) r v r.step none)
 
 -- a record that does
 side_more : (policy : PolicyData) (history : List RecordData) (handed : ℕ) (r : RecordData) (stock : Symbol) (buy : Bool) (number : ℕ) → IsLegal policy history → next policy history (Step.Matching handed) ≡ Some r → r.verdict ≡ Verdict.Rested number
-    → side policy (history ++ r ∷ []) stock buy ≡ side_turned (Rests number) (live policy history) stock buy (side policy history stock buy)
+    → side policy (history ++ r ∷ []) stock buy ≡ side_after (Rests number) (live policy history) stock buy (side policy history stock buy)
 unfolding side
 side_more policy history handed r stock buy number legal left e =
     let orderly : IsOrderly policy history = legal_is_orderly policy history legal in
     let may : MayRest (world policy history) r number = may_match policy history handed r (Verdict.Rested number) left e in
-    ap (λ (ns : List ℕ). side_of (live policy (history ++ r ∷ [])) ns stock buy) (rested_next history r ∙ ap (λ (v : Verdict). rested history ++ option_to_list (rested_of v)) e)
-    ∙ ap (λ (os : List LiveOrder). side_of os (rested history ++ number ∷ []) stock buy) (live_next policy history (Step.Matching handed) r legal left ∙ ap (λ (x : Verdict). turned (turn_by policy (world policy history) r x r.step) (live policy history)) e)
-    ∙ side_rests number (live policy history) (rested history) stock buy (live_apart policy history orderly) (none_of number (rested history) (ap (has_come (rested history)) may.has_number ∙ (first_waiting policy history may.first may.waiting orderly may.comes_first).has_not_rested))
+    ap (λ (ns : List ℕ). side_of (live policy (history ++ r ∷ [])) ns stock buy) (rested_next history r ∙ ap (λ (v : Verdict). rest_numbers history ++ option_to_list (rested_of v)) e)
+    ∙ ap (λ (os : List LiveOrder). side_of os (rest_numbers history ++ number ∷ []) stock buy) (live_next policy history (Step.Matching handed) r legal left ∙ ap (λ (x : Verdict). live_after (turn_by policy (world policy history) r x r.step) (live policy history)) e)
+    ∙ side_rests number (live policy history) (rest_numbers history) stock buy (live_apart policy history orderly) (none_of number (rest_numbers history) (ap (has_come (rest_numbers history)) may.has_number ∙ (first_waiting policy history may.first may.waiting orderly may.comes_first).has_not_rested))
 
 by_verdict : (policy : PolicyData) (history : List RecordData) (step : Step) (r : RecordData) (stock : Symbol) (buy : Bool) → IsLegal policy history → next policy history step ≡ Some r → (v : Verdict) → r.verdict ≡ v
-    → side policy (history ++ r ∷ []) stock buy ≡ side_turned (turn_by policy (world policy history) r v r.step) (live policy history) stock buy (side policy history stock buy)
+    → side policy (history ++ r ∷ []) stock buy ≡ side_after (turn_by policy (world policy history) r v r.step) (live policy history) stock buy (side policy history stock buy)
 by_verdict policy history step r stock buy legal left Verdict.Granted e = side_kept policy history step r stock buy legal left Verdict.Granted e refl
 by_verdict policy history step r stock buy legal left (Verdict.Denied rule) e = side_kept policy history step r stock buy legal left (Verdict.Denied rule) e refl
 by_verdict policy history step r stock buy legal left (Verdict.Filled f) e = side_kept policy history step r stock buy legal left (Verdict.Filled f) e refl

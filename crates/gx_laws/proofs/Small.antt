@@ -3,7 +3,7 @@ use Rattle.std.proofs.{Common.{◌≡◌, ℕ, ◌+◌, ◌*◌, ◌<◌, ◌≤
 use Rattle.std.specs.{Prelude.{Some, nat_eq}, Option.option_map_or, List.{AllByRecursion, IsDistinct, filter, filter_map}}
 use Rattle.gx_units.specs.Money.{value}
 use Rattle.gx_policy.specs.declared.policy.PolicyData.{PolicyData}
-use Rattle.gx_history.specs.{declared.{live_order.LiveOrder.LiveOrder, «record».Fill.Fill}, Executions.Execution, Figures.Positions, LiveOrders.shares_open, Orders.Order, Turns.{Turn, Adds, EndsAll, Ends, Fills, Keeps, Replaces, Rests, Sizes, becomes, new_in, turned}}
+use Rattle.gx_history.specs.{declared.{live_order.LiveOrder.LiveOrder, «record».Fill.Fill}, Executions.Execution, Figures.Positions, LiveOrders.shares_open, Orders.Order, Turns.{Turn, Adds, EndsAll, Ends, Fills, Keeps, Replaces, Rests, Sizes, becomes, new_in, live_after}}
 use Rattle.gx_laws.proofs.{Owners.all_both, Among.all_and, Entered.all_found_of, NewOrders.found_is, Sides.becomes_same, Sums.{IsNoMore, none_gains}}
 use Rattle.gx_laws.specs.Sound.{IsNoLater, IsThere, MayChange, MayCome, MayFill, NeverFall, numbers_of}
 
@@ -34,7 +34,7 @@ new_ones P policy held granted each (Ends number) may = tt
 
 -- live orders are small then
 pub live_then : (policy : PolicyData) (held : Positions) (turn : Turn) (granted : List Order) → IsDistinct nat_eq (numbers_of held.live) → MayChange policy held turn granted → AllByRecursion IsSmall held.live
-    → AllByRecursion IsSmall (turned turn held.live)
+    → AllByRecursion IsSmall (live_after turn held.live)
 live_then policy held turn granted distinct may small =
     all_both IsSmall (filter_map (becomes turn) held.live) (new_in turn)
     (all_found_of (λ (x : LiveOrder). IsNoMore turn x × IsSmall x) IsSmall (becomes turn) (λ x o h e. goes_on x o h.0 h.1 e) held.live

@@ -11,7 +11,7 @@ live_are_live : (policy : PolicyData) (history : List RecordData) → AllByRecur
 live_are_live policy history = all_weaker (IsOfKnown policy history) IsLive (λ o known. subst IsLive known.is_it known.has_some) (live policy history) (live_of_known policy history)
 
 -- no more are found than there are
-few_found : {X Y : Type 0} (f : X → Option Y) (xs : List X) → length (filter_map f xs) ≤ length xs
+pub few_found : {X Y : Type 0} (f : X → Option Y) (xs : List X) → length (filter_map f xs) ≤ length xs
 few_found f [] = omega arith
 few_found {X} {Y} f (x ∷ xs) = at (f x) (few_found f xs)
   where

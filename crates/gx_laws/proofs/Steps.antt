@@ -4,8 +4,8 @@ use Rattle.std.specs.{Prelude.nat_eq, List.{filter, filter_map, AllByRecursion, 
 use Rattle.gx_units.specs.{Money.value, declared.names.AccountName.AccountName}
 use Rattle.gx_ouch.specs.declared.outbound.OrderTerms.{OrderTerms}
 use Rattle.gx_policy.specs.declared.policy.PolicyData.{PolicyData}
-use Rattle.gx_history.specs.{declared.{live_order.LiveOrder.LiveOrder, «record».Fill.Fill}, Executions.Execution, Figures.{Positions, done_of_chosen, done_value, live_value, of_accounts, open_of_chosen}, Orders.Order, Turns.{Turn, Adds, EndsAll, Ends, Fills, Keeps, Replaces, Rests, Sizes, becomes, new_in, turned}}
-use Rattle.gx_laws.proofs.{Fills.{both_sides, maker_side, taker_side}, Small.new_ones, Sums.{IsOpenSum, done_shares_filled, done_value_filled, filled_by, is_chosen, joined, no_rise_by, none_gains, none_of, shares_of, sides_are, sum_of_filter, sum_where-append, value_of}}
+use Rattle.gx_history.specs.{declared.{live_order.LiveOrder.LiveOrder, «record».Fill.Fill}, Executions.Execution, Figures.{Positions, done_of_chosen, done_value, live_value, of_accounts, open_of_chosen}, Orders.Order, Turns.{Turn, Adds, EndsAll, Ends, Fills, Keeps, Replaces, Rests, Sizes, becomes, new_in, live_after}}
+use Rattle.gx_laws.proofs.{Fills.{both_sides, maker_side, taker_side}, Small.new_ones, Sums.{IsOpenSum, done_shares_filled, done_value_filled, filled_by, is_chosen, joined, no_rise_by, none_gains, none_of, shares_of, sides_are, sum_of_filter, sum_where-append, value_of}, Ordered.all_parted}
 use Rattle.gx_laws.specs.{Changing.{executed_by, positions_with}, Sound.{IsThere, MayChange, MayCome, MayFill, numbers_of}, Exposure.{gain, gained, is_such}}
 
 -- what the orders that are chosen have in all
@@ -28,13 +28,6 @@ IsWorth e = value e.fill.shares e.fill.price ≤ value e.fill.shares e.order.ter
 abbrev pub AreWorth : List Execution → Type 0
 AreWorth made = AllByRecursion IsWorth made
 
--- what holds of all holds of the first and of the last
-pub all_in_parts : {X : Type 0} (P : X → Type 0) (xs ys : List X) → AllByRecursion P (xs ++ ys) → AllByRecursion P xs × AllByRecursion P ys
-all_in_parts P [] ys h = (tt, h)
-all_in_parts P (x ∷ xs) ys h =
-    let rest : AllByRecursion P xs × AllByRecursion P ys = all_in_parts P xs ys h.1 in
-    ((h.0, rest.0), rest.1)
-
 -- gains add up
 pub gained-append : (made more : List Execution) (among : AccountName → Bool) → gained (made ++ more) among ≡ gained made among + gained more among
 unfolding gained
@@ -49,7 +42,7 @@ gained-append made more among =
 module _ (policy : PolicyData) (held : Positions) (granted : List Order) (distinct : IsDistinct nat_eq (numbers_of held.live)) where
   -- what is open falls, where no order comes that is chosen
   open_falls : {figure : List LiveOrder → ℕ} {chosen : AccountName → OrderTerms → Bool} {weight : ℕ → ℕ → ℕ} → IsOpenSum figure chosen weight → (turn : Turn) → MayChange policy held turn granted → AddsNone chosen turn
-      → figure (turned turn held.live) ≤ figure held.live
+      → figure (live_after turn held.live) ≤ figure held.live
   open_falls is turn may none =
       let both = joined is (filter_map (becomes turn) held.live) (new_in turn) in
       let fall = no_rise_by is turn held.live (none_gains policy held turn granted distinct may) in
@@ -58,7 +51,7 @@ module _ (policy : PolicyData) (held : Positions) (granted : List Order) (distin
 
   -- where two are filled, by their shares
   open_fills : {figure : List LiveOrder → ℕ} {chosen : AccountName → OrderTerms → Bool} {weight : ℕ → ℕ → ℕ} → IsOpenSum figure chosen weight → (f : Fill) (may : MayFill held f)
-      → figure (turned (Fills f) held.live)
+      → figure (live_after (Fills f) held.live)
       + (cond (is_chosen chosen may.taker.order) (weight f.shares may.taker.order.terms.price) 0 + cond (is_chosen chosen may.maker.order) (weight f.shares may.maker.order.terms.price) 0)
       ≡ figure held.live
   open_fills {figure} is f may =
@@ -133,7 +126,7 @@ module _ (policy : PolicyData) (held : Positions) (granted : List Order) (distin
         let rise = done_value_filled among held f may in
         let more = gained-append held.executions (executed_by (Fills f) held.grants) among in
         let gains = gained_filled f may in
-        let each : AreWorth (both_sides f may.taker.grant may.maker.grant) = subst AreWorth (sides_are held f may) (all_in_parts IsWorth held.executions (executed_by (Fills f) held.grants) worth).1 in
+        let each : AreWorth (both_sides f may.taker.grant may.maker.grant) = subst AreWorth (sides_are held f may) (all_parted IsWorth held.executions (executed_by (Fills f) held.grants) worth).1 in
         let of_taker = side_worth f f.taker may.taker (gain (taker_side f may.taker.grant)) each.0 in
         let of_maker = side_worth f f.maker may.maker (gain (maker_side f may.maker.grant)) each.1.0 in
         omega (arith, fall, rise, more, gains, of_taker, of_maker)

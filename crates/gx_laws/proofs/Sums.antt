@@ -36,7 +36,7 @@ sum_of_none p m (x ∷ xs) h =
     omega (arith, here, rest)
 
 -- nothing, whatever the test says
-nothing_either_way : (b : Bool) → cond {A = ℕ} b 0 0 ≡ 0
+pub nothing_either_way : (b : Bool) → cond {A = ℕ} b 0 0 ≡ 0
 nothing_either_way true = refl
 nothing_either_way false = refl
 

@@ -1,8 +1,8 @@
 -- Tables and the lists that they stand for, whatever the keys.
-use Rattle.std.proofs.{Common.{◌≡◌, ℕ, ◌+◌, ◌<◌, Bool, true, false, cond, not, List, [], ◌∷◌, ◌++◌, map, refl, ◌∙◌, sym, ap, subst, length, take, drop, get_or, append_assoc}, lemmas.List.{take_more, take-append-drop}}
-use Rattle.std.specs.{Prelude.{Some, None}, List.{list_any, AllByRecursion, IsDistinct}, Map.{keys_of, lookup, set_value}}
+use Rattle.std.proofs.{Common.{◌≡◌, ℕ, ◌+◌, ◌<◌, Bool, true, false, cond, not, List, [], ◌∷◌, ◌++◌, map, refl, ◌∙◌, sym, ap, subst, length, take, drop, get_or, append_assoc, arith, zero, suc}, lemmas.{List.{take_more, take-append-drop}, Bool.{and_parts, not-true, or_parts}}}
+use Rattle.std.specs.{Prelude.{Some, None, ◌||◌}, List.{list_any, AllByRecursion, IsDistinct}, Map.{keys_of, lookup, set_value}}
 use Rattle.gx_policy.specs.Lists.{are_distinct}
-use Rattle.gx_laws.proofs.{Judging.both, Order.none_among}
+use Rattle.gx_laws.proofs.Order.{none_among}
 
 -- where none is found, none has the key
 pub none_found : {K V : Type 0} (same : K → K → Bool) (key : K) (entries : List (K × V)) → None ≡ lookup (same key) entries
@@ -55,17 +55,13 @@ changed_in_place {K} {V} {X} same decides view change key value others (e ∷ es
         ∙ ap (λ xs. view e ∷ xs) (later (λ (d : K × V) found at. subst There is there d.1 d.0 found at))
         ∙ ap (λ x. x ∷ map change (map view es)) (sym (others e is))
 
-is_false : (b : Bool) → not b ≡ true → b ≡ false
-is_false true h = cc
-is_false false h = refl
-
 new_behind : {X K : Type 0} (same : K → K → Bool) → ((a b : K) → same a b ≡ same b a) → (name : X → K) (before : List X) (x : X) (rest : List X)
     → are_distinct (λ (a b : X). same (name a) (name b)) (before ++ x ∷ rest) ≡ true → AllByRecursion (λ other. same (name x) other ≡ false) (map name before)
 new_behind same flip name [] x rest differ = tt
 new_behind {X} same flip name (y ∷ before) x rest differ =
     let test : X → Bool = λ (b : X). same (name y) (name b) in
-    let parts = both (not (list_any test (before ++ x ∷ rest))) (are_distinct (λ (a b : X). same (name a) (name b)) (before ++ x ∷ rest)) differ in
-    (flip (name x) (name y) ∙ none_among test before x rest (is_false (list_any test (before ++ x ∷ rest)) parts.0), new_behind same flip name before x rest parts.1)
+    let parts = and_parts (not (list_any test (before ++ x ∷ rest))) (are_distinct (λ (a b : X). same (name a) (name b)) (before ++ x ∷ rest)) differ in
+    (flip (name x) (name y) ∙ none_among test before x rest (not-true (list_any test (before ++ x ∷ rest)) parts.0), new_behind same flip name before x rest parts.1)
 
 -- of items whose names differ, none before the one at an index has its name
 pub new_next : {X K : Type 0} (same : K → K → Bool) → ((a b : K) → same a b ≡ same b a) → (name : X → K) (items : List X) (i : ℕ) (x other : X)
@@ -77,3 +73,18 @@ new_next {X} same flip name items i x other differ within at =
     sym (append_assoc (take i items) (x ∷ []) (drop (i + 1) items)) ∙ ap (λ xs. xs ++ drop (i + 1) items) front ∙ take-append-drop (i + 1) items
     in
     new_behind same flip name (take i items) x (drop (i + 1) items) (ap (are_distinct (λ (a b : X). same (name a) (name b))) whole ∙ differ)
+
+none_at : {X : Type 0} (p : X → Bool) (xs : List X) (i : ℕ) (d : X) → list_any p xs ≡ false → i < length xs → p (get_or xs i d) ≡ false
+none_at p [] i d none within = absurd (omega (arith, within))
+none_at p (x ∷ xs) zero d none within = (or_parts (p x) (list_any p xs) none).0
+none_at p (x ∷ xs) (suc i) d none within = none_at p xs i d (or_parts (p x) (list_any p xs) none).1 (omega (arith, within))
+
+-- one of a list of distinct ones is unlike those before it
+pub none_before : {X : Type 0} (same : X → X → Bool) (symm : (x y : X) → same x y ≡ same y x) (xs : List X) (i : ℕ) (d : X)
+    → are_distinct same xs ≡ true → i < length xs → list_any (same (get_or xs i d)) (take i xs) ≡ false
+none_before same symm [] i d distinct within = absurd (omega (arith, within))
+none_before same symm (x ∷ xs) zero d distinct within = refl
+none_before same symm (x ∷ xs) (suc i) d distinct within =
+    let here : same (get_or xs i d) x ≡ false = symm (get_or xs i d) x ∙ none_at (same x) xs i d (not-true _ (and_parts _ _ distinct).0) (omega (arith, within)) in
+    ap (λ b. b || list_any (same (get_or xs i d)) (take i xs)) here
+    ∙ none_before same symm xs i d (and_parts (not (list_any (same x) xs)) (are_distinct same xs) distinct).1 (omega (arith, within))

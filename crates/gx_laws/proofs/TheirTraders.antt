@@ -4,7 +4,7 @@ use Rattle.std.specs.{Prelude.{Some}, List.{AllByRecursion, filter_map}}
 use Rattle.gx_units.specs.declared.names.{AccountName.AccountName, UserName.UserName}
 use Rattle.gx_desk.specs.declared.{Action.Action, Command.Command}
 use Rattle.gx_policy.specs.{declared.policy.PolicyData.PolicyData, People.account_of}
-use Rattle.gx_history.specs.{declared.{«record».RecordData.RecordData, moves.Move.{Move, TheVariants.{Nothing, Denies, PutsOn, Adds, Sizes, Replaces, Commands, Fills, Rests, Expires}}}, Live.live, LiveOrders.is_under, MayMove.MayMove, Orders.orders, Turns.{Turn, becomes, new_in, turned}, Verdicts.IsLegal, World.{World, world, commanded, move_of, moved}}
+use Rattle.gx_history.specs.{declared.{«record».RecordData.RecordData, moves.Move.{Move, TheVariants.{Nothing, Denies, PutsOn, Adds, Sizes, Replaces, Commands, Fills, Rests, Expires}}}, Live.live, LiveOrders.is_under, MayMove.MayMove, Orders.orders, Turns.{Turn, becomes, new_in, live_after}, Verdicts.IsLegal, World.{World, world, world_after_command, move_of, world_after_move}}
 use Rattle.gx_history.specs.Turns as turns
 use Rattle.gx_laws.proofs.{Granting.legal_keeps, NextReports.{legal_next, legal_none}, Owners.{all_both, last_such_is}, Entered.all_found_of, Moving.may_move, Sides.becomes_same, World.world_next}
 use Rattle.gx_laws.specs.EffectLaws.{IsOfItsTrader, LiveOrdersAreOfTheirTraders}
@@ -14,13 +14,13 @@ abbrev AreTheirs : PolicyData → World → Type 0
 AreTheirs policy w = AllByRecursion (IsOfItsTrader policy) w.live
 
 -- those that go on have the same users and accounts
-goes_on : (policy : PolicyData) (w : World) (turn : Turn) → AreTheirs policy w → AllByRecursion (IsOfItsTrader policy) (new_in turn) → AllByRecursion (IsOfItsTrader policy) (turned turn w.live)
+goes_on : (policy : PolicyData) (w : World) (turn : Turn) → AreTheirs policy w → AllByRecursion (IsOfItsTrader policy) (new_in turn) → AllByRecursion (IsOfItsTrader policy) (live_after turn w.live)
 goes_on policy w turn h new =
     all_both (IsOfItsTrader policy) (filter_map (becomes turn) w.live) (new_in turn)
     (all_found_of (IsOfItsTrader policy) (IsOfItsTrader policy) (becomes turn)
     (λ o x his e. let same = becomes_same turn o x e in ap (account_of policy) same.4 ∙ his ∙ ap (λ (account : AccountName). Some account) (sym same.3)) w.live h) new
 
-by_command : (policy : PolicyData) (r : RecordData) (officer : UserName) (c : Command) (w : World) (action : Action) → AreTheirs policy w → AreTheirs policy (commanded policy r officer c action w)
+by_command : (policy : PolicyData) (r : RecordData) (officer : UserName) (c : Command) (w : World) (action : Action) → AreTheirs policy w → AreTheirs policy (world_after_command policy r officer c action w)
 by_command policy r officer c w (Action.Kill killed) h = goes_on policy w (turns.EndsAll (Action.Kill killed)) h tt
 by_command policy r officer c w (Action.Lift lifts) h = h
 by_command policy r officer c w (Action.SetLimit rule limit) h = h
@@ -30,7 +30,7 @@ by_command policy r officer c w (Action.Grant reader named) h = h
 by_command policy r officer c w (Action.Revoke reader named) h = h
 by_command policy r officer c w Action.CloseDay h = goes_on policy w (turns.EndsAll Action.CloseDay) h tt
 
-by_move : (policy : PolicyData) (r : RecordData) (w : World) (m : Move) → MayMove policy w r m → AreTheirs policy w → AreTheirs policy (moved policy r m w)
+by_move : (policy : PolicyData) (r : RecordData) (w : World) (m : Move) → MayMove policy w r m → AreTheirs policy w → AreTheirs policy (world_after_move policy r m w)
 by_move policy r w Nothing may h = h
 by_move policy r w (Denies a rule) may h = h
 by_move policy r w (PutsOn user line) may h = h

@@ -3,9 +3,10 @@ use Rattle.std.proofs.{Common.{◌≡◌, ℕ, Bool, true, false, List, [], ◌�
 use Rattle.std.specs.{Prelude.{Option, ◌&&◌, ◌||◌, not, filter}, Option.option_map_or, List.{list_any, AllByRecursion}}
 use Rattle.gx_units.specs.{Names.{same_user, same_token}, declared.names.{UserName.UserName, Token.Token}}
 use Rattle.gx_policy.specs.{declared.policy.PolicyData.PolicyData, Lists.are_distinct}
-use Rattle.gx_history.specs.{declared.record.{Asked.Asked, RecordData.RecordData, Verdict.Verdict}, Orders.{Order, orders, is_token_used, record_uses, uses_token, asks_under}, Requests.{asked, is_order, new_token}, Verdicts.{Follows, IsLegal}}
+use Rattle.gx_history.specs.{declared.record.{Asked.Asked, RecordData.RecordData, Verdict.Verdict}, Orders.{Order, orders, is_token_used, record_uses, uses_token, asks_under}, Requests.{asked_of, is_order, new_token}, Verdicts.{Follows, IsLegal}}
 use Rattle.gx_laws.specs.HistoryLaws.{grants_order, is_same_token}
 use Rattle.gx_laws.proofs.{Adding.{AddsNone, AddsOne, what_is_added, added_is_unused, granted_is, user_is, token_is, user_is_itself, token_is_itself}, Granting.legal_keeps, NextOrders.{orders_none, orders_next, is_token_used_next}, Numbers.all_weaker, Owners.all_both}
+use Rattle.gx_units.proofs.Tests.{or_true}
 
 abbrev number_of_order : Order → ℕ
 number_of_order o = o.number
@@ -70,16 +71,12 @@ IsUsed history o = is_token_used history o.user o.token ≡ true
 still_used : (history : List RecordData) (r : RecordData) (o : Order) → IsUsed history o → IsUsed (history ++ r ∷ []) o
 still_used history r o h = is_token_used_next history r o.user o.token ∙ ap (λ (b : Bool). b || record_uses o.user o.token r) h
 
-or_true : (b : Bool) → (b || true) ≡ true
-or_true true = refl
-or_true false = refl
-
 now_used : (policy : PolicyData) (history : List RecordData) (r : RecordData) (one : AddsOne policy history r) → IsUsed (history ++ r ∷ []) one.o
 now_used policy history r one =
     is_token_used_next history r one.o.user one.o.token
     ∙ ap (λ (b : Bool). is_token_used history one.o.user one.o.token || b)
-    (ap (λ (v : Verdict). uses_token v && option_map_or (asks_under one.o.user one.o.token) (asked r.step) false) one.grants
-    ∙ ap (λ (found : Option Asked). option_map_or (asks_under one.o.user one.o.token) found false) (ap asked one.asks)
+    (ap (λ (v : Verdict). uses_token v && option_map_or (asks_under one.o.user one.o.token) (asked_of r.step) false) one.grants
+    ∙ ap (λ (found : Option Asked). option_map_or (asks_under one.o.user one.o.token) found false) (ap asked_of one.asks)
     ∙ ap (λ (user : UserName). same_user one.a.user user && option_map_or (λ (t : Token). same_token t one.o.token) (new_token one.a.request) false) one.his
     ∙ ap (λ (b : Bool). b && option_map_or (λ (t : Token). same_token t one.o.token) (new_token one.a.request) false) (user_is_itself one.a.user)
     ∙ ap (λ (found : Option Token). option_map_or (λ (t : Token). same_token t one.o.token) found false) one.under

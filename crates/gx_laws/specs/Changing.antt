@@ -1,10 +1,10 @@
 -- What one more record makes of what the figures are taken from.
 use Rattle.std.specs.Prelude.{List, [], ◌++◌}
-use Rattle.gx_history.specs.{declared.record.Verdict.Verdict, Executions.{Execution, sides_in}, Figures.Positions, Orders.Order, Turns.{Turn, Fills, turned}}
+use Rattle.gx_history.specs.{declared.record.Verdict.Verdict, Executions.{Execution, sides_in}, Figures.Positions, Orders.Order, Turns.{Turn, Fills, live_after}}
 
 -- no live order, no fill and no grant
-abbrev pub nothing : Positions
-nothing = record { live = []; executions = []; grants = [] }
+abbrev pub no_positions : Positions
+no_positions = record { live = []; executions = []; grants = [] }
 
 -- the sides of the fill, where two orders are filled
 abbrev pub executed_by : Turn → List Order → List Execution
@@ -14,7 +14,7 @@ executed_by other grants = []
 -- live orders, executions and grants, once the live orders were turned so and these orders granted
 abbrev pub positions_with : Turn → List Order → Positions → Positions
 positions_with turn granted held = record {
-  live = turned turn held.live;
+  live = live_after turn held.live;
   executions = held.executions ++ executed_by turn held.grants;
   grants = held.grants ++ granted;
 }

@@ -3,7 +3,7 @@ use Rattle.std.specs.{Option.option_map_or, Prelude.{ℕ, ◌<◌, ◌^◌, opti
 use Rattle.gx_units.specs.{declared.names.{AccountName.AccountName, Token.Token, UserName.UserName}, Names.{same_user, same_token}}
 use Rattle.gx_desk.specs.declared.Action.{Action}
 use Rattle.gx_policy.specs.{declared.{policy.{Account.Account, PolicyData.PolicyData}, rule_name.RuleName.RuleName}, Lists.are_distinct, People.{account_of, stock_named}, Soundness.is_sound}
-use Rattle.gx_history.specs.{declared.{live_order.LiveOrder.LiveOrder, «record».{Asked.Asked, RecordData.RecordData, Step.Step, Verdict.Verdict}}, InForce.{is_closed, kill_after, kill_in_force, kill_or_lift_of, line_of, login_or_logout_of, record_closes}, Live.live, Masks.{has_account, mask_by}, Orders.{Order, orders, ends_account, is_token_used, record_uses}, Requests.{granted, granted_action, granted_mark, is_order}, Rules.{applies, written_order, IsFirstForbidding}, Showing.{is_askable, is_showable}, Streams.{stream, reports_of}, Verdicts.{verdict, facts_now, rules_now, next, last_moment, moment_of, run, day_limit, Follows, IsLegal}}
+use Rattle.gx_history.specs.{declared.{live_order.LiveOrder.LiveOrder, «record».{Asked.Asked, RecordData.RecordData, Step.Step, Verdict.Verdict}}, InForce.{is_closed, kill_after, kill_in_force, kill_or_lift_of, line_of, login_or_logout_of, record_closes}, Live.live, Masks.{has_account, mask_by}, Orders.{Order, orders, ends_account, is_token_used, record_uses}, Requests.{granted_of, granted_action, granted_mark, is_order}, Rules.{applies, written_order, IsFirstForbidding}, Showing.{is_askable, is_showable}, Streams.{stream, reports_of}, Verdicts.{verdict, facts_now, rules_now, next, last_moment, moment_of, run, day_limit, Follows, IsLegal}}
 
 -- a request leaves one record: the next number, the moment, the request and its verdict
 abbrev pub RequestsLeaveRecords : Type 0
@@ -57,7 +57,7 @@ EndedAreNotLive = (policy : PolicyData) (history : List RecordData) (r : RecordD
 
 -- the record grants an Enter or a Replace
 abbrev pub grants_order : RecordData → Bool
-grants_order r = option_map_or (λ (a : Asked). is_order a.request) (granted r) false
+grants_order r = option_map_or (λ (a : Asked). is_order a.request) (granted_of r) false
 
 -- the orders of a legal history are its granted Enters and Replaces, in the order of the records
 abbrev pub OrdersAreGrants : Type 0

@@ -4,35 +4,35 @@ use Rattle.std.specs.{Prelude.{◌≡◌, ℕ, ◌+◌, ◌-◌, ◌<◌, true, 
 use Rattle.gx_units.specs.{declared.names.{AccountName.AccountName, RuleId.RuleId, Symbol.Symbol}, Names.same_user}
 use Rattle.gx_ouch.specs.declared.{inbound.{CancelOrder.CancelOrder, EnterOrder.EnterOrder, ReplaceOrder.ReplaceOrder}, letters.CancelReason.CancelReason}
 use Rattle.gx_desk.specs.declared.{Action.Action, AnswerCode.AnswerCode, Command.Command, WrittenName.WrittenName}
-use Rattle.gx_history.specs.{declared.{live_order.LiveOrder.LiveOrder, «record».{Asked.Asked, Fill.Fill, Login.Login, RecordData.RecordData, Request.Request, Step.Step, Verdict.Verdict}}, Executions.sides_in, InForce.{adding, change_rule, kill_after, removing}, Live.{live, live_under, of_others}, LiveOrders.{replacement_order, shares_open}, Orders.{entered, orders, orders_made, record_uses}, Streams.{answer, canceled_of, copy_of, day_end, ended_of, expired_of, lift_code, replaced_of, reports_of_denial, reports_of_execution, stream, to_user}, Turns.new_order, Verdicts.{IsLegal, next}, World.{World, accepted_of, tell, tell_each, turned_world, with_kill, with_rule, with_sight, world}}
+use Rattle.gx_history.specs.{declared.{live_order.LiveOrder.LiveOrder, «record».{Asked.Asked, Fill.Fill, Login.Login, RecordData.RecordData, Request.Request, Step.Step, Verdict.Verdict}}, Executions.sides_in, InForce.{with_stock, change_rule, kill_after, without_stock}, Live.{live, live_under, of_others}, LiveOrders.{replacement_order, shares_open}, Orders.{order_entered, orders, orders_made, record_uses}, Streams.{answer, canceled_of, copy_of, day_end, ended_of, expired_of, lift_code, replaced_of, reports_of_denial, reports_of_execution, stream, to_user}, Turns.new_order, Verdicts.{IsLegal, next}, World.{World, accepted_of, tell, tell_each, world_after_turn, with_kill, with_rule, with_sight, world}}
 use Rattle.gx_history.specs.Turns as turns
 
 -- the world so, with one record more than before: its number and its moment
-abbrev pub counted : World → RecordData → World → World
-counted before r now = record now { count = before.count + 1; moment = r.moment }
+abbrev pub with_record_counted : World → RecordData → World → World
+with_record_counted before r now = record now { count = before.count + 1; moment = r.moment }
 
 -- and the token that it uses
-abbrev pub recorded : World → RecordData → World → World
-recorded before r now = record (counted before r now) { tokens = λ user token. before.tokens user token || record_uses user token r }
+abbrev pub with_token_recorded : World → RecordData → World → World
+with_token_recorded before r now = record (with_record_counted before r now) { tokens = λ user token. before.tokens user token || record_uses user token r }
 
 -- whatever the records before, the granted request makes this of the world, and records it
 abbrev pub MakesAlways : Request → (PolicyData → Asked → RecordData → World → World) → Type 0
 MakesAlways q made = (policy : PolicyData) (history : List RecordData) (a : Asked) (r : RecordData)
     → next policy history (Step.Asked a) ≡ Some r → a.request ≡ q → r.verdict ≡ Verdict.Granted
-    → world policy (history ++ r ∷ []) ≡ recorded (world policy history) r (made policy a r (world policy history))
+    → world policy (history ++ r ∷ []) ≡ with_token_recorded (world policy history) r (made policy a r (world policy history))
 
 -- and of each legal day
 abbrev pub Makes : Request → (PolicyData → Asked → RecordData → World → World) → Type 0
 Makes q made = (policy : PolicyData) (history : List RecordData) (a : Asked) (r : RecordData)
     → IsLegal policy history → next policy history (Step.Asked a) ≡ Some r → a.request ≡ q → r.verdict ≡ Verdict.Granted
-    → world policy (history ++ r ∷ []) ≡ recorded (world policy history) r (made policy a r (world policy history))
+    → world policy (history ++ r ∷ []) ≡ with_token_recorded (world policy history) r (made policy a r (world policy history))
 
 -- a denial tells at most who asked, and changes nothing else
 abbrev pub DenialsTellWhoAsked : Type 0
 DenialsTellWhoAsked = (policy : PolicyData) (history : List RecordData) (a : Asked) (r : RecordData) (rule : RuleName)
     → next policy history (Step.Asked a) ≡ Some r → r.verdict ≡ Verdict.Denied rule
     → let w = world policy history in
-    world policy (history ++ r ∷ []) ≡ recorded w r (record w { streams = tell r a.user (reports_of_denial policy r rule a.request) w.streams })
+    world policy (history ++ r ∷ []) ≡ with_token_recorded w r (record w { streams = tell r a.user (reports_of_denial policy r rule a.request) w.streams })
 
 -- the user is on this line now, or on none
 abbrev pub with_line : Asked → Option ℕ → World → World
@@ -53,8 +53,8 @@ EntersComeLast = (policy : PolicyData) (history : List RecordData) (a : Asked) (
     → let w = world policy history in
     let new = new_order policy r a.user account m in
     world policy (history ++ r ∷ [])
-    ≡ recorded w r (record w {
-      orders = w.orders ++ entered policy r a.user account m ∷ [];
+    ≡ with_token_recorded w r (record w {
+      orders = w.orders ++ order_entered policy r a.user account m ∷ [];
       live = w.live ++ new ∷ [];
       waiting = w.waiting ++ new ∷ [];
       streams = tell r a.user (accepted_of new) w.streams;
@@ -65,7 +65,7 @@ pub record CutsOne (policy : PolicyData) (history : List RecordData) (a : Asked)
   pub cut : LiveOrder
   pub is_named : live_under (live policy history) a.user m.token ≡ Some cut
   pub is_less : m.shares - cut.done < shares_open cut
-  pub makes : world policy (history ++ r ∷ []) ≡ recorded (world policy history) r (record (turned_world (turns.Sizes cut.number m.shares) (world policy history)) {
+  pub makes : world policy (history ++ r ∷ []) ≡ with_token_recorded (world policy history) r (record (world_after_turn (turns.Sizes cut.number m.shares) (world policy history)) {
     streams = tell r cut.user (canceled_of CancelReason.UserRequested (shares_open cut - (m.shares - cut.done)) cut) (stream policy history);
   })
 
@@ -79,7 +79,7 @@ pub record ReplacesOne (policy : PolicyData) (history : List RecordData) (a : As
   pub old : LiveOrder
   pub is_named : live_under (live policy history) a.user m.existing_token ≡ Some old
   pub some_open : old.done < m.shares
-  pub makes : world policy (history ++ r ∷ []) ≡ recorded (world policy history) r (record (turned_world (turns.Replaces old.number (replacement_order r m old)) (world policy history)) {
+  pub makes : world policy (history ++ r ∷ []) ≡ with_token_recorded (world policy history) r (record (world_after_turn (turns.Replaces old.number (replacement_order r m old)) (world policy history)) {
     orders = orders policy history ++ orders_made policy (orders policy history) r a.user (Request.Replace m);
     streams = tell r old.user (replaced_of old (replacement_order r m old)) (stream policy history);
   })
@@ -116,11 +116,11 @@ SetLimitsChangeOneRule = (c : Command) (name : RuleId) (limit : ℕ) → c.actio
 
 abbrev pub RestrictsChangeOneRule : Type 0
 RestrictsChangeOneRule = (c : Command) (name : RuleId) (stock : Symbol) → c.action ≡ Action.Restrict name stock
-    → Makes (Request.Command c) (λ policy a r w. with_rule r a.user c (map (change_rule name (with_stocks (adding stock))) w.rules) w)
+    → Makes (Request.Command c) (λ policy a r w. with_rule r a.user c (map (change_rule name (with_stocks (with_stock stock))) w.rules) w)
 
 abbrev pub UnrestrictsChangeOneRule : Type 0
 UnrestrictsChangeOneRule = (c : Command) (name : RuleId) (stock : Symbol) → c.action ≡ Action.Unrestrict name stock
-    → Makes (Request.Command c) (λ policy a r w. with_rule r a.user c (map (change_rule name (with_stocks (removing stock))) w.rules) w)
+    → Makes (Request.Command c) (λ policy a r w. with_rule r a.user c (map (change_rule name (with_stocks (without_stock stock))) w.rules) w)
 
 -- Grant and Revoke change whether the reader so written sees the one account, and nothing else; the officer is told
 abbrev pub GrantsChangeOneSight : Type 0
@@ -146,24 +146,24 @@ ClosesLeaveNone = (c : Command) → c.action ≡ Action.CloseDay
 abbrev pub Matches : Verdict → (RecordData → World → World) → Type 0
 Matches v made = (policy : PolicyData) (history : List RecordData) (handed : ℕ) (r : RecordData)
     → IsLegal policy history → next policy history (Step.Matching handed) ≡ Some r → r.verdict ≡ v
-    → world policy (history ++ r ∷ []) ≡ counted (world policy history) r (made r (world policy history))
+    → world policy (history ++ r ∷ []) ≡ with_record_counted (world policy history) r (made r (world policy history))
 
 -- a fill takes its shares off what its two orders have open, each in its place, or ends it; their users are told, and the readers who see their accounts, and nothing else changes
 abbrev pub FillsTakeFromTwo : Type 0
 FillsTakeFromTwo = (f : Fill) → Matches (Verdict.Filled f) (λ r w.
     let both = sides_in w.orders (Verdict.Filled f) in
-    record (turned_world (turns.Fills f) w) {
+    record (world_after_turn (turns.Fills f) w) {
       executions = w.executions ++ both;
       streams = tell_each r (λ user. flat_map (reports_of_execution r user) both ++ flat_map (copy_of w.sight r user) both) w.streams;
     })
 
 -- an order that comes to rest leaves those that wait for its side of the book; nobody is told, and nothing else changes
 abbrev pub RestsMoveOne : Type 0
-RestsMoveOne = (number : ℕ) → Matches (Verdict.Rested number) (λ r w. turned_world (turns.Rests number) w)
+RestsMoveOne = (number : ℕ) → Matches (Verdict.Rested number) (λ r w. world_after_turn (turns.Rests number) w)
 
 -- an order that expires lives no more; its user is told, and nothing else changes
 abbrev pub ExpiriesEndOne : Type 0
-ExpiriesEndOne = (number : ℕ) → Matches (Verdict.Expired number) (λ r w. record (turned_world (turns.Ends number) w) { streams = tell_each r (expired_of w.live number) w.streams })
+ExpiriesEndOne = (number : ℕ) → Matches (Verdict.Expired number) (λ r w. record (world_after_turn (turns.Ends number) w) { streams = tell_each r (expired_of w.live number) w.streams })
 
 -- a matching step makes no order, uses no token, and changes nothing that is in force
 abbrev pub MatchesKeepInForce : Type 0

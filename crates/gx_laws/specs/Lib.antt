@@ -7,3 +7,4 @@ pub mod Sound
 pub mod PositionLaws
 pub mod Exposure
 pub mod ExposureLaws
+pub mod ReservedLaws

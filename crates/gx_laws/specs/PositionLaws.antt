@@ -2,11 +2,11 @@
 use Rattle.std.specs.Prelude.{◌≡◌, ◌≤◌, length, List, [], ◌∷◌, ◌++◌, Some}
 use Rattle.gx_policy.specs.declared.policy.PolicyData.{PolicyData}
 use Rattle.gx_history.specs.{declared.record.{RecordData.RecordData, Step.Step}, Figures.positions, Live.live, Orders.{Order, orders, orders_added}, Turns.Turn, Verdicts.{IsLegal, day_limit, next}, World.{turn_of, world}}
-use Rattle.gx_laws.specs.{Changing.{nothing, positions_with}, Sound.{AreSound, MayChange}}
+use Rattle.gx_laws.specs.{Changing.{no_positions, positions_with}, Sound.{AreSound, MayChange}}
 
 -- no record, no order
 abbrev pub DaysBeginEmpty : Type 0
-DaysBeginEmpty = (policy : PolicyData) → positions policy [] ≡ nothing
+DaysBeginEmpty = (policy : PolicyData) → positions policy [] ≡ no_positions
 
 -- what the record does to the live orders
 abbrev pub turn_after : PolicyData → List RecordData → RecordData → Turn

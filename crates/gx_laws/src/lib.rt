@@ -4,6 +4,7 @@
 //! - `history`: a legal day's records, its orders and its tables;
 //! - `effects`: what requests and matching steps change, and what matching comes to;
 //! - `positions`: what one more record changes of orders, fills and grants, from which all figures are taken;
+//! - `reserved`: how much is kept beforehand, so that a Kill and a Logout can always be recorded and told;
 //! - `exposure`: what accounts may have open and executed in all under the rules that limit it.
 #![tactic(auto)]
 
@@ -11,3 +12,4 @@ pub mod effects;
 pub mod exposure;
 pub mod history;
 pub mod positions;
+pub mod reserved;

@@ -3,10 +3,9 @@ use Rattle.std.proofs.{Common.{◌≡◌, ℕ, ◌+◌, ◌<◌, ◌≤◌, Bool
 use Rattle.std.specs.{Prelude.◌&&◌, Option.option_map_or, List.AllByRecursion}
 use Rattle.gx_units.specs.{Spelling.folded_user, Names.{same_token, same_user}, declared.names.{Token.Token, UserName.UserName}}
 use Rattle.gx_policy.specs.declared.policy.{PolicyData.PolicyData, User.User}
-use Rattle.gx_history.specs.{declared.record.{Asked.Asked, RecordData.RecordData, Request.Request, Step.Step, Verdict.Verdict}, InForce.line_of, Orders.{asks_under, record_uses, uses_token}, Requests.{asked, new_token}, Verdicts.{IsLegal, last_moment, next, verdict}, World.{World, world}}
-use Rattle.gx_laws.proofs.{Adding.user_is_itself, Logouts.logouts_are_granted, NextOrders.or_not, Pushing.all_next, Runs.step_left, ByKind.logouts_put_off}
-use Rattle.gx_places.specs.Places.{has_kept_places}
-use Rattle.gx_answers.specs.{declared.outcome.{Outcome.Outcome, StepFault.StepFault}, Gates.{GateData, left_by}, Steps.{has_its_places, next_of, verdict_of, with_record}}
+use Rattle.gx_history.specs.{declared.«record».{Asked.Asked, RecordData.RecordData, Request.Request, Step.Step, Verdict.Verdict}, InForce.line_of, Orders.{asks_under, record_uses, uses_token}, Requests.{asked_of, new_token}, Verdicts.{IsLegal, last_moment, next, verdict}, World.{World, world}, Reserved.is_never_refused}
+use Rattle.gx_laws.proofs.{Adding.user_is_itself, Logouts.logouts_are_granted, NextOrders.or_not, Pushing.all_next, Runs.step_left, ByKind.logouts_put_off, Owners.all_both}
+use Rattle.gx_answers.specs.{declared.outcome.{Outcome.Outcome, StepFault.StepFault}, Gates.{GateData, left_by}, Steps.{never_refuses, next_of, verdict_of, with_record}}
 use Rattle.gx_door.specs.Acts.{asked_on}
 use Rattle.gx_leaving.specs.Logouts.{AddsLogouts, IsGrantedLogout, IsOff, LeavesLine}
 
@@ -23,7 +22,7 @@ no_token false c = refl
 
 uses_none : (a : Asked) (r : RecordData) (user : UserName) (token : Token) → r.step ≡ Step.Asked a → a.request ≡ Request.Logout → record_uses user token r ≡ false
 uses_none a r user token step_is asks =
-    ap (λ (s : Step). uses_token r.verdict && option_map_or (asks_under user token) (asked s) false) step_is
+    ap (λ (s : Step). uses_token r.verdict && option_map_or (asks_under user token) (asked_of s) false) step_is
     ∙ ap (λ (q : Request). uses_token r.verdict && (same_user a.user user && option_map_or (λ (t : Token). same_token t token) (new_token q) false)) asks
     ∙ no_token (uses_token r.verdict) (same_user a.user user)
 
@@ -49,7 +48,7 @@ record LogsOut (handed : ℕ) (old new : GateData) (user : UserName) : Type 0 wh
   left : LeavesLine old.policy old.records new.records user
 
 by_step : (old new : GateData) (a : Asked) (r : Result Outcome StepFault) → IsLegal old.policy old.records → a.request ≡ Request.Logout → verdict_of old a ≡ Verdict.Granted
-    → (has_its_places old a ≡ true → is_ok r ≡ true) → IfOk r (λ o. next_of old a ≡ Some (left_by a o)) → IfOk r (λ o. o.verdict ≡ verdict_of old a)
+    → (never_refuses old a ≡ true → is_ok r ≡ true) → IfOk r (λ o. next_of old a ≡ Some (left_by a o)) → IfOk r (λ o. o.verdict ≡ verdict_of old a)
     → IfOk r (λ o. new.records ≡ with_record old a o) → LogsOut a.handed old new a.user
 by_step old new a (Ok o) legal asks grants sure next given grown = record {
   added = record {
@@ -61,11 +60,11 @@ by_step old new a (Ok o) legal asks grants sure next given grown = record {
       (put_off old.policy old.records a (left_by a o) legal next asks (given ∙ grants));
 }
 by_step old new a (Err e) legal asks grants sure next given grown =
-    let places : has_its_places old a ≡ true = λ i. has_kept_places (asks i) (grants i) in
+    let places : never_refuses old a ≡ true = λ i. is_never_refused (asks i) (grants i) in
     let clash : false ≡ true = sure places in cc
 
 logs_out : (old new : GateData) (line : ℕ) (user : UserName) (moment : ℕ) (asked : Asked) (r : Result Outcome StepFault) → IsLegal old.policy old.records → line_of old.records (folded_user user) ≡ Some line
-    → asked ≡ asked_on line user Request.Logout moment → (has_its_places old asked ≡ true → is_ok r ≡ true) → IfOk r (λ o. next_of old asked ≡ Some (left_by asked o))
+    → asked ≡ asked_on line user Request.Logout moment → (never_refuses old asked ≡ true → is_ok r ≡ true) → IfOk r (λ o. next_of old asked ≡ Some (left_by asked o))
     → IfOk r (λ o. o.verdict ≡ verdict_of old asked) → IfOk r (λ o. new.records ≡ with_record old asked o) → LogsOut moment old new (folded_user user)
 logs_out old new line user moment asked r legal on is sure next given grown =
     let request_is : asked.request ≡ Request.Logout = ap (λ (a : Asked). a.request) is in
@@ -73,25 +72,21 @@ logs_out old new line user moment asked r legal on is sure next given grown =
     subst (λ (a : Asked). LogsOut a.handed old new a.user) is (by_step old new asked r legal request_is grants sure next given grown)
 
 pub adds_logout : (old new : GateData) (line : ℕ) (user : UserName) (moment : ℕ) (asked : Asked) (r : Result Outcome StepFault) → IsLegal old.policy old.records → line_of old.records (folded_user user) ≡ Some line
-    → asked ≡ asked_on line user Request.Logout moment → (has_its_places old asked ≡ true → is_ok r ≡ true) → IfOk r (λ o. next_of old asked ≡ Some (left_by asked o))
+    → asked ≡ asked_on line user Request.Logout moment → (never_refuses old asked ≡ true → is_ok r ≡ true) → IfOk r (λ o. next_of old asked ≡ Some (left_by asked o))
     → IfOk r (λ o. o.verdict ≡ verdict_of old asked) → IfOk r (λ o. new.records ≡ with_record old asked o) → AddsLogouts moment old.records new.records
 adds_logout old new line user moment asked r legal on is sure next given grown = (logs_out old new line user moment asked r legal on is sure next given grown).added
 
 pub leaves_line : (old new : GateData) (line : ℕ) (user : UserName) (moment : ℕ) (asked : Asked) (r : Result Outcome StepFault) → IsLegal old.policy old.records → line_of old.records (folded_user user) ≡ Some line
-    → asked ≡ asked_on line user Request.Logout moment → (has_its_places old asked ≡ true → is_ok r ≡ true) → IfOk r (λ o. next_of old asked ≡ Some (left_by asked o))
+    → asked ≡ asked_on line user Request.Logout moment → (never_refuses old asked ≡ true → is_ok r ≡ true) → IfOk r (λ o. next_of old asked ≡ Some (left_by asked o))
     → IfOk r (λ o. o.verdict ≡ verdict_of old asked) → IfOk r (λ o. new.records ≡ with_record old asked o) → LeavesLine old.policy old.records new.records (folded_user user)
 leaves_line old new line user moment asked r legal on is sure next given grown = (logs_out old new line user moment asked r legal on is sure next given grown).left
 
 -- What was added.
 
-all_joined : {X : Type 0} (P : X → Type 0) (xs ys : List X) → AllByRecursion P xs → AllByRecursion P ys → AllByRecursion P (xs ++ ys)
-all_joined P [] ys h k = k
-all_joined P (x ∷ xs) ys h k = (h.0, all_joined P xs ys h.1 k)
-
 pub adds_more : (handed : ℕ) (a b c : List RecordData) → AddsLogouts handed a b → AddsLogouts handed b c → AddsLogouts handed a c
 adds_more handed a b c first then = record {
   added = first.added ++ then.added;
-  logouts = all_joined (IsGrantedLogout handed) first.added then.added first.logouts then.logouts;
+  logouts = all_both (IsGrantedLogout handed) first.added then.added first.logouts then.logouts;
   grown = then.grown ∙ ap (λ (records : List RecordData). records ++ then.added) first.grown ∙ append_assoc a first.added then.added;
 }
 

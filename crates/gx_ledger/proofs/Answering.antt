@@ -4,11 +4,12 @@ use Rattle.std.proofs.Common.{◌≡◌, ℕ, suc, ◌<◌, ◌^◌, pos, ◌-�
 use Rattle.std.specs.{Prelude.{Option, Some, None, is_some, find, option_and_then, option_map, slice_get, unwrap_or}, Option.option_map_or, List.AllByRecursion, Map.lookup, Cmp.Lexicographic.nat_list_eq_equiv}
 use Rattle.gx_units.specs.{Money.value, Names.{same_account, same_stock}, declared.names.{AccountName.AccountName, Symbol.Symbol}}
 use Rattle.gx_ouch.specs.declared.outbound.OrderTerms.{OrderTerms}
-use Rattle.gx_history.specs.{LiveOrders.shares_open, declared.{live_order.LiveOrder.LiveOrder, facts.{RuleFigures.RuleFigures, StockSide.StockSide}, «record».Request.Request}, Executions.Execution, Book.is_on, Figures.{Positions, counts_account, figures, kind_figures, net_done, no_figures, on_side, open_value, other_side, reference, side_asked, side_done, side_live, stock_asked}, Rules.{figured, figured_from}, Verdicts.with_figures}
+use Rattle.gx_history.specs.{LiveOrders.shares_open, declared.{live_order.LiveOrder.LiveOrder, facts.{RuleFigures.RuleFigures, StockSide.StockSide}, «record».Request.Request}, Executions.Execution, Book.is_on, Figures.{Positions, counts_account, figures, kind_figures, net_done, no_figures, on_side, open_value, other_side, reference, side_asked, side_done, side_live, stock_asked}, Rules.{rules_with_figures, figured_from}, Verdicts.with_figures}
 use Rattle.gx_laws.proofs.{Names.{account_is, same_account_flip, stock_is}, Numbers.all_weaker, Sums.{done_are, is_chosen, none_of, shares_of, sum_of_none}}
 use Rattle.gx_laws.specs.Sound.{AreSound, IsListed}
-use Rattle.gx_ledger.specs.{declared.{group.Group.Group, asks.Asks.Asks, sides.StockSums.StockSums, sums.Sums.Sums, tally.{Tally.Tally, Wanted.Wanted}}, Accounts.{account_names, account_place}, Keeping.{Kept, price_of, reference_for}, Running.{asked_as, capped_signed, net_of, no_sides, on_its_side, sides_at}, StandsFor.{GivesFigures, IsMadeIn, StandsFor, both_sides, group_of, members_of, side_sums_of, sides_of, tally_of, total_of}, Tallies.{asks_of, count_of, figures_of_group, net_sums_in, place_in, seat_for, seat_in, seats_for, tally_figures, tells_reference}, Told.figures_at}
+use Rattle.gx_ledger.specs.{declared.{group.Group.Group, figure_kind.FigureKind.FigureKind, sides.StockSums.StockSums, sums.Sums.Sums, tally.{Tally.Tally, FigureQuery.FigureQuery}}, Accounts.{account_names, account_place}, Keeping.{LedgerData, price_of, reference_for}, Running.{asked_as, capped_signed, net_of, no_sides, on_its_side, sides_at}, StandsFor.{GivesFigures, IsMadeIn, StandsFor, both_sides, group_of, members_of, side_sums_of, sides_of, tally_of, total_of}, Tallies.{asks_of, count_of, figures_of_group, net_sums_in, place_in, seat_for, seat_in, seats_for, tally_figures, tells_reference}, Told.figures_at}
 use Rattle.gx_ledger.proofs.{Counted.{alike_is, recent_counted}, Counting.{map_twice, place-cons}, Totals.done_fit}
+use Rattle.gx_units.proofs.Tests.{and_false}
 
 later_group : {X : Type 0} (y : X) (ys : List X) (place : Option ℕ) → option_and_then (slice_get (y ∷ ys)) (option_map suc place) ≡ option_and_then (slice_get ys) place
 later_group y ys None = refl
@@ -34,16 +35,12 @@ found_at {X} g account (a ∷ accounts) known =
 alone_in_scope : (scope : Scope) (account : AccountName) → covers scope account ≡ true → (other : AccountName) → (covers scope other && same_account account other) ≡ same_account account other
 alone_in_scope scope account inside other = by (same_account account other) refl
   where
-    none : (b : Bool) → (b && false) ≡ false
-    none true = refl
-    none false = refl
-
     by : (b : Bool) → same_account account other ≡ b → (covers scope other && b) ≡ b
     by true h = ap (λ b. b && true) (ap (covers scope) (sym (account_is account other h)) ∙ inside)
-    by false h = none (covers scope other)
+    by false h = and_false (covers scope other)
 
 -- the group of a known account in scope
-pub group_found : (policy : PolicyData) (held : Positions) (asked : Asks) (account : AccountName) (scope : Scope) (count : Count) → is_some (account_named policy account) ≡ true → covers scope account ≡ true
+pub group_found : (policy : PolicyData) (held : Positions) (asked : FigureKind) (account : AccountName) (scope : Scope) (count : Count) → is_some (account_named policy account) ≡ true → covers scope account ≡ true
     → option_and_then (slice_get (map (λ (among : AccountName → Bool). group_of policy.stocks asked (total_of held among)) (members_of (Some count) scope (account_names policy.accounts))))
     (place_in (Some count) (account_place (account_names policy.accounts) account))
     ≡ Some (group_of policy.stocks asked (total_of held (counts_account count scope account)))
@@ -140,7 +137,7 @@ module _ (policy : PolicyData) (held : Positions) (among : AccountName → Bool)
 -- for one request
 module _ (policy : PolicyData) (held : Positions) (account : AccountName) (q : Request) (replaced : Option LiveOrder) (moment near : ℕ) (sound : AreSound policy held) (all_made : AllByRecursion (IsMadeIn policy) held.executions)
     (known : is_some (account_named policy account) ≡ true) where
-  abbrev asking : Wanted
+  abbrev asking : FigureQuery
   asking = record {
     place = account_place (account_names policy.accounts) account;
     entered = asked_as q;
@@ -153,7 +150,7 @@ module _ (policy : PolicyData) (held : Positions) (account : AccountName) (q : R
   }
 
   module _ (scope : Scope) (inside : covers scope account ≡ true) where
-    abbrev group : Asks → Option Count → Option Group
+    abbrev group : FigureKind → Option Count → Option Group
     group asked count =
         option_and_then (slice_get (map (λ (among : AccountName → Bool). group_of policy.stocks asked (total_of held among)) (members_of count scope (account_names policy.accounts)))) (seat_in count asking.place)
 
@@ -168,20 +165,20 @@ module _ (policy : PolicyData) (held : Positions) (account : AccountName) (q : R
     kind_answers (RuleKind.Listed kind stocks) = refl
     kind_answers (RuleKind.Plain kind) = refl
     kind_answers (RuleKind.Order kind limit) = refl
-    kind_answers (RuleKind.Exposure ExposureLimit.GrossShares limit count) = ap (told (RuleKind.Exposure ExposureLimit.GrossShares limit count)) (group_found policy held Asks.Shares account scope count known inside)
-    kind_answers (RuleKind.Exposure ExposureLimit.GrossValue limit count) = ap (told (RuleKind.Exposure ExposureLimit.GrossValue limit count)) (group_found policy held Asks.Value account scope count known inside)
+    kind_answers (RuleKind.Exposure ExposureLimit.GrossShares limit count) = ap (told (RuleKind.Exposure ExposureLimit.GrossShares limit count)) (group_found policy held FigureKind.Shares account scope count known inside)
+    kind_answers (RuleKind.Exposure ExposureLimit.GrossValue limit count) = ap (told (RuleKind.Exposure ExposureLimit.GrossValue limit count)) (group_found policy held FigureKind.Value account scope count known inside)
     kind_answers (RuleKind.Exposure ExposureLimit.NetShares limit count) =
-        ap (told (RuleKind.Exposure ExposureLimit.NetShares limit count)) (group_found policy held Asks.Sides account scope count known inside)
+        ap (told (RuleKind.Exposure ExposureLimit.NetShares limit count)) (group_found policy held FigureKind.Sides account scope count known inside)
         ∙ (λ i. record no_figures {
           net_done = net_answers policy held (theirs count) sound all_made (side_asked q replaced) i;
           side_live = live_answers policy held (theirs count) sound all_made (side_asked q replaced) i;
           replaced_shares = option_map_or shares_open replaced 0;
         })
     kind_answers (RuleKind.Rate rate count) =
-        ap (told (RuleKind.Rate rate count)) (group_found policy held (Asks.Recent rate) account scope count known inside)
+        ap (told (RuleKind.Rate rate count)) (group_found policy held (FigureKind.Recent rate) account scope count known inside)
         ∙ ap (λ n. record no_figures { recent = n }) (recent_counted rate.limit held.grants (theirs count) rate.window moment sound.never_fall)
     kind_answers (RuleKind.Repeat repeat count) =
-        ap (told (RuleKind.Repeat repeat count)) (group_found policy held (Asks.Alike repeat) account scope count known inside)
+        ap (told (RuleKind.Repeat repeat count)) (group_found policy held (FigureKind.Alike repeat) account scope count known inside)
         ∙ ap (λ n. record no_figures { equal_recent = n }) (alike_is repeat.span held.grants (theirs count) q)
 
   -- where the account's group stands
@@ -215,7 +212,7 @@ module _ (policy : PolicyData) (held : Positions) (account : AccountName) (q : R
       by true inside = kind_answers rule.scope inside rule.kind
       by false inside = ap (λ n. record no_figures { reference = n }) (none_told (tells_reference rule.kind))
 
-price_answers : (policy : PolicyData) (k : Kept) (held : Positions) → StandsFor policy k held → (stock : Symbol) → price_of k.prices stock ≡ reference policy held.executions stock
+price_answers : (policy : PolicyData) (k : LedgerData) (held : Positions) → StandsFor policy k held → (stock : Symbol) → price_of k.prices stock ≡ reference policy held.executions stock
 price_answers policy k held stands stock = ap (λ prices. price_of prices stock) stands.prices ∙ value_answers policy (reference policy held.executions) 0 stock (stands.unlisted stock)
 
 same_price : (f g : Symbol → ℕ) → ((stock : Symbol) → f stock ≡ g stock) → (o : Option Symbol) → option_map_or f o 0 ≡ option_map_or g o 0
@@ -229,13 +226,13 @@ shifted told place (rule ∷ rules) = λ i. (rule, told (suc place)) ∷ shifted
 
 -- what is told by place is told by rule
 told_by_rule : (f : Tally → RuleFigures) (t : FileRule → Tally) (g : FileRule → RuleFigures) → ((rule : FileRule) → f (t rule) ≡ g rule) → (rules : List FileRule)
-    → figured (λ place. option_map_or f (slice_get (map t rules) place) no_figures) rules ≡ with_figures g rules
+    → rules_with_figures (λ place. option_map_or f (slice_get (map t rules) place) no_figures) rules ≡ with_figures g rules
 told_by_rule f t g same [] = refl
 told_by_rule f t g same (rule ∷ rules) =
     λ i. (rule, same rule i) ∷ (shifted (λ place. option_map_or f (slice_get (t rule ∷ map t rules) place) no_figures) 0 rules ∙ told_by_rule f t g same rules) i
 
 -- the figures of all rules
-pub figures_answer : (k : Kept) (account : AccountName) (q : Request) (replaced : Option LiveOrder) (moment near : ℕ)
+pub figures_answer : (k : LedgerData) (account : AccountName) (q : Request) (replaced : Option LiveOrder) (moment near : ℕ)
     → GivesFigures k account q replaced moment (record {
       tallies = k.tallies;
       wanted = record {
@@ -254,7 +251,7 @@ figures_answer k account q replaced moment near policy held stands sound known =
     let price : reference_for k.prices q replaced ≡ option_map_or (reference policy held.executions) (stock_asked q replaced) 0 =
     same_price (price_of k.prices) (reference policy held.executions) (price_answers policy k held stands) (stock_asked q replaced) in
     let tallies : k.tallies ≡ map (tally_of policy.stocks names (total_of held)) policy.rules = stands.tallies ∙ ap (λ accounts. map (tally_of policy.stocks accounts (total_of held)) policy.rules) stands.accounts in
-    (λ i. figured (figures_at (record {
+    (λ i. rules_with_figures (figures_at (record {
       tallies = tallies i;
       wanted = record {
         place = account_place (stands.accounts i) account;

@@ -5,18 +5,18 @@ use Rattle.gx_history.specs.{declared.live_order.LiveOrder.LiveOrder, Figures.Po
 use Rattle.gx_policy.specs.declared.policy.PolicyData.{PolicyData}
 use Rattle.gx_laws.specs.{Changing.{executed_by, positions_with}, Sound.AreSound}
 use Rattle.gx_laws.proofs.Sums.{Loses, ended_loses, left_by, sized_loses}
-use Rattle.gx_ledger.specs.{Keeping.{Kept, comes, kept_noted, leaves}, StandsFor.{Accepts, Closes, Cuts, StandsFor, tally_of, total_of}}
+use Rattle.gx_ledger.specs.{Keeping.{LedgerData, comes, data_after, leaves}, StandsFor.{Accepts, Closes, Cuts, StandsFor, tally_of, total_of}}
 use Rattle.gx_ledger.proofs.{Counting.{Totals, kept_follows}, Totals.{accepted_total, left_total, none_comes, order_added, same_total, with_order}}
 
 -- the tallies are those of other totals, where these agree
-pub tallies_same : (policy : PolicyData) (k : Kept) (first second : Totals) → ((among : AccountName → Bool) → first among ≡ second among)
+pub tallies_same : (policy : PolicyData) (k : LedgerData) (first second : Totals) → ((among : AccountName → Bool) → first among ≡ second among)
     → map (tally_of policy.stocks k.accounts first) policy.rules ≡ map (tally_of policy.stocks k.accounts second) policy.rules
 tallies_same policy k first second same = λ i. map (tally_of policy.stocks k.accounts (λ among. same among i)) policy.rules
 
-pub accept_carries : (o : LiveOrder) (moment : ℕ) (replacement : Bool) (k : Kept) → Accepts o moment replacement k (kept_noted (comes o moment replacement) k)
+pub accept_carries : (o : LiveOrder) (moment : ℕ) (replacement : Bool) (k : LedgerData) → Accepts o moment replacement k (data_after (comes o moment replacement) k)
 accept_carries o moment replacement k grant is policy held stands sound may after =
     let sound_with : AreSound policy (with_order o grant held) = subst (AreSound policy) (order_added held o grant) after in
-    subst (StandsFor policy (kept_noted (comes o moment replacement) k)) (sym (order_added held o grant)) (record {
+    subst (StandsFor policy (data_after (comes o moment replacement) k)) (sym (order_added held o grant)) (record {
       accounts = stands.accounts;
       accounts_differ = stands.accounts_differ;
       prices = stands.prices;
@@ -28,7 +28,7 @@ accept_carries o moment replacement k grant is policy held stands sound may afte
     })
 
 -- a turn that leaves each order what it has open needs no call
-pub stays_for : (policy : PolicyData) (k : Kept) (held : Positions) (turn : Turn) → new_in turn ≡ [] → executed_by turn held.grants ≡ [] → ((o : LiveOrder) → left_by turn o ≡ shares_open o)
+pub stays_for : (policy : PolicyData) (k : LedgerData) (held : Positions) (turn : Turn) → new_in turn ≡ [] → executed_by turn held.grants ≡ [] → ((o : LiveOrder) → left_by turn o ≡ shares_open o)
     → StandsFor policy k held → StandsFor policy k (positions_with turn [] held)
 stays_for policy k held turn none idle same stands = subst (StandsFor policy k) (sym (none_comes turn held none idle)) (record {
   accounts = stands.accounts;
@@ -40,10 +40,10 @@ stays_for policy k held turn none idle same stands = subst (StandsFor policy k) 
 })
 
 -- one order loses open shares
-loss_carries : (o : LiveOrder) (lost : ℕ) (k : Kept) (policy : PolicyData) (held : Positions) (turn : Turn) (number : ℕ) → StandsFor policy k held → AreSound policy held → Loses turn number held.live o lost
-    → new_in turn ≡ [] → executed_by turn held.grants ≡ [] → StandsFor policy (kept_noted (leaves o lost) k) (positions_with turn [] held)
+loss_carries : (o : LiveOrder) (lost : ℕ) (k : LedgerData) (policy : PolicyData) (held : Positions) (turn : Turn) (number : ℕ) → StandsFor policy k held → AreSound policy held → Loses turn number held.live o lost
+    → new_in turn ≡ [] → executed_by turn held.grants ≡ [] → StandsFor policy (data_after (leaves o lost) k) (positions_with turn [] held)
 loss_carries o lost k policy held turn number stands sound loses none idle =
-    subst (StandsFor policy (kept_noted (leaves o lost) k)) (sym (none_comes turn held none idle)) (record {
+    subst (StandsFor policy (data_after (leaves o lost) k)) (sym (none_comes turn held none idle)) (record {
       accounts = stands.accounts;
       accounts_differ = stands.accounts_differ;
       prices = stands.prices;
@@ -54,7 +54,7 @@ loss_carries o lost k policy held turn number stands sound loses none idle =
           ∙ tallies_same policy k _ _ (left_total held turn number o lost sound.numbers_differ loses);
     })
 
-pub cut_carries : (o : LiveOrder) (shares : ℕ) (k : Kept) → Cuts o shares k (kept_noted (leaves o shares) k)
+pub cut_carries : (o : LiveOrder) (shares : ℕ) (k : LedgerData) → Cuts o shares k (data_after (leaves o shares) k)
 cut_carries o shares k size policy held stands sound cut after = loss_carries o shares k policy held (Sizes o.number size) o.number stands sound loses refl refl
   where
     lost : shares_open o - (size - o.done) ≡ shares
@@ -63,5 +63,5 @@ cut_carries o shares k size policy held stands sound cut after = loss_carries o 
     loses : Loses (Sizes o.number size) o.number held.live o shares
     loses = subst (Loses (Sizes o.number size) o.number held.live o) lost (sized_loses held o.number size o cut.is_held (let whole = cut.is_less in omega (arith, whole)))
 
-pub close_carries : (o : LiveOrder) (k : Kept) → Closes o k (kept_noted (leaves o (shares_open o)) k)
+pub close_carries : (o : LiveOrder) (k : LedgerData) → Closes o k (data_after (leaves o (shares_open o)) k)
 close_carries o k policy held stands sound is after = loss_carries o (shares_open o) k policy held (Ends o.number) o.number stands sound (ended_loses held o.number o is) refl refl

@@ -8,7 +8,7 @@ use Rattle.gx_laws.specs.Sound.{NeverFall}
 use Rattle.gx_ledger.specs.{Running.{asked_as, count_alike, is_recent, recent_in}, StandsFor.{entered_of, enters_of, moments_of}}
 use Rattle.gx_ledger.proofs.Likeness.{alike_in, asked_alike, is_like}
 
-none_left : {X : Type 0} (n : ℕ) → drop {A = X} n [] ≡ []
+pub none_left : {X : Type 0} (n : ℕ) → drop {A = X} n [] ≡ []
 none_left zero = refl
 none_left (suc n) = refl
 

@@ -3,22 +3,22 @@ use Rattle.std.proofs.{Common.{◌≡◌, ℕ, ◌+◌, ◌-◌, ◌<◌, ◌≤
 use Rattle.std.specs.Prelude.{◌==◌, count_by, nat_lt, slice_get}
 use Rattle.circular_buffer.specs.Buffer.{keep_last}
 use Rattle.gx_units.specs.Names.{same_stock}
-use Rattle.gx_ledger.specs.{declared.group.Entered.Entered, Cells.{AreCounted, cell_of, one_less}, Running.are_alike}
+use Rattle.gx_ledger.specs.{declared.group.RepeatKey.RepeatKey, Cells.{AreCounted, cell_of, one_less}, Running.are_alike}
 
 -- one where it is so
 abbrev one_of : Bool → ℕ
 one_of b = cond b 1 0
 
 -- one where the Enter falls into the cell
-abbrev pub one_in : ℕ → ℕ → Entered → ℕ
+abbrev pub one_in : ℕ → ℕ → RepeatKey → ℕ
 one_in cells cell e = one_of (cell_of cells e == cell)
 
 -- how many of the Enters do
-abbrev pub in_cell : ℕ → ℕ → List Entered → ℕ
-in_cell cells cell enters = count_by (λ (e : Entered). cell_of cells e == cell) enters
+abbrev pub in_cell : ℕ → ℕ → List RepeatKey → ℕ
+in_cell cells cell enters = count_by (λ (e : RepeatKey). cell_of cells e == cell) enters
 
 -- it falls into its own
-own_cell : (cells : ℕ) (e : Entered) (at : ℕ) → at ≡ cell_of cells e → one_in cells at e ≡ 1
+own_cell : (cells : ℕ) (e : RepeatKey) (at : ℕ) → at ≡ cell_of cells e → one_in cells at e ≡ 1
 own_cell cells e at is = by (cell_of cells e == at) refl
   where
     by : (b : Bool) → (cell_of cells e == at) ≡ b → one_of b ≡ 1
@@ -26,7 +26,7 @@ own_cell cells e at is = by (cell_of cells e == at) refl
     by false differs = absurd (eqb-false (cell_of cells e) at differs (sym is))
 
 -- the count of one cell alone changed
-recounted : (cells : List ℕ) (e : Entered) (at count : ℕ) (before after : List Entered) → at ≡ cell_of (length cells) e → at < length cells → (count < 255 → count ≡ in_cell (length cells) at after)
+recounted : (cells : List ℕ) (e : RepeatKey) (at count : ℕ) (before after : List RepeatKey) → at ≡ cell_of (length cells) e → at < length cells → (count < 255 → count ≡ in_cell (length cells) at after)
     → ((cell : ℕ) → one_in (length cells) cell e ≡ 0 → in_cell (length cells) cell after ≡ in_cell (length cells) cell before)
     → AreCounted cells before → AreCounted (set cells at count) after
 recounted cells e at count before after is within here others counted =
@@ -44,7 +44,7 @@ recounted cells e at count before after is within here others counted =
         subst (λ (n : ℕ). n < 255 → n ≡ in_cell (length cells) cell after) (sym stays) (λ few. counted cell there few ∙ sym (others cell (ap (λ (b : Bool). one_of b) differs)))
 
 -- one more Enter
-pub counted_up : (cells : List ℕ) (e : Entered) (at count found : ℕ) (enters : List Entered) → at ≡ cell_of (length cells) e → at < length cells → found ≡ get_or cells at found
+pub counted_up : (cells : List ℕ) (e : RepeatKey) (at count found : ℕ) (enters : List RepeatKey) → at ≡ cell_of (length cells) e → at < length cells → found ≡ get_or cells at found
     → count ≡ min (found + 1) 255 → AreCounted cells enters → AreCounted (set cells at count) (enters ++ e ∷ [])
 counted_up cells e at count found enters is within read next counted =
     recounted cells e at count enters (enters ++ e ∷ []) is within here (λ cell other. let more = one_more cell in omega (arith, more, other)) counted
@@ -61,7 +61,7 @@ counted_up cells e at count found enters is within read next counted =
         grind (arith, next, few, own, there, before, more)
 
 -- the first Enter no more
-pub counted_down : (cells : List ℕ) (e : Entered) (at count found : ℕ) (enters : List Entered) → at ≡ cell_of (length cells) e → at < length cells → found ≡ get_or cells at found
+pub counted_down : (cells : List ℕ) (e : RepeatKey) (at count found : ℕ) (enters : List RepeatKey) → at ≡ cell_of (length cells) e → at < length cells → found ≡ get_or cells at found
     → count ≡ one_less found → AreCounted cells (e ∷ enters) → AreCounted (set cells at count) enters
 counted_down cells e at count found enters is within read next counted =
     recounted cells e at count (e ∷ enters) enters is within (here (found == 255) refl next) (λ cell other. let more = one_more cell in omega (arith, more, other)) counted
@@ -80,7 +80,7 @@ counted_down cells e at count found enters is within read next counted =
         omega (arith, less, own, there, before, more)
 
 -- like Enters are one
-alike_is : (asked e : Entered) → are_alike asked e ≡ true → e ≡ asked
+alike_is : (asked e : RepeatKey) → are_alike asked e ≡ true → e ≡ asked
 alike_is asked e like =
     let (most, price) = and_parts ((e.side == asked.side && e.shares == asked.shares) && same_stock e.stock asked.stock) (e.price == asked.price) like in
     let (terms, stock) = and_parts (e.side == asked.side && e.shares == asked.shares) (same_stock e.stock asked.stock) most in
@@ -93,14 +93,14 @@ alike_is asked e like =
     }
 
 -- no more are like an Enter than fall into its cell
-pub few_alike : (cells : List ℕ) (asked : Entered) (at : ℕ) (enters : List Entered) → at ≡ cell_of (length cells) asked → at < length cells → get_or cells at 0 < 255
+pub few_alike : (cells : List ℕ) (asked : RepeatKey) (at : ℕ) (enters : List RepeatKey) → at ≡ cell_of (length cells) asked → at < length cells → get_or cells at 0 < 255
     → AreCounted cells enters → count_by (are_alike asked) enters ≤ get_or cells at 0
 few_alike cells asked at enters is within few counted =
-    let fewer = sum_by-le-sum_by (λ (e : Entered). one_of (are_alike asked e)) (one_in (length cells) at) enters (λ e. by e (are_alike asked e) refl) in
+    let fewer = sum_by-le-sum_by (λ (e : RepeatKey). one_of (are_alike asked e)) (one_in (length cells) at) enters (λ e. by e (are_alike asked e) refl) in
     let there = counted at within few in
     omega (arith, fewer, there)
   where
-    by : (e : Entered) (b : Bool) → are_alike asked e ≡ b → one_of b ≤ one_in (length cells) at e
+    by : (e : RepeatKey) (b : Bool) → are_alike asked e ≡ b → one_of b ≤ one_in (length cells) at e
     by e true like =
         let own = own_cell (length cells) e at (is ∙ ap (cell_of (length cells)) (sym (alike_is asked e like))) in
         omega (arith, own)

@@ -1,12 +1,13 @@
 -- What a change makes of what counts, and so of all groups and rules.
-use Rattle.std.proofs.{Common.{◌≡◌, ℕ, ◌+◌, ◌-◌, ◌≤◌, suc, Bool, true, false, cond, ◌&&◌, ◌||◌, not, List, [], ◌∷◌, ◌++◌, map, length, drop, refl, sym, ap, ◌∙◌, arith, ltb}, lemmas.{Bool.{lt-ltb, ltb-false, ltb-true, Decides.nat_tests}, List.{length-append, length-drop, drop-drop, drop-append-le}}}
+use Rattle.std.proofs.{Common.{◌≡◌, ℕ, ◌+◌, ◌-◌, ◌≤◌, suc, Bool, true, false, cond, ◌&&◌, ◌||◌, not, List, [], ◌∷◌, ◌++◌, map, length, drop, refl, sym, ap, ◌∙◌, arith, ltb}, lemmas.{Bool.{Decides.nat_tests, lt-ltb, ltb-false, ltb-true, and_parts, not-true}, List.{length-append, length-drop, drop-drop, drop-append-le}}}
 use Rattle.std.specs.{Prelude.{Option, Some, None, option_map}, List.{list_any, position_or_len}, Cmp.Lexicographic.nat_list_eq_equiv}
 use Rattle.circular_buffer.specs.Buffer.{buffer}
 use Rattle.gx_units.specs.{Money.value, Names.{same_account, same_stock}, declared.names.{AccountName.AccountName, Symbol.Symbol}}
 use Rattle.gx_history.specs.{declared.live_order.LiveOrder.LiveOrder, Book.{is_buy, is_on}}
 use Rattle.gx_policy.specs.{declared.policy.{Count.Count, FileRule.FileRule, PolicyData.PolicyData, Scope.Scope, Stock.Stock}, Lists.are_distinct, People.covers}
 use Rattle.gx_laws.proofs.{Granting.{left_false, right_false}, Names.same_account_flip}
-use Rattle.gx_ledger.specs.{Changes.Change, declared.{group.{Entered.Entered, Group.Group}, change.ChangeKind.ChangeKind, sides.StockSums.StockSums, sums.Sums.Sums, asks.Asks.Asks}, Accounts.account_place, Keeping.{Kept, kept_noted, noted}, Running.{changed_group, changed_sums, counted_singly, entered_as, noted_enters, noted_moments, noted_sides, pushed}, StandsFor.{Total, group_of, members_of, ring, sides_of, tally_of}, Tallies.{asks_of, changed_in, count_of, place_in, seats_for, tally_after, tells_reference}}
+use Rattle.gx_ledger.specs.{Changes.Change, declared.{group.{RepeatKey.RepeatKey, Group.Group}, change.ChangeKind.ChangeKind, sides.StockSums.StockSums, sums.Sums.Sums, figure_kind.FigureKind.FigureKind}, Accounts.account_place, Keeping.{LedgerData, data_after, tallies_after}, Running.{changed_group, changed_sums, counted_singly, entered_as, noted_enters, noted_moments, noted_sides, with_latest}, StandsFor.{Total, group_of, members_of, ring, sides_of, tally_of}, Tallies.{asks_of, changed_in, count_of, place_in, seats_for, tally_after, tells_reference}}
+use Rattle.gx_units.proofs.Tests.{and_false}
 
 -- the change is of an order on this side of the stock
 abbrev pub changes_side : Change → Symbol → Bool → Bool
@@ -23,7 +24,7 @@ more_moments (ChangeKind.Left shares) ms = ms
 more_moments (ChangeKind.Filled shares price) ms = ms
 
 -- the Enters
-abbrev pub more_enters : LiveOrder → ChangeKind → List Entered → List Entered
+abbrev pub more_enters : LiveOrder → ChangeKind → List RepeatKey → List RepeatKey
 more_enters o (ChangeKind.Accepted moment replacement) es = cond replacement es (es ++ entered_as o ∷ [])
 more_enters o (ChangeKind.Left shares) es = es
 more_enters o (ChangeKind.Filled shares price) es = es
@@ -47,7 +48,7 @@ abbrev pub totals_after : Change → Totals → Totals
 totals_after change totals among = cond (among change.order.account) (changed_total change (totals among)) (totals among)
 
 -- the ring of one more item
-pub pushed_ring : {X : Type 0} (n : ℕ) (xs : List X) (x : X) → pushed x (ring n xs) ≡ ring n (xs ++ x ∷ [])
+pub pushed_ring : {X : Type 0} (n : ℕ) (xs : List X) (x : X) → with_latest x (ring n xs) ≡ ring n (xs ++ x ∷ [])
 pushed_ring n xs x =
     let past : ℕ = length xs - n in
     let fits : past ≤ length xs = omega arith in
@@ -80,19 +81,19 @@ sides_changed change sides (s ∷ stocks) = λ i. (s.name, by (same_stock change
     by false c = refl
 
 -- a group follows what counts
-pub group_changed : (stocks : List Stock) (change : Change) (asked : Asks) (t : Total) → changed_group change (group_of stocks asked t) ≡ group_of stocks asked (changed_total change t)
-group_changed stocks change Asks.Shares t = refl
-group_changed stocks change Asks.Value t = refl
-group_changed stocks change Asks.Sides t = ap Group.Sides (sides_changed change t.sides stocks)
-group_changed stocks change (Asks.Recent rate) t = ap (Group.Recent rate.window) (by change.kind)
+pub group_changed : (stocks : List Stock) (change : Change) (asked : FigureKind) (t : Total) → changed_group change (group_of stocks asked t) ≡ group_of stocks asked (changed_total change t)
+group_changed stocks change FigureKind.Shares t = refl
+group_changed stocks change FigureKind.Value t = refl
+group_changed stocks change FigureKind.Sides t = ap Group.Sides (sides_changed change t.sides stocks)
+group_changed stocks change (FigureKind.Recent rate) t = ap (Group.Recent rate.window) (by change.kind)
   where
     by : (kind : ChangeKind) → noted_moments kind (ring rate.limit t.moments) ≡ ring rate.limit (more_moments kind t.moments)
     by (ChangeKind.Accepted moment replacement) = pushed_ring rate.limit t.moments moment
     by (ChangeKind.Left shares) = refl
     by (ChangeKind.Filled shares price) = refl
-group_changed stocks change (Asks.Alike repeat) t = ap Group.Enters (by change.order change.kind)
+group_changed stocks change (FigureKind.Alike repeat) t = ap Group.Enters (by change.order change.kind)
   where
-    entered : (o : LiveOrder) (b : Bool) → cond b (ring repeat.span t.enters) (pushed (entered_as o) (ring repeat.span t.enters)) ≡ ring repeat.span (cond b t.enters (t.enters ++ entered_as o ∷ []))
+    entered : (o : LiveOrder) (b : Bool) → cond b (ring repeat.span t.enters) (with_latest (entered_as o) (ring repeat.span t.enters)) ≡ ring repeat.span (cond b t.enters (t.enters ++ entered_as o ∷ []))
     entered o true = refl
     entered o false = pushed_ring repeat.span t.enters (entered_as o)
 
@@ -100,8 +101,8 @@ group_changed stocks change (Asks.Alike repeat) t = ap Group.Enters (by change.o
     by o (ChangeKind.Accepted moment replacement) = entered o replacement
     by o (ChangeKind.Left shares) = refl
     by o (ChangeKind.Filled shares price) = refl
-group_changed stocks change Asks.Reference t = refl
-group_changed stocks change Asks.Nothing t = refl
+group_changed stocks change FigureKind.Reference t = refl
+group_changed stocks change FigureKind.Nothing t = refl
 
 both_less : (m n : ℕ) → ltb (suc m) (suc n) ≡ ltb m n
 both_less m n = by (ltb m n) refl
@@ -134,15 +135,7 @@ changed-cons : {X : Type 0} (place : Option ℕ) (f : X → X) (y : X) (ys : Lis
 changed-cons None f y ys = refl
 changed-cons (Some n) f y ys = refl
 
-pub left_none : (a b : Bool) → (not a && b) ≡ true → a ≡ false
-left_none true b h = cc
-left_none false b h = refl
-
-pub right_true : (a b : Bool) → (a && b) ≡ true → b ≡ true
-right_true true b h = h
-right_true false b h = cc
-
-module _ (stocks : List Stock) (change : Change) (scope : Scope) (asked : Asks) (totals : Totals) where
+module _ (stocks : List Stock) (change : Change) (scope : Scope) (asked : FigureKind) (totals : Totals) where
   abbrev x : AccountName
   x = change.order.account
 
@@ -156,11 +149,7 @@ module _ (stocks : List Stock) (change : Change) (scope : Scope) (asked : Asks) 
   after name = group_of stocks asked (totals_after change totals (member name))
 
   another : (name : AccountName) → same_account x name ≡ false → before name ≡ after name
-  another name h = ap (λ b. group_of stocks asked (cond b (changed_total change (totals (member name))) (totals (member name)))) (sym (ap (λ b. covers scope x && b) (same_account_flip name x ∙ h) ∙ none (covers scope x)))
-    where
-      none : (b : Bool) → (b && false) ≡ false
-      none true = refl
-      none false = refl
+  another name h = ap (λ b. group_of stocks asked (cond b (changed_total change (totals (member name))) (totals (member name)))) (sym (ap (λ b. covers scope x && b) (same_account_flip name x ∙ h) ∙ and_false (covers scope x)))
 
   itself : (name : AccountName) → covers scope x ≡ true → same_account x name ≡ true → changed_group change (before name) ≡ after name
   itself name inside h =
@@ -182,15 +171,15 @@ module _ (stocks : List Stock) (change : Change) (scope : Scope) (asked : Asks) 
   each_changed [] distinct inside = refl
   each_changed (n ∷ names) distinct inside =
       ap (λ place. changed_in place (changed_group change) (before n ∷ map before names)) (place-cons x n names)
-      ∙ by (same_account x n) refl (each_changed names (right_true (not (list_any (same_account n) names)) (are_distinct same_account names) distinct) inside)
+      ∙ by (same_account x n) refl (each_changed names (and_parts (not (list_any (same_account n) names)) (are_distinct same_account names) distinct).1 inside)
     where
       by : (b : Bool) → same_account x n ≡ b → changed_in (account_place names x) (changed_group change) (map before names) ≡ map after names
           → changed_in (cond b (Some 0) (option_map suc (account_place names x))) (changed_group change) (before n ∷ map before names) ≡ after n ∷ map after names
-      by true h deeper = λ i. itself n inside h i ∷ others names (same_others n names h ∙ left_none (list_any (same_account n) names) (are_distinct same_account names) distinct) i
+      by true h deeper = λ i. itself n inside h i ∷ others names (same_others n names h ∙ not-true _ (and_parts _ _ distinct).0) i
       by false h deeper = changed-cons (account_place names x) (changed_group change) (before n) (map before names) ∙ (λ i. another n h i ∷ deeper i)
 
 -- groups of members that the change is not of
-apart : (stocks : List Stock) (change : Change) (scope : Scope) (asked : Asks) (totals : Totals) (names : List AccountName) → covers scope change.order.account ≡ false
+apart : (stocks : List Stock) (change : Change) (scope : Scope) (asked : FigureKind) (totals : Totals) (names : List AccountName) → covers scope change.order.account ≡ false
     → map (before stocks change scope asked totals) names ≡ map (after stocks change scope asked totals) names
 apart stocks change scope asked totals [] outside = refl
 apart stocks change scope asked totals (n ∷ names) outside =
@@ -202,7 +191,7 @@ map_twice g f [] = refl
 map_twice g f (x ∷ xs) = ap (λ l. g (f x) ∷ l) (map_twice g f xs)
 
 -- the groups of a rule follow
-groups_changed : (stocks : List Stock) (change : Change) (totals : Totals) (names : List AccountName) (count : Option Count) (asked : Asks) (scope : Scope) → are_distinct same_account names ≡ true
+groups_changed : (stocks : List Stock) (change : Change) (totals : Totals) (names : List AccountName) (count : Option Count) (asked : FigureKind) (scope : Scope) → are_distinct same_account names ≡ true
     → cond (covers scope change.order.account)
     (changed_in (place_in count (account_place names change.order.account)) (changed_group change) (map (λ (among : AccountName → Bool). group_of stocks asked (totals among)) (members_of count scope names)))
     (map (λ (among : AccountName → Bool). group_of stocks asked (totals among)) (members_of count scope names))
@@ -245,12 +234,12 @@ tally_changed stocks change totals names distinct rule = λ i. record {
 
 -- all tallies follow
 pub tallies_changed : (stocks : List Stock) (change : Change) (totals : Totals) (names : List AccountName) → are_distinct same_account names ≡ true → (rules : List FileRule)
-    → noted change (account_place names change.order.account) (map (tally_of stocks names totals) rules) ≡ map (tally_of stocks names (totals_after change totals)) rules
+    → tallies_after change (account_place names change.order.account) (map (tally_of stocks names totals) rules) ≡ map (tally_of stocks names (totals_after change totals)) rules
 tallies_changed stocks change totals names distinct [] = refl
 tallies_changed stocks change totals names distinct (rule ∷ rules) = λ i. tally_changed stocks change totals names distinct rule i ∷ tallies_changed stocks change totals names distinct rules i
 
 -- what a ledger keeps follows
-pub kept_follows : (policy : PolicyData) (k : Kept) (totals : Totals) (change : Change) → are_distinct same_account k.accounts ≡ true → k.tallies ≡ map (tally_of policy.stocks k.accounts totals) policy.rules
-    → (kept_noted change k).tallies ≡ map (tally_of policy.stocks k.accounts (totals_after change totals)) policy.rules
+pub kept_follows : (policy : PolicyData) (k : LedgerData) (totals : Totals) (change : Change) → are_distinct same_account k.accounts ≡ true → k.tallies ≡ map (tally_of policy.stocks k.accounts totals) policy.rules
+    → (data_after change k).tallies ≡ map (tally_of policy.stocks k.accounts (totals_after change totals)) policy.rules
 kept_follows policy k totals change distinct is =
-    ap (noted change (account_place k.accounts change.order.account)) is ∙ tallies_changed policy.stocks change totals k.accounts distinct policy.rules
+    ap (tallies_after change (account_place k.accounts change.order.account)) is ∙ tallies_changed policy.stocks change totals k.accounts distinct policy.rules

@@ -1,15 +1,11 @@
 -- Entries of tables, one of them changed.
-use Rattle.std.proofs.{Common.{◌≡◌, ℕ, ◌+◌, ◌<◌, zero, suc, Bool, true, false, cond, not, ◌||◌, List, [], ◌∷◌, ◌++◌, map, length, get_or, take, refl, sym, ap, ◌∙◌, subst, arith}, lemmas.List.{map-append, take_more}}
-use Rattle.std.specs.{Prelude.{Option, Some, None}, List.{list_any, AllByRecursion, IsDistinct}, Map.{keys_of, lookup, set_value}, Cmp.Lexicographic.nat_list_eq_equiv}
+use Rattle.std.proofs.{Common.{◌≡◌, ℕ, ◌+◌, ◌<◌, Bool, true, false, cond, ◌||◌, List, [], ◌∷◌, ◌++◌, map, length, get_or, take, refl, sym, ap, ◌∙◌, subst}, lemmas.List.{map-append, take_more}}
+use Rattle.std.specs.{Prelude.{Some, None}, List.{list_any, AllByRecursion, IsDistinct}, Map.{keys_of, lookup, set_value}, Cmp.Lexicographic.nat_list_eq_equiv}
 use Rattle.indexmap.specs.{IndexMap.insert_entry, IndexSet.insert_key}
+use Rattle.gx_laws.proofs.{Order.some_same, Granting.{left_false, right_false}, Names.stock_is, Tables.none_before}
 use Rattle.gx_units.specs.{Names.{same_account, same_stock}, declared.names.{AccountName.AccountName, Symbol.Symbol}}
-use Rattle.gx_policy.specs.{declared.policy.{Account.Account, Stock.Stock}, Lists.are_distinct}
-use Rattle.gx_laws.proofs.{Granting.{left_false, right_false}, Names.stock_is}
-use Rattle.gx_ledger.specs.{Accounts.account_names, Keeping.priced, declared.sides.StockSums.StockSums, Tables.{accounts_differ, names_differ}}
-use Rattle.gx_ledger.proofs.Counting.{left_none, right_true}
-
-pub some_is : {X : Type 0} {x y : X} → Some x ≡ Some y → x ≡ y
-some_is {X} {x} {y} h = ap (λ (o : Option X). elim o [ None ↦ x | Some z ↦ z ]) h
+use Rattle.gx_policy.specs.declared.policy.{Account.Account, Stock.Stock}
+use Rattle.gx_ledger.specs.{Accounts.account_names, Keeping.prices_with, declared.sides.StockSums.StockSums, Tables.{accounts_differ, names_differ}}
 
 module _ {K V : Type 0} (eq : K → K → Bool) (is : (a b : K) → eq a b ≡ true → a ≡ b) (n : K) (change : V → V) where
   -- the value of the key, changed
@@ -41,7 +37,7 @@ module _ {K V : Type 0} (eq : K → K → Bool) (is : (a b : K) → eq a b ≡ t
           → (lookup (eq n) es ≡ Some before → set_value (eq n) es (change before) ≡ changed es)
           → cond b ((e.0, change before) ∷ es) (e ∷ set_value (eq n) es (change before)) ≡ changed (e ∷ es)
       by true h found deeper =
-          let same : e.1 ≡ before = some_is found in
+          let same : e.1 ≡ before = some_same found in
           let others : AllByRecursion (λ k. eq n k ≡ false) (keys_of es) = subst (λ m. AllByRecursion (λ k. eq m k ≡ false) (keys_of es)) (sym (is n e.0 h)) distinct.0 in
           (λ i. (e.0, change (sym same i)) ∷ kept es others i)
           ∙ (λ i. (e.0, sym (ap (λ b. cond b (change e.1) e.1) h) i) ∷ changed es)
@@ -49,10 +45,10 @@ module _ {K V : Type 0} (eq : K → K → Bool) (is : (a b : K) → eq a b ≡ t
           (λ i. (e.0, sym (ap (λ b. cond b (change e.1) e.1) h) i) ∷ deeper found i)
 
 pub price_set : (stock : Symbol) (price : ℕ) (es : List (Symbol × ℕ)) (before : ℕ) → IsDistinct same_stock (keys_of es) → lookup (same_stock stock) es ≡ Some before
-    → set_value (same_stock stock) es price ≡ priced stock price es
+    → set_value (same_stock stock) es price ≡ prices_with stock price es
 price_set stock price es before distinct found = written same_stock stock_is stock (λ last. price) es before distinct found
 
-pub no_price_set : (stock : Symbol) (price : ℕ) (es : List (Symbol × ℕ)) → lookup (same_stock stock) es ≡ None → es ≡ priced stock price es
+pub no_price_set : (stock : Symbol) (price : ℕ) (es : List (Symbol × ℕ)) → lookup (same_stock stock) es ≡ None → es ≡ prices_with stock price es
 no_price_set stock price es none = absent same_stock stock_is stock (λ last. price) es none
 
 -- the sums of one stock written
@@ -63,20 +59,6 @@ sums_set stock change es before distinct found = written same_stock stock_is sto
 pub no_sums_set : (stock : Symbol) (change : StockSums → StockSums) (es : List (Symbol × StockSums)) → lookup (same_stock stock) es ≡ None
     → es ≡ map (λ (e : Symbol × StockSums). (e.0, cond (same_stock stock e.0) (change e.1) e.1)) es
 no_sums_set stock change es none = absent same_stock stock_is stock change es none
-
-none_at : {X : Type 0} (p : X → Bool) (xs : List X) (i : ℕ) (d : X) → list_any p xs ≡ false → i < length xs → p (get_or xs i d) ≡ false
-none_at p [] i d none within = absurd (omega (arith, within))
-none_at p (x ∷ xs) zero d none within = left_false (p x) (list_any p xs) none
-none_at p (x ∷ xs) (suc i) d none within = none_at p xs i d (right_false (p x) (list_any p xs) none) (omega (arith, within))
-
-none_before : {X : Type 0} (same : X → X → Bool) (symm : (x y : X) → same x y ≡ same y x) (xs : List X) (i : ℕ) (d : X)
-    → are_distinct same xs ≡ true → i < length xs → list_any (same (get_or xs i d)) (take i xs) ≡ false
-none_before same symm [] i d distinct within = absurd (omega (arith, within))
-none_before same symm (x ∷ xs) zero d distinct within = refl
-none_before same symm (x ∷ xs) (suc i) d distinct within =
-    let here : same (get_or xs i d) x ≡ false = symm (get_or xs i d) x ∙ none_at (same x) xs i d (left_none (list_any (same x) xs) (are_distinct same xs) distinct) (omega (arith, within)) in
-    ap (λ b. b || list_any (same (get_or xs i d)) (take i xs)) here
-    ∙ none_before same symm xs i d (right_true (not (list_any (same x) xs)) (are_distinct same xs) distinct) (omega (arith, within))
 
 module _ {V : Type 0} (value : Stock → V) where
   -- each stock with its value

@@ -8,7 +8,7 @@ use Rattle.gx_policy.specs.{declared.policy.{PolicyData.PolicyData, Stock.Stock}
 use Rattle.gx_laws.proofs.{Names.stock_is, NextFigures.reference_more, Order.some_same, Owners.all_both, Fills.both_sides, NewOrders.found_is, Sums.{IsOpenSum, done_shares_filled, done_value_filled, filled_by, is_chosen, shares_of, sides_are, value_of}}
 use Rattle.gx_history.specs.Turns as turns
 use Rattle.gx_laws.specs.{Changing.{executed_by, positions_with}, Sound.{AreSound, IsListed, MayFill, SumsFit, anyone}}
-use Rattle.gx_ledger.specs.{declared.sums.Sums.Sums, Keeping.{Kept, is_filled, kept_noted, priced, with_price}, Running.capped, StandsFor.{AreFilled, Fills, IsMadeIn, StandsFor, Total, enters_of, moments_of, prices_of, total_of}}
+use Rattle.gx_ledger.specs.{declared.sums.Sums.Sums, Keeping.{LedgerData, is_filled, data_after, prices_with, with_price}, Running.capped_at_128_bits, StandsFor.{AreFilled, Fills, IsMadeIn, StandsFor, Total, enters_of, moments_of, prices_of, total_of}}
 use Rattle.gx_ledger.proofs.{Carrying.tallies_same, Counting.{Totals, changed_total, changes_side, kept_follows, totals_after}, Totals.{done_fit, done_value_fit, less, more, on_its_own_side}}
 
 -- what counts after both sides
@@ -47,7 +47,7 @@ filled_one : (b : Bool) (o : LiveOrder) (shares price : ℕ) (t : Total) → con
 filled_one false o shares price t = refl
 filled_one true o shares price t = λ i. record (changed_total (is_filled o shares price) t) { sides = λ stock buys. side (changes_side (is_filled o shares price) stock buys) (t.sides stock buys) i }
   where
-    side : (c : Bool) (s : Sums) → cond c (record { live = s.live - shares; done = capped (s.done + shares) }) s ≡ record { live = less c shares s.live; done = more c shares s.done }
+    side : (c : Bool) (s : Sums) → cond c (record { live = s.live - shares; done = capped_at_128_bits (s.done + shares) }) s ≡ record { live = less c shares s.live; done = more c shares s.done }
     side true s = refl
     side false s = refl
 
@@ -165,10 +165,10 @@ module _ (held : Positions) (policy : PolicyData) (taker maker : LiveOrder) (sha
         both true = refl
         both false = refl
 
-    pub filled_prices : priced maker.terms.stock price (prices_of policy held) ≡ prices_of policy after
+    pub filled_prices : prices_with maker.terms.stock price (prices_of policy held) ≡ prices_of policy after
     filled_prices = each policy.stocks
       where
-        each : (stocks : List Stock) → priced maker.terms.stock price (map (λ (s : Stock). (s.name, reference policy held.executions s.name)) stocks) ≡ map (λ (s : Stock). (s.name, reference policy after.executions s.name)) stocks
+        each : (stocks : List Stock) → prices_with maker.terms.stock price (map (λ (s : Stock). (s.name, reference policy held.executions s.name)) stocks) ≡ map (λ (s : Stock). (s.name, reference policy after.executions s.name)) stocks
         each [] = refl
         each (s ∷ stocks) = λ i. (s.name, sym (price_then s.name) i) ∷ each stocks i
 
@@ -187,18 +187,18 @@ module _ (held : Positions) (policy : PolicyData) (taker maker : LiveOrder) (sha
         (ap (λ (stock : Symbol). is_some (stock_named policy stock)) taker_stock ∙ listed, (ap (λ (stock : Symbol). is_some (stock_named policy stock)) maker_stock ∙ listed, tt)) in
         all_both (IsMadeIn policy) held.executions (executed_by (turns.Fills f) held.grants) all (subst (AllByRecursion (IsMadeIn policy)) (sym (sides_are held f may)) theirs)
 
-pub fill_carries : (taker maker : LiveOrder) (shares price : ℕ) (k : Kept)
-    → Fills taker maker shares price k (with_price maker.terms.stock price (kept_noted (is_filled maker shares price) (kept_noted (is_filled taker shares price) k)))
+pub fill_carries : (taker maker : LiveOrder) (shares price : ℕ) (k : LedgerData)
+    → Fills taker maker shares price k (with_price maker.terms.stock price (data_after (is_filled maker shares price) (data_after (is_filled taker shares price) k)))
 fill_carries taker maker shares price k policy held stands sound are sound_then =
-    let between : Kept = kept_noted (is_filled taker shares price) k in
+    let between : LedgerData = data_after (is_filled taker shares price) k in
     let first = kept_follows policy k (total_of held) (is_filled taker shares price) stands.accounts_differ stands.tallies in
     let both = kept_follows policy between (totals_after (is_filled taker shares price) (total_of held)) (is_filled maker shares price) stands.accounts_differ first in
     let then_is = filled_is held policy taker maker shares price sound in
-    subst (StandsFor policy (with_price maker.terms.stock price (kept_noted (is_filled maker shares price) between))) (sym then_is) (record {
+    subst (StandsFor policy (with_price maker.terms.stock price (data_after (is_filled maker shares price) between))) (sym then_is) (record {
       accounts = stands.accounts;
       accounts_differ = stands.accounts_differ;
       unlisted = λ stock other. filled_unlisted held policy taker maker shares price sound are stock other (stands.unlisted stock other);
       all_made = filled_made held policy taker maker shares price sound are stands.all_made;
-      prices = ap (priced maker.terms.stock price) stands.prices ∙ filled_prices held policy taker maker shares price sound are;
+      prices = ap (prices_with maker.terms.stock price) stands.prices ∙ filled_prices held policy taker maker shares price sound are;
       tallies = both ∙ tallies_same policy k _ _ (filled_total held policy taker maker shares price sound are (subst (AreSound policy) then_is sound_then));
     })

@@ -6,7 +6,7 @@ use Rattle.gx_policy.specs.declared.policy.PolicyData.{PolicyData}
 use Rattle.gx_history.specs.Turns as turns
 use Rattle.gx_laws.proofs.{Owners.filtered, Pushing.all_before, World.{all_stay, those_go}, Sums.{IsNoMore, is_numbered, no_rise_by, none_if_gone, shares_of, value_of}}
 use Rattle.gx_laws.specs.{Changing.positions_with, Sound.{AreSound, IsListed, IsLive, MayCome, anyone, numbers_of}}
-use Rattle.gx_ledger.specs.{Following.{AllAreEnded, EndedThenAccepted, NoneCloses, OneMoreCloses, all_closed, closed, ended_by}, StandsFor.{IsHeld, StandsFor}}
+use Rattle.gx_ledger.specs.{Following.{AllAreEnded, EndedThenAccepted, NoneCloses, OneMoreCloses, all_closed, positions_closed, ended_by}, StandsFor.{IsHeld, StandsFor}}
 
 -- any other number
 abbrev pub is_other : ℕ → LiveOrder → Bool
@@ -41,7 +41,7 @@ abbrev only : (LiveOrder → Bool) → Positions → Positions
 only q held = record { live = filter q held.live; executions = held.executions; grants = held.grants }
 
 -- an order that has ended is gone
-closed_is : (held : Positions) (o : LiveOrder) → closed held o ≡ only (is_other o.number) held
+closed_is : (held : Positions) (o : LiveOrder) → positions_closed held o ≡ only (is_other o.number) held
 closed_is held o = λ i. record { live = (append-nil _ ∙ one_ends o.number held.live) i; executions = append-nil held.executions i; grants = append-nil held.grants i }
 
 others_sound : (policy : PolicyData) (held : Positions) (n : ℕ) → AreSound policy held → AreSound policy (only (is_other n) held)
@@ -68,12 +68,12 @@ others_sound policy held n sound = record {
         let same = ap (λ os. live_value os anyone) (one_ends n held.live) in
         omega (arith, fit, few, same)
 
-closed_sound : (policy : PolicyData) (held : Positions) (o : LiveOrder) → AreSound policy held → AreSound policy (closed held o)
+closed_sound : (policy : PolicyData) (held : Positions) (o : LiveOrder) → AreSound policy held → AreSound policy (positions_closed held o)
 closed_sound policy held o sound = subst (AreSound policy) (sym (closed_is held o)) (others_sound policy held o.number sound)
 
 all_closed_sound : (policy : PolicyData) (held : Positions) (orders : List LiveOrder) → AreSound policy held → AreSound policy (all_closed orders held)
 all_closed_sound policy held [] sound = sound
-all_closed_sound policy held (o ∷ orders) sound = all_closed_sound policy (closed held o) orders (closed_sound policy held o sound)
+all_closed_sound policy held (o ∷ orders) sound = all_closed_sound policy (positions_closed held o) orders (closed_sound policy held o sound)
 
 -- another order is found as before
 other_found : (n m : ℕ) (os : List LiveOrder) → nat_eq n m ≡ false → live_numbered (filter (is_other n) os) m ≡ live_numbered os m
@@ -95,7 +95,7 @@ none_found q m (o ∷ os) none = by (nat_eq o.number m) (q o) refl none (none_fo
     by false true h none deeper = ap (λ b. cond b (Some o) (live_numbered (filter q os) m)) h ∙ deeper none
     by false false h none deeper = deeper none
 
-still_held : (held : Positions) (x o : LiveOrder) → nat_eq x.number o.number ≡ false → IsHeld held o → IsHeld (closed held x) o
+still_held : (held : Positions) (x o : LiveOrder) → nat_eq x.number o.number ≡ false → IsHeld held o → IsHeld (positions_closed held x) o
 still_held held x o differ is = ap (λ (p : Positions). live_numbered p.live o.number) (closed_is held x) ∙ other_found x.number o.number held.live differ ∙ is
 
 -- the orders before the last have other numbers
@@ -113,7 +113,7 @@ others_before (x ∷ orders) o distinct =
 
 held_to_the_end : (held : Positions) (orders : List LiveOrder) (o : LiveOrder) → AllByRecursion (λ (x : LiveOrder). nat_eq x.number o.number ≡ false) orders → IsHeld held o → IsHeld (all_closed orders held) o
 held_to_the_end held [] o others is = is
-held_to_the_end held (x ∷ orders) o others is = held_to_the_end (closed held x) orders o others.1 (still_held held x o others.0 is)
+held_to_the_end held (x ∷ orders) o others is = held_to_the_end (positions_closed held x) orders o others.1 (still_held held x o others.0 is)
 
 pub none_closes : NoneCloses
 none_closes k policy held stands sound are = stands
@@ -124,7 +124,7 @@ one_more_closes orders o old between new before last policy held stands sound ar
     let others = others_before orders o are.differ in
     let so_far : Positions = all_closed orders held in
     let sound_so_far = all_closed_sound policy held orders sound in
-    subst (StandsFor policy new) (sym (fold_push closed held orders o))
+    subst (StandsFor policy new) (sym (fold_push positions_closed held orders o))
     (last policy so_far (before policy held stands sound (record { all_held = all.0; differ = others.1 })) sound_so_far (held_to_the_end held orders o others.0 all.1)
     (closed_sound policy so_far o sound_so_far))
 
@@ -147,7 +147,7 @@ all_kept {X} q h (x ∷ xs) = ap (λ l. x ∷ l) (all_kept q h xs) ∙ ap (λ b.
 all_closed_are : (held : Positions) (orders : List LiveOrder) → all_closed orders held ≡ only (is_none_of (numbers_of orders)) held
 all_closed_are held [] = λ i. record { live = all_kept (is_none_of []) (λ o. refl) held.live i; executions = held.executions; grants = held.grants }
 all_closed_are held (o ∷ orders) =
-    all_closed_are (closed held o) orders
+    all_closed_are (positions_closed held o) orders
     ∙ ap (only (is_none_of (numbers_of orders))) (closed_is held o)
     ∙ (λ i. record { live = filter_both (is_other o.number) (is_none_of (numbers_of orders)) (is_none_of (numbers_of (o ∷ orders))) neither held.live i; executions = held.executions; grants = held.grants })
   where
@@ -197,7 +197,7 @@ all_are_ended policy held action sound =
 
 pub ended_then_accepted : EndedThenAccepted
 ended_then_accepted o new_order moment old between new closes accepts grant is policy held stands sound may after =
-    let mid : Positions = closed held o in
+    let mid : Positions = positions_closed held o in
     let sound_mid = closed_sound policy held o sound in
     let left : filter_map (becomes (turns.Adds new_order)) mid.live ≡ filter_map (becomes (turns.Replaces o.number new_order)) held.live =
     all_stay mid.live ∙ append-nil (filter_map (becomes (turns.Ends o.number)) held.live) ∙ one_ends o.number held.live ∙ sym (those_go (is_numbered o.number) held.live) in

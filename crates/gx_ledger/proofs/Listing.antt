@@ -3,9 +3,9 @@ use Rattle.std.proofs.{Common.{◌≡◌, ℕ, zero, suc, ◌+◌, ◌<◌, Bool
 use Rattle.std.specs.Prelude.{Option, Some, None, option_map, is_some, unwrap_or, fold}
 use Rattle.gx_units.specs.{Names.same_account, declared.names.AccountName.AccountName}
 use Rattle.gx_policy.specs.{declared.policy.{Account.Account, Count.Count}, People.covers}
-use Rattle.gx_laws.proofs.Names.{account_is}
-use Rattle.gx_ledger.specs.{Changes.Change, declared.{tally.Tally.Tally, tally_places.CountedAt.CountedAt}, Counts.{AreCounted, counting, counting_from, counts, group_place, noted_in, tally_with}, Accounts.{account_names, account_place}, Keeping.{Kept, kept_noted, noted}, Running.changed_group, Tallies.{changed_at, changed_in, place_in, tally_after}}
-use Rattle.gx_ledger.proofs.{Counting.place-cons, Entries.some_is}
+use Rattle.gx_laws.proofs.{Names.account_is, Order.some_same}
+use Rattle.gx_ledger.specs.{Changes.Change, declared.{tally.Tally.Tally, tally_places.CountedAt.CountedAt}, Counts.{AreCounted, places_counting, counting_from, counts, group_place, noted_in, tally_with}, Accounts.{account_names, account_place}, Keeping.{LedgerData, data_after, tallies_after}, Running.changed_group, Tallies.{changed_at, changed_in, place_in, tally_after}}
+use Rattle.gx_ledger.proofs.Counting.{place-cons}
 
 -- where the tally counts orders
 abbrev counted : Option ℕ → ℕ → Tally → CountedAt
@@ -74,7 +74,7 @@ next_account f accounts all i a d places within so_far are is =
 
 -- where the account's orders are counted, by its place among the names
 pub his_places : (names keys : List AccountName) (tallies : List Tally) (account : AccountName) (own : Option ℕ) (places : List CountedAt) → places ≡ counting_from account own 0 tallies
-    → own ≡ account_place keys account → keys ≡ names → places ≡ counting names tallies account
+    → own ≡ account_place keys account → keys ≡ names → places ≡ places_counting names tallies account
 his_places names keys tallies account own places are at same =
     are ∙ ap (λ (o : Option ℕ). counting_from account o 0 tallies) (at ∙ ap (λ (ns : List AccountName). account_place ns account) same)
 
@@ -88,37 +88,26 @@ at_place {X} f account (n ∷ names) place is =
     by : (b : Bool) → same_account account n ≡ b → (o : Option ℕ) → ((p : ℕ) → o ≡ Some p → slice_get (map f names) p ≡ Some (f account))
         → cond b (Some 0) (option_map suc o) ≡ Some place → slice_get (f n ∷ map f names) place ≡ Some (f account)
     by true same o deeper is =
-        ap (slice_get (f n ∷ map f names)) (sym (some_is is)) ∙ ap (λ (name : AccountName). Some (f name)) (sym (account_is account n same))
+        ap (slice_get (f n ∷ map f names)) (sym (some_same is)) ∙ ap (λ (name : AccountName). Some (f name)) (sym (account_is account n same))
     by false same None deeper is = cc
-    by false same (Some p) deeper is = ap (slice_get (f n ∷ map f names)) (sym (some_is is)) ∙ deeper p refl
-
--- there is an item at the place
-pub is_within : {X : Type 0} (xs : List X) (n : ℕ) (x : X) → slice_get xs n ≡ Some x → n < length xs
-is_within [] n x at = cc
-is_within (y ∷ xs) zero x at = omega arith
-is_within (y ∷ xs) (suc n) x at = let deeper = is_within xs n x at in omega (arith, deeper)
-
-pub item_is : {X : Type 0} (xs : List X) (n : ℕ) (x d : X) → slice_get xs n ≡ Some x → get_or xs n d ≡ x
-item_is [] n x d at = cc
-item_is (y ∷ xs) zero x d at = some_is at
-item_is (y ∷ xs) (suc n) x d at = item_is xs n x d at
+    by false same (Some p) deeper is = ap (slice_get (f n ∷ map f names)) (sym (some_same is)) ∙ deeper p refl
 
 -- the list of the account at the place
 pub his_list : (names : List AccountName) (tallies : List Tally) (all : List (List CountedAt)) (account : AccountName) (place : ℕ) → AreCounted names tallies all → account_place names account ≡ Some place
-    → slice_get all place ≡ Some (counting names tallies account)
-his_list names tallies all account place are is = ap (λ (l : List (List CountedAt)). slice_get l place) are ∙ at_place (counting names tallies) account names place is
+    → slice_get all place ≡ Some (places_counting names tallies account)
+his_list names tallies all account place are is = ap (λ (l : List (List CountedAt)). slice_get l place) are ∙ at_place (places_counting names tallies) account names place is
 
 -- what a change leaves of the lists
 counting-noted : (change : Change) (of : Option ℕ) (account : AccountName) (own : Option ℕ) (place : ℕ) (tallies : List Tally)
-    → counting_from account own place (noted change of tallies) ≡ counting_from account own place tallies
+    → counting_from account own place (tallies_after change of tallies) ≡ counting_from account own place tallies
 counting-noted change of account own place [] = refl
 counting-noted change of account own place (t ∷ tallies) =
     ap (λ (l : List CountedAt). cond (counts t account) (counted own place t ∷ l) l) (counting-noted change of account own (suc place) tallies)
 
-pub still_counted : (names : List AccountName) (tallies after : List Tally) (all : List (List CountedAt)) (change : Change) (of : Option ℕ) → AreCounted names tallies all → after ≡ noted change of tallies
+pub still_counted : (names : List AccountName) (tallies after : List Tally) (all : List (List CountedAt)) (change : Change) (of : Option ℕ) → AreCounted names tallies all → after ≡ tallies_after change of tallies
     → AreCounted names after all
 still_counted names tallies after all change of are is =
-    are ∙ (λ i. map (λ (account : AccountName). sym (ap (λ (ts : List Tally). counting names ts account) is ∙ counting-noted change of account (account_place names account) 0 tallies) i) names)
+    are ∙ (λ i. map (λ (account : AccountName). sym (ap (λ (ts : List Tally). places_counting names ts account) is ∙ counting-noted change of account (account_place names account) 0 tallies) i) names)
 
 module _ (change : Change) (place : ℕ) where
   abbrev told : List Tally → CountedAt → List Tally
@@ -165,12 +154,12 @@ module _ (change : Change) (place : ℕ) where
       by (Some count) false h = refl
 
   -- to tell those that count is to tell all
-  pub told_all : (ts : List Tally) → noted_in change ts (his 0 ts) ≡ noted change (Some place) ts
+  pub told_all : (ts : List Tally) → noted_in change ts (his 0 ts) ≡ tallies_after change (Some place) ts
   told_all [] = refl
   told_all (t ∷ ts) = by (counts t change.order.account) refl (told_all ts)
     where
-      by : (b : Bool) → counts t change.order.account ≡ b → fold told ts (his 0 ts) ≡ noted change (Some place) ts
-          → fold told (t ∷ ts) (cond b (counted (Some place) 0 t ∷ his 1 ts) (his 1 ts)) ≡ tally_after change (Some place) t ∷ noted change (Some place) ts
+      by : (b : Bool) → counts t change.order.account ≡ b → fold told ts (his 0 ts) ≡ tallies_after change (Some place) ts
+          → fold told (t ∷ ts) (cond b (counted (Some place) 0 t ∷ his 1 ts) (his 1 ts)) ≡ tally_after change (Some place) t ∷ tallies_after change (Some place) ts
       by true his_own deeper =
           ap (fold told (tally_with change (group_place t (Some place)) t ∷ ts)) (later 0 ts)
           ∙ behind (tally_with change (group_place t (Some place)) t) (his 0 ts) ts
@@ -182,17 +171,17 @@ module _ (change : Change) (place : ℕ) where
 
 -- the tallies, once those on the account's list were told
 pub told_his : (change : Change) (place : ℕ) (names : List AccountName) (tallies : List Tally) (places : List CountedAt) (before after : List Tally) → after ≡ noted_in change before places → before ≡ tallies
-    → account_place names change.order.account ≡ Some place → places ≡ counting names tallies change.order.account → after ≡ noted change (Some place) tallies
+    → account_place names change.order.account ≡ Some place → places ≡ places_counting names tallies change.order.account → after ≡ tallies_after change (Some place) tallies
 told_his change place names tallies places before after is same at are =
     is
     ∙ (λ i. noted_in change (same i) ((are ∙ ap (λ (own : Option ℕ). counting_from change.order.account own 0 tallies) at) i))
     ∙ told_all change place tallies
 
 -- what is kept then
-pub kept_told : (change : Change) (k : Kept) (of : Option ℕ) (after : List Tally) → account_place k.accounts change.order.account ≡ of → after ≡ noted change of k.tallies
-    → record { accounts = k.accounts; prices = k.prices; tallies = after } ≡ kept_noted change k
+pub kept_told : (change : Change) (k : LedgerData) (of : Option ℕ) (after : List Tally) → account_place k.accounts change.order.account ≡ of → after ≡ tallies_after change of k.tallies
+    → record { accounts = k.accounts; prices = k.prices; tallies = after } ≡ data_after change k
 kept_told change k of after at is = λ i. record {
   accounts = k.accounts;
   prices = k.prices;
-  tallies = (is ∙ ap (λ (p : Option ℕ). noted change p k.tallies) (sym at)) i;
+  tallies = (is ∙ ap (λ (p : Option ℕ). tallies_after change p k.tallies) (sym at)) i;
 }

@@ -6,7 +6,7 @@ use Rattle.gx_policy.specs.{declared.policy.{Account.Account, Count.Count, FileR
 use Rattle.gx_history.specs.{declared.facts.StockSide.StockSide, Figures.{Positions, counts_account}}
 use Rattle.gx_laws.proofs.Names.{same_account_flip}
 use Rattle.gx_laws.specs.Sound.{AreSound}
-use Rattle.gx_ledger.specs.{declared.{group.Group.Group, asks.Asks.Asks, tally.Tally.Tally}, Accounts.{account_names, account_place}, Keeping.Kept, Standing.{GivesGross, GivesNet, counted_with, gross_in_group, gross_sums_of, group_with, net_in_group, net_sums_of, tally_gross, tally_net}, StandsFor.{IsMadeIn, StandsFor, group_of, members_of, tally_of, total_of}, Tallies.{asks_of, count_of, group_in, place_in}}
+use Rattle.gx_ledger.specs.{declared.{group.Group.Group, figure_kind.FigureKind.FigureKind, tally.Tally.Tally}, Accounts.{account_names, account_place}, Keeping.LedgerData, Standing.{GivesGross, GivesNet, counted_with, gross_in_group, gross_sums_of, group_with, net_in_group, net_sums_of, tally_gross, tally_net}, StandsFor.{IsMadeIn, StandsFor, group_of, members_of, tally_of, total_of}, Tallies.{asks_of, count_of, group_in, place_in}}
 use Rattle.gx_ledger.proofs.{Answering.{group_found, live_answers, net_answers}, Counting.place-cons}
 
 still_there : (o : Option ℕ) → is_some (option_map suc o) ≡ is_some o
@@ -60,34 +60,34 @@ module _ (policy : PolicyData) (held : Positions) (account : AccountName) (rule 
   gross_is : tally_gross tally account (account_place names account) ≡ option_and_then (gross_sums_of (asks_of rule.kind) held) (counted_with policy account rule)
   gross_is = ap (option_and_then gross_in_group) group_is ∙ by (asks_of rule.kind) (counted_with policy account rule)
     where
-      by : (asked : Asks) (found : Option (AccountName → Bool))
+      by : (asked : FigureKind) (found : Option (AccountName → Bool))
           → option_and_then gross_in_group (option_map (λ among. group_of policy.stocks asked (total_of held among)) found) ≡ option_and_then (gross_sums_of asked held) found
       by asked None = refl
-      by Asks.Shares (Some among) = refl
-      by Asks.Value (Some among) = refl
-      by Asks.Sides (Some among) = refl
-      by Asks.Nothing (Some among) = refl
-      by Asks.Reference (Some among) = refl
-      by (Asks.Recent rate) (Some among) = refl
-      by (Asks.Alike repeat) (Some among) = refl
+      by FigureKind.Shares (Some among) = refl
+      by FigureKind.Value (Some among) = refl
+      by FigureKind.Sides (Some among) = refl
+      by FigureKind.Nothing (Some among) = refl
+      by FigureKind.Reference (Some among) = refl
+      by (FigureKind.Recent rate) (Some among) = refl
+      by (FigureKind.Alike repeat) (Some among) = refl
 
   net_is : (side : StockSide) → AreSound policy held → AllByRecursion (IsMadeIn policy) held.executions → tally_net tally account (account_place names account) side
       ≡ option_and_then (net_sums_of (asks_of rule.kind) held side) (counted_with policy account rule)
   net_is side sound all_made = ap (option_and_then (net_in_group side)) group_is ∙ by (asks_of rule.kind) (counted_with policy account rule)
     where
-      by : (asked : Asks) (found : Option (AccountName → Bool))
+      by : (asked : FigureKind) (found : Option (AccountName → Bool))
           → option_and_then (net_in_group side) (option_map (λ among. group_of policy.stocks asked (total_of held among)) found) ≡ option_and_then (net_sums_of asked held side) found
       by asked None = refl
-      by Asks.Sides (Some among) = λ i. Some (record {
+      by FigureKind.Sides (Some among) = λ i. Some (record {
         done = net_answers policy held among sound all_made (Some side) i;
         live = live_answers policy held among sound all_made (Some side) i;
       })
-      by Asks.Shares (Some among) = refl
-      by Asks.Value (Some among) = refl
-      by Asks.Nothing (Some among) = refl
-      by Asks.Reference (Some among) = refl
-      by (Asks.Recent rate) (Some among) = refl
-      by (Asks.Alike repeat) (Some among) = refl
+      by FigureKind.Shares (Some among) = refl
+      by FigureKind.Value (Some among) = refl
+      by FigureKind.Nothing (Some among) = refl
+      by FigureKind.Reference (Some among) = refl
+      by (FigureKind.Recent rate) (Some among) = refl
+      by (FigureKind.Alike repeat) (Some among) = refl
 
 -- of the rule at a place
 at_place : {X : Type 0} (f : Tally → Option X) (t : FileRule → Tally) (g : FileRule → Option X) → ((rule : FileRule) → f (t rule) ≡ g rule) → (rules : List FileRule) (place : ℕ)
@@ -99,18 +99,18 @@ at_place f t g same rules place = ap (option_and_then f) (slice_get-map t rules 
     by (Some rule) = same rule
 
 -- the tallies are those of the policy's rules
-tallies_are : (k : Kept) (policy : PolicyData) (held : Positions) → StandsFor policy k held
+tallies_are : (k : LedgerData) (policy : PolicyData) (held : Positions) → StandsFor policy k held
     → k.tallies ≡ map (tally_of policy.stocks (account_names policy.accounts) (total_of held)) policy.rules
 tallies_are k policy held stands = stands.tallies ∙ ap (λ accounts. map (tally_of policy.stocks accounts (total_of held)) policy.rules) stands.accounts
 
-pub gross_answer : (k : Kept) (place : ℕ) (account : AccountName)
+pub gross_answer : (k : LedgerData) (place : ℕ) (account : AccountName)
     → GivesGross k place account (option_and_then (λ (t : Tally). tally_gross t account (account_place k.accounts account)) (slice_get k.tallies place))
 gross_answer k place account policy held stands =
     (λ i. option_and_then (λ (t : Tally). tally_gross t account (account_place (stands.accounts i) account)) (slice_get (tallies_are k policy held stands i) place))
     ∙ at_place (λ (t : Tally). tally_gross t account (account_place (account_names policy.accounts) account)) (tally_of policy.stocks (account_names policy.accounts) (total_of held))
     (λ (rule : FileRule). option_and_then (gross_sums_of (asks_of rule.kind) held) (counted_with policy account rule)) (gross_is policy held account) policy.rules place
 
-pub net_answer : (k : Kept) (place : ℕ) (account : AccountName) (side : StockSide)
+pub net_answer : (k : LedgerData) (place : ℕ) (account : AccountName) (side : StockSide)
     → GivesNet k place account side (option_and_then (λ (t : Tally). tally_net t account (account_place k.accounts account) side) (slice_get k.tallies place))
 net_answer k place account side policy held stands sound =
     (λ i. option_and_then (λ (t : Tally). tally_net t account (account_place (stands.accounts i) account) side) (slice_get (tallies_are k policy held stands i) place))

@@ -7,7 +7,7 @@ use Rattle.gx_ouch.specs.declared.outbound.OrderTerms.{OrderTerms}
 use Rattle.gx_history.specs.Turns as turns
 use Rattle.gx_laws.proofs.{World.all_stay, Sums.{IsOpenSum, Loses, added, done_are, done_value_are, is_chosen, left_by, lost_by, open_of, shares_of, stays_by, sum_where, value_of}}
 use Rattle.gx_laws.specs.{Changing.{executed_by, positions_with}, Sound.{SumsFit, anyone, numbers_of}}
-use Rattle.gx_ledger.specs.{Changes.Change, declared.sums.Sums.Sums, Keeping.{comes, leaves}, Running.{capped, entered_as}, StandsFor.{IsAccepted, Total, entered_of, enters_of, moments_of, total_of}}
+use Rattle.gx_ledger.specs.{Changes.Change, declared.sums.Sums.Sums, Keeping.{comes, leaves}, Running.{capped_at_128_bits, entered_as}, StandsFor.{IsAccepted, Total, entered_of, enters_of, moments_of, total_of}}
 use Rattle.gx_ledger.proofs.Counting.{changed_total, changes_side, totals_after}
 
 -- a sum over some is at most that over all
@@ -53,7 +53,7 @@ less b n before = cond b (before - n) before
 
 -- so many more, up to the cap
 abbrev pub more : Bool → ℕ → ℕ → ℕ
-more b n before = cond b (capped (before + n)) before
+more b n before = cond b (capped_at_128_bits (before + n)) before
 
 falls : (b : Bool) (before after lost : ℕ) → after + cond b lost 0 ≡ before → less b lost before ≡ after
 falls true before after lost is = omega (arith, is)
@@ -132,7 +132,7 @@ module _ (held : Positions) (o : LiveOrder) (moment : ℕ) (replacement : Bool) 
   comes_so false t = refl
   comes_so true t = λ i. record (changed_total coming t) { sides = λ stock buys. side (changes_side coming stock buys) (t.sides stock buys) i }
     where
-      side : (c : Bool) (s : Sums) → cond c (record { live = capped (s.live + shares_open o); done = s.done }) s ≡ record { live = more c (shares_open o) s.live; done = s.done }
+      side : (c : Bool) (s : Sums) → cond c (record { live = capped_at_128_bits (s.live + shares_open o); done = s.done }) s ≡ record { live = more c (shares_open o) s.live; done = s.done }
       side true s = refl
       side false s = refl
 

@@ -19,12 +19,12 @@ counting_from account own place (t ∷ tallies) =
     if counts t account then record { tally = place; group = group_place t own } ∷ counting_from account own (suc place) tallies else counting_from account own (suc place) tallies
 
 -- where the orders of the account are counted, which is one of these
-abbrev pub counting : List AccountName → List Tally → AccountName → List CountedAt
-counting accounts tallies account = counting_from account (account_place accounts account) 0 tallies
+abbrev pub places_counting : List AccountName → List Tally → AccountName → List CountedAt
+places_counting accounts tallies account = counting_from account (account_place accounts account) 0 tallies
 
 -- for each account there are the places where its orders are counted
 abbrev pub AreCounted : List AccountName → List Tally → List (List CountedAt) → Type 0
-AreCounted accounts tallies places = places ≡ map (counting accounts tallies) accounts
+AreCounted accounts tallies places = places ≡ map (places_counting accounts tallies) accounts
 
 -- what the rule counts after the change of an order of an account in scope
 abbrev pub tally_inside : Change → Option ℕ → Tally → Tally

@@ -5,15 +5,15 @@ use Rattle.gx_policy.specs.declared.policy.PolicyData.{PolicyData}
 use Rattle.gx_history.specs.{declared.live_order.LiveOrder.LiveOrder, Figures.Positions, Orders.{Order, ends_account}}
 use Rattle.gx_history.specs.Turns as turns
 use Rattle.gx_laws.specs.{Changing.positions_with, Sound.{AreSound, MayReplace, numbers_of}}
-use Rattle.gx_ledger.specs.{Keeping.Kept, StandsFor.{Accepts, Carries, Closes, IsAccepted, IsHeld, StandsFor}}
+use Rattle.gx_ledger.specs.{Keeping.LedgerData, StandsFor.{Accepts, Carries, Closes, IsAccepted, IsHeld, StandsFor}}
 
 -- the live orders, fills and grants, once one order has ended
-abbrev pub closed : Positions → LiveOrder → Positions
-closed held o = positions_with (turns.Ends o.number) [] held
+abbrev pub positions_closed : Positions → LiveOrder → Positions
+positions_closed held o = positions_with (turns.Ends o.number) [] held
 
 -- the live orders, fills and grants, once these orders have ended
 abbrev pub all_closed : List LiveOrder → Positions → Positions
-all_closed orders held = fold closed held orders
+all_closed orders held = fold positions_closed held orders
 
 -- each of these is a live order, and none stands there twice
 pub record AreHeld (held : Positions) (orders : List LiveOrder) : Type 0 where
@@ -21,17 +21,17 @@ pub record AreHeld (held : Positions) (orders : List LiveOrder) : Type 0 where
   pub differ : IsDistinct nat_eq (numbers_of orders)
 
 -- these orders end, one after another
-abbrev pub ClosesAll : List LiveOrder → Kept → Kept → Type 0
+abbrev pub ClosesAll : List LiveOrder → LedgerData → LedgerData → Type 0
 ClosesAll orders old new = (policy : PolicyData) (held : Positions) → StandsFor policy old held → AreSound policy held → AreHeld held orders
     → StandsFor policy new (all_closed orders held)
 
 -- none of no orders ends
 abbrev pub NoneCloses : Type 0
-NoneCloses = (k : Kept) → ClosesAll [] k k
+NoneCloses = (k : LedgerData) → ClosesAll [] k k
 
 -- one more ends
 abbrev pub OneMoreCloses : Type 0
-OneMoreCloses = (orders : List LiveOrder) (o : LiveOrder) (old between new : Kept) → ClosesAll orders old between → Closes o between new
+OneMoreCloses = (orders : List LiveOrder) (o : LiveOrder) (old between new : LedgerData) → ClosesAll orders old between → Closes o between new
     → ClosesAll (orders ++ o ∷ []) old new
 
 -- the live orders of the accounts that the action is for
@@ -48,10 +48,10 @@ pub record MakesPlace (policy : PolicyData) (held : Positions) (o new_order : Li
   pub may_replace : MayReplace policy held o.number new_order (grant ∷ [])
 
 -- an order that was granted at the moment comes in the place of another
-abbrev pub Replaces : (o new_order : LiveOrder) → ℕ → Kept → Kept → Type 0
+abbrev pub Replaces : (o new_order : LiveOrder) → ℕ → LedgerData → LedgerData → Type 0
 Replaces o new_order moment old new = (grant : Order) → IsAccepted new_order moment true grant
     → Carries old new (λ policy held. MakesPlace policy held o new_order grant) (turns.Replaces o.number new_order) (grant ∷ [])
 
 -- the old order ends, and then the new one comes
 abbrev pub EndedThenAccepted : Type 0
-EndedThenAccepted = (o new_order : LiveOrder) (moment : ℕ) (old between new : Kept) → Closes o old between → Accepts new_order moment true between new → Replaces o new_order moment old new
+EndedThenAccepted = (o new_order : LiveOrder) (moment : ℕ) (old between new : LedgerData) → Closes o old between → Accepts new_order moment true between new → Replaces o new_order moment old new

@@ -6,7 +6,7 @@ use Rattle.gx_policy.specs.declared.policy.Stock.{Stock}
 use Rattle.gx_ledger.specs.{Changes.Change, declared.{change.ChangeKind.ChangeKind, tally.Tally.Tally}, Accounts.account_place, Tallies.tally_after}
 
 -- what a ledger keeps
-pub record Kept : Type 0 where
+pub record LedgerData : Type 0 where
   -- the accounts, in the policy's order
   pub accounts : List AccountName
   -- the last price of each stock
@@ -23,19 +23,19 @@ abbrev pub reference_prices : List Stock → List (Symbol × ℕ)
 reference_prices stocks = map (λ (s : Stock). (s.name, s.reference)) stocks
 
 -- the prices, that of this stock changed
-abbrev pub priced : Symbol → ℕ → List (Symbol × ℕ) → List (Symbol × ℕ)
-priced stock price prices = map (λ (e : Symbol × ℕ). (e.0, if same_stock stock e.0 then price else e.1)) prices
+abbrev pub prices_with : Symbol → ℕ → List (Symbol × ℕ) → List (Symbol × ℕ)
+prices_with stock price prices = map (λ (e : Symbol × ℕ). (e.0, if same_stock stock e.0 then price else e.1)) prices
 
 -- what is counted, after the change of an order of an account that has this place in the policy
-abbrev pub noted : Change → Option ℕ → List Tally → List Tally
-noted change place tallies = map (tally_after change place) tallies
+abbrev pub tallies_after : Change → Option ℕ → List Tally → List Tally
+tallies_after change place tallies = map (tally_after change place) tallies
 
 -- what is kept after the change
-abbrev pub kept_noted : Change → Kept → Kept
-kept_noted change k = record {
+abbrev pub data_after : Change → LedgerData → LedgerData
+data_after change k = record {
   accounts = k.accounts;
   prices = k.prices;
-  tallies = noted change (account_place k.accounts change.order.account) k.tallies;
+  tallies = tallies_after change (account_place k.accounts change.order.account) k.tallies;
 }
 
 -- the order comes, granted at the moment to a Replace or to an Enter
@@ -51,8 +51,8 @@ abbrev pub is_filled : LiveOrder → ℕ → ℕ → Change
 is_filled o shares price = record { order = o; kind = ChangeKind.Filled shares price }
 
 -- the last price of one stock changed
-abbrev pub with_price : Symbol → ℕ → Kept → Kept
-with_price stock price k = record { accounts = k.accounts; prices = priced stock price k.prices; tallies = k.tallies }
+abbrev pub with_price : Symbol → ℕ → LedgerData → LedgerData
+with_price stock price k = record { accounts = k.accounts; prices = prices_with stock price k.prices; tallies = k.tallies }
 
 -- the last price of the stock of an Enter, or of the order that would be replaced
 abbrev pub reference_for : List (Symbol × ℕ) → Request → Option LiveOrder → ℕ

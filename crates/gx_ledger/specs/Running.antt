@@ -4,15 +4,15 @@ use Rattle.circular_buffer.specs.Buffer.{Buffer, buffer, keep_last, last_item}
 use Rattle.gx_units.specs.{Money.value, Names.same_stock, declared.names.Symbol.Symbol}
 use Rattle.gx_history.specs.{declared.{live_order.LiveOrder.LiveOrder, «record».Request.Request}, Book.is_buy, LiveOrders.shares_open}
 use Rattle.gx_policy.specs.declared.policy.Stock.{Stock}
-use Rattle.gx_ledger.specs.{Changes.Change, declared.{group.{Entered.Entered, Group.Group}, change.ChangeKind.ChangeKind, sides.StockSums.StockSums, sums.Sums.Sums}}
+use Rattle.gx_ledger.specs.{Changes.Change, declared.{group.{RepeatKey.RepeatKey, Group.Group}, change.ChangeKind.ChangeKind, sides.StockSums.StockSums, sums.Sums.Sums}}
 
 -- the number, or the greatest of 128 bits where it is past that
-abbrev pub capped : ℕ → ℕ
-capped n = min n (2 ^ 128 - 1)
+abbrev pub capped_at_128_bits : ℕ → ℕ
+capped_at_128_bits n = min n (2 ^ 128 - 1)
 
 -- with so much more open
 abbrev pub with_live : ℕ → Sums → Sums
-with_live more s = record { live = capped (s.live + more); done = s.done }
+with_live more s = record { live = capped_at_128_bits (s.live + more); done = s.done }
 
 -- with so much less open
 abbrev pub without_live : ℕ → Sums → Sums
@@ -20,7 +20,7 @@ without_live less s = record { live = s.live - less; done = s.done }
 
 -- with so much more executed
 abbrev pub with_done : ℕ → Sums → Sums
-with_done more s = record { live = s.live; done = capped (s.done + more) }
+with_done more s = record { live = s.live; done = capped_at_128_bits (s.done + more) }
 
 -- shares are counted singly, whatever their price
 abbrev pub counted_singly : ℕ → ℕ → ℕ
@@ -33,22 +33,22 @@ changed_sums measure o (ChangeKind.Left shares) s = without_live (measure shares
 changed_sums measure o (ChangeKind.Filled shares price) s = with_done (measure shares price) (without_live (measure shares o.terms.price) s)
 
 -- what the order has in common with like ones
-abbrev pub entered_as : LiveOrder → Entered
+abbrev pub entered_as : LiveOrder → RepeatKey
 entered_as o = record { side = o.terms.side; shares = o.terms.shares; stock = o.terms.stock; price = o.terms.price }
 
 -- the ring with one more item, and without its oldest where it was full
-abbrev pub pushed : {X : Type 0} → X → Buffer X → Buffer X
-pushed x ring = buffer (keep_last ring.capacity (ring.items ++ x ∷ [])) ring.capacity
+abbrev pub with_latest : {X : Type 0} → X → Buffer X → Buffer X
+with_latest x ring = buffer (keep_last ring.capacity (ring.items ++ x ∷ [])) ring.capacity
 
 -- the moments, with that of an order that comes
 abbrev pub noted_moments : ChangeKind → Buffer ℕ → Buffer ℕ
-noted_moments (ChangeKind.Accepted moment replacement) moments = pushed moment moments
+noted_moments (ChangeKind.Accepted moment replacement) moments = with_latest moment moments
 noted_moments (ChangeKind.Left shares) moments = moments
 noted_moments (ChangeKind.Filled shares price) moments = moments
 
 -- the Enters, with one that comes
-abbrev pub noted_enters : LiveOrder → ChangeKind → Buffer Entered → Buffer Entered
-noted_enters o (ChangeKind.Accepted moment replacement) enters = if replacement then enters else pushed (entered_as o) enters
+abbrev pub noted_enters : LiveOrder → ChangeKind → Buffer RepeatKey → Buffer RepeatKey
+noted_enters o (ChangeKind.Accepted moment replacement) enters = if replacement then enters else with_latest (entered_as o) enters
 noted_enters o (ChangeKind.Left shares) enters = enters
 noted_enters o (ChangeKind.Filled shares price) enters = enters
 
@@ -114,18 +114,18 @@ abbrev pub recent_in : List ℕ → ℕ → ℕ → ℕ
 recent_in moments window moment = suffix_len (is_recent window moment) moments
 
 -- the Enters are alike
-abbrev pub are_alike : Entered → Entered → Bool
+abbrev pub are_alike : RepeatKey → RepeatKey → Bool
 are_alike asked e = e.side == asked.side && e.shares == asked.shares && same_stock e.stock asked.stock && e.price == asked.price
 
 -- the Enters have one price and one size
-abbrev pub are_sized_alike : Entered → Entered → Bool
+abbrev pub are_sized_alike : RepeatKey → RepeatKey → Bool
 are_sized_alike asked e = e.price == asked.price && e.shares == asked.shares
 
 -- what an Enter would have in common with like ones
-abbrev pub asked_as : Request → Option Entered
+abbrev pub asked_as : Request → Option RepeatKey
 asked_as (Request.Enter m) = Some (record { side = m.side; shares = m.shares; stock = m.stock; price = m.price })
 asked_as other = None
 
 -- how many of the Enters are such as this one
-abbrev pub count_alike : List Entered → Entered → ℕ
+abbrev pub count_alike : List RepeatKey → RepeatKey → ℕ
 count_alike enters asked = count_by (are_alike asked) enters

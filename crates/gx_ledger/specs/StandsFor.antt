@@ -2,11 +2,11 @@
 use Rattle.std.specs.{Prelude.{ℕ, ◌≡◌, ◌+◌, ◌-◌, ◌&&◌, Bool, true, false, List, [], ◌∷◌, map, Option, Some, None, is_none, is_some, IsFalse, IsTrue}, List.{filter, AllByRecursion}}
 use Rattle.circular_buffer.specs.Buffer.{Buffer, buffer}
 use Rattle.gx_units.specs.{Names.same_account, declared.names.{AccountName.AccountName, Symbol.Symbol}}
-use Rattle.gx_history.specs.{declared.{live_order.LiveOrder.LiveOrder, «record».{Fill.Fill, Request.Request}}, Executions.Execution, Figures.{Positions, figures, live_shares, live_value, done_shares, done_value, reference, side_done, side_live}, Live.live_numbered, LiveOrders.shares_open, Orders.Order, Rules.figured, Verdicts.with_figures, Turns.Turn}
+use Rattle.gx_history.specs.{declared.{live_order.LiveOrder.LiveOrder, «record».{Fill.Fill, Request.Request}}, Executions.Execution, Figures.{Positions, figures, live_shares, live_value, done_shares, done_value, reference, side_done, side_live}, Live.live_numbered, LiveOrders.shares_open, Orders.Order, Rules.rules_with_figures, Verdicts.with_figures, Turns.Turn}
 use Rattle.gx_policy.specs.{declared.policy.{Count.Count, FileRule.FileRule, PolicyData.PolicyData, Scope.Scope, Stock.Stock}, Lists.{are_distinct, last_few}, People.{account_named, covers, stock_named}}
 use Rattle.gx_history.specs.Turns as turns
 use Rattle.gx_laws.specs.{Changing.positions_with, Sound.{AreSound, IsOf, MayCome, MayFill}}
-use Rattle.gx_ledger.specs.{declared.{asks.Asks.Asks, group.{Entered.Entered, Group.Group}, sides.StockSums.StockSums, sums.Sums.Sums, tally.Tally.Tally}, Accounts.account_names, Keeping.Kept, Tallies.{asks_of, count_of, seats_for, tells_reference}, Told.{Asking, figures_at}}
+use Rattle.gx_ledger.specs.{declared.{figure_kind.FigureKind.FigureKind, group.{RepeatKey.RepeatKey, Group.Group}, sides.StockSums.StockSums, sums.Sums.Sums, tally.Tally.Tally}, Accounts.account_names, Keeping.LedgerData, Tallies.{asks_of, count_of, seats_for, tells_reference}, Told.{Asking, figures_at}}
 
 -- the shares of these accounts
 abbrev pub shares_among : Positions → (AccountName → Bool) → Sums
@@ -28,11 +28,11 @@ abbrev pub moments_of : List Order → (AccountName → Bool) → List ℕ
 moments_of grants among = map (λ (o : Order). o.moment) (filter (λ (o : Order). among o.account) grants)
 
 -- what the order has in common with like ones
-abbrev pub entered_of : Order → Entered
+abbrev pub entered_of : Order → RepeatKey
 entered_of o = record { side = o.terms.side; shares = o.terms.shares; stock = o.terms.stock; price = o.terms.price }
 
 -- the Enters of these accounts
-abbrev pub enters_of : List Order → (AccountName → Bool) → List Entered
+abbrev pub enters_of : List Order → (AccountName → Bool) → List RepeatKey
 enters_of grants among = map entered_of (filter (λ (o : Order). among o.account && is_none o.previous_token) grants)
 
 -- all that counts of the orders and fills of some accounts
@@ -41,7 +41,7 @@ pub record Total : Type 0 where
   pub value : Sums
   -- of all orders
   pub moments : List ℕ
-  pub enters : List Entered
+  pub enters : List RepeatKey
   -- by stock, and whether of its buys
   pub sides : Symbol → Bool → Sums
 
@@ -62,14 +62,14 @@ abbrev pub sides_of : (Symbol → Bool → Sums) → List Stock → List (Symbol
 sides_of sides stocks = map (λ (s : Stock). (s.name, both_sides sides s.name)) stocks
 
 -- what a group of a rule keeps of that
-abbrev pub group_of : List Stock → Asks → Total → Group
-group_of stocks Asks.Shares total = Group.Shares total.shares
-group_of stocks Asks.Value total = Group.Value total.value
-group_of stocks Asks.Sides total = Group.Sides (sides_of total.sides stocks)
-group_of stocks (Asks.Recent rate) total = Group.Recent rate.window (ring rate.limit total.moments)
-group_of stocks (Asks.Alike repeat) total = Group.Enters (ring repeat.span total.enters)
-group_of stocks Asks.Reference total = Group.Nothing
-group_of stocks Asks.Nothing total = Group.Nothing
+abbrev pub group_of : List Stock → FigureKind → Total → Group
+group_of stocks FigureKind.Shares total = Group.Shares total.shares
+group_of stocks FigureKind.Value total = Group.Value total.value
+group_of stocks FigureKind.Sides total = Group.Sides (sides_of total.sides stocks)
+group_of stocks (FigureKind.Recent rate) total = Group.Recent rate.window (ring rate.limit total.moments)
+group_of stocks (FigureKind.Alike repeat) total = Group.Enters (ring repeat.span total.enters)
+group_of stocks FigureKind.Reference total = Group.Nothing
+group_of stocks FigureKind.Nothing total = Group.Nothing
 
 -- the accounts of each group of a rule: one group for each account of the policy, or one for all in scope
 abbrev pub members_of : Option Count → Scope → List AccountName → List (AccountName → Bool)
@@ -96,7 +96,7 @@ abbrev pub IsMadeIn : PolicyData → Execution → Type 0
 IsMadeIn policy e = IsTrue (is_some (stock_named policy e.order.terms.stock))
 
 -- The ledger, opened on the policy, keeps the figures of these live orders, fills and grants.
-pub record StandsFor (policy : PolicyData) (k : Kept) (held : Positions) : Type 0 where
+pub record StandsFor (policy : PolicyData) (k : LedgerData) (held : Positions) : Type 0 where
   pub accounts : k.accounts ≡ account_names policy.accounts
   pub accounts_differ : IsTrue (are_distinct same_account k.accounts)
   pub prices : k.prices ≡ prices_of policy held
@@ -118,12 +118,12 @@ IsHeld held o = live_numbered held.live o.number ≡ Some o
 
 -- Over all live orders, fills and grants that the old ledger stands for and that may be turned so, with these orders
 -- granted, the new one stands for what the turn makes of them.
-abbrev pub Carries : Kept → Kept → (PolicyData → Positions → Type 0) → Turn → List Order → Type 0
+abbrev pub Carries : LedgerData → LedgerData → (PolicyData → Positions → Type 0) → Turn → List Order → Type 0
 Carries old new may turn granted = (policy : PolicyData) (held : Positions) → StandsFor policy old held → AreSound policy held → may policy held
     → AreSound policy (positions_with turn granted held) → StandsFor policy new (positions_with turn granted held)
 
 -- one more order, granted in whatever way that it can have been
-abbrev pub Accepts : LiveOrder → ℕ → Bool → Kept → Kept → Type 0
+abbrev pub Accepts : LiveOrder → ℕ → Bool → LedgerData → LedgerData → Type 0
 Accepts o moment replacement old new = (grant : Order) → IsAccepted o moment replacement grant
     → Carries old new (λ policy held. MayCome policy held o (grant ∷ [])) (turns.Adds o) (grant ∷ [])
 
@@ -133,11 +133,11 @@ pub record IsCut (held : Positions) (o : LiveOrder) (shares size : ℕ) : Type 0
   pub is_less : (size - o.done) + shares ≡ shares_open o
 
 -- so many of a live order's open shares are open no more
-abbrev pub Cuts : LiveOrder → ℕ → Kept → Kept → Type 0
+abbrev pub Cuts : LiveOrder → ℕ → LedgerData → LedgerData → Type 0
 Cuts o shares old new = (size : ℕ) → Carries old new (λ policy held. IsCut held o shares size) (turns.Sizes o.number size) []
 
 -- a live order ends
-abbrev pub Closes : LiveOrder → Kept → Kept → Type 0
+abbrev pub Closes : LiveOrder → LedgerData → LedgerData → Type 0
 Closes o old new = Carries old new (λ policy held. IsHeld held o) (turns.Ends o.number) []
 
 -- both orders are live, and the fill between them may be
@@ -147,14 +147,14 @@ pub record AreFilled (held : Positions) (taker maker : LiveOrder) (f : Fill) : T
   pub may_fill : MayFill held f
 
 -- a fill between two live orders
-abbrev pub Fills : LiveOrder → LiveOrder → ℕ → ℕ → Kept → Kept → Type 0
+abbrev pub Fills : LiveOrder → LiveOrder → ℕ → ℕ → LedgerData → LedgerData → Type 0
 Fills taker maker shares price old new =
     let f : Fill = record { taker = taker.number; maker = maker.number; shares = shares; price = price } in
     Carries old new (λ policy held. AreFilled held taker maker f) (turns.Fills f) []
 
 -- For an account of the policy, what is told are the figures of the policy's rules, over all live orders, fills and grants
 -- that the ledger stands for.
-abbrev pub GivesFigures : Kept → AccountName → Request → Option LiveOrder → ℕ → Asking → Type 0
+abbrev pub GivesFigures : LedgerData → AccountName → Request → Option LiveOrder → ℕ → Asking → Type 0
 GivesFigures k account q replaced moment asked = (policy : PolicyData) (held : Positions) → StandsFor policy k held → AreSound policy held
     → IsTrue (is_some (account_named policy account))
-    → figured (figures_at asked) policy.rules ≡ with_figures (figures policy held account q replaced moment) policy.rules
+    → rules_with_figures (figures_at asked) policy.rules ≡ with_figures (figures policy held account q replaced moment) policy.rules

@@ -4,18 +4,18 @@ use Rattle.std.specs.{Option.option_map_or, Prelude.{ℕ, zero, suc, pos, Bool, 
 use Rattle.circular_buffer.specs.Buffer.{buffer}
 use Rattle.gx_units.specs.declared.names.{AccountName.AccountName, Symbol.Symbol}
 use Rattle.gx_history.specs.{declared.facts.{RuleFigures.RuleFigures, StockSide.StockSide}, Figures.no_figures}
-use Rattle.gx_ledger.specs.{Changes.Change, declared.{asks.Asks.Asks, group.Group.Group, sides.StockSums.StockSums, sums.NetSums.NetSums, tally.{Tally.Tally, Wanted.Wanted}}, Accounts.{account_names, account_place}, Running.{changed_group, count_alike, first_sides, net_of, on_its_side, recent_in, sides_at}}
+use Rattle.gx_ledger.specs.{Changes.Change, declared.{figure_kind.FigureKind.FigureKind, group.Group.Group, sides.StockSums.StockSums, sums.NetSums.NetSums, tally.{Tally.Tally, FigureQuery.FigureQuery}}, Accounts.{account_names, account_place}, Running.{changed_group, count_alike, first_sides, net_of, on_its_side, recent_in, sides_at}}
 
 -- what a rule of this kind asks for
-abbrev pub asks_of : RuleKind → Asks
-asks_of (RuleKind.Listed kind stocks) = Asks.Nothing
-asks_of (RuleKind.Plain kind) = Asks.Nothing
-asks_of (RuleKind.Order kind limit) = Asks.Reference
-asks_of (RuleKind.Exposure ExposureLimit.GrossShares limit count) = Asks.Shares
-asks_of (RuleKind.Exposure ExposureLimit.GrossValue limit count) = Asks.Value
-asks_of (RuleKind.Exposure ExposureLimit.NetShares limit count) = Asks.Sides
-asks_of (RuleKind.Rate rate count) = Asks.Recent rate
-asks_of (RuleKind.Repeat repeat count) = Asks.Alike repeat
+abbrev pub asks_of : RuleKind → FigureKind
+asks_of (RuleKind.Listed kind stocks) = FigureKind.Nothing
+asks_of (RuleKind.Plain kind) = FigureKind.Nothing
+asks_of (RuleKind.Order kind limit) = FigureKind.Reference
+asks_of (RuleKind.Exposure ExposureLimit.GrossShares limit count) = FigureKind.Shares
+asks_of (RuleKind.Exposure ExposureLimit.GrossValue limit count) = FigureKind.Value
+asks_of (RuleKind.Exposure ExposureLimit.NetShares limit count) = FigureKind.Sides
+asks_of (RuleKind.Rate rate count) = FigureKind.Recent rate
+asks_of (RuleKind.Repeat repeat count) = FigureKind.Alike repeat
 
 -- whose orders count together
 abbrev pub count_of : RuleKind → Option Count
@@ -36,17 +36,17 @@ tells_reference (RuleKind.Rate rate count) = false
 tells_reference (RuleKind.Repeat repeat count) = false
 
 -- a group before any order: a rate looks back on as many moments as its limit, a repeat on as many Enters as its span
-abbrev pub new_group : Asks → List Stock → Group
-new_group Asks.Shares stocks = Group.Shares (record { live = 0; done = 0 })
-new_group Asks.Value stocks = Group.Value (record { live = 0; done = 0 })
-new_group Asks.Sides stocks = Group.Sides (first_sides stocks)
-new_group (Asks.Recent rate) stocks = Group.Recent rate.window (buffer [] rate.limit)
-new_group (Asks.Alike repeat) stocks = Group.Enters (buffer [] repeat.span)
-new_group Asks.Reference stocks = Group.Nothing
-new_group Asks.Nothing stocks = Group.Nothing
+abbrev pub new_group : FigureKind → List Stock → Group
+new_group FigureKind.Shares stocks = Group.Shares (record { live = 0; done = 0 })
+new_group FigureKind.Value stocks = Group.Value (record { live = 0; done = 0 })
+new_group FigureKind.Sides stocks = Group.Sides (first_sides stocks)
+new_group (FigureKind.Recent rate) stocks = Group.Recent rate.window (buffer [] rate.limit)
+new_group (FigureKind.Alike repeat) stocks = Group.Enters (buffer [] repeat.span)
+new_group FigureKind.Reference stocks = Group.Nothing
+new_group FigureKind.Nothing stocks = Group.Nothing
 
 -- one group for each account, or one for all in scope
-abbrev pub new_groups : Option Count → Asks → List Account → List Stock → List Group
+abbrev pub new_groups : Option Count → FigureKind → List Account → List Stock → List Group
 new_groups None a accounts stocks = []
 new_groups (Some Count.Each) a accounts stocks = map (λ (account : Account). new_group a stocks) accounts
 new_groups (Some Count.Together) a accounts stocks = new_group a stocks ∷ []
@@ -105,7 +105,7 @@ abbrev pub seat_of : Tally → Option ℕ → Option ℕ
 seat_of t place = option_and_then (λ p. unwrap_or (slice_get t.seats p) None) place
 
 -- the group that counts the account which asks
-abbrev pub group_asked : Wanted → Tally → Option Group
+abbrev pub group_asked : FigureQuery → Tally → Option Group
 group_asked w t = option_and_then (slice_get t.groups) (seat_of t w.place)
 
 -- what was executed on the side of the stock, less what was on the other, and the open shares there
@@ -116,7 +116,7 @@ net_sums_in sides side = record {
 }
 
 -- the figures of a group
-abbrev pub figures_of_group : Wanted → Group → RuleFigures
+abbrev pub figures_of_group : FigureQuery → Group → RuleFigures
 figures_of_group w (Group.Shares sums) = record no_figures { live_shares = sums.live; done_shares = sums.done; replaced_shares = w.replaced_shares }
 figures_of_group w (Group.Value sums) = record no_figures { live_value = sums.live; done_value = sums.done; replaced_value = w.replaced_value }
 figures_of_group w (Group.Sides sides) =
@@ -130,6 +130,6 @@ figures_of_group w (Group.Enters enters) = record no_figures { equal_recent = op
 figures_of_group w Group.Nothing = no_figures
 
 -- the figures that the rule asks for
-abbrev pub tally_figures : Wanted → Tally → RuleFigures
+abbrev pub tally_figures : FigureQuery → Tally → RuleFigures
 tally_figures w t =
     record (option_map_or (figures_of_group w) (group_asked w t) no_figures) { reference = if t.tells_reference && is_some (seat_of t w.place) then w.reference else 0 }

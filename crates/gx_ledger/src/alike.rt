@@ -3,9 +3,9 @@
 ghost use Rattle.std.specs.{Prelude.{◌≡◌, ◌≤◌, count_by, length}, List.list_any};
 ghost use Rattle.gx_ledger.specs.Running.{are_alike, are_sized_alike};
 
-use crate::group::Entered;
+use crate::group::RepeatKey;
 
-fn are_alike(asked: &Entered, entered: &Entered) -> bool
+fn are_alike(asked: &RepeatKey, entered: &RepeatKey) -> bool
     ensures { result ≡ are_alike asked.now entered.now }
 {
     // the price differs most often
@@ -16,7 +16,7 @@ fn are_alike(asked: &Entered, entered: &Entered) -> bool
 }
 
 /// Whether one of the Enters has this one's price and size.
-fn is_one_sized_alike(enters: &[Entered], asked: &Entered) -> bool
+fn is_one_sized_alike(enters: &[RepeatKey], asked: &RepeatKey) -> bool
     ensures { result ≡ list_any (are_sized_alike asked.now) enters.now }
 {
     let price = asked.price;
@@ -27,7 +27,7 @@ fn is_one_sized_alike(enters: &[Entered], asked: &Entered) -> bool
 }
 
 /// How many of the Enters are such as this one: none where none has its price and size.
-fn alike_by_size(enters: &[Entered], asked: &Entered) -> usize
+fn alike_by_size(enters: &[RepeatKey], asked: &RepeatKey) -> usize
     ensures { result ≡ count_by (are_alike asked.now) enters.now }
 {
     if is_one_sized_alike(enters, asked) {
@@ -39,7 +39,7 @@ fn alike_by_size(enters: &[Entered], asked: &Entered) -> usize
 
 /// How many of the Enters are such as this one. Eight of them are passed by at once where none has
 /// its price and size.
-pub fn alike_among(enters: &[Entered], asked: &Entered) -> usize
+pub fn alike_among(enters: &[RepeatKey], asked: &RepeatKey) -> usize
     ensures counted { result ≡ count_by (are_alike asked.now) enters.now }
     ensures few { result ≤ length enters.now }
 {

@@ -2,10 +2,10 @@
 
 ghost use Rattle.std.specs.Prelude.{◌≡◌, ◌∷◌, ◌++◌, ◌<◌, List, [], IfOk, IsTrue, count_by, length, nat_le};
 ghost use Rattle.circular_buffer.specs.Buffer.{buffer};
-ghost use Rattle.gx_ledger.specs.{Cells.{AreCounted, cell_of, one_less, spread}, Running.{are_alike, count_alike, pushed}, declared.group.Entered.Entered};
+ghost use Rattle.gx_ledger.specs.{Cells.{AreCounted, cell_of, one_less, spread}, Running.{are_alike, count_alike, with_latest}, declared.group.RepeatKey.RepeatKey};
 
 use crate::alike::alike_among;
-use crate::group::Entered;
+use crate::group::RepeatKey;
 use circular_buffer::HeapCircularBuffer;
 use gx_units::OutOfMemory;
 use std::alloc::Global;
@@ -16,7 +16,7 @@ use std::marker::Model;
 /// They are counted by cells, so that the ring is looked at only where a like one may be in it.
 #[derive(Drop)]
 pub struct Enters {
-    ring: HeapCircularBuffer<Entered>,
+    ring: HeapCircularBuffer<RepeatKey>,
     /// Eight for each Enter that there is room for, so that few unlike ones share a cell.
     cells: Vec<u8>,
 }
@@ -25,9 +25,9 @@ impl Model for Enters {
     ghost use Rattle.std.specs.Prelude.{◌≡◌, ◌*◌, length};
     ghost use Rattle.circular_buffer.specs.Buffer.{Buffer};
     ghost use Rattle.gx_ledger.specs.Cells.{AreCounted};
-    ghost use Rattle.gx_ledger.specs.declared.group.Entered.{Entered};
+    ghost use Rattle.gx_ledger.specs.declared.group.RepeatKey.{RepeatKey};
 
-    ghost Value = { Buffer Entered };
+    ghost Value = { Buffer RepeatKey };
 
     ghost view = { λ enters. enters.ring };
 
@@ -37,7 +37,7 @@ impl Model for Enters {
 }
 
 /// All that like Enters have in common, spread over the numbers of 64 bits.
-fn spread(entered: &Entered) -> u64
+fn spread(entered: &RepeatKey) -> u64
     ensures { result ≡ spread entered.now }
 {
     let terms = u64::from(entered.price) * 0x1_0000_0000 + u64::from(entered.shares);
@@ -48,7 +48,7 @@ fn spread(entered: &Entered) -> u64
 }
 
 /// Which of so many cells the Enter falls into.
-fn cell_of(cells: usize, entered: &Entered) -> usize
+fn cell_of(cells: usize, entered: &RepeatKey) -> usize
     ensures is { result ≡ cell_of cells entered.now }
     ensures within { 0 < cells → result < cells }
 {
@@ -57,9 +57,9 @@ fn cell_of(cells: usize, entered: &Entered) -> usize
 }
 
 /// Counts one more Enter.
-fn count_up(cells: &mut Vec<u8>, entered: &Entered)
+fn count_up(cells: &mut Vec<u8>, entered: &RepeatKey)
     ensures len { length cells.new.items ≡ length cells.old.items }
-    ensures counted { (enters : List Entered) → AreCounted cells.old.items enters
+    ensures counted { (enters : List RepeatKey) → AreCounted cells.old.items enters
         → AreCounted cells.new.items (enters ++ entered.now ∷ []) }
 {
     let cell = cell_of(cells.len(), entered);
@@ -80,9 +80,9 @@ fn one_less(count: u8) -> u8
 }
 
 /// Counts the first of the Enters no more.
-fn count_down(cells: &mut Vec<u8>, gone: &Entered)
+fn count_down(cells: &mut Vec<u8>, gone: &RepeatKey)
     ensures len { length cells.new.items ≡ length cells.old.items }
-    ensures counted { (enters : List Entered) → AreCounted cells.old.items (gone.now ∷ enters)
+    ensures counted { (enters : List RepeatKey) → AreCounted cells.old.items (gone.now ∷ enters)
         → AreCounted cells.new.items enters }
 {
     let cell = cell_of(cells.len(), gone);
@@ -93,8 +93,8 @@ fn count_down(cells: &mut Vec<u8>, gone: &Entered)
 
 /// Whether fewer than so many of the Enters that are counted fall into the cell of this one, as far as the cells tell.
 #[inline(always)]
-fn are_fewer(cells: &[u8], asked: &Entered, limit: u64) -> bool
-    ensures { IsTrue result → (enters : List Entered) → AreCounted cells.now enters
+fn are_fewer(cells: &[u8], asked: &RepeatKey, limit: u64) -> bool
+    ensures { IsTrue result → (enters : List RepeatKey) → AreCounted cells.now enters
         → count_by (are_alike asked.now) enters < limit }
 {
     let cell = cell_of(cells.len(), asked);
@@ -106,7 +106,7 @@ fn are_fewer(cells: &[u8], asked: &Entered, limit: u64) -> bool
 
 /// How many of the Enters are such as this one.
 #[inline(never)]
-fn alike_in_ring(enters: &HeapCircularBuffer<Entered>, asked: &Entered) -> u64
+fn alike_in_ring(enters: &HeapCircularBuffer<RepeatKey>, asked: &RepeatKey) -> u64
     ensures { result ≡ count_by (are_alike asked.now) enters.now.items }
 {
     let _len = enters.len();
@@ -129,8 +129,8 @@ impl Enters {
 
     /// Keeps the Enter in place of the oldest where there is no room for more.
     #[inline(always)]
-    pub fn push(&mut self, entered: Entered)
-        ensures { self.new ≡ pushed entered self.old }
+    pub fn push(&mut self, entered: RepeatKey)
+        ensures { self.new ≡ with_latest entered self.old }
     {
         if self.ring.capacity() == 0 {
             return;
@@ -144,7 +144,7 @@ impl Enters {
     /// Whether the Enters that are such as this one come to the limit. The ring is looked at only where so many are in one
     /// cell.
     #[inline(always)]
-    pub fn are_alike(&self, asked: &Entered, limit: u64) -> bool
+    pub fn are_alike(&self, asked: &RepeatKey, limit: u64) -> bool
         ensures { result ≡ nat_le limit (count_alike self.now.items asked.now) }
     {
         if are_fewer(&self.cells, asked, limit) {

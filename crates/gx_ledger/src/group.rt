@@ -3,9 +3,9 @@
 ghost use Rattle.std.specs.{Prelude.{◌≡◌, nat_le, IfOk, IsTrue}, Option.option_map_or};
 ghost use Rattle.gx_ledger.specs.{Running.{changed_group, entered_as, noted_enters, noted_moments}, Tables.names_differ, Tallies.new_group};
 
-use crate::asks::Asks;
 use crate::change::{Change, ChangeKind};
 use crate::enters::Enters;
+use crate::figure_kind::FigureKind;
 use crate::moments::Moments;
 use crate::sides::Sides;
 use crate::sums::Sums;
@@ -16,7 +16,7 @@ use std::alloc::Global;
 
 /// What like Enters have in common.
 #[derive(Clone, Copy)]
-pub struct Entered {
+pub struct RepeatKey {
     /// Buy/Sell Indicator.
     pub side: u8,
     /// How many shares it asked for.
@@ -49,10 +49,10 @@ pub enum Group {
     Nothing,
 }
 
-fn entered_as(order: &LiveOrder) -> Entered
+fn entered_as(order: &LiveOrder) -> RepeatKey
     ensures { result ≡ entered_as order.now }
 {
-    Entered {
+    RepeatKey {
         side: order.terms.side,
         shares: order.terms.shares,
         stock: order.terms.stock,
@@ -90,23 +90,23 @@ impl Group {
     /// # Errors
     ///
     /// `OutOfMemory` where memory was refused.
-    pub fn new(alloc: Global, asks: Asks, stocks: &[Stock]) -> Result<Group, OutOfMemory>
+    pub fn new(alloc: Global, asks: FigureKind, stocks: &[Stock]) -> Result<Group, OutOfMemory>
         requires { IsTrue (names_differ stocks.now) }
         ensures { IfOk result (λ group. group ≡ new_group asks stocks.now) }
     {
         match asks {
-            Asks::Nothing | Asks::Reference => Ok(Group::Nothing),
-            Asks::Shares => Ok(Group::Shares(Sums::NONE)),
-            Asks::Value => Ok(Group::Value(Sums::NONE)),
-            Asks::Sides => Ok(Group::Sides(Sides::of(alloc, stocks)?)),
-            Asks::Recent(rate) => {
+            FigureKind::Nothing | FigureKind::Reference => Ok(Group::Nothing),
+            FigureKind::Shares => Ok(Group::Shares(Sums::NONE)),
+            FigureKind::Value => Ok(Group::Value(Sums::NONE)),
+            FigureKind::Sides => Ok(Group::Sides(Sides::of(alloc, stocks)?)),
+            FigureKind::Recent(rate) => {
                 let moments = Moments::with_room(alloc, rate.limit as usize)?;
                 Ok(Group::Recent {
                     window: rate.window,
                     moments,
                 })
             }
-            Asks::Alike(repeat) => {
+            FigureKind::Alike(repeat) => {
                 let enters = Enters::with_room(alloc, repeat.span as usize)?;
                 Ok(Group::Enters(enters))
             }

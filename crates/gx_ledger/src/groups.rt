@@ -3,8 +3,8 @@
 ghost use Rattle.std.specs.Prelude.{◌≡◌, ◌∷◌, [], map, option_copied, slice_get, unwrap_or, None, IfOk, IsTrue};
 ghost use Rattle.gx_ledger.specs.{Accounts.{account_names, account_place}, Running.changed_group, Tables.names_differ, Tallies.{changed_at, new_group, new_groups, place_in, seat_for, seats_for}};
 
-use crate::asks::Asks;
 use crate::change::Change;
+use crate::figure_kind::FigureKind;
 use crate::group::Group;
 use gx_policy::{Account, Count, Scope, Stock};
 use gx_units::{AccountName, OutOfMemory};
@@ -39,7 +39,7 @@ impl Groups {
 
     fn each(
         alloc: Global,
-        asks: Asks,
+        asks: FigureKind,
         accounts: &[Account],
         stocks: &[Stock],
     ) -> Result<Groups, OutOfMemory>
@@ -54,7 +54,7 @@ impl Groups {
         Ok(Groups { items })
     }
 
-    fn together(alloc: Global, asks: Asks, stocks: &[Stock]) -> Result<Groups, OutOfMemory>
+    fn together(alloc: Global, asks: FigureKind, stocks: &[Stock]) -> Result<Groups, OutOfMemory>
         requires { IsTrue (names_differ stocks.now) }
         ensures { IfOk result (λ groups. groups ≡ new_group asks stocks.now ∷ []) }
     {
@@ -71,7 +71,7 @@ impl Groups {
     pub fn of(
         alloc: Global,
         count: Option<Count>,
-        asks: Asks,
+        asks: FigureKind,
         accounts: &[Account],
         stocks: &[Stock],
     ) -> Result<Groups, OutOfMemory>

@@ -2,14 +2,14 @@
 
 ghost use Rattle.std.specs.{Prelude.{◌≡◌, IfOk, option_and_then, slice_get}, Option.option_map_or};
 ghost use Rattle.gx_history.specs.{Figures.{open_value, side_asked}, LiveOrders.shares_open};
-ghost use Rattle.gx_laws.specs.Changing.{nothing};
-ghost use Rattle.gx_ledger.specs.{Accounts.account_place, Keeping.{kept_noted, price_of, reference_for, with_price}, Running.asked_as, StandsFor.{Accepts, Closes, Cuts, Fills, GivesFigures, StandsFor}, Standing.{GivesGross, GivesNet, tally_gross, tally_net}, Told.figures_at};
+ghost use Rattle.gx_laws.specs.Changing.{no_positions};
+ghost use Rattle.gx_ledger.specs.{Accounts.account_place, Keeping.{data_after, price_of, reference_for, with_price}, Running.asked_as, StandsFor.{Accepts, Closes, Cuts, Fills, GivesFigures, StandsFor}, Standing.{GivesGross, GivesNet, tally_gross, tally_net}, Told.figures_at};
 
 use crate::change::{Change, ChangeKind};
-use crate::group::Entered;
+use crate::group::RepeatKey;
 use crate::sums::{NetSums, Sums};
 use crate::tables::{first_prices, first_tallies, names_of, note_in, note_in_all, set_price};
-use crate::tally::{Tally, Wanted};
+use crate::tally::{FigureQuery, Tally};
 use crate::tally_places::{TallyPlaces, counting_by_account};
 use gx_history::facts::{GrossFigures, NetFigures, StockSide, TellsFigures};
 use gx_history::live_order::LiveOrder;
@@ -33,10 +33,10 @@ pub struct Ledger {
 }
 
 impl Model for Ledger {
-    ghost use Rattle.gx_ledger.specs.Keeping.{Kept};
+    ghost use Rattle.gx_ledger.specs.Keeping.{LedgerData};
     ghost use Rattle.gx_ledger.specs.Counts.{AreCounted};
 
-    ghost Value = { Kept };
+    ghost Value = { LedgerData };
 
     ghost view = { λ ledger. record {
       accounts = ledger.accounts.keys;
@@ -52,7 +52,7 @@ impl Model for Ledger {
 #[derive(Drop)]
 pub struct AskedFigures<'a> {
     tallies: &'a [Tally],
-    wanted: Wanted,
+    wanted: FigureQuery,
 }
 
 impl<'a> Model for AskedFigures<'a> {
@@ -122,7 +122,7 @@ impl Ledger {
     ///
     /// `OutOfMemory` where its tables were refused their memory.
     pub fn new(alloc: Global, policy: &Policy) -> Result<Ledger, OutOfMemory>
-        ensures stands { IfOk result (λ ledger. StandsFor policy.now ledger nothing) }
+        ensures stands { IfOk result (λ ledger. StandsFor policy.now ledger no_positions) }
     {
         let rules = policy.rules();
         let accounts = names_of(alloc, policy.accounts())?;
@@ -200,7 +200,7 @@ impl Ledger {
     ) -> AskedFigures<'_>
         ensures figures { GivesFigures self.now account request.now replaced moment result }
     {
-        let wanted = Wanted {
+        let wanted = FigureQuery {
             place: self.place(account, near.account),
             entered: asked_as(request),
             replaced_shares: open_of(replaced),
@@ -243,7 +243,7 @@ impl Ledger {
 
     #[inline(always)]
     fn note(&mut self, order: &LiveOrder, near: Near, kind: ChangeKind)
-        ensures { self.new ≡ kept_noted (record { order = order.now; kind = kind }) self.old }
+        ensures { self.new ≡ data_after (record { order = order.now; kind = kind }) self.old }
     {
         let place = self.place(order.account, near.account);
         self.note_at(place, near.stock, &Change { order, kind });
@@ -254,7 +254,7 @@ impl Ledger {
     #[inline(always)]
     fn note_at(&mut self, place: Option<usize>, near: usize, change: &Change<'_>)
         requires { place ≡ account_place self.old.accounts change.now.order.account }
-        ensures { self.new ≡ kept_noted change.now self.old }
+        ensures { self.new ≡ data_after change.now self.old }
     {
         let Some(place) = place else {
             return note_in_all(&mut self.tallies, change, near);
@@ -290,7 +290,7 @@ impl Ledger {
     }
 
     /// Lets it go. Its drop is proved here once, and not in each crate that owns one.
-    pub fn let_go(self) {}
+    pub fn release(self) {}
 }
 
 /// What the account, which has this place in the policy, has in the tally at a place, of a gross rule.
@@ -343,11 +343,11 @@ fn side_of(request: &Request, replaced: Option<LiveOrder>) -> Option<StockSide>
 }
 
 /// What an Enter would have in common with like ones.
-fn asked_as(request: &Request) -> Option<Entered>
+fn asked_as(request: &Request) -> Option<RepeatKey>
     ensures { result ≡ asked_as request.now }
 {
     match request {
-        Request::Enter(m) => Some(Entered {
+        Request::Enter(m) => Some(RepeatKey {
             side: m.side,
             shares: m.shares,
             stock: m.stock,

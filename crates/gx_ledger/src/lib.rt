@@ -1,20 +1,22 @@
 //! What the file's rules count: open and executed shares and values, recent orders, last prices.
 //!
-//! A [`ledger::Ledger`] keeps no orders: its calls are handed the order. All its
+//! A [`Ledger`] keeps no orders: its calls are handed the order. All its
 //! memory is taken as it is opened.
 #![tactic(auto)]
 
 mod alike;
-mod asks;
 mod change;
 mod enters;
+mod figure_kind;
 mod group;
 mod groups;
 pub mod laws;
-pub mod ledger;
+mod ledger;
 mod moments;
 mod sides;
 pub mod sums;
 mod tables;
 mod tally;
 mod tally_places;
+
+pub use ledger::Ledger;

@@ -2,7 +2,7 @@
 
 ghost use Rattle.std.specs.{Prelude.{◌≡◌, [], nat_le, IfOk}, List.Sorted.IsNonDecreasing};
 ghost use Rattle.circular_buffer.specs.Buffer.{buffer};
-ghost use Rattle.gx_ledger.specs.Running.{comes_last, is_recent_at, pushed, recent_in};
+ghost use Rattle.gx_ledger.specs.Running.{comes_last, is_recent_at, with_latest, recent_in};
 
 use circular_buffer::HeapCircularBuffer;
 use gx_units::OutOfMemory;
@@ -86,7 +86,7 @@ impl Moments {
     /// Keeps the moment in place of the oldest where there is no room for more.
     #[inline(always)]
     pub fn push(&mut self, moment: u64)
-        ensures { self.new ≡ pushed moment self.old }
+        ensures { self.new ≡ with_latest moment self.old }
     {
         if self.ring.capacity() == 0 {
             return;

@@ -1,7 +1,7 @@
 //! The tables of a ledger.
 
 ghost use Rattle.std.specs.Prelude.{◌≡◌, map, None, Some, IfOk, IsTrue};
-ghost use Rattle.gx_ledger.specs.{Counts.{noted_in, tally_with}, Accounts.account_names, Keeping.{noted, priced, reference_prices}, Tables.{accounts_differ, names_differ}, Tallies.{changed_at, new_tally}};
+ghost use Rattle.gx_ledger.specs.{Counts.{noted_in, tally_with}, Accounts.account_names, Keeping.{tallies_after, prices_with, reference_prices}, Tables.{accounts_differ, names_differ}, Tallies.{changed_at, new_tally}};
 
 use crate::change::Change;
 use crate::tally::Tally;
@@ -14,7 +14,7 @@ use std::alloc::Global;
 
 /// Sets the last price of the stock, which is looked for at this place first, if it is listed.
 pub fn set_price(prices: &mut IndexMap<Symbol, u32>, near: usize, stock: Symbol, price: u32)
-    ensures { prices.new.entries ≡ priced stock price prices.old.entries }
+    ensures { prices.new.entries ≡ prices_with stock price prices.old.entries }
 {
     if let Some(last) = get_mut_near(prices, near, stock) {
         *last = price;
@@ -24,7 +24,7 @@ pub fn set_price(prices: &mut IndexMap<Symbol, u32>, near: usize, stock: Symbol,
 /// Tells each rule's tally of a change of an order of an account that is not the policy's. Its stock
 /// is looked for at this place first, as by the calls below.
 pub fn note_in_all(tallies: &mut [Tally], change: &Change<'_>, near: usize)
-    ensures { tallies.new ≡ noted change.now None tallies.old }
+    ensures { tallies.new ≡ tallies_after change.now None tallies.old }
 {
     for tally in tallies.iter_mut() {
         tally.note(change, None, near);

@@ -5,10 +5,10 @@ ghost use Rattle.gx_history.specs.Figures.{gross_shares_in, gross_value_in, net_
 ghost use Rattle.gx_ledger.specs.declared.group.Group.TheVariants as groups;
 ghost use Rattle.gx_ledger.specs.{Counts.{counts, group_place, tally_inside, tally_with}, Accounts.account_names, Running.count_alike, Tables.names_differ, Tallies.{figures_of_group, group_asked, group_in, net_sums_in, new_tally, seat_of, tally_after, tally_figures, tells_reference}, Standing.{gross_in_group, group_with, net_in_group, tally_gross, tally_net}};
 
-use crate::asks::{Asks, count_of};
 use crate::change::Change;
 use crate::enters::Enters;
-use crate::group::{Entered, Group};
+use crate::figure_kind::{FigureKind, count_of};
+use crate::group::{Group, RepeatKey};
 use crate::groups::{Groups, Seats, place_in};
 use crate::sides::{Sides, net_of};
 use crate::sums::{NetSums, Sums};
@@ -35,11 +35,11 @@ pub struct Tally {
 
 /// What a request asks the figures for.
 #[derive(Clone, Copy)]
-pub struct Wanted {
+pub struct FigureQuery {
     /// The place in the policy of the account that the user trades for.
     pub place: Option<usize>,
     /// What an Enter has in common with like ones.
-    pub entered: Option<Entered>,
+    pub entered: Option<RepeatKey>,
     /// The open shares of the order that would be replaced.
     pub replaced_shares: u128,
     /// Their value at its price, in ten-thousandths of a dollar.
@@ -68,7 +68,7 @@ fn net_sums_in(sides: &Sides, side: StockSide, near: usize) -> NetSums
 
 /// Whether the Enters that are such as the one asked for come to the limit.
 #[inline(always)]
-fn are_alike(enters: &Enters, asked: Option<Entered>, limit: u64) -> bool
+fn are_alike(enters: &Enters, asked: Option<RepeatKey>, limit: u64) -> bool
     ensures { result ≡ nat_le limit (option_map_or (count_alike enters.now.items) asked 0) }
 {
     match asked {
@@ -98,7 +98,7 @@ fn net_in_group(group: &Group, side: StockSide) -> Option<NetSums>
 }
 
 /// What a net limit compares, of a group that looks at sides.
-fn net_figures(sides: &Sides, wanted: &Wanted) -> NetFigures
+fn net_figures(sides: &Sides, wanted: &FigureQuery) -> NetFigures
     ensures { result ≡ net_shares_in (figures_of_group wanted.now (groups.Sides sides.now)) }
 {
     match wanted.side {
@@ -135,14 +135,14 @@ impl Tally {
         requires differ { IsTrue (names_differ stocks.now) }
         ensures { IfOk result (λ tally. tally ≡ new_tally accounts.now stocks.now rule.now) }
     {
-        let asks = Asks::of(&rule.kind);
+        let asks = FigureKind::of(&rule.kind);
         let count = count_of(&rule.kind);
         let seats = Seats::of(alloc, &rule.scope, count, names, accounts)?;
         let groups = Groups::of(alloc, count, asks, accounts, stocks)?;
         let scope = rule.scope.copied(alloc)?;
         Ok(Tally {
             scope,
-            tells_reference: matches!(asks, Asks::Reference),
+            tells_reference: matches!(asks, FigureKind::Reference),
             count,
             seats,
             groups,
@@ -252,7 +252,7 @@ impl Tally {
 
     /// The group that counts the account which asks; None where the rule does not count it, or has no such group.
     #[inline(always)]
-    fn group_asked(&self, wanted: &Wanted) -> Option<&Group>
+    fn group_asked(&self, wanted: &FigureQuery) -> Option<&Group>
         ensures { option_copied result ≡ group_asked wanted.now self.now }
     {
         match self.seat_of(wanted.place) {
@@ -263,7 +263,7 @@ impl Tally {
 
     /// The figures of a gross limit on shares.
     #[inline(always)]
-    pub fn gross_shares(&self, wanted: &Wanted) -> GrossFigures
+    pub fn gross_shares(&self, wanted: &FigureQuery) -> GrossFigures
         ensures { result ≡ gross_shares_in (tally_figures wanted.now self.now) }
     {
         match self.group_asked(wanted) {
@@ -282,7 +282,7 @@ impl Tally {
 
     /// The figures of a gross limit on value.
     #[inline(always)]
-    pub fn gross_value(&self, wanted: &Wanted) -> GrossFigures
+    pub fn gross_value(&self, wanted: &FigureQuery) -> GrossFigures
         ensures { result ≡ gross_value_in (tally_figures wanted.now self.now) }
     {
         match self.group_asked(wanted) {
@@ -296,7 +296,7 @@ impl Tally {
     }
 
     /// The figures of a net limit.
-    pub fn net_shares(&self, wanted: &Wanted) -> NetFigures
+    pub fn net_shares(&self, wanted: &FigureQuery) -> NetFigures
         ensures { result ≡ net_shares_in (tally_figures wanted.now self.now) }
     {
         match self.group_asked(wanted) {
@@ -311,7 +311,7 @@ impl Tally {
 
     /// Whether the recent orders that the rule counts come to the limit.
     #[inline(always)]
-    pub fn has_recent(&self, wanted: &Wanted, limit: u64) -> bool
+    pub fn has_recent(&self, wanted: &FigureQuery, limit: u64) -> bool
         ensures { result ≡ nat_le limit (tally_figures wanted.now self.now).recent }
     {
         match self.group_asked(wanted) {
@@ -324,7 +324,7 @@ impl Tally {
 
     /// Whether the last Enters that the rule counts and that are such as the request come to the limit.
     #[inline(always)]
-    pub fn has_equal_recent(&self, wanted: &Wanted, limit: u64) -> bool
+    pub fn has_equal_recent(&self, wanted: &FigureQuery, limit: u64) -> bool
         ensures { result ≡ nat_le limit (tally_figures wanted.now self.now).equal_recent }
     {
         match self.group_asked(wanted) {
@@ -335,7 +335,7 @@ impl Tally {
 
     /// The price that a collar is around.
     #[inline(always)]
-    pub fn reference(&self, wanted: &Wanted) -> u32
+    pub fn reference(&self, wanted: &FigureQuery) -> u32
         ensures { result ≡ (tally_figures wanted.now self.now).reference }
     {
         if self.tells_reference && self.seat_of(wanted.place).is_some() {

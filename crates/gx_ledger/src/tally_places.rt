@@ -1,7 +1,7 @@
 //! Where an account's orders are counted.
 
 ghost use Rattle.std.specs.Prelude.{◌≡◌, ◌∷◌, ◌++◌, [], map, IfOk, OnOk, if◌then◌else◌};
-ghost use Rattle.gx_ledger.specs.{Counts.{counting, counting_from}, Accounts.account_names};
+ghost use Rattle.gx_ledger.specs.{Counts.{places_counting, counting_from}, Accounts.account_names};
 
 use crate::tally::Tally;
 use gx_policy::Account;
@@ -89,7 +89,7 @@ pub fn counting_by_account(
 ) -> Result<Vec<TallyPlaces>, OutOfMemory>
     requires { names.now.keys ≡ account_names accounts.now }
     ensures { IfOk result (λ places. places.items
-        ≡ map (counting (account_names accounts.now) tallies.now) (account_names accounts.now)) }
+        ≡ map (places_counting (account_names accounts.now) tallies.now) (account_names accounts.now)) }
 {
     let mut places = Vec::new(alloc);
     for account in accounts {

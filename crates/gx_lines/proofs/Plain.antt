@@ -2,21 +2,19 @@
 use Rattle.std.proofs.{Common.{◌≡◌, ℕ, zero, suc, ◌+◌, ◌-◌, ◌/◌, ◌%◌, ◌^◌, ◌<◌, Bool, true, false, cond, List, [], ◌∷◌, ◌++◌, length, replicate, refl, ◌∙◌, arith, decimal}, lemmas.{Bool.{and_parts, and_from, Decides.nat_tests}, Fmt.decimal_by_steps, List.Folds.list_all-append}}
 use Rattle.std.specs.{Prelude.{◌==◌, nat_lt, codes, Option, Some, None, unwrap_or}, List.list_all}
 use Rattle.gx_units.specs.Spelling.{without_right_spaces}
-use Rattle.gx_text.specs.{Laws.{JsonIsPrinted, ShownIsVisible}, Moments.{minute_text, moment_text, with_zeros}, Shown.{is_printed, is_visible, json_string, shown, shown_name}, declared.moments.Decimals.TheVariants.Nine}
+use Rattle.gx_text.specs.{Laws.{JsonIsPrinted, ShownIsVisible}, Moments.{minute_text, moment_text, with_zeros}, Shown.{is_printed, is_visible, json_string, shown_text, shown_name}, declared.moments.Decimals.TheVariants.Nine}
 use Rattle.gx_lines.specs.{Showing.{decimals_text, price_text, key_text, text_field, name_field, number_field, json_front, json_line}, NameLaws.IsBytes, LineLaws.IsOneLine}
 use Rattle.gx_lines.proofs.Visible.{kept, names_are_visible}
+use Rattle.gx_text.proofs.Visible.{visible_printed}
 
 abbrev pub are_plain : List ℕ → Bool
 are_plain bytes = list_all is_printed bytes
-
-visible_plain : (c : ℕ) → is_visible c ≡ true → is_printed c ≡ true
-visible_plain c h = grind (arith, nat_tests)
 
 all_plain : (bytes : List ℕ) → list_all is_visible bytes ≡ true → are_plain bytes ≡ true
 all_plain [] h = refl
 all_plain (c ∷ cs) h =
     let parts = and_parts (is_visible c) (list_all is_visible cs) h in
-    and_from _ _ (visible_plain c parts.0) (all_plain cs parts.1)
+    and_from _ _ (visible_printed c parts.0) (all_plain cs parts.1)
 
 plain_byte : (c : ℕ) → is_printed c ≡ true → nat_lt c 256 ≡ true
 plain_byte c h = grind (arith, nat_tests)
@@ -120,8 +118,8 @@ pub price_field : (key : List ℕ) (price : ℕ) → are_plain key ≡ true → 
 price_field key price k h = plain _ (number_field_plain key (price_text price) k (price_plain price h))
 
 module _ (seen : ShownIsVisible) where
-  pub shown_plain : (bytes : List ℕ) → IsBytes bytes → are_plain (shown bytes) ≡ true
-  shown_plain bytes h = all_plain (shown bytes) (seen bytes h)
+  pub shown_plain : (bytes : List ℕ) → IsBytes bytes → are_plain (shown_text bytes) ≡ true
+  shown_plain bytes h = all_plain (shown_text bytes) (seen bytes h)
 
   pub named : (name : List ℕ) → IsBytes name → are_plain (shown_name name) ≡ true
   named name h = all_plain (shown_name name) (names_are_visible seen name h)

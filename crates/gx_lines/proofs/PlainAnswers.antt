@@ -2,7 +2,7 @@
 use Rattle.std.proofs.Common.{◌≡◌, ℕ, ◌^◌, ◌<◌, Bool, true, false, List, [], ◌∷◌, ◌++◌, refl}
 use Rattle.std.specs.Prelude.{◌==◌, codes, None, unwrap_or}
 use Rattle.gx_desk.specs.{declared.{Action.Action, Answer.Answer, AnswerCode.AnswerCode}, Messages.{kill, lift, set_limit, restrict, unrestrict, grant, revoke, close_day}, Writing.answer_code}
-use Rattle.gx_text.specs.{Laws.{JsonIsPrinted, ShownIsVisible}, Shown.{shown, shown_name}, declared.form.Form.TheVariants.{Text, Json}}
+use Rattle.gx_text.specs.{Laws.{JsonIsPrinted, ShownIsVisible}, Shown.{shown_text, shown_name}, declared.form.Form.TheVariants.{Text, Json}}
 use Rattle.gx_lines.specs.{NameLaws.IsBytes, AnswerLines.{done_text, partly_text, capitals_hint, unknown_text, power_word, powerless_text, foreign_text, unchanged_text, record_text, denied_text, answered_text, command_word, account_field, stock_field, rule_field, reader_field, named_fields, answer_fields, type_word, type_text, type_field, earlier_text, earlier_fields}, LineLaws.{IsActionInRange, IsAnswerInRange, AnswersAreOneLine, EarlierAnswersAreOneLine}}
 use Rattle.gx_lines.proofs.Plain.{are_plain, joined, numbered, moment_plain, IsPlain, ◌&◌, plain, chosen, or_plain, or_bytes, one_byte, decimal_field, shown_plain, named, text_field_plain, name_field_plain, word_field, json_is_line}
 
@@ -134,8 +134,8 @@ module _ (seen : ShownIsVisible) where
 
   type_plain : (kind : ℕ) → kind < 256 → are_plain (type_text kind) ≡ true
   type_plain kind h =
-      or_plain (type_word kind) (codes "command " ++ shown (kind ∷ [])) (type_word_plain kind)
-      (joined (codes "command ") (shown (kind ∷ [])) refl (shown_plain seen (kind ∷ []) (one_byte kind h)))
+      or_plain (type_word kind) (codes "command " ++ shown_text (kind ∷ [])) (type_word_plain kind)
+      (joined (codes "command ") (shown_text (kind ∷ [])) refl (shown_plain seen (kind ∷ []) (one_byte kind h)))
 
   earlier_plain : (answer : Answer) → IsAnswerInRange answer → are_plain (earlier_text answer) ≡ true
   unfolding earlier_text

@@ -4,7 +4,7 @@ use Rattle.std.specs.Prelude.{◌==◌, codes, None, unwrap_or}
 use Rattle.gx_desk.specs.declared.DropCopy.{DropCopy}
 use Rattle.gx_ouch.specs.{declared.{letters.{Liquidity.Liquidity, CancelReason.CancelReason, RejectReason.RejectReason}, outbound.{OrderTerms.OrderTerms, Executed.Executed, Outbound.Outbound}}, Letters.reject_letter}
 use Rattle.gx_history.specs.OuchValues.{side_buy, side_sell, side_sell_short, side_sell_short_exempt}
-use Rattle.gx_text.specs.{Laws.{JsonIsPrinted, ShownIsVisible}, Moments.moment_text, Shown.{shown, shown_name}, declared.{form.Form.TheVariants.{Text, Json}, moments.Decimals.TheVariants.Nine}}
+use Rattle.gx_text.specs.{Laws.{JsonIsPrinted, ShownIsVisible}, Moments.moment_text, Shown.{shown_text, shown_name}, declared.{form.Form.TheVariants.{Text, Json}, moments.Decimals.TheVariants.Nine}}
 use Rattle.gx_lines.specs.{NameLaws.IsBytes, Showing.price_text, OrderLines.{side_words, side_text, side_field, liquidity_word, cancel_words, reject_words, shares_text, terms_text, match_text, told_text, time_text, token_field, terms_fields, executed_fields, event_word, told_fields, copy_text, copy_fields}, LineLaws.{AreTermsInRange, IsExecutedInRange, IsMessageInRange, IsCopyInRange, OrdersAreOneLine, CopiesAreOneLine}}
 use Rattle.gx_lines.proofs.Plain.{are_plain, joined, numbered, moment_plain, price_plain, IsPlain, ◌&◌, plain, chosen, or_plain, or_bytes, one_byte, decimal_field, price_field, shown_plain, named, text_field_plain, name_field_plain, word_field, json_is_line}
 
@@ -95,8 +95,8 @@ event_plain (Outbound.Rejected m) = refl
 module _ (seen : ShownIsVisible) where
   side_plain : (side : ℕ) → side < 256 → IsPlain (side_text side)
   side_plain side h =
-      plain _ (or_plain (side_words side) (codes "side " ++ shown (side ∷ [])) (side_words_plain side)
-      (joined (codes "side ") (shown (side ∷ [])) refl (shown_plain seen (side ∷ []) (one_byte side h))))
+      plain _ (or_plain (side_words side) (codes "side " ++ shown_text (side ∷ [])) (side_words_plain side)
+      (joined (codes "side ") (shown_text (side ∷ [])) refl (shown_plain seen (side ∷ []) (one_byte side h))))
 
   terms : (t : OrderTerms) (n : ℕ) → AreTermsInRange t → n < 2 ^ 64 → IsPlain (terms_text t n)
   unfolding terms_text

@@ -3,7 +3,7 @@ use Rattle.std.specs.Prelude.{ℕ, Bool, ◌&&◌, ◌==◌, if◌then◌else◌
 use Rattle.gx_units.specs.Names.{has_no_lower_case}
 use Rattle.gx_desk.specs.{declared.{Action.Action, Answer.Answer, AnswerCode.AnswerCode}, Messages.{kill, lift, set_limit, restrict, unrestrict, grant, revoke, close_day}, Writing.answer_code}
 use Rattle.gx_script.specs.Printing.{line_end}
-use Rattle.gx_text.specs.{declared.{form.Form.{Form, TheVariants.{Text, Json}}, moments.Decimals.TheVariants.Nine}, Moments.moment_text, Shown.{shown, shown_name}}
+use Rattle.gx_text.specs.{declared.{form.Form.{Form, TheVariants.{Text, Json}}, moments.Decimals.TheVariants.Nine}, Moments.moment_text, Shown.{shown_text, shown_name}}
 use Rattle.gx_lines.specs.Showing.{text_field, name_field, number_field, json_line}
 
 -- what a granted command has done
@@ -180,7 +180,7 @@ type_word kind =
 
 -- a command by its type byte, where it is not known what it asked for
 abbrev pub type_text : ℕ → List ℕ
-type_text kind = unwrap_or (type_word kind) (codes "command " ++ shown (kind ∷ []))
+type_text kind = unwrap_or (type_word kind) (codes "command " ++ shown_text (kind ∷ []))
 
 -- the same as a field of a JSON line
 abbrev pub type_field : ℕ → List ℕ

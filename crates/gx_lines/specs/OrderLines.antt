@@ -4,7 +4,7 @@ use Rattle.gx_desk.specs.declared.DropCopy.{DropCopy}
 use Rattle.gx_ouch.specs.{declared.{letters.{Liquidity.Liquidity, CancelReason.CancelReason, RejectReason.RejectReason}, outbound.{OrderTerms.OrderTerms, Executed.Executed, Outbound.Outbound}}, Letters.reject_letter}
 use Rattle.gx_history.specs.OuchValues.{side_buy, side_sell, side_sell_short, side_sell_short_exempt}
 use Rattle.gx_script.specs.Printing.{line_end}
-use Rattle.gx_text.specs.{declared.{form.Form.{Form, TheVariants.{Text, Json}}, moments.Decimals.TheVariants.Nine}, Moments.moment_text, Shown.{shown, shown_name}}
+use Rattle.gx_text.specs.{declared.{form.Form.{Form, TheVariants.{Text, Json}}, moments.Decimals.TheVariants.Nine}, Moments.moment_text, Shown.{shown_text, shown_name}}
 use Rattle.gx_lines.specs.Showing.{price_text, text_field, name_field, number_field, json_line}
 
 -- the side of an order by its Buy/Sell Indicator, where there is such a side
@@ -18,7 +18,7 @@ side_words side =
 
 -- the side of an order
 abbrev pub side_text : ℕ → List ℕ
-side_text side = unwrap_or (side_words side) (codes "side " ++ shown (side ∷ []))
+side_text side = unwrap_or (side_words side) (codes "side " ++ shown_text (side ∷ []))
 
 -- the same as a field of a JSON line
 abbrev pub side_field : ℕ → List ℕ

@@ -6,7 +6,7 @@ ghost use Rattle.gx_door.specs.declared.caller.Caller.TheVariants as callers;
 
 use crate::dated::Dated;
 use gx_control::{Mishap, Peer, ServerControl, WriterWakeup, words_of};
-use gx_devices::Counted;
+use gx_devices::CallCounter;
 use gx_door::{Caller, Door};
 use gx_pass::PassFault;
 use gx_reception::{Admits, LineFault, NoLine, Opening};
@@ -97,7 +97,7 @@ fn turn_stranger_away<D: Door, A: Admits<D>, R: Wait + Clock>(
         &hall.control.shutdown,
         hall.reception,
         login,
-        &mut Counted::new(stream),
+        &mut CallCounter::new(stream),
     )
 }
 
@@ -123,7 +123,7 @@ where
         &hall.control.answers,
         shared,
         opening,
-        Counted::new(stream),
+        CallCounter::new(stream),
         stream,
         stream,
     );
@@ -184,7 +184,7 @@ where
 /// Lets go of what comes, once nothing more is written, until the peer has ended or was hung up on.
 fn part<R: Wait>(rt: &R, stream: &TcpStream, gone: Gone) -> Gone {
     stream.finish();
-    let_go_of(rt, &mut Counted::new(stream));
+    let_go_of(rt, &mut CallCounter::new(stream));
     gone
 }
 
@@ -200,7 +200,7 @@ where
     if set_up(stream).is_err() {
         return Gone::Quietly;
     }
-    let mut reader = Counted::new(stream);
+    let mut reader = CallCounter::new(stream);
     match receive(hall.rt, hall.alloc, hall.door, hall.reception, &mut reader) {
         Received::Admitted(pass, caller, opening) => {
             hall.control.newcomers.leave(hall.rt, peer.number);

@@ -6,7 +6,7 @@ ghost use Rattle.gx_log.specs.Queues.{left_out_line, written};
 
 use crate::log::Log;
 use crate::queue::{Batch, LOG_ROOM};
-use gx_devices::{Counted, WriteFailed, write_whole};
+use gx_devices::{CallCounter, WriteFailed, write_whole};
 use itoa::Buffer;
 use std::io::Write;
 use std::sync::Wait;
@@ -18,7 +18,7 @@ use std::time::{Clock, Duration};
 const REST: u64 = 15;
 
 /// Writes how many lines were left out; nothing where none was.
-fn write_left_out<W: Write>(count: u64, writer: &mut Counted<W>) -> Result<(), WriteFailed>
+fn write_left_out<W: Write>(count: u64, writer: &mut CallCounter<W>) -> Result<(), WriteFailed>
     requires { writer.old.failed < 2 ^ 64 - 1 }
     ensures written { OnOk result (Appends
         (W.contents writer.old.device) (W.contents writer.new.device) (left_out_line count)) }
@@ -40,7 +40,7 @@ fn write_left_out<W: Write>(count: u64, writer: &mut Counted<W>) -> Result<(), W
 /// # Errors
 ///
 /// `WriteFailed` where the writer failed; then a part of it may be written.
-pub fn write_batch<W: Write>(batch: &Batch, writer: &mut Counted<W>) -> Result<(), WriteFailed>
+pub fn write_batch<W: Write>(batch: &Batch, writer: &mut CallCounter<W>) -> Result<(), WriteFailed>
     requires { writer.old.failed < 2 ^ 64 - 1 }
     ensures written { OnOk result (Appends
         (W.contents writer.old.device) (W.contents writer.new.device) (written batch.now)) }
@@ -54,7 +54,7 @@ pub fn write_on<W: Write, R: Wait + Clock>(rt: &R, log: &Log, writer: &mut W) {
     for _ in rt.forever() {
         let closed = log.is_closed();
         let batch = log.take(rt);
-        let _ = write_batch(&batch, &mut Counted::new(&mut *writer));
+        let _ = write_batch(&batch, &mut CallCounter::new(&mut *writer));
         let count = batch.text().len().min(LOG_ROOM) as u64;
         if closed && count == 0 {
             return;

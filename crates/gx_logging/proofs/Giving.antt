@@ -1,7 +1,7 @@
 -- What is known once the lines of more records were given.
 use Rattle.std.proofs.{Common.{◌≡◌, ℕ, ◌+◌, ◌-◌, ◌≤◌, List, ◌++◌, ◌<◌, length, take, drop, min, sym, ap, ◌∙◌, arith, take-add}, lemmas.List.{length-take, length-drop, drop-take}}
 use Rattle.gx_policy.specs.{Lists.slice, declared.policy.PolicyData.PolicyData}
-use Rattle.gx_journal.proofs.Rolling as rolling
+use Rattle.gx_journal.proofs.Journal_next as rolling
 use Rattle.gx_history.specs.declared.record.RecordData.{RecordData}
 use Rattle.gx_pass.specs.declared.view.Holds.{Holds}
 use Rattle.gx_text.specs.declared.form.Form.{Form}
@@ -28,10 +28,6 @@ gives policy met done form form' known known' piece logging next knows = record 
   within = next_within met.front piece done next logging.within;
   knows = knows ∙ ap (known_of policy) (sym (next_behind met.front piece done next));
 }
-
--- a piece is of the next records
-pub are_next : (records piece : List RecordData) (done most : ℕ) → piece ≡ slice records (done + 1) most → piece ≡ take (length piece) (drop done records)
-are_next records piece done most is = rolling.are_next records piece done most is
 
 pub is_one : (records piece : List RecordData) (done most told : ℕ) → piece ≡ slice records (done + 1) most → 0 < most → done < told → told ≤ length records → 0 < length piece
 is_one records piece done most told is some left later = omega (arith, rolling.piece_size records piece done most is, some, left, later)

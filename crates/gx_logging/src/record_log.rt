@@ -30,20 +30,20 @@ pub struct RecordLog<D: Door> {
 
 impl<D: Door> Model for RecordLog<D> {
     ghost use Rattle.std.specs.Prelude.{is_some, IsTrue};
-    ghost use Rattle.gx_door.specs.Acts.{met};
+    ghost use Rattle.gx_door.specs.Acts.{history_met};
     ghost use Rattle.gx_logging.specs.Logging.{IsLogging, LoggingData};
 
     ghost Value = { LoggingData };
 
     ghost view = { λ l. record {
-      met = met D.held l.pass;
+      met = history_met D.held l.pass;
       done = l.done;
       form = l.events.form;
       known = l.events.known;
     } };
 
     ghost invariant = { λ l. IsTrue (is_some l.pass) × IsLogging D.policy (record {
-      met = met D.held l.pass;
+      met = history_met D.held l.pass;
       done = l.done;
       form = l.events.form;
       known = l.events.known;
@@ -82,7 +82,7 @@ impl<D: Door> RecordLog<D> {
     }
 
     /// The records behind those whose lines were given, at most so many, one at least.
-    #[tactic(auto, using(crate::proofs::Giving::are_next, crate::proofs::Giving::is_one, crate::proofs::Giving::are_few))]
+    #[tactic(auto, using(gx_journal::proofs::Journal_next::are_next, crate::proofs::Giving::is_one, crate::proofs::Giving::are_few))]
     fn fetch<R: Wait>(&mut self, rt: &R, door: &D, most: u64) -> Result<Vec<Record>, OutOfMemory>
         requires some { 0 < most }
         requires left { self.old.done < self.old.met.told }

@@ -7,7 +7,7 @@ use Rattle.gx_pass.specs.declared.view.Holds.{Holds}
 use Rattle.gx_pass.proofs.Fronts.{prefix_length, prefix_trans}
 use Rattle.gx_door.specs.Acts.{IsLater}
 use Rattle.gx_board.specs.{declared.{counts.Counts.Counts, summary.Summary.Summary}, Summaries.{IsBehind, IsSummary}}
-use Rattle.gx_board.proofs.Catching.{behind_longer}
+use Rattle.gx_board.proofs.Summary_call.{behind_longer}
 
 -- one of no record is behind all
 pub begins : (given policy : PolicyData) (records : List RecordData) (d : Summary) → given ≡ policy → IsSummary given [] d → IsBehind policy records d

@@ -5,7 +5,7 @@ use Rattle.indexmap.specs.IndexMap as index
 use Rattle.gx_units.specs.declared.names.{Token.Token, UserName.UserName}
 use Rattle.gx_history.specs.{declared.live_order.{LiveOrder.LiveOrder, UserToken.UserToken}, LiveOrders.{is_under, key, token_of}, Live.live_under}
 use Rattle.gx_slab.specs.Slabs as slabs
-use Rattle.gx_orders.specs.{LiveOrders.{OrdersData, IsOpen, NumbersRise, at_rest, changed, is_used, open_ones, live_numbered, resized, resized_at, same_user_token, without}, Tables.{AreTied, shown}}
+use Rattle.gx_orders.specs.{LiveOrders.{OrdersData, IsOpen, NumbersRise, at_rest, with_order_changed, is_used, open_ones, live_numbered, with_total_and_done, resized_at, same_user_token, without}, Tables.{AreTied, orders_shown}}
 use Rattle.gx_orders.proofs.{Kept.{IsBelow, all_changed, changed_alike, changed_nowhere, found_has_number, none_shut, shut}, Tying.{tied_entered, tied_resized}, Answering.{nothing_under, under_found, token_last, unused}}
 
 -- the order of the user under the token, where one was entered under it, is live and is under it
@@ -29,30 +29,30 @@ under_in live ts t user token (Some n) at =
     by None = refl
     by (Some o) = elim (is_under user token o) as (λ b. last_or None (if b then o ∷ [] else []) ≡ (if b then Some o else None)) [ true ↦ refl | false ↦ refl ]
 
-pub under_now : (live : List LiveOrder) (ts : List (UserToken × ℕ)) → AreTied live ts → (now : OrdersData) → shown live ts ≡ now → (user : UserName) (token : Token) (found : Option ℕ)
+pub under_now : (live : List LiveOrder) (ts : List (UserToken × ℕ)) → AreTied live ts → (now : OrdersData) → orders_shown live ts ≡ now → (user : UserName) (token : Token) (found : Option ℕ)
     → lookup (same_user_token (key user token)) ts ≡ found → under_by live user token found ≡ live_under now.live user token
 under_now live ts t now is user token found at = sym (under_in live ts t user token found at) ∙ ap (λ (d : OrdersData). live_under d.live user token) is
 
 -- an order written in its place
 pub written_is : (f : LiveOrder → LiveOrder) (n : ℕ) (o w : LiveOrder) (live : List LiveOrder) → NumbersRise live → live_numbered live n ≡ Some o → w ≡ f o → w.number ≡ o.number
-    → slabs.written w live ≡ open_ones (changed f n live)
+    → slabs.written w live ≡ open_ones (with_order_changed f n live)
 written_is f n o w live rise found is named =
-    ap (λ (k : ℕ). open_ones (changed (λ (p : LiveOrder). w) k live)) (named ∙ found_has_number n live o found)
+    ap (λ (k : ℕ). open_ones (with_order_changed (λ (p : LiveOrder). w) k live)) (named ∙ found_has_number n live o found)
     ∙ ap open_ones (changed_alike (λ (p : LiveOrder). w) f n live o rise found is)
 
-pub rested_is : (n : ℕ) (live : List LiveOrder) → AllByRecursion IsOpen live → open_ones (changed at_rest n live) ≡ changed at_rest n live
-rested_is n live all = none_shut (changed at_rest n live) (all_changed IsOpen at_rest n (λ (o : LiveOrder) e was. was) live all)
+pub rested_is : (n : ℕ) (live : List LiveOrder) → AllByRecursion IsOpen live → open_ones (with_order_changed at_rest n live) ≡ with_order_changed at_rest n live
+rested_is n live all = none_shut (with_order_changed at_rest n live) (all_changed IsOpen at_rest n (λ (o : LiveOrder) e was. was) live all)
 
 -- of an order that keeps some shares open all stay, and of one that does not it goes
-pub still_open : (n total done : ℕ) (live : List LiveOrder) → AllByRecursion IsOpen live → done < total → open_ones (changed (resized total done) n live) ≡ changed (resized total done) n live
+pub still_open : (n total done : ℕ) (live : List LiveOrder) → AllByRecursion IsOpen live → done < total → open_ones (with_order_changed (with_total_and_done total done) n live) ≡ with_order_changed (with_total_and_done total done) n live
 still_open n total done live all shares_open =
-    none_shut (changed (resized total done) n live) (all_changed IsOpen (resized total done) n (λ (o : LiveOrder) e was. shares_open) live all)
+    none_shut (with_order_changed (with_total_and_done total done) n live) (all_changed IsOpen (with_total_and_done total done) n (λ (o : LiveOrder) e was. shares_open) live all)
 
-pub open_no_more : (n total done : ℕ) (live : List LiveOrder) → AllByRecursion IsOpen live → total ≤ done → open_ones (changed (resized total done) n live) ≡ without n live
-open_no_more n total done live all shares_gone = shut (resized total done) n (λ (o : LiveOrder) e. le-ltb done total shares_gone) live all
+pub open_no_more : (n total done : ℕ) (live : List LiveOrder) → AllByRecursion IsOpen live → total ≤ done → open_ones (with_order_changed (with_total_and_done total done) n live) ≡ without n live
+open_no_more n total done live all shares_gone = shut (with_total_and_done total done) n (λ (o : LiveOrder) e. le-ltb done total shares_gone) live all
 
 -- nothing changes where the number is not there
-pub nowhere : (f : LiveOrder → LiveOrder) (n : ℕ) (live : List LiveOrder) → AllByRecursion IsOpen live → live_numbered live n ≡ None → live ≡ open_ones (changed f n live)
+pub nowhere : (f : LiveOrder → LiveOrder) (n : ℕ) (live : List LiveOrder) → AllByRecursion IsOpen live → live_numbered live n ≡ None → live ≡ open_ones (with_order_changed f n live)
 nowhere f n live all none = sym (ap open_ones (changed_nowhere f n live none) ∙ none_shut live all)
 
 -- an order written with another size
@@ -61,9 +61,9 @@ pub record IsResized (live : List LiveOrder) (ts : List (UserToken × ℕ)) (o :
   pub tied : AreTied now ts
 
 pub is_resized : (live : List LiveOrder) (ts : List (UserToken × ℕ)) (o : LiveOrder) (total done : ℕ) (now : List LiveOrder) → AreTied live ts → live_numbered live o.number ≡ Some o
-    → now ≡ slabs.written (resized total done o) live → IsResized live ts o total done now
+    → now ≡ slabs.written (with_total_and_done total done o) live → IsResized live ts o total done now
 is_resized live ts o total done now t found is =
-    let sized : now ≡ resized_at o.number total done live = is ∙ written_is (resized total done) o.number o (resized total done o) live t.rise found refl refl in
+    let sized : now ≡ resized_at o.number total done live = is ∙ written_is (with_total_and_done total done) o.number o (with_total_and_done total done o) live t.rise found refl refl in
     record { sized = sized; tied = subst (λ (os : List LiveOrder). AreTied os ts) (sym sized) (tied_resized o.number total done live ts t) }
 
 -- one more order, whose token is used now

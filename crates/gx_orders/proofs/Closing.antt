@@ -1,14 +1,14 @@
 -- The orders of an account end one by one.
-use Rattle.std.proofs.{Common.{◌≡◌, ℕ, ◌<◌, ◌≤◌, ◌+◌, arith, true, false, not, Bool, cond, List, [], ◌∷◌, length, drop, get_or, refl, ◌∙◌, ap, sym, subst, ◌==◌}, Math.ListN.drop_of_length-le, lemmas.{Bool.{eqb-true, ne_eqb}, List.drop_more}}
+use Rattle.std.proofs.{Common.{◌≡◌, ℕ, ◌<◌, ◌≤◌, ◌+◌, arith, true, false, not, Bool, cond, List, [], ◌∷◌, length, drop, get_or, refl, ◌∙◌, ap, sym, subst, ◌==◌}, Math.ListN.drop_of_length-le, lemmas.{Bool.{eqb-true, ne_eqb, and_parts}, List.drop_more}}
 use Rattle.std.specs.{Prelude.{Option, Some, None, ◌&&◌}, List.{cons_option, AllByRecursion}}
 use Rattle.gx_units.specs.{Names.same_account, declared.names.{AccountName.AccountName, UserName.UserName}}
-use Rattle.gx_laws.proofs.{Judging.both, Owners.filtered}
+use Rattle.gx_laws.proofs.{Owners.filtered, Order.first_such}
 use Rattle.gx_history.specs.declared.live_order.LiveOrder.{LiveOrder}
 use Rattle.gx_slab.specs.Slabs as slabs
 use Rattle.gx_slab.specs.Slabs.{numbered_of, order_of}
-use Rattle.gx_orders.specs.{LiveOrders.{IsOpen, NumbersRise, has_number, live_numbered, of_account, of_others, resized, without}, Tables.{CanEnd, CountsOneLess, without_of}}
+use Rattle.gx_orders.specs.{LiveOrders.{IsOpen, NumbersRise, has_number, live_numbered, of_account, of_others, with_total_and_done, without}, Tables.{CanEnd, CountsOneLess, without_of}}
 use Rattle.gx_orders.proofs.Calls as calls
-use Rattle.gx_orders.proofs.{Counted.counted_ended, Kept.{IsAbove, behind, none_taken, rise_chosen}, Listing.{found_left, found_passes, given_always, given_left, is_its, its_number, none_ends}}
+use Rattle.gx_orders.proofs.{Counted.counted_ended, Kept.{IsAbove, behind, none_taken, rise_chosen}, Listing.{found_left, given_always, given_left, is_its, its_number, none_ends}}
 
 -- ---- one order ends
 
@@ -62,12 +62,12 @@ pub record HasEnded (account : AccountName) (n : ℕ) (live now : List LiveOrder
 
 -- an order written with its executed shares as its size
 pub has_ended : (account : AccountName) (n : ℕ) (o : LiveOrder) (live now : List LiveOrder) (before after : List (UserName × ℕ)) → CanEnd live before → order_of account live n ≡ Some o
-    → now ≡ slabs.written (resized o.done o.done o) live → CountsOneLess o.user before after → HasEnded account n live now after
+    → now ≡ slabs.written (with_total_and_done o.done o.done o) live → CountsOneLess o.user before after → HasEnded account n live now after
 has_ended account n o live now before after can found is less =
     let numbered : live_numbered live n ≡ Some o = found_numbered account n live o can.rise found in
     let gone : now ≡ without n live =
     is
-    ∙ calls.written_is (resized o.done o.done) n o (resized o.done o.done o) live can.rise numbered refl refl
+    ∙ calls.written_is (with_total_and_done o.done o.done) n o (with_total_and_done o.done o.done o) live can.rise numbered refl refl
     ∙ calls.open_no_more n o.done o.done live can.all_open (omega arith) in
     record {
       can = record {
@@ -111,7 +111,7 @@ others_stay account n (o ∷ os) = by (has_number n o) (same_account account o.a
 given_without : (account : AccountName) (n : ℕ) (live : List LiveOrder) (numbers : List ℕ) → numbered_of account (without_of account n live) numbers ≡ without n (numbered_of account live numbers)
 given_without account n live numbers =
     given_always (order_of account (without_of account n live)) (λ (k : ℕ). cond (k == n) None (order_of account live k)) (λ k. found_left (is_its account k) (is_its account n) (k == n) (alike k) live) numbers
-    ∙ given_left (order_of account live) (has_number n) (λ (k : ℕ). k == n) (λ k o h. ap (λ (m : ℕ). m == n) (its_number account k o (found_passes (is_its account k) live o h))) numbers
+    ∙ given_left (order_of account live) (has_number n) (λ (k : ℕ). k == n) (λ k o h. ap (λ (m : ℕ). m == n) (its_number account k o (first_such (is_its account k) live o h).3)) numbers
   where
     with_account : (b s : Bool) → s ≡ true → (b && s) ≡ b
     with_account true s h = h
@@ -119,7 +119,7 @@ given_without account n live numbers =
 
     alike : (k : ℕ) (o : LiveOrder) → is_its account k o ≡ true → is_its account n o ≡ (k == n)
     alike k o h =
-        with_account (has_number n o) (same_account account o.account) (both (has_number k o) (same_account account o.account) h).1
+        with_account (has_number n o) (same_account account o.account) (and_parts (has_number k o) (same_account account o.account) h).1
         ∙ ap (λ (m : ℕ). m == n) (its_number account k o h)
 
 -- the first of them has ended
@@ -140,7 +140,7 @@ one_ended account before live now numbers i d counts after within so_far can is 
       can = can;
       listed = ap (λ (os : List LiveOrder). numbered_of account os (drop (i + 1) numbers)) is
           ∙ given_without account n live (drop (i + 1) numbers)
-          ∙ sym (first_ended n (order_of account live n) (numbered_of account live (drop (i + 1) numbers)) (λ o h. numbered o (found_passes (is_its account n) live o h)))
+          ∙ sym (first_ended n (order_of account live n) (numbered_of account live (drop (i + 1) numbers)) (λ o h. numbered o (first_such (is_its account n) live o h).3))
           ∙ ap (λ (numbers : List ℕ). without n (numbered_of account live numbers)) (sym (drop_more numbers i d within))
           ∙ ap (without n) so_far.listed
           ∙ sym (left_of account n live)
@@ -152,7 +152,7 @@ one_ended account before live now numbers i d counts after within so_far can is 
     n = get_or numbers i d
 
     numbered : (o : LiveOrder) → is_its account n o ≡ true → has_number n o ≡ true
-    numbered o h = (both (has_number n o) (same_account account o.account) h).0
+    numbered o h = (and_parts (has_number n o) (same_account account o.account) h).0
 
 pub all_ended : (account : AccountName) (before now : List LiveOrder) (numbers : List ℕ) (i : ℕ) (counts : List (UserName × ℕ)) → length numbers ≤ i → AreEnding account before (drop i numbers) now counts
     → now ≡ of_others account before

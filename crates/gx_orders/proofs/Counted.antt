@@ -3,8 +3,8 @@ use Rattle.std.proofs.{Common.{◌≡◌, ℕ, ◌+◌, ◌-◌, ◌≤◌, arit
 use Rattle.std.specs.{Prelude.{Option, Some, None, unwrap_or, if◌then◌else◌}, List.{filter, find}, Map.lookup}
 use Rattle.gx_units.specs.{Names.same_user, declared.names.UserName.UserName}
 use Rattle.gx_laws.proofs.{Adding.user_is, Order.some_same}
-use Rattle.gx_history.specs.declared.live_order.LiveOrder.{LiveOrder}
-use Rattle.gx_orders.specs.{LiveOrders.{NumbersRise, changed, has_number, is_of_user, without}, Tables.{counted_of, orders_of, AreCounted, CountsOneLess, CountsOneMore}}
+use Rattle.gx_history.specs.{declared.live_order.LiveOrder.LiveOrder, LiveOrders.is_of_user}
+use Rattle.gx_orders.specs.{LiveOrders.{NumbersRise, with_order_changed, has_number, without}, Tables.{counted_of, orders_of, AreCounted, CountsOneLess, CountsOneMore}}
 use Rattle.gx_orders.proofs.Kept.{behind, none_taken}
 
 -- one order more of the user
@@ -56,11 +56,11 @@ few_orders user (o ∷ os) = by (same_user o.user user) (orders_first user o os)
     by false is few = omega (arith, is, few)
 
 -- an order that is written in its place keeps its user
-pub orders_changed : (change : LiveOrder → LiveOrder) (n : ℕ) → ((o : LiveOrder) → (change o).user ≡ o.user) → (user : UserName) (os : List LiveOrder) → orders_of user (changed change n os) ≡ orders_of user os
+pub orders_changed : (change : LiveOrder → LiveOrder) (n : ℕ) → ((o : LiveOrder) → (change o).user ≡ o.user) → (user : UserName) (os : List LiveOrder) → orders_of user (with_order_changed change n os) ≡ orders_of user os
 orders_changed change n keeps user [] = refl
 orders_changed change n keeps user (o ∷ os) =
-    orders_first user (if has_number n o then change o else o) (changed change n os)
-    ∙ ap (λ (name : UserName). orders_of user (changed change n os) + (if same_user name user then 1 else 0)) (by (has_number n o))
+    orders_first user (if has_number n o then change o else o) (with_order_changed change n os)
+    ∙ ap (λ (name : UserName). orders_of user (with_order_changed change n os) + (if same_user name user then 1 else 0)) (by (has_number n o))
     ∙ ap (λ (count : ℕ). count + (if same_user o.user user then 1 else 0)) (orders_changed change n keeps user os)
     ∙ sym (orders_first user o os)
   where
@@ -97,7 +97,7 @@ counted_entered o live now before after counted is more user =
     more user ∙ ap (λ (n : ℕ). n + (if same_user o.user user then 1 else 0)) (counted user) ∙ sym (orders_last user live o) ∙ ap (orders_of user) (sym is)
 
 pub counted_changed : (change : LiveOrder → LiveOrder) (n : ℕ) → ((o : LiveOrder) → (change o).user ≡ o.user) → (live now : List LiveOrder) (counts : List (UserName × ℕ)) → AreCounted counts live
-    → now ≡ changed change n live → AreCounted counts now
+    → now ≡ with_order_changed change n live → AreCounted counts now
 counted_changed change n keeps live now counts counted is user = counted user ∙ sym (orders_changed change n keeps user live) ∙ ap (orders_of user) (sym is)
 
 pub counted_ended : (n : ℕ) (o : LiveOrder) (live now : List LiveOrder) (before after : List (UserName × ℕ)) → NumbersRise live → AreCounted before live → find (has_number n) live ≡ Some o → now ≡ without n live

@@ -1,11 +1,11 @@
 -- The orders that the numbers of an account give, after each change.
-use Rattle.std.proofs.{Common.{◌≡◌, ℕ, ◌<◌, arith, true, false, not, Bool, cond, List, [], ◌∷◌, ◌++◌, map, refl, ◌∙◌, ap, sym, subst, ◌==◌, if◌then◌else◌}, lemmas.{Bool.{eq-eqb, eqb-true, ne_eqb}, List.{append-nil, Elements.{filter-append, filter_map-append}}}}
+use Rattle.std.proofs.{Common.{◌≡◌, ℕ, ◌<◌, arith, true, false, not, Bool, cond, List, [], ◌∷◌, ◌++◌, map, refl, ◌∙◌, ap, sym, subst, ◌==◌, if◌then◌else◌}, lemmas.{Bool.{eq-eqb, eqb-true, ne_eqb, and_parts, and_right}, List.{Elements.{filter-append, filter_map-append}, append-nil}}}
 use Rattle.std.specs.{Prelude.{OnOk, Option, Some, None, Result, Ok, Err, ◌&&◌, is_some, option_map, unwrap_or}, List.{cons_option, filter, filter_map, find, AllByRecursion}, Map.lookup}
 use Rattle.gx_units.specs.{Names.same_account, declared.names.AccountName.AccountName}
-use Rattle.gx_laws.proofs.{Judging.both, Names.{account_is, account_is_itself, same_account_flip}, Order.some_same}
+use Rattle.gx_laws.proofs.{Names.{account_is, account_is_itself, same_account_flip}, Order.first_such, Placing.filter_swap}
 use Rattle.gx_history.specs.declared.live_order.LiveOrder.{LiveOrder}
 use Rattle.gx_slab.specs.Slabs.{numbered_of, order_of}
-use Rattle.gx_orders.specs.{LiveOrders.{changed, has_number, of_account, of_others, without}, Tables.{AreListed, ListsOneMore, ListsTheSame, NumbersBelow, is_live_of, listed_of}}
+use Rattle.gx_orders.specs.{LiveOrders.{with_order_changed, has_number, of_account, of_others, without}, Tables.{AreListed, ListsOneMore, ListsTheSame, NumbersBelow, is_live_of, listed_of}}
 use Rattle.gx_orders.proofs.Kept.{IsBelow}
 
 -- ---- what is found
@@ -21,14 +21,6 @@ found_last p (x ∷ xs) y none is = by (p x) none (λ h. found_last p xs y h is)
     by : (b : Bool) → cond b (Some x) (find p xs) ≡ None → (find p xs ≡ None → find p (xs ++ y ∷ []) ≡ Some y) → cond b (Some x) (find p (xs ++ y ∷ [])) ≡ Some y
     by true h later = cc
     by false h later = later h
-
-pub found_passes : {X : Type 0} (p : X → Bool) (xs : List X) (y : X) → find p xs ≡ Some y → p y ≡ true
-found_passes p [] y found = cc
-found_passes p (x ∷ xs) y found = by (p x) refl found (λ h. found_passes p xs y h)
-  where
-    by : (b : Bool) → p x ≡ b → cond b (Some x) (find p xs) ≡ Some y → (find p xs ≡ Some y → p y ≡ true) → p y ≡ true
-    by true e is later = ap p (sym (some_same is)) ∙ e
-    by false e is later = later is
 
 -- among those that q leaves, where all that pass p are alike to q
 pub found_left : {X : Type 0} (p q : X → Bool) (r : Bool) → ((x : X) → p x ≡ true → q x ≡ r) → (xs : List X) → find p (filter (λ (x : X). not (q x)) xs) ≡ cond r None (find p xs)
@@ -80,20 +72,6 @@ passed_changed {X} p g keeps (x ∷ xs) = ap (λ (b : Bool). cond b (g x ∷ fil
     by : (b : Bool) → filter p (map g xs) ≡ map g (filter p xs) → cond b (g x ∷ filter p (map g xs)) (filter p (map g xs)) ≡ map g (cond b (x ∷ filter p xs) (filter p xs))
     by true later = ap (λ (rest : List X). g x ∷ rest) later
     by false later = later
-
--- two tests in either order
-pub swapped : {X : Type 0} (p q : X → Bool) (xs : List X) → filter p (filter q xs) ≡ filter q (filter p xs)
-swapped p q [] = refl
-swapped {X} p q (x ∷ xs) = by (p x) (q x) refl refl (swapped p q xs)
-  where
-    by : (b c : Bool) → p x ≡ b → q x ≡ c → filter p (filter q xs) ≡ filter q (filter p xs) → filter p (cond c (x ∷ filter q xs) (filter q xs)) ≡ filter q (cond b (x ∷ filter p xs) (filter p xs))
-    by true true e f later =
-        ap (λ (b : Bool). cond b (x ∷ filter p (filter q xs)) (filter p (filter q xs))) e
-        ∙ ap (λ (rest : List X). x ∷ rest) later
-        ∙ sym (ap (λ (c : Bool). cond c (x ∷ filter q (filter p xs)) (filter q (filter p xs))) f)
-    by true false e f later = later ∙ sym (ap (λ (c : Bool). cond c (x ∷ filter q (filter p xs)) (filter q (filter p xs))) f)
-    by false true e f later = ap (λ (b : Bool). cond b (x ∷ filter p (filter q xs)) (filter p (filter q xs))) e ∙ later
-    by false false e f later = later
 
 -- ---- what each of some gives
 
@@ -150,10 +128,7 @@ abbrev pub is_its : AccountName → ℕ → LiveOrder → Bool
 is_its account n o = has_number n o && same_account account o.account
 
 pub its_number : (account : AccountName) (n : ℕ) (o : LiveOrder) → is_its account n o ≡ true → o.number ≡ n
-its_number account n o is = eqb-true o.number n (both (has_number n o) (same_account account o.account) is).0
-
-pub its_account : (account : AccountName) (n : ℕ) (o : LiveOrder) → is_its account n o ≡ true → account ≡ o.account
-its_account account n o is = account_is account o.account (both (has_number n o) (same_account account o.account) is).1
+its_number account n o is = eqb-true o.number n (and_parts (has_number n o) (same_account account o.account) is).0
 
 -- an order above all is not there yet
 none_yet : (account : AccountName) (n : ℕ) (live : List LiveOrder) → AllByRecursion (IsBelow n) live → order_of account live n ≡ None
@@ -191,14 +166,10 @@ still_given account o live numbers below =
     other : (n : ℕ) → n < o.number → is_its account n o ≡ false
     other n less = ap (λ (b : Bool). b && same_account account o.account) (ne_eqb o.number n (λ same. absurd (omega (arith, less))))
 
-not_both : (a b : Bool) → b ≡ false → (a && b) ≡ false
-not_both true b h = h
-not_both false b h = refl
-
 others_given : (account : AccountName) (o : LiveOrder) (live : List LiveOrder) (numbers : List ℕ) → same_account account o.account ≡ false
     → numbered_of account (live ++ o ∷ []) numbers ≡ numbered_of account live numbers
 others_given account o live numbers apart =
-    given_always (order_of account (live ++ o ∷ [])) (order_of account live) (λ n. found_before (is_its account n) live o (not_both (has_number n o) (same_account account o.account) apart)) numbers
+    given_always (order_of account (live ++ o ∷ [])) (order_of account live) (λ n. found_before (is_its account n) live o (and_right (has_number n o) (same_account account o.account) apart)) numbers
 
 -- its number put last
 pub put_last : (o : LiveOrder) (live : List LiveOrder) (numbers : List ℕ) → AllByRecursion (IsBelow o.number) live → NumbersBelow o.number numbers
@@ -265,14 +236,11 @@ listed_entered o live now before after listed is more account =
     ∙ sym (filter-append (λ (p : LiveOrder). same_account account p.account) live (o ∷ []))
     ∙ ap (of_account account) (sym is)
 
-pub listed_same : (live : List LiveOrder) (before after : List (AccountName × List ℕ)) → AreListed before live → ListsTheSame live before after → AreListed after live
-listed_same live before after listed same account = same account ∙ listed account
-
 pub listed_changed : (change : LiveOrder → LiveOrder) (n : ℕ) → ((o : LiveOrder) → (change o).number ≡ o.number) → ((o : LiveOrder) → (change o).account ≡ o.account)
-    → (live now : List LiveOrder) (lists : List (AccountName × List ℕ)) → AreListed lists live → now ≡ changed change n live → AreListed lists now
+    → (live now : List LiveOrder) (lists : List (AccountName × List ℕ)) → AreListed lists live → now ≡ with_order_changed change n live → AreListed lists now
 listed_changed change n keeps_number keeps_account live now lists listed is account =
     ap (λ (os : List LiveOrder). numbered_of account os numbers) is
-    ∙ given_always (order_of account (changed change n live)) (λ (k : ℕ). option_map g (order_of account live k)) (λ k. found_changed (is_its account k) g (λ o. its_kept k o (has_number n o)) live) numbers
+    ∙ given_always (order_of account (with_order_changed change n live)) (λ (k : ℕ). option_map g (order_of account live k)) (λ k. found_changed (is_its account k) g (λ o. its_kept k o (has_number n o)) live) numbers
     ∙ given_changed (order_of account live) g numbers
     ∙ ap (map g) (listed account)
     ∙ sym (passed_changed (λ (o : LiveOrder). same_account account o.account) g (λ o. account_kept o (has_number n o)) live)
@@ -299,9 +267,9 @@ listed_without n live now lists listed is account =
     ∙ given_always (order_of account (without n live)) (λ (k : ℕ). cond (k == n) None (order_of account live k))
     (λ k. found_left (is_its account k) (has_number n) (k == n) (λ o h. ap (λ (m : ℕ). m == n) (its_number account k o h)) live) numbers
     ∙ given_left (order_of account live) (has_number n) (λ (k : ℕ). k == n)
-    (λ k o h. ap (λ (m : ℕ). m == n) (its_number account k o (found_passes (is_its account k) live o h))) numbers
+    (λ k o h. ap (λ (m : ℕ). m == n) (its_number account k o (first_such (is_its account k) live o h).3)) numbers
     ∙ ap (without n) (listed account)
-    ∙ swapped (λ (o : LiveOrder). not (has_number n o)) (λ (o : LiveOrder). same_account account o.account) live
+    ∙ filter_swap (λ (o : LiveOrder). not (has_number n o)) (λ (o : LiveOrder). same_account account o.account) live
     ∙ ap (of_account account) (sym is)
   where
     numbers : List ℕ
@@ -323,7 +291,7 @@ listed_of_others killed live now before after listed is gone account =
     by true e = sym (passed_left (λ (o : LiveOrder). same_account account o.account) (λ (o : LiveOrder). same_account killed o.account) true (alike true e) live)
     by false e =
         given_always (order_of account (of_others killed live)) (order_of account live)
-        (λ k. found_left (is_its account k) (λ (o : LiveOrder). same_account killed o.account) false (λ o h. alike false e o (both (has_number k o) (same_account account o.account) h).1) live)
+        (λ k. found_left (is_its account k) (λ (o : LiveOrder). same_account killed o.account) false (λ o h. alike false e o (and_parts (has_number k o) (same_account account o.account) h).1) live)
         (listed_of before account)
         ∙ listed account
         ∙ sym (passed_left (λ (o : LiveOrder). same_account account o.account) (λ (o : LiveOrder). same_account killed o.account) false (alike false e) live)

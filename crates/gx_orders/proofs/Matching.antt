@@ -1,18 +1,18 @@
 -- What the record of a matching step does to the orders that are kept.
-use Rattle.std.proofs.{Common.{◌≡◌, ℕ, ◌+◌, ◌-◌, ◌<◌, ◌≤◌, Bool, true, false, not, cond, List, [], ◌∷◌, map, refl, ◌∙◌, sym, ap, subst, arith, if◌then◌else◌, min}, Math.Nat.{min-le_left, min-le_right}, lemmas.Bool.{le-ltb, ltb-false, eqb-true, eq-eqb, ne_eqb, lt-ltb}}
+use Rattle.std.proofs.{Common.{◌≡◌, ℕ, ◌+◌, ◌-◌, ◌<◌, ◌≤◌, Bool, true, false, not, cond, List, [], ◌∷◌, map, refl, ◌∙◌, sym, ap, subst, arith, if◌then◌else◌, min}, Math.Nat.{min-le_left, min-le_right}, lemmas.Bool.{le-ltb, ltb-false, eqb-true, eq-eqb, ne_eqb, lt-ltb, both_ways}}
 use Rattle.std.specs.{Prelude.{Option, Some, ◌||◌, ◌==◌, is_some, IfSome}, List.AllByRecursion}
 use Rattle.gx_history.specs.{declared.{live_order.LiveOrder.LiveOrder, «record».{Fill.Fill, RecordData.RecordData}}, Verdicts.IsLegal, Book.is_buy, LiveOrders.shares_open, MayMove.MayFill, Live.live, World.world}
 use Rattle.gx_policy.specs.declared.policy.PolicyData.{PolicyData}
 use Rattle.gx_laws.proofs.{Order.some_same, Ends.live_have_open, NewOrders.found_is, Resting.{does_not_rest, first_lives}, Known.{RestsThere, all_resting}, Orderly.legal_is_orderly}
-use Rattle.gx_orders.specs.{LiveOrders.{HasOpen, filled, filled_at, has_number, is_open, open_ones, live_numbered, IsOpen}, Laws.CanFill}
+use Rattle.gx_orders.specs.{LiveOrders.{HasOpen, with_done, filled_at, has_number, is_open, open_ones, live_numbered, IsOpen}, Laws.CanFill}
 
 -- a fill
 
 abbrev both_sides : Fill → LiveOrder → LiveOrder
-both_sides f o = if o.number == f.taker || o.number == f.maker then filled f.shares o else o
+both_sides f o = if o.number == f.taker || o.number == f.maker then with_done f.shares o else o
 
 -- what is not open is not open with more executed
-shut_more : (o : LiveOrder) (n : ℕ) → is_open o ≡ false → is_open (filled n o) ≡ false
+shut_more : (o : LiveOrder) (n : ℕ) → is_open o ≡ false → is_open (with_done n o) ≡ false
 shut_more o n h = let gone : o.total ≤ o.done = ltb-false o.done o.total h in le-ltb (o.done + n) o.total (omega arith)
 
 -- one side after the other
@@ -21,7 +21,7 @@ in_turn f differ [] = refl
 in_turn f differ (o ∷ os) = at (o.number == f.taker) (o.number == f.maker) refl refl (in_turn f differ os)
   where
     g : LiveOrder → LiveOrder
-    g x = filled f.shares x
+    g x = with_done f.shares x
 
     inner : List LiveOrder
     inner = filled_at f.taker f.shares os
@@ -54,12 +54,6 @@ in_turn f differ (o ∷ os) = at (o.number == f.taker) (o.number == f.maker) ref
     at false true e k later = still (g o) (is_open o) (is_open (g o)) (shut_more o f.shares) later ∙ sym (kept_on o (is_open o) true k)
     at false false e k later = still o (is_open o) (is_open o) (λ h. h) later ∙ sym (kept_on o (is_open o) false k)
 
-clash : {b : Bool} → b ≡ true → b ≡ false → ⊥
-clash h k = cc
-
-pub differ : (m n : ℕ) → (m == n) ≡ false → m ≡ n → ⊥
-differ m n h e = clash (eq-eqb m n e) h
-
 -- an open order is found under its number once another has changed
 found_beside : (n m shares : ℕ) (live : List LiveOrder) (o : LiveOrder) → (m == n) ≡ false → is_open o ≡ true → live_numbered live n ≡ Some o → live_numbered (filled_at m shares live) n ≡ Some o
 found_beside n m shares [] o other opens found = cc
@@ -73,14 +67,14 @@ found_beside n m shares (p ∷ ps) o other opens found = at (p.number == n) (p.n
     passed x false e = refl
 
     at : (this that : Bool) → has_number n p ≡ this → has_number m p ≡ that → cond this (Some p) (live_numbered ps n) ≡ Some o → (live_numbered ps n ≡ Some o → live_numbered rest n ≡ Some o)
-        → live_numbered (cond (is_open (if that then filled shares p else p)) ((if that then filled shares p else p) ∷ rest) rest) n ≡ Some o
-    at true true e k is later = absurd (clash (eq-eqb m n (sym (eqb-true p.number m k) ∙ eqb-true p.number n e)) other)
+        → live_numbered (cond (is_open (if that then with_done shares p else p)) ((if that then with_done shares p else p) ∷ rest) rest) n ≡ Some o
+    at true true e k is later = absurd (both_ways _ other (eq-eqb m n (sym (eqb-true p.number m k) ∙ eqb-true p.number n e)))
     at true false e k is later =
         let it : p ≡ o = some_same is in
         ap (λ (b : Bool). live_numbered (cond b (p ∷ rest) rest) n) (ap is_open it ∙ opens)
         ∙ ap (λ (b : Bool). cond b (Some p) (live_numbered rest n)) e
         ∙ is
-    at false true e k is later = passed (filled shares p) (is_open (filled shares p)) e ∙ later is
+    at false true e k is later = passed (with_done shares p) (is_open (with_done shares p)) e ∙ later is
     at false false e k is later = passed p (is_open p) e ∙ later is
 
 room_of : (shares total done : ℕ) → shares ≤ total - done → done < total → done + shares ≤ total

@@ -2,9 +2,9 @@
 use Rattle.std.proofs.Common.{◌≡◌, ◌+◌, Bool, true, false, cond, List, [], ◌∷◌, ◌++◌, map, length, refl, ◌∙◌, sym, ap, subst, if◌then◌else◌}
 use Rattle.std.specs.{Prelude.{Option, Some, None, option_map, drop}, List.{find, AllByRecursion}}
 use Rattle.gx_units.specs.declared.names.Token.{Token}
-use Rattle.gx_history.specs.{declared.{facts.{Facts.Facts, RuleFigures.RuleFigures}, «record».{Asked.Asked, RecordData.RecordData, Request.Request, Step.Step, Verdict.Verdict}}, Orders.is_token_used, Requests.new_token, Rules.{Rule, BuiltIn, OfFile, applies, first_forbidding, forbids, name_of, written_order}, Verdicts.{facts_now, moment_of, next, rules_now, verdict, verdict_by}}
+use Rattle.gx_history.specs.{declared.{facts.{Facts.Facts, RuleFigures.RuleFigures}, «record».{Asked.Asked, RecordData.RecordData, Request.Request, Step.Step, Verdict.Verdict}}, Orders.is_token_used, Requests.new_token, Rules.{Rule, BuiltIn, OfFile, applies, first_forbidding, forbids, name_of, written_order}, Verdicts.{facts_now, moment_of, next, rules_now, verdict}}
 use Rattle.gx_policy.specs.{declared.{policy.{FileRule.FileRule, PolicyData.PolicyData}, rule_name.RuleName.{RuleName, TheVariants.{L1, L2, L3, G1, G2, G3, I1}}}, RuleNames.{is_answered_rule, rules_before, rules_behind}}
-use Rattle.gx_laws.proofs.{Granting.{left_by_request, verdict_left}, Order.some_same, Moving.token_fact}
+use Rattle.gx_laws.proofs.{Granting.{left_by_request, verdict_left, found_that}, Order.some_same, Moving.token_fact}
 use Rattle.gx_orders.specs.{LiveOrders.is_used, InForce.orders_in_force, Changes.denied_token}
 use Rattle.gx_orders.proofs.Keeping.{used_is}
 
@@ -15,10 +15,6 @@ left_now policy history a =
 
 pub is_left : (policy : PolicyData) (history : List RecordData) (a : Asked) → next policy history (Step.Asked a) ≡ Some (left_now policy history a)
 is_left policy history a = left_by_request policy history a
-
-found_that : (found : Option RuleName) (name : RuleName) → verdict_by found ≡ Verdict.Denied name → found ≡ Some name
-found_that None name h = cc
-found_that (Some rule) name h = cc
 
 -- the first that passes is among the first ones, where one of them passes
 found_early : {X : Type 0} (Q : X → Type 0) (p : X → Bool) (early : List X) (x : X) (rest : List X) (y : X) → AllByRecursion Q early → Q x → p x ≡ true → find p (early ++ x ∷ rest) ≡ Some y → Q y

@@ -1,13 +1,13 @@
 -- What each record makes of the orders that are kept, from the one law of the live orders.
-use Rattle.std.proofs.{Common.{◌≡◌, ℕ, Bool, true, false, not, List, [], ◌∷◌, ◌++◌, refl, ◌∙◌, ap, sym, cond, map, arith, if◌then◌else◌}, lemmas.{Bool.{ne_eqb, lt-ltb}, List.{append-nil, Elements.filter-append}}}
+use Rattle.std.proofs.{Common.{◌≡◌, ℕ, Bool, true, false, not, List, [], ◌∷◌, ◌++◌, refl, ◌∙◌, ap, sym, cond, map, arith, if◌then◌else◌}, lemmas.{Bool.{ne_eqb, lt-ltb, eqb-false}, List.{Elements.filter-append, append-nil}}}
 use Rattle.std.specs.{Prelude.{Option, Some, None, ◌||◌, ◌==◌, option_map, option_to_list}, Option.option_map_or, List.{AllByRecursion, cons_option, filter, filter_map}, Cmp.nat_eq_equiv}
 use Rattle.gx_units.specs.declared.names.{AccountName.AccountName, Token.Token, UserName.UserName}
 use Rattle.gx_desk.specs.declared.Action.{Action}
 use Rattle.gx_policy.specs.{People.account_of, RuleNames.is_answered_rule, declared.policy.PolicyData.PolicyData}
-use Rattle.gx_history.specs.{declared.{live_order.{LiveOrder.LiveOrder, UserToken.UserToken}, moves.Move.Move, «record».{Asked.Asked, RecordData.RecordData, Request.Request, Step.Step, Verdict.Verdict}}, Live.{live, live_under}, LiveOrders.{key, replacement_order, token_of}, MayMove.MayMove, Orders.{ends_account, uses_token}, Requests.{asked, new_token}, Turns.{new_order, turned, while_open}, World.{Does, World, move_asked, move_by, turn_in, world}}
-use Rattle.gx_laws.proofs.{Ends.live_have_open, Doing.live_does, Moving.{his_own, may_move}, World.{all_stay, those_go}}
-use Rattle.gx_orders.specs.{Changes.{denied_token, is_lasting, live_left, orders_moved}, InForce.{orders_in_force, token_asked, token_used_by}, Laws.{FindsOrders, OrdersGoOn}, LiveOrders.{at_rest, filled, has_number, is_open, open_ones, sized, without, IsOpen, OrdersData}}
-use Rattle.gx_orders.proofs.{Finding.finds_orders, Matching.{differ, in_turn}, Staying.{data_is, used_then}}
+use Rattle.gx_history.specs.{declared.{live_order.{LiveOrder.LiveOrder, UserToken.UserToken}, moves.Move.Move, «record».{Asked.Asked, RecordData.RecordData, Request.Request, Step.Step, Verdict.Verdict}}, Live.{live, live_under}, LiveOrders.{key, replacement_order, token_of}, MayMove.MayMove, Orders.{ends_account, uses_token}, Requests.{asked_of, new_token}, Turns.{new_order, live_after, while_open}, World.{Does, World, move_asked, move_by, turn_in, world}}
+use Rattle.gx_laws.proofs.{Ends.live_have_open, Doing.live_does, Moving.{his_own, may_move}, World.{all_stay, those_go, stay}}
+use Rattle.gx_orders.specs.{Changes.{denied_token, is_lasting, live_left, orders_moved}, InForce.{orders_in_force, token_asked, token_used_by}, Laws.{FindsOrders, OrdersGoOn}, LiveOrders.{at_rest, with_done, has_number, is_open, open_ones, with_total, without, IsOpen, OrdersData}}
+use Rattle.gx_orders.proofs.{Finding.finds_orders, Matching.in_turn, Staying.{data_is, used_then}}
 
 -- one lemma a word: what becomes of each, as a list
 those_change : (changes : LiveOrder → Bool) (change : LiveOrder → LiveOrder) (os : List LiveOrder) → AllByRecursion IsOpen os
@@ -68,23 +68,20 @@ left_are (Action.Unrestrict rule stock) live = all_left (Action.Unrestrict rule 
 left_are (Action.Grant reader account) live = all_left (Action.Grant reader account) refl live
 left_are (Action.Revoke reader account) live = all_left (Action.Revoke reader account) refl live
 
-stays : (os : List LiveOrder) → filter_map (λ (o : LiveOrder). Some o) os ++ [] ≡ os
-stays os = append-nil _ ∙ all_stay os
-
-live_moved : (m : Move) (d : OrdersData) → AllByRecursion IsOpen d.live → FindsOrders m d → turned (turn_in m) d.live ≡ (orders_moved m d).live
-live_moved Move.Nothing d opens finds = stays d.live
-live_moved (Move.Denies a rule) d opens finds = stays d.live
-live_moved (Move.PutsOn user line) d opens finds = stays d.live
+live_moved : (m : Move) (d : OrdersData) → AllByRecursion IsOpen d.live → FindsOrders m d → live_after (turn_in m) d.live ≡ (orders_moved m d).live
+live_moved Move.Nothing d opens finds = stay d.live
+live_moved (Move.Denies a rule) d opens finds = stay d.live
+live_moved (Move.PutsOn user line) d opens finds = stay d.live
 live_moved (Move.Adds new) d opens finds = ap (λ (os : List LiveOrder). os ++ new ∷ []) (all_stay d.live)
-live_moved (Move.Sizes cut size) d opens finds = append-nil _ ∙ those_change (has_number cut.number) (sized size) d.live opens
+live_moved (Move.Sizes cut size) d opens finds = append-nil _ ∙ those_change (has_number cut.number) (with_total size) d.live opens
 live_moved (Move.Replaces old new) d opens finds =
     ap (λ (os : List LiveOrder). os ++ new ∷ []) (those_go (has_number old.number) d.live)
     ∙ entered_first old.number d.live new (ne_eqb new.number old.number (λ same. absurd (omega (arith, same, finds.is_older))))
 live_moved (Move.Commands officer c) d opens finds = append-nil _ ∙ those_go (λ (o : LiveOrder). ends_account o.account c.action) d.live ∙ left_are c.action d.live
 live_moved (Move.Fills f) d opens finds =
     append-nil _
-    ∙ those_change (λ (o : LiveOrder). o.number == f.taker || o.number == f.maker) (filled f.shares) d.live opens
-    ∙ in_turn f (differ f.taker f.maker finds.sides_differ) d.live
+    ∙ those_change (λ (o : LiveOrder). o.number == f.taker || o.number == f.maker) (with_done f.shares) d.live opens
+    ∙ in_turn f (eqb-false f.taker f.maker finds.sides_differ) d.live
 live_moved (Move.Rests number) d opens finds =
     append-nil _
     ∙ (λ i. filter_map (λ (o : LiveOrder). Some (cond (nat_eq_equiv.symm number o.number i) (at_rest o) o)) d.live)
@@ -147,7 +144,7 @@ denied_uses true user found = refl
 denied_uses false user found = refl
 
 by_verdict : (policy : PolicyData) (w : World) (r : RecordData) (v : Verdict) (s : Step) → MayMove policy w r (move_by policy w r v s)
-    → (if uses_token v then token_asked (asked s) else None) ≡ token_in (move_by policy w r v s)
+    → (if uses_token v then token_asked (asked_of s) else None) ≡ token_in (move_by policy w r v s)
 by_verdict policy w r Verdict.Granted (Step.Asked a) may = by_request policy w r a a.request may
 by_verdict policy w r Verdict.Granted (Step.Matching handed) never = absurd never
 by_verdict policy w r (Verdict.Denied rule) (Step.Asked a) may = denied_uses (is_answered_rule rule) a.user (new_token a.request)

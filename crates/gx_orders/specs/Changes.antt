@@ -4,19 +4,19 @@ use Rattle.gx_units.specs.declared.names.{Token.Token, UserName.UserName}
 use Rattle.gx_desk.specs.declared.Action.{Action}
 use Rattle.gx_history.specs.{declared.{moves.Move.{Move, TheVariants.{Denies, Adds, Sizes, Replaces, Commands, Fills, Rests, Expires}}, «record».{Asked.Asked, Request.Request}, live_order.{LiveOrder.LiveOrder, UserToken.UserToken}}, Requests.new_token, LiveOrders.{key, token_of}}
 use Rattle.gx_policy.specs.{declared.rule_name.RuleName.RuleName, RuleNames.is_answered_rule}
-use Rattle.gx_orders.specs.LiveOrders.{OrdersData, at_rest, changed, cut_at, filled_at, is_used, of_others, without}
+use Rattle.gx_orders.specs.LiveOrders.{OrdersData, at_rest, with_order_changed, cut_at, filled_at, is_used, of_others, without}
 
 -- the orders with another list of live ones
 abbrev pub with_live : List LiveOrder → OrdersData → OrdersData
 with_live live d = record { live = live; used = d.used }
 
 -- the orders with one more live one, and its token used
-abbrev pub entering : LiveOrder → OrdersData → OrdersData
-entering o d = record { live = d.live ++ o ∷ []; used = d.used ++ token_of o ∷ [] }
+abbrev pub with_order_entered : LiveOrder → OrdersData → OrdersData
+with_order_entered o d = record { live = d.live ++ o ∷ []; used = d.used ++ token_of o ∷ [] }
 
 -- the orders with one more token of the user used, if there is one
-abbrev pub marking : UserName → Option Token → OrdersData → OrdersData
-marking user found d = record { live = d.live; used = d.used ++ option_to_list (option_map (key user) found) }
+abbrev pub with_token_used : UserName → Option Token → OrdersData → OrdersData
+with_token_used user found d = record { live = d.live; used = d.used ++ option_to_list (option_map (key user) found) }
 
 -- the token that a denial by this rule uses
 abbrev pub denied_token : RuleName → Request → Option Token
@@ -28,7 +28,7 @@ IsUnused used a rule = IfSome (denied_token rule a.request) (λ token. IsFalse (
 
 -- the token that the denial uses, if it uses one, is used
 abbrev pub marked_by : Asked → RuleName → OrdersData → OrdersData
-marked_by a rule orders = marking a.user (denied_token rule a.request) orders
+marked_by a rule orders = with_token_used a.user (denied_token rule a.request) orders
 
 -- a command that ends no order
 abbrev pub is_lasting : Action → Bool
@@ -45,11 +45,11 @@ live_left other live = live
 -- the orders that are kept, once a record has done this
 abbrev pub orders_moved : Move → OrdersData → OrdersData
 orders_moved (Denies a rule) d = marked_by a rule d
-orders_moved (Adds new) d = entering new d
+orders_moved (Adds new) d = with_order_entered new d
 orders_moved (Sizes cut size) d = with_live (cut_at cut.number size d.live) d
-orders_moved (Replaces old new) d = with_live (without old.number (d.live ++ new ∷ [])) (entering new d)
+orders_moved (Replaces old new) d = with_live (without old.number (d.live ++ new ∷ [])) (with_order_entered new d)
 orders_moved (Commands officer c) d = with_live (live_left c.action d.live) d
 orders_moved (Fills f) d = with_live (filled_at f.maker f.shares (filled_at f.taker f.shares d.live)) d
-orders_moved (Rests number) d = with_live (changed at_rest number d.live) d
+orders_moved (Rests number) d = with_live (with_order_changed at_rest number d.live) d
 orders_moved (Expires number) d = with_live (without number d.live) d
 orders_moved other d = d

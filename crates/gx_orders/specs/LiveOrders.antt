@@ -10,10 +10,6 @@ pub record OrdersData : Type 0 where
   pub live : List LiveOrder
   pub used : List UserToken
 
--- an order of the user
-abbrev pub is_of_user : UserName → LiveOrder → Bool
-is_of_user user o = same_user o.user user
-
 -- the same user, and the same token
 abbrev pub same_user_token : UserToken → UserToken → Bool
 same_user_token a b = same_user a.user b.user && same_token a.token b.token
@@ -23,40 +19,40 @@ abbrev pub is_used : List UserToken → UserName → Token → Bool
 is_used used user token = list_any (same_user_token (key user token)) used
 
 -- the order of this number changed, and all others as they were, each in its place
-abbrev pub changed : (LiveOrder → LiveOrder) → ℕ → List LiveOrder → List LiveOrder
-changed change number live = map (λ (o : LiveOrder). if has_number number o then change o else o) live
+abbrev pub with_order_changed : (LiveOrder → LiveOrder) → ℕ → List LiveOrder → List LiveOrder
+with_order_changed change number live = map (λ (o : LiveOrder). if has_number number o then change o else o) live
 
 -- all but the order of this number, in their places
 abbrev pub without : ℕ → List LiveOrder → List LiveOrder
 without number live = filter (λ (o : LiveOrder). not (has_number number o)) live
 
 -- the order with more shares executed
-abbrev pub filled : ℕ → LiveOrder → LiveOrder
-filled shares o = record o { done = o.done + shares }
+abbrev pub with_done : ℕ → LiveOrder → LiveOrder
+with_done shares o = record o { done = o.done + shares }
 
 -- the order with another size
-abbrev pub sized : ℕ → LiveOrder → LiveOrder
-sized total o = record o { total = total }
+abbrev pub with_total : ℕ → LiveOrder → LiveOrder
+with_total total o = record o { total = total }
 
 -- so many shares more of the order of this number executed; it is gone where none is open then
 abbrev pub filled_at : (number shares : ℕ) → List LiveOrder → List LiveOrder
-filled_at number shares live = open_ones (changed (filled shares) number live)
+filled_at number shares live = open_ones (with_order_changed (with_done shares) number live)
 
 -- another size of the order of this number; it is gone where none is open then
 abbrev pub cut_at : (number total : ℕ) → List LiveOrder → List LiveOrder
-cut_at number total live = open_ones (changed (sized total) number live)
+cut_at number total live = open_ones (with_order_changed (with_total total) number live)
 
 -- so many more shares of the order may be executed
 abbrev pub HasOpen : ℕ → LiveOrder → Type 0
 HasOpen shares o = o.done + shares ≤ o.total
 
 -- the order with another size, and other shares executed
-abbrev pub resized : (total done : ℕ) → LiveOrder → LiveOrder
-resized total done o = record o { total = total; done = done }
+abbrev pub with_total_and_done : (total done : ℕ) → LiveOrder → LiveOrder
+with_total_and_done total done o = record o { total = total; done = done }
 
 -- another size of the order of this number, and other shares executed; it is gone where none is open then
 abbrev pub resized_at : (number total done : ℕ) → List LiveOrder → List LiveOrder
-resized_at number total done live = open_ones (changed (resized total done) number live)
+resized_at number total done live = open_ones (with_order_changed (with_total_and_done total done) number live)
 
 -- the numbers of the orders are below this one
 abbrev pub AreBelow : ℕ → List LiveOrder → Type 0

@@ -3,8 +3,8 @@ use Rattle.std.specs.{Prelude.{ℕ, ◌+◌, ◌-◌, ◌*◌, ◌/◌, ◌%◌,
 use Rattle.gx_orders.specs.declared.seed.Seed.{Seed}
 
 -- the two halves of the product, joined
-abbrev pub folded : ℕ → ℕ → ℕ
-folded a b = bit_xor (bit_and (a * b) (2 ^ 64 - 1)) (a * b / 2 ^ 64)
+abbrev pub folded_halves : ℕ → ℕ → ℕ
+folded_halves a b = bit_xor (bit_and (a * b) (2 ^ 64 - 1)) (a * b / 2 ^ 64)
 
 -- the eight bytes from this place on
 abbrev pub word_at : List ℕ → ℕ → ℕ
@@ -36,4 +36,4 @@ last_word bs = if nat_lt (length bs) 8 then 0 else word_at bs (length bs - 8)
 
 -- the state behind the bytes of a field
 unfoldable pub hashed : Seed → List ℕ → Seed
-hashed seed bs = record { state = folded (bit_xor (first_word bs) seed.state) (bit_xor (last_word bs) seed.factor); factor = seed.factor }
+hashed seed bs = record { state = folded_halves (bit_xor (first_word bs) seed.state) (bit_xor (last_word bs) seed.factor); factor = seed.factor }

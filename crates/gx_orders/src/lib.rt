@@ -5,6 +5,8 @@ mod counts;
 mod ending;
 pub mod laws;
 mod numbers;
-pub mod orders;
+mod orders;
 pub mod request_tokens;
 pub mod seed;
+
+pub use orders::Orders;

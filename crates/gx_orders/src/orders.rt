@@ -1,8 +1,8 @@
 //! The live orders, and the tokens that are used.
 
 ghost use Rattle.std.specs.{Prelude.{◌≡◌, ◌<◌, length, [], ◌∷◌, ◌++◌, Some, OnOk, OnErr, IfOk, IfSome, IsTrue, IsFalse}, List.filter};
-ghost use Rattle.gx_history.specs.{LiveOrders.{key, token_of}, Live.live_under};
-ghost use Rattle.gx_orders.specs.{Changes.{IsUnused, marked_by}, LiveOrders.{AreBelow, AreSound, HasOpen, at_rest, changed, cut_at, filled_at, first_waiting, is_of_user, is_used, of_account, of_others, live_numbered, resized_at, without}};
+ghost use Rattle.gx_history.specs.{LiveOrders.{key, token_of, is_of_user}, Live.live_under};
+ghost use Rattle.gx_orders.specs.{Changes.{IsUnused, marked_by}, LiveOrders.{AreBelow, AreSound, HasOpen, at_rest, with_order_changed, cut_at, filled_at, first_waiting, is_used, of_account, of_others, live_numbered, resized_at, without}};
 
 use crate::counts::{count_in, count_one_less, count_one_more, no_counts};
 use crate::ending::end_each;
@@ -38,11 +38,11 @@ pub struct Orders {
 
 impl Model for Orders {
     ghost use Rattle.gx_orders.specs.LiveOrders.{OrdersData};
-    ghost use Rattle.gx_orders.specs.Tables.{AreHeld, shown};
+    ghost use Rattle.gx_orders.specs.Tables.{AreHeld, orders_shown};
 
     ghost Value = { OrdersData };
 
-    ghost view = { λ o. shown o.table o.tokens.entries };
+    ghost view = { λ o. orders_shown o.table o.tokens.entries };
 
     ghost invariant = { λ o. AreHeld o.table o.tokens.entries o.counts.entries o.lists.entries };
 }
@@ -186,7 +186,7 @@ impl Orders {
 
     /// The order of this number has come to rest: it waits no more. Nothing changes where none has the number.
     pub fn rest(&mut self, number: u64)
-        ensures live { self.new.live ≡ changed at_rest number self.old.live }
+        ensures live { self.new.live ≡ with_order_changed at_rest number self.old.live }
         ensures used { self.new.used ≡ self.old.used }
     {
         self.table.rest(number);
@@ -270,5 +270,5 @@ impl Orders {
     }
 
     /// Lets it go. Its drop is proved here once, and not in each crate that owns one.
-    pub fn let_go(self) {}
+    pub fn release(self) {}
 }

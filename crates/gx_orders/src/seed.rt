@@ -1,7 +1,7 @@
 //! What the used tokens are hashed by.
 
 ghost use Rattle.std.specs.Prelude.{◌≡◌, ◌+◌, ◌≤◌, length};
-ghost use Rattle.gx_orders.specs.Seeds.{few_bytes, folded, first_word, half_at, last_word, short_word, word_at};
+ghost use Rattle.gx_orders.specs.Seeds.{few_bytes, folded_halves, first_word, half_at, last_word, short_word, word_at};
 
 use gx_policy::Policy;
 use std::hash::{BuildHasher, DefaultHasher, Hasher};
@@ -45,7 +45,7 @@ impl BuildHasher for Seed {
 
 /// The two halves of the product, joined.
 fn folded(a: u64, b: u64) -> u64
-    ensures { result ≡ folded a b }
+    ensures { result ≡ folded_halves a b }
 {
     let product = u128::from(a) * u128::from(b);
     (product & 0xFFFF_FFFF_FFFF_FFFF) as u64 ^ (product >> 64) as u64

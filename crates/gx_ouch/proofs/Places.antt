@@ -1,5 +1,5 @@
 -- Fields that are written one behind the other stand at the places of a layout that has no gaps.
-use Rattle.std.proofs.{Common.{◌≡◌, ℕ, ◌+◌, Bool, true, ◌&&◌, ◌==◌, List, [], ◌∷◌, ◌++◌, length, take, map, slice_index, refl, sym, ap, subst, ◌∙◌, append_assoc, arith}, lemmas.{List.{take_at, drop_at, length-append, append-nil}, Bool.Decides.nat_tests}}
+use Rattle.std.proofs.{Common.{◌≡◌, ℕ, ◌+◌, true, ◌==◌, List, [], ◌∷◌, ◌++◌, length, take, map, slice_index, refl, sym, ap, subst, ◌∙◌, append_assoc, arith}, lemmas.{List.{take_at, drop_at, length-append, append-nil}, Bool.{Decides.nat_tests, and_from}}}
 use Rattle.std.specs.List.{concat}
 use Rattle.gx_ouch.specs.{declared.outbound.Outbound.Outbound, Writing.{outbound_layout, outbound_contents, outbound_bytes}, Layout.{Field, Layout, LiesIn, HasSizes, IsWithoutGaps, bytes_at, laid_out, with_fields, offsets_from, end_from}}
 
@@ -7,10 +7,10 @@ joined : (bytes : List ℕ) (contents : List (List ℕ)) → with_fields bytes c
 joined bytes [] = sym (append-nil bytes)
 joined bytes (c ∷ cs) = joined (bytes ++ c) cs ∙ append_assoc bytes c (concat cs)
 
-same_head : {A : Type 0} (x y : A) (xs ys : List A) → x ∷ xs ≡ y ∷ ys → x ≡ y
+pub same_head : {A : Type 0} (x y : A) (xs ys : List A) → x ∷ xs ≡ y ∷ ys → x ≡ y
 same_head x y xs ys e = cc
 
-same_tail : {A : Type 0} (x y : A) (xs ys : List A) → x ∷ xs ≡ y ∷ ys → xs ≡ ys
+pub same_tail : {A : Type 0} (x y : A) (xs ys : List A) → x ∷ xs ≡ y ∷ ys → xs ≡ ys
 same_tail x y xs ys e = cc
 
 same_cons : {A : Type 0} (x y : A) (xs ys : List A) → x ≡ y → xs ≡ ys → x ∷ xs ≡ y ∷ ys
@@ -18,9 +18,6 @@ same_cons x y xs ys p q = cc
 
 same_test : (n : ℕ) → (n == n) ≡ true
 same_test n = grind (arith, nat_tests)
-
-both : (a b : Bool) → a ≡ true → b ≡ true → (a && b) ≡ true
-both a b p q = rw (p, q) refl
 
 -- the field behind the bytes
 next : (f : Field) (bytes c rest : List ℕ) (n : ℕ) → length bytes ≡ n → f.offset ≡ n → length c ≡ f.size → bytes_at f (bytes ++ (c ++ rest)) ≡ c
@@ -52,7 +49,7 @@ pub lies : (layout : Layout) (contents : List (List ℕ)) → IsWithoutGaps layo
 lies layout contents gapless sizes =
     let kind = layout.kind ∷ [] in
     record {
-      is_of = both _ _
+      is_of = and_from _ _
           (ap (λ bytes. slice_index bytes 0 == layout.kind) (joined kind contents) ∙ same_test layout.kind)
           (ap (λ n. n == layout.size) (sized layout.fields contents kind 1 refl sizes ∙ gapless.size) ∙ same_test layout.size);
       fields = placed layout.fields contents kind 1 refl gapless.offsets sizes;

@@ -20,8 +20,8 @@ abbrev pub bytes_at : Field → List ℕ → List ℕ
 bytes_at place bytes = take place.size (drop place.offset bytes)
 
 -- the bytes at each field's place
-abbrev pub cut : Layout → List ℕ → List (List ℕ)
-cut layout bytes = map (λ place. bytes_at place bytes) layout.fields
+abbrev pub field_bytes : Layout → List ℕ → List (List ℕ)
+field_bytes layout bytes = map (λ place. bytes_at place bytes) layout.fields
 
 -- the bytes have the message's type and length
 abbrev pub is_of : Layout → List ℕ → Bool
@@ -57,4 +57,4 @@ HasSizes layout contents = map length contents ≡ map (λ place. place.size) la
 -- the bytes have the message's type and length, and at each field's place stand that field's bytes
 pub record LiesIn (layout : Layout) (contents : List (List ℕ)) (bytes : List ℕ) : Type 0 where
   pub is_of : IsTrue (is_of layout bytes)
-  pub fields : cut layout bytes ≡ contents
+  pub fields : field_bytes layout bytes ≡ contents

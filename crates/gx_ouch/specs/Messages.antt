@@ -82,8 +82,8 @@ order_fields =
     []
 
 -- Accepted, `A`
-abbrev pub accepted : Layout
-accepted = record {
+abbrev pub accepted_layout : Layout
+accepted_layout = record {
   kind = 65;
   size = 66;
   fields =
@@ -95,8 +95,8 @@ accepted = record {
 }
 
 -- Replaced, `U`
-abbrev pub replaced : Layout
-replaced = record {
+abbrev pub replaced_layout : Layout
+replaced_layout = record {
   kind = 85;
   size = 80;
   fields =
@@ -109,8 +109,8 @@ replaced = record {
 }
 
 -- Canceled, `C`
-abbrev pub canceled : Layout
-canceled = record {
+abbrev pub canceled_layout : Layout
+canceled_layout = record {
   kind = 67;
   size = 28;
   fields =
@@ -122,8 +122,8 @@ canceled = record {
 }
 
 -- Executed, `E`
-abbrev pub executed : Layout
-executed = record {
+abbrev pub executed_layout : Layout
+executed_layout = record {
   kind = 69;
   size = 40;
   fields =
@@ -137,8 +137,8 @@ executed = record {
 }
 
 -- Rejected, `J`
-abbrev pub rejected : Layout
-rejected = record {
+abbrev pub rejected_layout : Layout
+rejected_layout = record {
   kind = 74;
   size = 24;
   fields =

@@ -1,6 +1,6 @@
 -- The message that some bytes are. Numbers are unsigned, the highest byte first.
 use Rattle.std.specs.{Prelude.{ℕ, List, [], ◌∷◌, Option, Some, None, if◌then◌else◌}, Int.{w8, w32, from_be_bytes}}
-use Rattle.gx_ouch.specs.{declared.inbound.Inbound.Inbound, Layout.{cut, is_of}, Messages.{enter_order, replace_order, cancel_order}}
+use Rattle.gx_ouch.specs.{declared.inbound.Inbound.Inbound, Layout.{field_bytes, is_of}, Messages.{enter_order, replace_order, cancel_order}}
 
 -- a field of one byte
 abbrev pub byte : List ℕ → ℕ
@@ -54,7 +54,7 @@ cancel_of _ = None
 -- the message whose type and length are those of the bytes, with the fields that stand at its places
 unfoldable pub inbound_of : List ℕ → Option Inbound
 inbound_of bytes =
-    if is_of enter_order bytes then enter_of (cut enter_order bytes)
-    else (if is_of replace_order bytes then replace_of (cut replace_order bytes)
-    else (if is_of cancel_order bytes then cancel_of (cut cancel_order bytes)
+    if is_of enter_order bytes then enter_of (field_bytes enter_order bytes)
+    else (if is_of replace_order bytes then replace_of (field_bytes replace_order bytes)
+    else (if is_of cancel_order bytes then cancel_of (field_bytes cancel_order bytes)
     else None))

@@ -1,6 +1,6 @@
 -- The bytes of a message that is written. Numbers are unsigned, the highest byte first.
 use Rattle.std.specs.{Prelude.{ℕ, List, [], ◌∷◌, ◌++◌}, Int.{w32, w64, to_be_bytes}}
-use Rattle.gx_ouch.specs.{declared.outbound.{OrderTerms.OrderTerms, Outbound.Outbound}, Layout.{Layout, laid_out}, Letters.{event_letter, liquidity_letter, cancel_letter, reject_letter, order_state, weight_indicator}, Messages.{system_event, accepted, replaced, canceled, executed, rejected}}
+use Rattle.gx_ouch.specs.{declared.outbound.{OrderTerms.OrderTerms, Outbound.Outbound}, Layout.{Layout, laid_out}, Letters.{event_letter, liquidity_letter, cancel_letter, reject_letter, order_state, weight_indicator}, Messages.{system_event, accepted_layout, replaced_layout, canceled_layout, executed_layout, rejected_layout}}
 
 -- a field of one byte
 abbrev pub letter : ℕ → List ℕ
@@ -26,11 +26,11 @@ order_contents terms order_reference =
 
 abbrev pub outbound_layout : Outbound → Layout
 outbound_layout (Outbound.SystemEvent event) = system_event
-outbound_layout (Outbound.Accepted m) = accepted
-outbound_layout (Outbound.Replaced m) = replaced
-outbound_layout (Outbound.Canceled m) = canceled
-outbound_layout (Outbound.Executed m) = executed
-outbound_layout (Outbound.Rejected m) = rejected
+outbound_layout (Outbound.Accepted m) = accepted_layout
+outbound_layout (Outbound.Replaced m) = replaced_layout
+outbound_layout (Outbound.Canceled m) = canceled_layout
+outbound_layout (Outbound.Executed m) = executed_layout
+outbound_layout (Outbound.Rejected m) = rejected_layout
 
 -- the fields behind the timestamp
 abbrev pub contents_behind : Outbound → List (List ℕ)

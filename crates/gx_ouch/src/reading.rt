@@ -2,7 +2,7 @@
 
 ghost use Rattle.std.specs.{Prelude.{◌≡◌, length, Some}, Int.{w32, from_be_bytes}};
 ghost use Rattle.gx_ouch.specs.declared.inbound.Inbound.TheVariants as inbounds;
-ghost use Rattle.gx_ouch.specs.{Layout.cut, Messages.{enter_order, replace_order, cancel_order}, Reading.{inbound_of, enter_of, replace_of, cancel_of}};
+ghost use Rattle.gx_ouch.specs.{Layout.field_bytes, Messages.{enter_order, replace_order, cancel_order}, Reading.{inbound_of, enter_of, replace_of, cancel_of}};
 
 use crate::inbound::{CancelOrder, EnterOrder, Inbound, ReplaceOrder};
 use gx_units::{Firm, Symbol, Token};
@@ -25,7 +25,7 @@ impl Inbound {
 
 fn enter_order(bytes: &[u8]) -> EnterOrder
     requires { length bytes.now ≡ 49 }
-    ensures { enter_of (cut enter_order bytes.now) ≡ Some (inbounds.Enter result) }
+    ensures { enter_of (field_bytes enter_order bytes.now) ≡ Some (inbounds.Enter result) }
 {
     EnterOrder {
         token: Token {
@@ -52,7 +52,7 @@ fn enter_order(bytes: &[u8]) -> EnterOrder
 
 fn replace_order(bytes: &[u8]) -> ReplaceOrder
     requires { length bytes.now ≡ 47 }
-    ensures { replace_of (cut replace_order bytes.now) ≡ Some (inbounds.Replace result) }
+    ensures { replace_of (field_bytes replace_order bytes.now) ≡ Some (inbounds.Replace result) }
 {
     ReplaceOrder {
         existing_token: Token {
@@ -72,7 +72,7 @@ fn replace_order(bytes: &[u8]) -> ReplaceOrder
 
 fn cancel_order(bytes: &[u8]) -> CancelOrder
     requires { length bytes.now ≡ 19 }
-    ensures { cancel_of (cut cancel_order bytes.now) ≡ Some (inbounds.Cancel result) }
+    ensures { cancel_of (field_bytes cancel_order bytes.now) ≡ Some (inbounds.Cancel result) }
 {
     CancelOrder {
         token: Token {

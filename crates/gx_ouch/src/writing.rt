@@ -2,7 +2,7 @@
 
 ghost use Rattle.std.specs.Prelude.{◌≡◌, ◌+◌, ◌≤◌, length, take, drop, map};
 ghost use Rattle.gx_ouch.specs.declared.outbound.Outbound.TheVariants as outbounds;
-ghost use Rattle.gx_ouch.specs.{Layout.{HasSizes, LiesIn, with_fields}, Messages.{order_fields, accepted, replaced, canceled, executed, rejected}, Writing.{order_contents, contents_behind, outbound_contents, outbound_layout, outbound_bytes}};
+ghost use Rattle.gx_ouch.specs.{Layout.{HasSizes, LiesIn, with_fields}, Messages.{order_fields, accepted_layout, replaced_layout, canceled_layout, executed_layout, rejected_layout}, Writing.{order_contents, contents_behind, outbound_contents, outbound_layout, outbound_bytes}};
 
 use crate::draft::Draft;
 use crate::outbound::{
@@ -99,7 +99,8 @@ impl Accepted {
         requires { length draft.old ≡ 9 }
         ensures bytes { draft.new
             ≡ with_fields draft.old (contents_behind (outbounds.Accepted self.now)) }
-        ensures sizes { HasSizes accepted (outbound_contents 0 (outbounds.Accepted self.now)) }
+        ensures sizes { HasSizes accepted_layout
+            (outbound_contents 0 (outbounds.Accepted self.now)) }
         ensures len { length draft.new ≡ 66 }
     {
         draft.put(&self.token.bytes);
@@ -114,7 +115,8 @@ impl Replaced {
         requires { length draft.old ≡ 9 }
         ensures bytes { draft.new
             ≡ with_fields draft.old (contents_behind (outbounds.Replaced self.now)) }
-        ensures sizes { HasSizes replaced (outbound_contents 0 (outbounds.Replaced self.now)) }
+        ensures sizes { HasSizes replaced_layout
+            (outbound_contents 0 (outbounds.Replaced self.now)) }
         ensures len { length draft.new ≡ 80 }
     {
         draft.put(&self.token.bytes);
@@ -130,7 +132,8 @@ impl Canceled {
         requires { length draft.old ≡ 9 }
         ensures bytes { draft.new
             ≡ with_fields draft.old (contents_behind (outbounds.Canceled self.now)) }
-        ensures sizes { HasSizes canceled (outbound_contents 0 (outbounds.Canceled self.now)) }
+        ensures sizes { HasSizes canceled_layout
+            (outbound_contents 0 (outbounds.Canceled self.now)) }
         ensures len { length draft.new ≡ 28 }
     {
         draft.put(&self.token.bytes);
@@ -145,7 +148,8 @@ impl Executed {
         requires { length draft.old ≡ 9 }
         ensures bytes { draft.new
             ≡ with_fields draft.old (contents_behind (outbounds.Executed self.now)) }
-        ensures sizes { HasSizes executed (outbound_contents 0 (outbounds.Executed self.now)) }
+        ensures sizes { HasSizes executed_layout
+            (outbound_contents 0 (outbounds.Executed self.now)) }
         ensures len { length draft.new ≡ 40 }
     {
         draft.put(&self.token.bytes);
@@ -162,7 +166,8 @@ impl Rejected {
         requires { length draft.old ≡ 9 }
         ensures bytes { draft.new
             ≡ with_fields draft.old (contents_behind (outbounds.Rejected self.now)) }
-        ensures sizes { HasSizes rejected (outbound_contents 0 (outbounds.Rejected self.now)) }
+        ensures sizes { HasSizes rejected_layout
+            (outbound_contents 0 (outbounds.Rejected self.now)) }
         ensures len { length draft.new ≡ 24 }
     {
         draft.put(&self.token.bytes);

@@ -1,6 +1,6 @@
-pub mod Passing
-pub mod Keeping
-pub mod Counting
-pub mod Knowing
-pub mod Executing
-pub mod Granting
+pub mod Pass_next
+pub mod Accounts_next
+pub mod LiveOrders_call
+pub mod Owners_next
+pub mod Fills_call
+pub mod Commands_call

@@ -11,8 +11,8 @@ use Rattle.gx_overview.specs.{declared.{accounts.{AccountRow.AccountRow, KillSta
 abbrev pub capped_count : ℕ → ℕ
 capped_count n = min n (2 ^ 64 - 1)
 
-abbrev pub capped : ℕ → ℕ
-capped n = min n (2 ^ 128 - 1)
+abbrev pub capped_at_128_bits : ℕ → ℕ
+capped_at_128_bits n = min n (2 ^ 128 - 1)
 
 -- an order of the account, on this side
 abbrev pub is_of : AccountName → Bool → AccountName → OrderTerms → Bool
@@ -22,8 +22,8 @@ is_of account buys owner terms = same_account account owner && is_on buys terms.
 abbrev pub live_sums : List LiveOrder → AccountName → LiveSums
 live_sums orders account = record {
   orders = capped_count (length (filter (λ (o : LiveOrder). same_account account o.account) orders));
-  buys = capped (open_of_chosen orders (is_of account true));
-  sells = capped (open_of_chosen orders (is_of account false));
+  buys = capped_at_128_bits (open_of_chosen orders (is_of account true));
+  sells = capped_at_128_bits (open_of_chosen orders (is_of account false));
 }
 
 -- the last granted Kill of an account that is killed
@@ -55,8 +55,8 @@ no_orders = record { orders = 0; buys = 0; sells = 0 }
 abbrev pub with_order : LiveOrder → LiveSums → LiveSums
 with_order o sums = record {
   orders = capped_count (sums.orders + 1);
-  buys = if is_buy o.terms.side then capped (sums.buys + shares_open o) else sums.buys;
-  sells = if is_buy o.terms.side then sums.sells else capped (sums.sells + shares_open o);
+  buys = if is_buy o.terms.side then capped_at_128_bits (sums.buys + shares_open o) else sums.buys;
+  sells = if is_buy o.terms.side then sums.sells else capped_at_128_bits (sums.sells + shares_open o);
 }
 
 -- the sums of the account, none where nothing of it was counted

@@ -3,7 +3,7 @@ use Rattle.std.specs.{Prelude.{Bool, true, false, ◌&&◌, List, Option, Some, 
 use Rattle.gx_units.specs.Names.{same_account, same_rule, same_stock}
 use Rattle.gx_desk.specs.declared.Action.{Action}
 use Rattle.gx_policy.specs.Lists.{last_such}
-use Rattle.gx_history.specs.{declared.record.{Asked.Asked, RecordData.RecordData, VerdictKind.VerdictKind}, Requests.{action_of, granted, is_command}}
+use Rattle.gx_history.specs.{declared.record.{Asked.Asked, RecordData.RecordData, VerdictKind.VerdictKind}, Requests.{action_of, granted_of, is_command}}
 use Rattle.gx_overview.specs.declared.commands.{GrantedCommand.GrantedCommand, Subject.Subject}
 
 -- the command that the record shows, if this is what it grants
@@ -12,7 +12,7 @@ command_by r a = option_map {U = GrantedCommand} (λ (action : Action). record {
 
 -- the command that the record grants, if it grants one
 abbrev pub granted_command : RecordData → Option GrantedCommand
-granted_command r = option_and_then (command_by r) (granted r)
+granted_command r = option_and_then (command_by r) (granted_of r)
 
 -- a request was granted
 abbrev pub is_grant : Option VerdictKind → Bool

@@ -4,7 +4,7 @@ use Rattle.gx_units.specs.{Money.value, Names.{same_account, same_token, same_us
 use Rattle.gx_ouch.specs.declared.outbound.OrderTerms.{OrderTerms}
 use Rattle.gx_policy.specs.declared.policy.{Account.Account, PolicyData.PolicyData}
 use Rattle.gx_history.specs.{declared.{live_order.UserToken.UserToken, «record».{Fill.Fill, RecordData.RecordData}}, Book.is_buy, Executions.{Execution, executions, sides_in}, Figures.done_of_chosen, Orders.{Order, order_numbered, order_under, orders_added}}
-use Rattle.gx_overview.specs.{declared.{executed.{Executed.Executed, ExecutedRow.ExecutedRow}, owners.{Owner.Owner, Owners.Owners}}, Accounts.{capped, is_of}}
+use Rattle.gx_overview.specs.{declared.{executed.{Executed.Executed, ExecutedRow.ExecutedRow}, owners.{Owner.Owner, Owners.Owners}}, Accounts.{capped_at_128_bits, is_of}}
 
 -- the value, at the prices of the fills, that orders which are chosen executed
 abbrev pub value_of_chosen : List Execution → (AccountName → OrderTerms → Bool) → ℕ
@@ -14,8 +14,8 @@ value_of_chosen made chosen =
 -- what the account executed on this side
 abbrev pub executed_on : List Execution → AccountName → Bool → Executed
 executed_on made account buys = record {
-  shares = capped (done_of_chosen made (is_of account buys));
-  value = capped (value_of_chosen made (is_of account buys));
+  shares = capped_at_128_bits (done_of_chosen made (is_of account buys));
+  value = capped_at_128_bits (value_of_chosen made (is_of account buys));
 }
 
 -- what the account has executed
@@ -35,7 +35,7 @@ owner_of o = record { account = o.account; stock = o.terms.stock; buys = is_buy 
 
 -- with so many more shares at this price
 abbrev pub with_fill : Fill → Executed → Executed
-with_fill f done = record { shares = capped (done.shares + f.shares); value = capped (done.value + value f.shares f.price) }
+with_fill f done = record { shares = capped_at_128_bits (done.shares + f.shares); value = capped_at_128_bits (done.value + value f.shares f.price) }
 
 -- the row, once shares of it were bought, or sold, so
 abbrev pub side_filled : Bool → Fill → ExecutedRow → ExecutedRow

@@ -81,7 +81,7 @@ pub fn is_command(asked: Option<&Asked>) -> bool
 
 /// Whether the record at this place grants a command. No record is made.
 #[inline(always)]
-#[tactic(auto, using(crate::proofs::Granting::grants_where))]
+#[tactic(auto, using(crate::proofs::Commands_call::grants_where))]
 fn grants_command(records: &Records<'_>, place: usize) -> bool
     ensures { result ≡ is_some (option_and_then granted_command (slice_get records.now place)) }
 {

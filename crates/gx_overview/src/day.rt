@@ -50,7 +50,7 @@ pub fn day_row<G: ShowsState>(gate: &G) -> DayRow
 }
 
 /// The highest line of these records, 0 where none has one.
-#[tactic(auto, using(crate::proofs::Passing::most_of_one_more))]
+#[tactic(auto, using(crate::proofs::Pass_next::most_of_one_more))]
 fn highest_line(records: &Records<'_>) -> u16
     ensures { result ≡ highest_line records.now }
 {

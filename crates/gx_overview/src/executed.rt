@@ -7,7 +7,7 @@ ghost use Rattle.gx_overview.specs.Executed.{executed_row, no_executions, row_fi
 use crate::owners::{Owner, Owners};
 use gx_history::record::{Fill, Record, Step, Verdict};
 use gx_history::records::Records;
-use gx_people::people::People;
+use gx_people::People;
 use gx_policy::{Account, Policy};
 use gx_records::ShowsRecords;
 use gx_units::{AccountName, OutOfMemory, value_of};

@@ -9,7 +9,7 @@ ghost use Rattle.gx_overview.specs.{Executed.{is_key, KnowOrders}, Owning.{IsNum
 use gx_history::live_order::UserToken;
 use gx_history::record::{Asked, RecordData, Request};
 use gx_ouch::{EnterOrder, ReplaceOrder};
-use gx_people::people::People;
+use gx_people::People;
 use gx_policy::Policy;
 use gx_units::{AccountName, OutOfMemory, Symbol, Token, UserName};
 use indexmap::IndexMap;

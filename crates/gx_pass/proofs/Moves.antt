@@ -6,7 +6,7 @@ use lib.ListN.{get_elem?}
 use Rattle.atomic_table.specs.Table.{State, Me, Allows, Splits, Joins, keeps as stays}
 use Rattle.atomic_table.proofs.Lists.{at_set}
 use Rattle.gx_history.specs.declared.record.RecordData.{RecordData}
-use Rattle.gx_pass.specs.{declared.view.{Keeps.Keeps, Holds.Holds, View.{View, TheVariants.{Keeping, Meeting, Holding, Spent}}}, Views.{first_view, line_in, keeps, holds, retold, counted, newcomer, let_go, goes_out, taken_in, without}, Rules.{IsMet, MayNote, InHand, Fits, IsKeptBy, IsKept, HasTold, HasMet, HasLooked, HasTaken, Has}}
+use Rattle.gx_pass.specs.{declared.view.{Keeps.Keeps, Holds.Holds, View.{View, TheVariants.{Keeping, Meeting, Holding, Spent}}}, Views.{first_view, line_in, keeps, holds, retold, with_line_issued, newcomer, let_go, goes_out, taken_in, without}, Rules.{IsMet, MayNote, InHand, Fits, IsKeptBy, IsKept, HasTold, HasMet, HasLooked, HasTaken, Has}}
 use Rattle.gx_pass.proofs.{Fronts.{prefix_self, prefix_more, prefix_length}, Lines.{moved, moved_here, moved_else, in_hand, absent, absent_new, hand_else, hand_alone, hand_without, numbered_more, numbered_push, of_line_other}}
 
 abbrev Each : Keeps → (ℕ → ℕ) → List View → Type 0
@@ -192,14 +192,14 @@ moved_live c c' holder line to same more j h apart f = let k = f.3 in
     (f.0, moved_else holder line to h.line apart ∙ f.1, f.2, omega arith, subst (λ (x : List RecordData). IsMet x h) (sym same) f.4)
 
 -- a new pass with a new line
-issues_at : (id : ℕ) (c : Keeps) → Splits law id (Keeping c) (counted (Keeping c)) (newcomer (Keeping c))
+issues_at : (id : ℕ) (c : Keeps) → Splits law id (Keeping c) (with_line_issued (Keeping c)) (newcomer (Keeping c))
 issues_at id c s kept at =
     let f = by_keeper s.words s.views id c kept at in
     let by = f.1 in
     let line = c.issued + 1 in
-    let views = set s.views id (counted (Keeping c)) in
+    let views = set s.views id (with_line_issued (Keeping c)) in
     let seat = length views in
-    let wide : length views ≡ length s.views = length-set s.views id (counted (Keeping c)) in
+    let wide : length views ≡ length s.views = length-set s.views id (with_line_issued (Keeping c)) in
     let inside = at_below s.views id (Keeping c) at in
     let c' = keeps c.list c.hand line in
     let holder = moved by.holder line seat in
@@ -209,7 +209,7 @@ issues_at id c s kept at =
         holder = holder;
         word = by.word;
         each = each_snoc c' holder views (newcomer (Keeping c))
-            (each_set c' holder s.views id (counted (Keeping c))
+            (each_set c' holder s.views id (with_line_issued (Keeping c))
             (λ j u n e. others c c' by.holder holder j u (λ z. n (z ∙ sym f.0)) (by.each j u e) (λ h g. let k = g.3 in moved_live c c' by.holder line seat refl (omega arith) j h (λ z. absurd (omega arith)) g))
             (f.0, refl))
             (omega arith, moved_here by.holder line seat, omega arith, omega arith, met);
@@ -218,8 +218,8 @@ issues_at id c s kept at =
       },
     )
 
-pub issues : (id : ℕ) (v : View) (c : Keeps) → v ≡ Keeping c → Splits law id v (counted v) (newcomer v)
-issues id v c is = subst (λ (x : View). Splits law id x (counted x) (newcomer x)) (sym is) (issues_at id c)
+pub issues : (id : ℕ) (v : View) (c : Keeps) → v ≡ Keeping c → Splits law id v (with_line_issued v) (newcomer v)
+issues id v c is = subst (λ (x : View). Splits law id x (with_line_issued x) (newcomer x)) (sym is) (issues_at id c)
 
 -- a line goes out of the keeper's hand
 leaves_at : (id : ℕ) (c : Keeps) (line : ℕ) → Has c.hand line → Splits law id (Keeping c) (let_go line (Keeping c)) (goes_out line (Keeping c))

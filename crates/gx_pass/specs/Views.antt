@@ -67,8 +67,8 @@ without line [] = []
 without line (l ∷ ls) = cond (l == line) ls (l ∷ without line ls)
 
 -- one more line is issued
-abbrev pub counted : View → View
-counted v = let k = kept_of v in Keeping (keeps k.list k.hand (k.issued + 1))
+abbrev pub with_line_issued : View → View
+with_line_issued v = let k = kept_of v in Keeping (keeps k.list k.hand (k.issued + 1))
 
 -- the pass with that line
 abbrev pub newcomer : View → View

@@ -112,9 +112,9 @@ impl<E: Entry> Play<u8, View> for Takes<E> {
 pub struct Issues;
 
 impl Split<View> for Issues {
-    ghost use Rattle.gx_pass.specs.Views.{counted, newcomer};
+    ghost use Rattle.gx_pass.specs.Views.{with_line_issued, newcomer};
 
-    ghost left = { counted };
+    ghost left = { with_line_issued };
 
     ghost right = { newcomer };
 }

@@ -5,7 +5,7 @@ use Rattle.gx_policy.specs.declared.policy.PolicyData.{PolicyData}
 use Rattle.gx_history.specs.declared.record.RecordData.{RecordData}
 use Rattle.gx_laws.proofs.Order.{some_same}
 use Rattle.gx_records.specs.State.{limit_in_force}
-use Rattle.gx_peaks.specs.{declared.{figure.Figure.Figure, key.PeakKey.PeakKey, peak.{Peak.Peak, Reading.Reading}, table.{HeldPeak.HeldPeak, PeakTable.PeakTable}}, Figures.{amount, is_counted, used_of}, Keys.{key_of, same_key}, Noting.{Advances, AdvancesTo, AreTheirs, IsHeld, IsNoted, IsSame, IsKeptUnder, Lags, figure_at, held_under, noted, peak_under}, Peaks.IsPeakOf, Raising.{reading_of, taken_in, unmoved}, Same.{key_is, key_is_itself}}
+use Rattle.gx_peaks.specs.{declared.{figure.Figure.Figure, key.PeakKey.PeakKey, peak.{Peak.Peak, Reading.Reading}, table.{HeldPeak.HeldPeak, PeakTable.PeakTable}}, Figures.{amount, is_counted, used_of}, Keys.{key_of, same_key}, Noting.{Advances, AdvancesTo, AreTheirs, IsHeld, IsNoted, IsSame, IsKeptUnder, Lags, figure_at, held_under, peak_after, peak_under}, Peaks.IsPeakOf, Raising.{reading_of, taken_in, peak_at_zero}, Same.{key_is, key_is_itself}}
 use Rattle.gx_peaks.proofs.{Rising.{taken_again, taken_in_is}, Sameness.amounts_same, Sorts.is_some_always}
 
 -- ---- one figure is noted
@@ -13,15 +13,15 @@ use Rattle.gx_peaks.proofs.{Rising.{taken_again, taken_in_is}, Sameness.amounts_
 module _ (policy : PolicyData) (records : List RecordData) (figure : Figure) (old new : PeakTable) (used : ℕ)
     (is : used_of policy figure records ≡ Some used) (note : IsNoted policy records figure old new) where
   abbrev peak_in : PeakKey → Option HeldPeak → Peak
-  peak_in key held = option_map_or (λ (h : HeldPeak). h.peak) held (unmoved (limit_in_force policy [] key.rule))
+  peak_in key held = option_map_or (λ (h : HeldPeak). h.peak) held (peak_at_zero (limit_in_force policy [] key.rule))
 
   -- it is counted
   counted_here : is_counted policy figure ≡ true
   counted_here = is_some_always policy figure [] ∙ sym (is_some_always policy figure records) ∙ ap is_some is
 
   -- what stands under a key then
-  stands : (key : PeakKey) (b : Bool) → same_key (key_of policy figure) key ≡ b → held_under new key ≡ cond b (Some (noted policy records figure used old)) (held_under old key)
-  stands key b e = note.put used is key ∙ ap (λ (b : Bool). cond b (Some (noted policy records figure used old)) (held_under old key)) e
+  stands : (key : PeakKey) (b : Bool) → same_key (key_of policy figure) key ≡ b → held_under new key ≡ cond b (Some (peak_after policy records figure used old)) (held_under old key)
+  stands key b e = note.put used is key ∙ ap (λ (b : Bool). cond b (Some (peak_after policy records figure used old)) (held_under old key)) e
 
   -- under another key what stood there
   elsewhere : (f : Figure) → same_key (key_of policy figure) (key_of policy f) ≡ false → peak_under policy new (key_of policy f) ≡ peak_under policy old (key_of policy f)
@@ -46,7 +46,7 @@ module _ (policy : PolicyData) (records : List RecordData) (figure : Figure) (ol
       by false e = theirs key held (sym (stands key false e) ∙ found)
       by true e =
           let it : key_of policy figure ≡ key = key_is (key_of policy figure) key e in
-          let his : noted policy records figure used old ≡ held = some_same (sym (stands key true e) ∙ found) in
+          let his : peak_after policy records figure used old ≡ held = some_same (sym (stands key true e) ∙ found) in
           let same : figure ≡ figure_at key held = λ i. record {
             rule = ap (λ (k : PeakKey). k.rule) it i;
             account = ap (λ (h : HeldPeak). h.account) his i;

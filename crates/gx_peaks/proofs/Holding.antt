@@ -6,7 +6,7 @@ use Rattle.gx_policy.specs.{declared.policy.PolicyData.PolicyData, People.accoun
 use Rattle.gx_history.specs.{declared.{live_order.LiveOrder.LiveOrder, «record».{RecordData.RecordData, Verdict.Verdict}}, Book.is_buy, Live.{live, live_numbered}, Verdicts.{Follows, IsLegal}}
 use Rattle.gx_laws.proofs.{NextReports.legal_before, Order.some_same}
 use Rattle.gx_records.specs.State.{limit_in_force}
-use Rattle.gx_peaks.specs.{declared.{figure.Figure.Figure, table.{HeldPeak.HeldPeak, PeakTable.PeakTable}}, Figures.{amount, is_counted}, Keys.key_of, Noting.{Advances, AdvancesTo, AreHeld, IsHeld, IsOfOrder, IsOfSeller, IsOfSetting, Lags, held_under, peak_under}, Peaks.{IsPeakOf, is_over}, Raising.unmoved, Touching.{gains_by, gains_of, seller, set_in, sets_limit}}
+use Rattle.gx_peaks.specs.{declared.{figure.Figure.Figure, table.{HeldPeak.HeldPeak, PeakTable.PeakTable}}, Figures.{amount, is_counted}, Keys.key_of, Noting.{Advances, AdvancesTo, AreHeld, IsHeld, IsOfOrder, IsOfSeller, IsOfSetting, Lags, held_under, peak_under}, Peaks.{IsPeakOf, is_over}, Raising.peak_at_zero, Touching.{gains_by, gains_of, seller, set_in, sets_limit}}
 use Rattle.gx_peaks.proofs.{Newest.account_is_known, Quiet.{counts_gain, counts_order, no_rise}, Rising.{still_is, whole}, Sameness.{counts_it, counts_its_gain}, Settings.limit_is_kept, Sorts.{Sort, amount_is, has_sort, sort_of}}
 
 -- the account of a sell that is filled is one of the policy
@@ -74,8 +74,8 @@ module _ (policy : PolicyData) (sound : is_sound policy ≡ true) (earlier : Lis
       never_kept : held_under last (key_of policy f) ≡ None → Lags policy earlier records last f → IsHeld policy records last f
       never_kept none (inr now) = now
       never_kept none (inl before) =
-          let peak : peak_under policy last (key_of policy f) ≡ unmoved (limit_in_force policy [] f.rule) =
-          ap (λ (h : Option HeldPeak). option_map_or (λ (x : HeldPeak). x.peak) h (unmoved (limit_in_force policy [] f.rule))) none in
+          let peak : peak_under policy last (key_of policy f) ≡ peak_at_zero (limit_in_force policy [] f.rule) =
+          ap (λ (h : Option HeldPeak). option_map_or (λ (x : HeldPeak). x.peak) h (peak_at_zero (limit_in_force policy [] f.rule))) none in
           let nothing : amount policy f earlier ≤ 0 =
           subst (λ (h : List RecordData). amount policy f h ≤ 0) (whole earlier)
           ((subst (IsPeakOf policy f.rule (amount policy f) earlier) peak before).greatest.greatest (length earlier)) in

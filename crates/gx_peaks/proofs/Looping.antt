@@ -1,12 +1,12 @@
 -- One more rule, or one more place of the table, is noted.
-use Rattle.std.proofs.{Common.{◌≡◌, ℕ, ◌+◌, ◌<◌, ◌≤◌, Bool, true, false, cond, not, ◌⊎◌, inl, inr, List, [], ◌∷◌, ◌++◌, length, take, get_or, refl, sym, ap, subst, ◌∙◌}, lemmas.{List.{take_all, take_more, Folds.list_any-append}, Option.{slice_get-get_or, slice_get-map}}}
-use Rattle.std.specs.{Prelude.{Option, Some, None, Result, Ok, Err, OnOk, ◌&&◌, ◌||◌, is_some, option_and_then, option_map, slice_get}, List.{find, list_any}, Option.option_map_or, Map.{keys_of, lookup}}
+use Rattle.std.proofs.{Common.{◌≡◌, ℕ, ◌+◌, ◌<◌, ◌≤◌, Bool, true, false, cond, not, ◌⊎◌, inl, inr, List, [], ◌∷◌, ◌++◌, length, take, get_or, refl, sym, ap, subst, ◌∙◌}, lemmas.{List.{Folds.list_any-append, take_all, take_more}, Option.{slice_get-get_or, slice_get-map}, Bool.not-false}}
+use Rattle.std.specs.{Prelude.{Option, Some, None, Result, Ok, Err, OnOk, ◌||◌, is_some, option_and_then, option_map, slice_get}, List.list_any, Map.{keys_of, lookup}}
 use Rattle.gx_units.specs.{Names.same_rule, declared.names.{AccountName.AccountName, RuleId.RuleId}}
-use Rattle.gx_policy.specs.{declared.policy.{FileRule.FileRule, PolicyData.PolicyData}, People.{account_named, rule_in}}
+use Rattle.gx_policy.specs.{declared.policy.{FileRule.FileRule, PolicyData.PolicyData}, People.rule_in}
 use Rattle.gx_history.specs.declared.{facts.StockSide.StockSide, «record».RecordData.RecordData}
-use Rattle.gx_laws.proofs.{Order.some_same, Among.{IsIn, all_are_in}, NewOrders.found_is}
-use Rattle.gx_peaks.specs.{declared.{figure.Figure.Figure, key.PeakKey.PeakKey, table.{HeldPeak.HeldPeak, PeakTable.PeakTable}}, Figures.{counts, is_counted}, Keys.{key_of, same_key}, Noting.{AdvancesTo, AreTheirs, IsNoted, IsOfAccount, IsOfPlace, IsOfRule, IsSame, IsKeptUnder, IsUnder, held_under}, Same.{key_is, rule_is, rule_is_itself}}
-use Rattle.gx_peaks.proofs.{Advancing.{and_then, noted_advances, noted_theirs, reached_by, stays_put}, Sorts.{Sort, counted_is, has_sort, sort_under}}
+use Rattle.gx_laws.proofs.{Order.{some_same, first_such}, Among.{IsIn, all_are_in}, NewOrders.found_is, Names.rule_is}
+use Rattle.gx_peaks.specs.{declared.{figure.Figure.Figure, key.PeakKey.PeakKey, table.{HeldPeak.HeldPeak, PeakTable.PeakTable}}, Figures.is_counted, Keys.{key_of, same_key}, Noting.{AdvancesTo, AreTheirs, IsNoted, IsOfAccount, IsOfPlace, IsOfRule, IsSame, IsKeptUnder, IsUnder, held_under}, Same.{key_is, rule_is_itself}}
+use Rattle.gx_peaks.proofs.{Advancing.{and_then, noted_advances, noted_theirs, reached_by, stays_put}, Sorts.{Sort, has_sort, sort_under}}
 
 -- what is so of one of them all, or of one more, is so of one of so many and one more
 any_more : {X : Type 0} (test : X → Bool) (xs : List X) (i : ℕ) (d : X) → i < length xs → list_any test (take (i + 1) xs) ≡ true → (list_any test (take i xs) ≡ true) ⊎ (test (get_or xs i d) ≡ true)
@@ -23,34 +23,9 @@ any_more test xs i d within h =
 
 -- ---- one more rule
 
-find_passes : {X : Type 0} (test : X → Bool) (xs : List X) (x : X) → find test xs ≡ Some x → test x ≡ true
-find_passes test [] x h = cc
-find_passes {X} test (y ∷ xs) x h = by (test y) refl h (find_passes test xs x)
-  where
-    by : (b : Bool) → test y ≡ b → cond b (Some y) (find test xs) ≡ Some x → (find test xs ≡ Some x → test x ≡ true) → test x ≡ true
-    by true e k later = ap test (sym (some_same k)) ∙ e
-    by false e k later = later k
-
 -- a rule of this name has it
 is_named : (policy : PolicyData) (rule : FileRule) (name : RuleId) → rule_in policy.rules name ≡ Some rule → rule.name ≡ name
-is_named policy rule name found = rule_is rule.name name (find_passes (λ (r : FileRule). same_rule r.name name) policy.rules rule found)
-
--- the rule counts no such figure
-pub none_under : (policy : PolicyData) (records : List RecordData) (rule : FileRule) (account : AccountName) (side : Option StockSide) (table : PeakTable) → counts rule account side ≡ false
-    → AdvancesTo policy records (IsUnder policy rule account side) table table
-none_under policy records rule account side table none =
-    stays_put policy records (IsUnder policy rule account side) table
-    (λ f counted of.
-    let no : true ≡ false =
-    sym of.of_account.is_counted ∙ counted_is policy (record { rule = f.rule; account = account; side = side })
-    ∙ ap (λ (found : Option FileRule). option_map_or (λ (r : FileRule). is_some (account_named policy account) && counts r account side) found false) of.is_rule
-    ∙ ap (λ (b : Bool). is_some (account_named policy account) && b) none
-    ∙ never (is_some (account_named policy account)) in
-    cc)
-  where
-    never : (b : Bool) → (b && false) ≡ false
-    never true = refl
-    never false = refl
+is_named policy rule name found = rule_is rule.name name (first_such (λ (r : FileRule). same_rule r.name name) policy.rules rule found).3
 
 -- it does, and that is noted
 pub noted_under : (policy : PolicyData) (records : List RecordData) (rule : FileRule) (account : AccountName) (side : Option StockSide) (old new : PeakTable)
@@ -188,16 +163,12 @@ pub record IsPlaceNoted (policy : PolicyData) (records : List RecordData) (rule 
   pub keys : keys_of new.peaks.entries ≡ keys_of old.peaks.entries
   pub noted : AdvancesTo policy records (IsOfPlace policy rule old place) old new
 
-was_true : (b : Bool) → not b ≡ false → b ≡ true
-was_true true h = refl
-was_true false h = cc
-
 pub place_noted : (policy : PolicyData) (records : List RecordData) (rule : RuleId) (old new : PeakTable) (place : ℕ) (key : PeakKey) (held : HeldPeak) → AreTheirs policy old → held_under old key ≡ Some held
     → Some (key, held) ≡ slice_get old.peaks.entries place → not (same_rule key.rule rule) ≡ false
     → IsNoted policy records (record { rule = rule; account = held.account; side = key.side }) old new → IsPlaceNoted policy records rule place old new
 place_noted policy records rule old new place key held theirs found is same note =
     let figure : Figure = record { rule = rule; account = held.account; side = key.side } in
-    let name : key.rule ≡ rule = rule_is key.rule rule (was_true (same_rule key.rule rule) same) in
+    let name : key.rule ≡ rule = rule_is key.rule rule (not-false (same_rule key.rule rule) same) in
     let his : IsKeptUnder policy key figure = subst (λ (n : RuleId). IsKeptUnder policy key (record { rule = n; account = held.account; side = key.side })) name (theirs key held found) in
     record {
       theirs = noted_theirs policy records figure old new note theirs;

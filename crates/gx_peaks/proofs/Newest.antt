@@ -3,7 +3,7 @@ use Rattle.std.proofs.{Common.{◌≡◌, ℕ, Bool, true, false, cond, ◌⊎�
 use Rattle.std.specs.{Prelude.{Option, Some, None, ◌==◌, is_some}, Option.option_map_or, List.{AllByRecursion, cons_option, filter_map}}
 use Rattle.gx_units.specs.declared.names.AccountName.{AccountName}
 use Rattle.gx_policy.specs.{declared.policy.PolicyData.PolicyData, People.{account_named, account_of}, Soundness.is_sound}
-use Rattle.gx_history.specs.{declared.{live_order.LiveOrder.LiveOrder, «record».{Asked.Asked, RecordData.RecordData, Request.Request, Step.Step, Verdict.Verdict}, moves.Move.TheVariants.{Adds, Nothing, Replaces, Sizes}}, Figures.{Positions, positions}, Live.{live, live_numbered, live_under}, LiveOrders.replacement_order, Orders.Order, Turns.{Turn, becomes, new_in, new_order, turned}, Verdicts.{Follows, IsLegal}, World.{World, move_asked, turn_by, turn_in, world}}
+use Rattle.gx_history.specs.{declared.{live_order.LiveOrder.LiveOrder, «record».{Asked.Asked, RecordData.RecordData, Request.Request, Step.Step, Verdict.Verdict}, moves.Move.TheVariants.{Adds, Nothing, Replaces, Sizes}}, Figures.{Positions, positions}, Live.{live, live_numbered, live_under}, LiveOrders.replacement_order, Orders.Order, Turns.{Turn, becomes, new_in, new_order, live_after}, Verdicts.{Follows, IsLegal}, World.{World, move_asked, turn_by, turn_in, world}}
 use Rattle.gx_history.specs.Turns as turns
 use Rattle.gx_laws.proofs.{Owners.{IsHisAccounts, orders_are_their_users}, Accounts.accounts_are_known, NewOrders.found_is, Coming.{of_live, records_may_come}, GoingOn.positions_go_on}
 use Rattle.gx_laws.specs.{PositionLaws.{granted_after, turn_after}, Sound.MayChange}
@@ -69,7 +69,7 @@ replaced_or_not number new o = by (o.number == number)
 
 -- each new order is found among those that are live then
 new_found : (policy : PolicyData) (held : Positions) (granted : List Order) (turn : Turn) → MayChange policy held turn granted
-    → AllByRecursion (λ (o : LiveOrder). live_numbered (turned turn held.live) o.number ≡ Some o) (new_in turn)
+    → AllByRecursion (λ (o : LiveOrder). live_numbered (live_after turn held.live) o.number ≡ Some o) (new_in turn)
 new_found policy held granted turns.Keeps may = tt
 new_found policy held granted (turns.Adds new) may = (last_found (becomes (turns.Adds new)) (λ o. inl refl) held.live new may.is_new, tt)
 new_found policy held granted (turns.Sizes number size) may = tt
@@ -90,7 +90,7 @@ pub new_is_newest : (policy : PolicyData) (records : List RecordData) (r : Recor
 new_is_newest policy records r legal follows =
     let turn : Turn = turn_after policy records r in
     let goes : positions policy (records ++ r ∷ []) ≡ _ = positions_go_on policy records r.step r legal follows.is_next in
-    let now : live policy (records ++ r ∷ []) ≡ turned turn (live policy records) = ap (λ (p : Positions). p.live) goes in
+    let now : live policy (records ++ r ∷ []) ≡ live_after turn (live policy records) = ap (λ (p : Positions). p.live) goes in
     both_found r.number (live_numbered (live policy (records ++ r ∷ []))) (new_in turn)
     (subst (λ (os : List LiveOrder). AllByRecursion (λ (o : LiveOrder). live_numbered os o.number ≡ Some o) (new_in turn)) (sym now)
     (new_found policy (positions policy records) (granted_after policy records r) turn (records_may_come policy records r.step r legal follows.is_next)))

@@ -5,7 +5,7 @@ use Rattle.gx_units.specs.declared.names.RuleId.{RuleId}
 use Rattle.gx_policy.specs.declared.policy.PolicyData.{PolicyData}
 use Rattle.gx_history.specs.{declared.record.RecordData.RecordData, Verdicts.last_moment}
 use Rattle.gx_records.specs.State.{limit_in_force}
-use Rattle.gx_peaks.specs.{declared.peak.{Peak.Peak, Reading.Reading}, Peaks.{IsFirstPast, IsPastFrom, IsPeak, IsPeakOf, is_past, limit_behind}, Raising.{passed, reading_of, taken_in}}
+use Rattle.gx_peaks.specs.{declared.peak.{Peak.Peak, Reading.Reading}, Peaks.{IsFirstPast, IsPastFrom, IsPeak, IsPeakOf, is_past, limit_behind}, Raising.{passed_at, reading_of, taken_in}}
 
 -- all records but the last, as many as these are, or all of them
 one_more : (records : List RecordData) (r : RecordData) → length (records ++ r ∷ []) ≡ length records + 1
@@ -117,7 +117,7 @@ module _ (policy : PolicyData) (rule : RuleId) (figure : List RecordData → ℕ
     }
 
     passed_is : (used number moment : ℕ) (limit past : Option ℕ) → IsTop (records ++ r ∷ []) used number moment limit → IsFirstPast figure (limit_behind policy rule) records past
-        → IsPeakOf policy rule figure (records ++ r ∷ []) (passed (now_of (records ++ r ∷ [])) (record { used = used; number = number; moment = moment; limit = limit; first_past = past }))
+        → IsPeakOf policy rule figure (records ++ r ∷ []) (passed_at (now_of (records ++ r ∷ [])) (record { used = used; number = number; moment = moment; limit = limit; first_past = past }))
     passed_is used number moment limit (Some first) is past = with_first (records ++ r ∷ []) used number moment limit (Some first) is (past_stays figure records r (limit_behind policy rule) first past)
     passed_is used number moment limit None is never = by (is_past figure (limit_behind policy rule) (records ++ r ∷ [])) refl
       where
@@ -134,7 +134,7 @@ module _ (policy : PolicyData) (rule : RuleId) (figure : List RecordData → ℕ
       where
         by : (b : Bool) → nat_lt p.used (figure (records ++ r ∷ [])) ≡ b
             → IsPeakOf policy rule figure (records ++ r ∷ [])
-            (passed (now_of (records ++ r ∷ []))
+            (passed_at (now_of (records ++ r ∷ []))
             (cond b
             (record {
               used = figure (records ++ r ∷ []);
@@ -174,7 +174,7 @@ module _ (policy : PolicyData) (rule : RuleId) (figure : List RecordData → ℕ
       lower : figure records ≤ p.used
       lower = subst (λ (h : List RecordData). figure h ≤ p.used) (whole records) (is.greatest.greatest (length records))
 
-      same : (past : Option ℕ) → IsFirstPast figure (limit_behind policy rule) records past → p.first_past ≡ past → passed (now_of records) p ≡ p
+      same : (past : Option ℕ) → IsFirstPast figure (limit_behind policy rule) records past → p.first_past ≡ past → passed_at (now_of records) p ≡ p
       same (Some first) past e = ap (λ (o : Option ℕ). cond (is_some o || not (is_past figure (limit_behind policy rule) records)) p (record { used = p.used; number = p.number; moment = p.moment; limit = p.limit; first_past = Some (length records) })) e
       same None never e =
           let not_now : is_past figure (limit_behind policy rule) records ≡ false = ap (is_past figure (limit_behind policy rule)) (sym (whole records)) ∙ never (length records) in
@@ -183,7 +183,7 @@ module _ (policy : PolicyData) (rule : RuleId) (figure : List RecordData → ℕ
 
       by : (b : Bool) → b ≡ false → (past : Option ℕ) → IsFirstPast figure (limit_behind policy rule) records past → p.first_past ≡ past
           → IsPeakOf policy rule figure records
-          (passed (now_of records)
+          (passed_at (now_of records)
           (cond b
           (record { used = figure records; number = length records; moment = last_moment records; limit = limit_in_force policy records rule; first_past = p.first_past })
           p))

@@ -1,10 +1,10 @@
 -- Figures of one key are one figure.
 use Rattle.gx_policy.specs.{declared.{kinds.{ExposureLimit.ExposureLimit}, policy.{Count.Count, FileRule.FileRule, PolicyData.PolicyData, RuleKind.RuleKind, Scope.Scope}}, People.{account_named, covers, rule_in}}
-use Rattle.std.proofs.Common.{◌≡◌, Bool, true, false, cond, not, ◌⊎◌, inl, inr, List, [], refl, sym, ap, subst, ◌∙◌}
+use Rattle.std.proofs.{Common.{◌≡◌, Bool, true, false, cond, ◌⊎◌, inl, inr, List, [], refl, sym, ap, subst, ◌∙◌}, lemmas.Bool.{and_parts, not-true}}
 use Rattle.std.specs.Prelude.{Option, Some, None, ◌&&◌, is_some, option_and_then}
 use Rattle.gx_units.specs.{Names.{same_account, same_stock}, declared.names.AccountName.AccountName}
 use Rattle.gx_history.specs.{declared.{facts.StockSide.StockSide, live_order.LiveOrder.LiveOrder, «record».RecordData.RecordData}, Book.{is_buy, is_on}, Figures.{counts_account, on_side}}
-use Rattle.gx_laws.proofs.{Judging.both, Names.{account_is, stock_is}, Order.some_same}
+use Rattle.gx_laws.proofs.{Names.{account_is, stock_is}, Order.some_same}
 use Rattle.gx_records.specs.State.{counted_with, is_for}
 use Rattle.gx_peaks.specs.{declared.{figure.Figure.Figure, key.PeakKey.PeakKey}, Figures.{amount, is_counted}, Keys.{key_of, whose}, Noting.{IsOfAccount, IsSame, side_of}}
 use Rattle.gx_peaks.proofs.{Quiet.{counts_gain, counts_order}, Sorts.{Net, Shares, Sort, Value, amount_is, has_sort, is_some_always, sort_by, sort_of, sort_under, total_of}}
@@ -136,7 +136,7 @@ joined policy figure s y is counted known = at (rule_in policy.rules figure.rule
         by : (b : Bool) → is_for policy figure.account rule ≡ b → cond b (sort_by rule.kind figure.side (counted_with rule figure.account)) None ≡ Some s → IsOfAccount policy y (side_in s) figure
         by false f h = cc
         by true f h =
-            let parts : (is_some (account_named policy figure.account) ≡ true) × (covers rule.scope figure.account ≡ true) = both (is_some (account_named policy figure.account)) (covers rule.scope figure.account) f in
+            let parts : (is_some (account_named policy figure.account) ≡ true) × (covers rule.scope figure.account ≡ true) = and_parts (is_some (account_named policy figure.account)) (covers rule.scope figure.account) f in
             let side : figure.side ≡ side_in s = sort_side rule.kind figure.side (counted_with rule figure.account) s h in
             let alike : IsWith rule.kind rule.scope figure.side figure.account y = is_with rule.kind rule.scope figure.side figure.account y s h counted in
             let for_it : is_for policy y rule ≡ true = λ i. known i && alike.covered parts.1 i in
@@ -157,17 +157,13 @@ joined policy figure s y is counted known = at (rule_in policy.rules figure.rule
 -- an order on a side of a stock: whose it is, and which side
 stands_there : (among : AccountName → Bool) (side : StockSide) (o : LiveOrder) → on_side among side o.account o.terms ≡ true → (among o.account ≡ true) × (side_of o ≡ side)
 stands_there among side o h =
-    let first = both (among o.account && same_stock o.terms.stock side.stock) (is_on side.buys o.terms.side) h in
-    let theirs = both (among o.account) (same_stock o.terms.stock side.stock) first.0 in
+    let first = and_parts (among o.account && same_stock o.terms.stock side.stock) (is_on side.buys o.terms.side) h in
+    let theirs = and_parts (among o.account) (same_stock o.terms.stock side.stock) first.0 in
     (theirs.0, λ i. record { stock = stock_is o.terms.stock side.stock theirs.1 i; buys = buys_is side.buys first.1 i })
   where
-    turned : (b : Bool) → not b ≡ true → b ≡ false
-    turned true k = sym k
-    turned false k = refl
-
     buys_is : (b : Bool) → is_on b o.terms.side ≡ true → is_buy o.terms.side ≡ b
     buys_is true k = k
-    buys_is false k = turned (is_buy o.terms.side) k
+    buys_is false k = not-true (is_buy o.terms.side) k
 
 -- a figure that counts the order is one of its account
 pub counts_it : (policy : PolicyData) (figure : Figure) (s : Sort) (o : LiveOrder) → sort_of policy figure ≡ Some s → is_some (account_named policy o.account) ≡ true → counts_order s o ≡ true

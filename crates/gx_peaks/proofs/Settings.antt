@@ -4,7 +4,7 @@ use Rattle.std.proofs.{Common.{◌≡◌, ℕ, Bool, true, false, cond, List, []
 use Rattle.std.specs.{Prelude.{Option, Some, None, option_and_then}, Option.option_map_or}
 use Rattle.gx_units.specs.{Names.same_rule, declared.names.{RuleId.RuleId, Symbol.Symbol}}
 use Rattle.gx_desk.specs.declared.Action.{Action}
-use Rattle.gx_history.specs.{declared.record.RecordData.RecordData, InForce.{change_rule, changed, rules_in_force}, Requests.granted_action}
+use Rattle.gx_history.specs.{declared.record.RecordData.RecordData, InForce.{change_rule, rules_after, rules_in_force}, Requests.granted_action}
 use Rattle.gx_laws.proofs.NextInForce.{rules_in_force_next, rules_in_force_none}
 use Rattle.gx_records.specs.State.{limit_in_force}
 use Rattle.gx_peaks.specs.Touching.{set_by, sets_limit}
@@ -51,7 +51,7 @@ stocks_anywhere named name change rule e = by (same_rule rule.name named)
     by true = stocks_set_none change rule.kind
     by false = refl
 
-by_action : (name : RuleId) (rules : List FileRule) (action : Action) → option_map_or (λ (named : RuleId). same_rule named name) (set_by action) false ≡ false → limit_among (changed rules action) name ≡ limit_among rules name
+by_action : (name : RuleId) (rules : List FileRule) (action : Action) → option_map_or (λ (named : RuleId). same_rule named name) (set_by action) false ≡ false → limit_among (rules_after rules action) name ≡ limit_among rules name
 by_action name rules (Action.SetLimit named limit) apart = limit_stays named (with_limit limit) name (limit_elsewhere named name limit apart) rules
 by_action name rules (Action.Restrict named stock) apart = limit_stays named (with_stocks _) name (stocks_anywhere named name _) rules
 by_action name rules (Action.Unrestrict named stock) apart = limit_stays named (with_stocks _) name (stocks_anywhere named name _) rules
@@ -67,6 +67,6 @@ pub limit_is_kept : (policy : PolicyData) (records : List RecordData) (r : Recor
 limit_is_kept policy records r name apart = ap (λ (rules : List FileRule). limit_among rules name) (rules_in_force_next policy records r) ∙ by (granted_action r) apart
   where
     by : (action : Option Action) → option_map_or (λ (named : RuleId). same_rule named name) (option_and_then set_by action) false ≡ false
-        → limit_among (option_map_or (changed (rules_in_force policy records)) action (rules_in_force policy records)) name ≡ limit_among (rules_in_force policy records) name
+        → limit_among (option_map_or (rules_after (rules_in_force policy records)) action (rules_in_force policy records)) name ≡ limit_among (rules_in_force policy records) name
     by None none = refl
     by (Some action) none = by_action name (rules_in_force policy records) action none

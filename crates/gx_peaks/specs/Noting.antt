@@ -4,7 +4,7 @@ use Rattle.gx_units.specs.{declared.names.{AccountName.AccountName, RuleId.RuleI
 use Rattle.gx_policy.specs.{declared.policy.{FileRule.FileRule, PolicyData.PolicyData}, People.rule_in}
 use Rattle.gx_history.specs.{declared.{facts.StockSide.StockSide, live_order.LiveOrder.LiveOrder, «record».RecordData.RecordData}, Book.is_buy}
 use Rattle.gx_records.specs.State.{limit_in_force}
-use Rattle.gx_peaks.specs.{declared.{figure.Figure.Figure, key.PeakKey.PeakKey, peak.Peak.Peak, peaks.Peaks.Peaks, table.{HeldPeak.HeldPeak, PeakTable.PeakTable}}, Figures.{amount, is_counted, used_of}, Keys.{key_of, same_key}, Peaks.IsPeakOf, Raising.{reading_of, taken_in, unmoved}, Touching.gains_of}
+use Rattle.gx_peaks.specs.{declared.{figure.Figure.Figure, key.PeakKey.PeakKey, peak.Peak.Peak, peaks.Peaks.Peaks, table.{HeldPeak.HeldPeak, PeakTable.PeakTable}}, Figures.{amount, is_counted, used_of}, Keys.{key_of, same_key}, Peaks.IsPeakOf, Raising.{reading_of, taken_in, peak_at_zero}, Touching.gains_of}
 
 -- what is kept under the key
 abbrev pub held_under : PeakTable → PeakKey → Option HeldPeak
@@ -12,7 +12,7 @@ held_under table key = lookup (same_key key) table.peaks.entries
 
 -- the peak that is kept under the key; where none is, that of a figure that was 0 all the time
 abbrev pub peak_under : PolicyData → PeakTable → PeakKey → Peak
-peak_under policy table key = option_map_or (λ (held : HeldPeak). held.peak) (held_under table key) (unmoved (limit_in_force policy [] key.rule))
+peak_under policy table key = option_map_or (λ (held : HeldPeak). held.peak) (held_under table key) (peak_at_zero (limit_in_force policy [] key.rule))
 
 -- the table keeps the figure's peak over these records
 abbrev pub IsHeld : PolicyData → List RecordData → PeakTable → Figure → Type 0
@@ -53,8 +53,8 @@ pub record IsExpecting (policy : PolicyData) (records : List RecordData) (next :
 -- ---- one figure is noted
 
 -- what is kept of the figure once it is read to be this behind the records
-abbrev pub noted : PolicyData → List RecordData → Figure → ℕ → PeakTable → HeldPeak
-noted policy records figure used table = record {
+abbrev pub peak_after : PolicyData → List RecordData → Figure → ℕ → PeakTable → HeldPeak
+peak_after policy records figure used table = record {
   account = figure.account;
   peak = taken_in (reading_of policy records figure.rule used) (peak_under policy table (key_of policy figure));
 }
@@ -62,7 +62,7 @@ noted policy records figure used table = record {
 -- under the figure's key stands what is read of it, under the others what stood there; nothing is changed where it is not counted
 pub record IsNoted (policy : PolicyData) (records : List RecordData) (figure : Figure) (old new : PeakTable) : Type 0 where
   pub put : (used : ℕ) → used_of policy figure records ≡ Some used → (key : PeakKey)
-      → held_under new key ≡ (if same_key (key_of policy figure) key then Some (noted policy records figure used old) else held_under old key)
+      → held_under new key ≡ (if same_key (key_of policy figure) key then Some (peak_after policy records figure used old) else held_under old key)
   pub not_counted : used_of policy figure records ≡ None → new ≡ old
   pub keys : IsTrue (is_some (held_under old (key_of policy figure))) → keys_of new.peaks.entries ≡ keys_of old.peaks.entries
 

@@ -7,8 +7,8 @@ use Rattle.gx_records.specs.State.{limit_in_force}
 use Rattle.gx_peaks.specs.{declared.peak.{Peak.Peak, Reading.Reading}, Peaks.is_over}
 
 -- of a figure that was 0 all the time
-abbrev pub unmoved : Option ℕ → Peak
-unmoved limit = record { used = 0; number = 0; moment = 0; limit = limit; first_past = None }
+abbrev pub peak_at_zero : Option ℕ → Peak
+peak_at_zero limit = record { used = 0; number = 0; moment = 0; limit = limit; first_past = None }
 
 -- the reading behind these records
 abbrev pub reading_of : PolicyData → List RecordData → RuleId → ℕ → Reading
@@ -20,18 +20,18 @@ reading_of policy records rule used = record {
 }
 
 -- moved to the reading, where that is greater
-abbrev pub raised : Reading → Peak → Peak
-raised now peak =
+abbrev pub raised_to : Reading → Peak → Peak
+raised_to now peak =
     if nat_lt peak.used now.used
     then record { used = now.used; number = now.number; moment = now.moment; limit = now.limit; first_past = peak.first_past }
     else peak
 
 -- first past the limit at the reading, where it is past it there and never was before
-abbrev pub passed : Reading → Peak → Peak
-passed now peak =
+abbrev pub passed_at : Reading → Peak → Peak
+passed_at now peak =
     if is_some peak.first_past || not (is_over now.used now.limit) then peak
     else record { used = peak.used; number = peak.number; moment = peak.moment; limit = peak.limit; first_past = Some now.number }
 
 -- both
 abbrev pub taken_in : Reading → Peak → Peak
-taken_in now peak = passed now (raised now peak)
+taken_in now peak = passed_at now (raised_to now peak)

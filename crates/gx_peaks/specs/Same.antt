@@ -1,14 +1,10 @@
 -- Keys that are the same are equal.
-use Rattle.std.proofs.{Common.{◌≡◌, ℕ, Bool, true, false, List, refl, ap}, lemmas.Slice.Eq.bytes_eq-Decides}
+use Rattle.std.proofs.{Common.{◌≡◌, Bool, true, false, refl, ap}, lemmas.{Slice.Eq.bytes_eq-Decides, Bool.{and_parts, and_from}}}
 use Rattle.std.specs.{Prelude.{Option, Some, None, ◌&&◌}, Bool.beq, Option.option_eq}
 use Rattle.gx_units.specs.{Names.{same_account, same_rule, same_stock}, declared.names.{RuleId.RuleId, Symbol.Symbol}}
 use Rattle.gx_history.specs.declared.facts.StockSide.{StockSide}
-use Rattle.gx_laws.proofs.{Judging.both, Names.{account_is, account_is_itself, stock_is}}
+use Rattle.gx_laws.proofs.Names.{account_is, account_is_itself, stock_is, rule_is}
 use Rattle.gx_peaks.specs.{declared.key.PeakKey.PeakKey, Keys.{key_bytes, same_key, same_side}}
-
--- names that are the same are equal
-pub rule_is : (a b : RuleId) → same_rule a b ≡ true → a ≡ b
-rule_is a b h = let name : List ℕ → RuleId = λ (bytes : List ℕ). record { bytes = bytes } in ap name ((bytes_eq-Decides a.bytes b.bytes).0 h)
 
 -- and a name is the same as itself
 pub rule_is_itself : (a : RuleId) → same_rule a a ≡ true
@@ -28,18 +24,14 @@ bool_is_itself : (a : Bool) → beq a a ≡ true
 bool_is_itself true = refl
 bool_is_itself false = refl
 
--- two that are true
-both_true : (a b : Bool) → a ≡ true → b ≡ true → (a && b) ≡ true
-both_true a b h k = λ i. h i && k i
-
 -- sides of stocks
 pub side_is : (a b : StockSide) → same_side a b ≡ true → a ≡ b
 side_is a b h =
-    let parts : (same_stock a.stock b.stock ≡ true) × (beq a.buys b.buys ≡ true) = both (same_stock a.stock b.stock) (beq a.buys b.buys) h in
+    let parts : (same_stock a.stock b.stock ≡ true) × (beq a.buys b.buys ≡ true) = and_parts (same_stock a.stock b.stock) (beq a.buys b.buys) h in
     λ i. record { stock = stock_is a.stock b.stock parts.0 i; buys = bool_is a.buys b.buys parts.1 i }
 
 side_is_itself : (a : StockSide) → same_side a a ≡ true
-side_is_itself a = both_true (same_stock a.stock a.stock) (beq a.buys a.buys) (stock_is_itself a.stock) (bool_is_itself a.buys)
+side_is_itself a = and_from (same_stock a.stock a.stock) (beq a.buys a.buys) (stock_is_itself a.stock) (bool_is_itself a.buys)
 
 -- what may be there
 option_is : {X : Type 0} (same : X → X → Bool) → ((a b : X) → same a b ≡ true → a ≡ b) → (a b : Option X) → option_eq same a b ≡ true → a ≡ b
@@ -56,9 +48,9 @@ option_is_itself same is (Some x) = is x
 pub key_is : (a b : PeakKey) → same_key a b ≡ true → a ≡ b
 key_is a b h =
     let first : (same_rule a.rule b.rule ≡ true) × ((option_eq same_account a.whose b.whose && option_eq same_side a.side b.side) ≡ true) =
-    both (same_rule a.rule b.rule) (option_eq same_account a.whose b.whose && option_eq same_side a.side b.side) h in
+    and_parts (same_rule a.rule b.rule) (option_eq same_account a.whose b.whose && option_eq same_side a.side b.side) h in
     let rest : (option_eq same_account a.whose b.whose ≡ true) × (option_eq same_side a.side b.side ≡ true) =
-    both (option_eq same_account a.whose b.whose) (option_eq same_side a.side b.side) first.1 in
+    and_parts (option_eq same_account a.whose b.whose) (option_eq same_side a.side b.side) first.1 in
     λ i. record {
       rule = rule_is a.rule b.rule first.0 i;
       whose = option_is same_account account_is a.whose b.whose rest.0 i;
@@ -67,8 +59,8 @@ key_is a b h =
 
 pub key_is_itself : (a : PeakKey) → same_key a a ≡ true
 key_is_itself a =
-    both_true (same_rule a.rule a.rule) (option_eq same_account a.whose a.whose && option_eq same_side a.side a.side) (rule_is_itself a.rule)
-    (both_true (option_eq same_account a.whose a.whose) (option_eq same_side a.side a.side) (option_is_itself same_account account_is_itself a.whose) (option_is_itself same_side side_is_itself a.side))
+    and_from (same_rule a.rule a.rule) (option_eq same_account a.whose a.whose && option_eq same_side a.side a.side) (rule_is_itself a.rule)
+    (and_from (option_eq same_account a.whose a.whose) (option_eq same_side a.side a.side) (option_is_itself same_account account_is_itself a.whose) (option_is_itself same_side side_is_itself a.side))
 
 -- and are hashed alike
 pub same_bytes : (a b : PeakKey) → same_key a b ≡ true → key_bytes a ≡ key_bytes b

@@ -1,7 +1,7 @@
 //! The peak of a figure, and what one more record makes of it.
 
 ghost use Rattle.std.specs.Prelude.{◌≡◌};
-ghost use Rattle.gx_peaks.specs.{Peaks.is_over, Raising.{passed, raised, taken_in, unmoved}};
+ghost use Rattle.gx_peaks.specs.{Peaks.is_over, Raising.{passed_at, raised_to, taken_in, peak_at_zero}};
 
 use gx_units::Moment;
 
@@ -48,7 +48,7 @@ impl Reading {
 impl Peak {
     /// The peak of a figure that was 0 all the time, under this limit of the file.
     pub fn unmoved(limit: Option<u64>) -> Peak
-        ensures { result ≡ unmoved limit }
+        ensures { result ≡ peak_at_zero limit }
     {
         Peak {
             used: 0,
@@ -61,7 +61,7 @@ impl Peak {
 
     /// Moved to the reading, where that is greater.
     fn raised(self, now: Reading) -> Peak
-        ensures { result ≡ raised now self }
+        ensures { result ≡ raised_to now self }
     {
         if now.used <= self.used {
             return self;
@@ -77,7 +77,7 @@ impl Peak {
 
     /// First past the limit at the reading, where it is past it there and never was before.
     fn passed(self, now: Reading) -> Peak
-        ensures { result ≡ passed now self }
+        ensures { result ≡ passed_at now self }
     {
         if self.first_past.is_some() || !now.is_over() {
             return self;

@@ -5,7 +5,7 @@ use Rattle.gx_units.specs.{Names.same_user, declared.names.{AccountName.AccountN
 use Rattle.gx_desk.specs.{Names.is_written, declared.{WrittenName.WrittenName, Action.Action}}
 use Rattle.gx_policy.specs.{declared.policy.{PolicyData.PolicyData, Role.Role, User.User}, People.{is_reader, role_in, user_in}}
 use Rattle.gx_history.specs.{declared.record.RecordData.RecordData, Readers.reader_in, Requests.granted_actions}
-use Rattle.gx_people.specs.Entitled.{change_role, with_account, without_account, granted_to, revoked_from, given, people_in_force}
+use Rattle.gx_people.specs.Entitled.{change_role, with_account, without_account, granted_to, revoked_from, users_after, people_in_force}
 use Rattle.gx_laws.proofs.Order.{some_same}
 
 -- the user of a name, after a role changed
@@ -25,7 +25,7 @@ map_same g h same None = refl
 map_same g h same (Some u) = ap Some (same u)
 
 given_stays : {Y : Type 0} (g : User → Y) → Stays g → (users : List User) (action : Action) (name : UserName)
-    → option_map g (user_in (given users action) name) ≡ option_map g (user_in users name)
+    → option_map g (user_in (users_after users action) name) ≡ option_map g (user_in users name)
 given_stays g stays users (Action.Grant written a) name = by (reader_in users written)
   where
     by : (found : Option User) → option_map g (user_in (option_map_or (λ (u : User). granted_to u.name a users) found users) name) ≡ option_map g (user_in users name)
@@ -44,9 +44,9 @@ given_stays g stays users (Action.Unrestrict rule stock) name = refl
 given_stays g stays users Action.CloseDay name = refl
 
 all_stays : {Y : Type 0} (g : User → Y) → Stays g → (done : List Action) (users : List User) (name : UserName)
-    → option_map g (user_in (fold given users done) name) ≡ option_map g (user_in users name)
+    → option_map g (user_in (fold users_after users done) name) ≡ option_map g (user_in users name)
 all_stays g stays [] users name = refl
-all_stays g stays (action ∷ done) users name = all_stays g stays done (given users action) name ∙ given_stays g stays users action name
+all_stays g stays (action ∷ done) users name = all_stays g stays done (users_after users action) name ∙ given_stays g stays users action name
 
 -- what stays of the users in force
 pub stays_in_force : {Y : Type 0} (g : User → Y) → Stays g → (policy : PolicyData) (history : List RecordData) (name : UserName)
@@ -76,9 +76,9 @@ word_of k (Some u) (Some v) e = some_same e
 
 -- a word on the role of a user, after one more command
 pub given_word : {Y : Type 0} (k : Option Role → Y) → RoleStays (λ r. k (Some r)) → (users : List User) (action : Action) (name : UserName)
-    → k (role_in (given users action) name) ≡ k (role_in users name)
+    → k (role_in (users_after users action) name) ≡ k (role_in users name)
 given_word k stays users action name =
-    word_of k (user_in (given users action) name) (user_in users name) (given_stays (λ (u : User). k (Some u.role)) (role_stays (λ r. k (Some r)) stays) users action name)
+    word_of k (user_in (users_after users action) name) (user_in users name) (given_stays (λ (u : User). k (Some u.role)) (role_stays (λ r. k (Some r)) stays) users action name)
 
 -- a word on the role of a user in force
 pub role_word : {Y : Type 0} (k : Option Role → Y) → RoleStays (λ r. k (Some r)) → (policy : PolicyData) (history : List RecordData) (name : UserName)
@@ -105,7 +105,7 @@ reader_changed n f same (u ∷ us) written =
     [ true ↦ refl | false ↦ reader_changed n f same us written ]
 
 given_reader : (users : List User) (action : Action) (written : WrittenName)
-    → option_map (λ (u : User). u.name) (reader_in (given users action) written) ≡ option_map (λ (u : User). u.name) (reader_in users written)
+    → option_map (λ (u : User). u.name) (reader_in (users_after users action) written) ≡ option_map (λ (u : User). u.name) (reader_in users written)
 given_reader users (Action.Grant other a) written = by (reader_in users other)
   where
     by : (found : Option User)
@@ -130,9 +130,9 @@ given_reader users (Action.Unrestrict rule stock) written = refl
 given_reader users Action.CloseDay written = refl
 
 all_reader : (done : List Action) (users : List User) (written : WrittenName)
-    → option_map (λ (u : User). u.name) (reader_in (fold given users done) written) ≡ option_map (λ (u : User). u.name) (reader_in users written)
+    → option_map (λ (u : User). u.name) (reader_in (fold users_after users done) written) ≡ option_map (λ (u : User). u.name) (reader_in users written)
 all_reader [] users written = refl
-all_reader (action ∷ done) users written = all_reader done (given users action) written ∙ given_reader users action written
+all_reader (action ∷ done) users written = all_reader done (users_after users action) written ∙ given_reader users action written
 
 -- the reader whom an officer names is the policy's
 pub reader_in_force : (policy : PolicyData) (history : List RecordData) (written : WrittenName)

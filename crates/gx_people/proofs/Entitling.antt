@@ -1,17 +1,14 @@
 -- Grants and revocations one by one leave what the last of them says.
-use Rattle.std.proofs.{Common.{◌≡◌, Bool, true, false, ◌&&◌, ◌||◌, not, cond, List, [], ◌∷◌, ◌++◌, map, fold, refl, ap, sym, ◌∙◌, true≢false, subst, if◌then◌else◌}, lemmas.{List.Folds.list_any-append, Map.Views.any-filter_same, Slice.Eq.bytes_eq-Decides}}
+use Rattle.std.proofs.{Common.{◌≡◌, Bool, true, false, ◌&&◌, ◌||◌, not, cond, List, [], ◌∷◌, ◌++◌, map, fold, refl, ap, sym, ◌∙◌, true≢false, subst, if◌then◌else◌}, lemmas.{List.Folds.list_any-append, Map.Views.any-filter_same, Slice.Eq.bytes_eq-Decides, Bool.and_parts}}
 use Rattle.std.specs.{Prelude.{Option, Some, None, option_map, option_and_then, is_some, find, unwrap_or, filter, filter_map}, Option.option_map_or, List.{last_or, cons_option}}
 use Rattle.gx_units.specs.{Names.{same_user, same_account, has_no_lower_case}, declared.names.{AccountName.AccountName, UserName.UserName}}
 use Rattle.gx_desk.specs.{Names.is_written, declared.{WrittenName.WrittenName, Action.Action}}
 use Rattle.gx_policy.specs.{declared.policy.{PolicyData.PolicyData, Role.Role, User.User}, Lists.{last_value, where_true}, People.{is_reader, role_in, names_account, user_in}, Soundness.is_sound}
-use Rattle.gx_history.specs.{declared.record.{Asked.Asked, RecordData.RecordData}, InForce.{in_role, is_entitled, grant_or_revoke_of, last_mark}, Readers.reader_in, Requests.{granted, granted_actions, granted_mark, action_of}}
+use Rattle.gx_history.specs.{declared.record.{Asked.Asked, RecordData.RecordData}, InForce.{in_role, is_entitled, grant_or_revoke_of, last_mark}, Readers.reader_in, Requests.{granted_of, granted_actions, granted_mark, action_of}}
 use Rattle.gx_laws.proofs.{Adding.user_is, Names.{account_is, same_account_flip}, Order.some_same}
-use Rattle.gx_people.specs.Entitled.{change_role, with_account, without_account, granted_to, revoked_from, given, people_in_force, sees}
+use Rattle.gx_people.specs.Entitled.{change_role, with_account, without_account, granted_to, revoked_from, users_after, people_in_force, sees}
 use Rattle.gx_people.proofs.{Spelling.{AreUpper, same_written, sound_upper}, Changing.{user_changed, role_word, reader_stays, given_word}}
-
-or_false : (b : Bool) → (b || false) ≡ b
-or_false true = refl
-or_false false = refl
+use Rattle.gx_units.proofs.Tests.{or_false}
 
 or_flip : (a b : Bool) → (a || b) ≡ (b || a)
 or_flip true true = refl
@@ -162,10 +159,6 @@ found_fails test other (v ∷ us) u none e = by (test v) (other v) refl none e (
     by false true is none e later = ap test (sym (some_same e)) ∙ is
     by false false is none e later = later none e
 
-left_of : (a b : Bool) → (a && b) ≡ true → a ≡ true
-left_of true b h = refl
-left_of false b h = absurd (true≢false (sym h))
-
 fails_left : (a b : Bool) → (a && b) ≡ false → b ≡ true → a ≡ false
 fails_left true b h k = absurd (true≢false (sym k ∙ h))
 fails_left false b h k = refl
@@ -189,7 +182,7 @@ named_so users written reader u v upper is found =
     let of_v = found_upper (λ (w : User). is_written written w.name && is_reader (Some w.role)) users v upper found in
     let name : u.name ≡ reader = found_name users reader u is in
     let reader_upper : has_no_lower_case reader.bytes ≡ true = subst (λ (n : UserName). has_no_lower_case n.bytes ≡ true) name of_u.0 in
-    let v_is_written : is_written written v.name ≡ true = left_of (is_written written v.name) (is_reader (Some v.role)) of_v.1 in
+    let v_is_written : is_written written v.name ≡ true = (and_parts (is_written written v.name) (is_reader (Some v.role)) of_v.1).0 in
     by (is_written written reader) (same_user reader v.name) refl refl
     (λ so. (bytes_eq-Decides reader.bytes v.name.bytes).1 (ap (λ (n : UserName). n.bytes) (same_written written reader v.name reader_upper of_v.0 so v_is_written)))
     (λ same. ap (is_written written) (user_is reader v.name same) ∙ v_is_written)
@@ -235,7 +228,7 @@ module _ (users : List User) (reader : UserName) (account : AccountName) (office
       ∙ ap (λ b. not (is_written written reader && b) && sees users reader account) (same_account_flip account named)
       ∙ marked_false (is_written written reader) (same_account named account) (sees users reader account)
 
-  one_more : (action : Action) → sees (given users action) reader account ≡ unwrap_or (grant_or_revoke_of reader account officer action) (sees users reader account)
+  one_more : (action : Action) → sees (users_after users action) reader account ≡ unwrap_or (grant_or_revoke_of reader account officer action) (sees users reader account)
   one_more (Action.Grant written named) = grant_seen written named (reader_in users written) refl
   one_more (Action.Revoke written named) = revoke_seen written named (reader_in users written) refl
   one_more (Action.Kill a) = refl
@@ -250,7 +243,7 @@ changed_upper n f [] upper = tt
 changed_upper n f (u ∷ users) upper = (upper.0, changed_upper n f users upper.1)
 
 -- what the steps need of the users stays
-pub given_upper : (users : List User) (action : Action) → AreUpper users → AreUpper (given users action)
+pub given_upper : (users : List User) (action : Action) → AreUpper users → AreUpper (users_after users action)
 given_upper users (Action.Grant written a) upper = by (reader_in users written)
   where
     by : (found : Option User) → AreUpper (option_map_or (λ (u : User). granted_to u.name a users) found users)
@@ -269,10 +262,10 @@ given_upper users (Action.Unrestrict rule stock) upper = upper
 given_upper users Action.CloseDay upper = upper
 
 at_reader : (users : List User) (reader : UserName) (account : AccountName) (officer : UserName) → AreUpper users → is_reader (role_in users reader) ≡ true
-    → (action : Action) → sees (given users action) reader account ≡ unwrap_or (grant_or_revoke_of reader account officer action) (sees users reader account)
+    → (action : Action) → sees (users_after users action) reader account ≡ unwrap_or (grant_or_revoke_of reader account officer action) (sees users reader account)
 at_reader users reader account officer upper reads action = by (user_in users reader) refl
   where
-    by : (found : Option User) → user_in users reader ≡ found → sees (given users action) reader account ≡ unwrap_or (grant_or_revoke_of reader account officer action) (sees users reader account)
+    by : (found : Option User) → user_in users reader ≡ found → sees (users_after users action) reader account ≡ unwrap_or (grant_or_revoke_of reader account officer action) (sees users reader account)
     by None e = absurd (true≢false (sym reads ∙ ap (λ o. is_reader (option_map (λ (u : User). u.role) o)) e))
     by (Some u) e = one_more users reader account officer upper u e (sym (ap (λ o. is_reader (option_map (λ (u : User). u.role) o)) e) ∙ reads) action
 
@@ -292,31 +285,31 @@ last_value_first {X} {Y} mark d x xs = by (mark x)
     by None = refl
     by (Some y) = last_from y d (filter_map mark xs)
 
-still_reads : (users : List User) (action : Action) (reader : UserName) → is_reader (role_in users reader) ≡ true → is_reader (role_in (given users action) reader) ≡ true
+still_reads : (users : List User) (action : Action) (reader : UserName) → is_reader (role_in users reader) ≡ true → is_reader (role_in (users_after users action) reader) ≡ true
 still_reads users action reader reads = given_word (λ (role : Option Role). is_reader role) reader_stays users action reader ∙ reads
 
 -- the commands of these records, one by one
 entitled_from : (history : List RecordData) (users : List User) (reader : UserName) (account : AccountName) → AreUpper users → is_reader (role_in users reader) ≡ true
-    → sees (fold given users (granted_actions history)) reader account ≡ last_mark (grant_or_revoke_of reader account) history (sees users reader account)
+    → sees (fold users_after users (granted_actions history)) reader account ≡ last_mark (grant_or_revoke_of reader account) history (sees users reader account)
 entitled_from [] users reader account upper reads = refl
 entitled_from (r ∷ rs) users reader account upper reads =
-    by_record (granted r) (λ us up known. entitled_from rs us reader account up known)
+    by_record (granted_of r) (λ us up known. entitled_from rs us reader account up known)
     ∙ sym (last_value_first (granted_mark (grant_or_revoke_of reader account)) (sees users reader account) r rs)
   where
     Goes : List User → Type 0
     Goes us = AreUpper us → is_reader (role_in us reader) ≡ true
-        → sees (fold given us (granted_actions rs)) reader account ≡ last_mark (grant_or_revoke_of reader account) rs (sees us reader account)
+        → sees (fold users_after us (granted_actions rs)) reader account ≡ last_mark (grant_or_revoke_of reader account) rs (sees us reader account)
 
     by_action : (officer : UserName) (action : Option Action) → ((us : List User) → Goes us)
-        → sees (fold given users (cons_option action (granted_actions rs))) reader account
+        → sees (fold users_after users (cons_option action (granted_actions rs))) reader account
         ≡ last_mark (grant_or_revoke_of reader account) rs (unwrap_or (option_and_then (grant_or_revoke_of reader account officer) action) (sees users reader account))
     by_action officer None later = later users upper reads
     by_action officer (Some action) later =
-        later (given users action) (given_upper users action upper) (still_reads users action reader reads)
+        later (users_after users action) (given_upper users action upper) (still_reads users action reader reads)
         ∙ ap (last_mark (grant_or_revoke_of reader account) rs) (at_reader users reader account officer upper reads action)
 
     by_record : (o : Option Asked) → ((us : List User) → Goes us)
-        → sees (fold given users (cons_option (option_and_then (λ (a : Asked). action_of a.request) o) (granted_actions rs))) reader account
+        → sees (fold users_after users (cons_option (option_and_then (λ (a : Asked). action_of a.request) o) (granted_actions rs))) reader account
         ≡ last_mark (grant_or_revoke_of reader account) rs (unwrap_or (option_and_then (λ (a : Asked). option_and_then (grant_or_revoke_of reader account a.user) (action_of a.request)) o) (sees users reader account))
     by_record None later = later users upper reads
     by_record (Some a) later = by_action a.user (action_of a.request) later

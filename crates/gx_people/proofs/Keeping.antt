@@ -5,7 +5,7 @@ use Rattle.gx_units.specs.declared.names.{AccountName.AccountName, Password.Pass
 use Rattle.gx_desk.specs.declared.{WrittenName.WrittenName, Action.Action}
 use Rattle.gx_policy.specs.{declared.policy.{PolicyData.PolicyData, Role.Role, User.User}, People.{account_of, account_of_role, is_officer, is_trader, role_in, user_in}, Soundness.is_sound}
 use Rattle.gx_history.specs.{declared.record.RecordData.RecordData, Asking.{has_power, sees_now}, InForce.is_entitled, Logins.{password_is, same_password}, Readers.reader_in, Requests.granted_action}
-use Rattle.gx_people.specs.Entitled.{given, granted_to, has, has_in_role, holds, holds_in_role, people_in_force, power_of, revoked_from, sees}
+use Rattle.gx_people.specs.Entitled.{users_after, granted_to, has, has_in_role, holds, holds_in_role, people_in_force, power_of, revoked_from, sees}
 use Rattle.gx_laws.proofs.{NextInForce.granted_next, Order.some_same}
 use Rattle.gx_people.proofs.{Table.{is_some_map, map_or}, Changing.{RoleStays, reader_in_force, role_word, stays_in_force}, Entitling.kept}
 
@@ -27,9 +27,9 @@ unfolding people_in_force
 first_users policy = refl
 
 pub next_users : (policy : PolicyData) (history : List RecordData) (r : RecordData)
-    → people_in_force policy (history ++ r ∷ []) ≡ option_map_or (given (people_in_force policy history)) (granted_action r) (people_in_force policy history)
+    → people_in_force policy (history ++ r ∷ []) ≡ option_map_or (users_after (people_in_force policy history)) (granted_action r) (people_in_force policy history)
 unfolding people_in_force
-next_users policy history r = granted_next given policy.users history r
+next_users policy history r = granted_next users_after policy.users history r
 
 -- a role has the power that the command asks for exactly where the rules say so
 pub power_for_is : (role : Option Role) (action : Action) → has_in_role role (power_of action) ≡ has_power role action
@@ -107,7 +107,7 @@ users_stay policy history user =
     ∙ is_some_map (λ (u : User). u.password) (user_in policy.users user)
 
 pub grants_go : (users : List User) (written : WrittenName) (account : AccountName) (reader : UserName)
-    → option_map (λ (u : User). u.name) (reader_in users written) ≡ Some reader → given users (Action.Grant written account) ≡ granted_to reader account users
+    → option_map (λ (u : User). u.name) (reader_in users written) ≡ Some reader → users_after users (Action.Grant written account) ≡ granted_to reader account users
 grants_go users written account reader = by (reader_in users written)
   where
     by : (found : Option User) → option_map (λ (u : User). u.name) found ≡ Some reader → option_map_or (λ (u : User). granted_to u.name account users) found users ≡ granted_to reader account users
@@ -115,7 +115,7 @@ grants_go users written account reader = by (reader_in users written)
     by (Some u) e = ap (λ (name : UserName). granted_to name account users) (some_same e)
 
 pub revocations_go : (users : List User) (written : WrittenName) (account : AccountName) (reader : UserName)
-    → option_map (λ (u : User). u.name) (reader_in users written) ≡ Some reader → given users (Action.Revoke written account) ≡ revoked_from reader account users
+    → option_map (λ (u : User). u.name) (reader_in users written) ≡ Some reader → users_after users (Action.Revoke written account) ≡ revoked_from reader account users
 revocations_go users written account reader = by (reader_in users written)
   where
     by : (found : Option User) → option_map (λ (u : User). u.name) found ≡ Some reader → option_map_or (λ (u : User). revoked_from u.name account users) found users ≡ revoked_from reader account users

@@ -1,44 +1,32 @@
 -- The users in force of a legal day are sound, so a reader has room for an account that is not his.
-use Rattle.std.proofs.{Common.{◌≡◌, ℕ, ◌+◌, ◌≤◌, arith, Bool, true, false, ◌&&◌, ◌||◌, not, nat_lt, cond, List, [], ◌∷◌, ◌++◌, map, length, refl, ap, sym, ◌∙◌, subst, if◌then◌else◌}, lemmas.{Bool.Decides.nat_tests, Cmp.nat_list_eq_equiv, List.{length-map, Folds.{list_all-append, list_any-append}}, Map.Made.length-le_from_is_member}}
+use Rattle.std.proofs.{Common.{◌≡◌, ℕ, ◌+◌, ◌≤◌, arith, Bool, true, false, ◌&&◌, ◌||◌, not, nat_lt, cond, List, [], ◌∷◌, ◌++◌, map, length, refl, ap, sym, ◌∙◌, subst, if◌then◌else◌}, lemmas.{Bool.{Decides.nat_tests, and_parts, or_parts, not-true, or_right, and_from}, Cmp.nat_list_eq_equiv, List.{Folds.{list_all-append, list_any-append}, length-map}, Map.Made.length-le_from_is_member}}
 use Rattle.std.specs.{Prelude.{Option, Some, None, option_and_then, option_map, is_some, find, filter}, Option.option_map_or, Cmp.IsEquivalence, List.{AllByRecursion, IsDistinct, list_all, list_any}}
 use Rattle.gx_units.specs.{Names.{same_account, same_user}, declared.names.{AccountName.AccountName, UserName.UserName}}
 use Rattle.gx_desk.specs.declared.Action.{Action}
 use Rattle.gx_policy.specs.{declared.policy.{Account.Account, PolicyData.PolicyData, Role.Role, User.User}, Lists.are_distinct, People.{account_named, names_account, user_in}, Soundness.{are_accounts, is_role_sound, is_sound, is_user_sound}}
-use Rattle.gx_history.specs.{declared.record.{Asked.Asked, RecordData.RecordData, Step.Step, Verdict.Verdict}, Asking.knows_names, Readers.reader_in, Requests.{action_of, asked, is_granted}, Verdicts.{Follows, IsLegal, next}}
-use Rattle.gx_laws.proofs.{Granting.legal_keeps, Judging.both, Names.{account_is, accounts_few, same_account_flip}, Allowed.names_are_known, Commanding.grants_command}
-use Rattle.gx_people.specs.Entitled.{account_limit, change_role, given, granted_to, has_room, people_in_force, revoked_from, role_has_room, with_account, without_account}
-use Rattle.gx_people.proofs.{Keeping.{first_users, next_users}, Spelling.both_hold}
+use Rattle.gx_history.specs.{declared.record.{Asked.Asked, RecordData.RecordData, Step.Step, Verdict.Verdict}, Asking.knows_names, Readers.reader_in, Requests.{action_of, asked_of, is_granted}, Verdicts.{Follows, IsLegal, next}}
+use Rattle.gx_laws.proofs.{Granting.legal_keeps, Names.{account_is, accounts_few, same_account_flip}, Allowed.names_are_known, Commanding.grants_command}
+use Rattle.gx_people.specs.Entitled.{account_limit, change_role, users_after, granted_to, has_room, people_in_force, revoked_from, role_has_room, with_account, without_account}
+use Rattle.gx_people.proofs.Keeping.{first_users, next_users}
 
 -- ---- lists of accounts, none of them twice
-
-none_of_two : (a b : Bool) → (a || b) ≡ false → (a ≡ false) × (b ≡ false)
-none_of_two true b h = cc
-none_of_two false b h = (refl, h)
-
-is_false : (b : Bool) → not b ≡ true → b ≡ false
-is_false true h = cc
-is_false false h = refl
-
-or_either : (a b : Bool) → b ≡ true → (a || b) ≡ true
-or_either true b h = refl
-or_either false b h = h
 
 -- one more that is not among them
 distinct_push : (names : List AccountName) (account : AccountName) → are_distinct same_account names ≡ true → names_account names account ≡ false → are_distinct same_account (names ++ account ∷ []) ≡ true
 distinct_push [] account h new = refl
 distinct_push (n ∷ names) account h new =
-    let parts = both (not (list_any (same_account n) names)) (are_distinct same_account names) h in
-    let apart = none_of_two (same_account n account) (names_account names account) new in
-    both_hold (not (list_any (same_account n) (names ++ account ∷ []))) (are_distinct same_account (names ++ account ∷ []))
+    let parts = and_parts (not (list_any (same_account n) names)) (are_distinct same_account names) h in
+    let apart = or_parts (same_account n account) (names_account names account) new in
+    and_from (not (list_any (same_account n) (names ++ account ∷ []))) (are_distinct same_account (names ++ account ∷ []))
     (ap not (list_any-append (same_account n) names (account ∷ [])
-    ∙ ap (λ b. b || (same_account n account || false)) (is_false (list_any (same_account n) names) parts.0)
+    ∙ ap (λ b. b || (same_account n account || false)) (not-true (list_any (same_account n) names) parts.0)
     ∙ ap (λ b. b || false) apart.0))
     (distinct_push names account parts.1 apart.1)
 
 any_left : (test keep : AccountName → Bool) (names : List AccountName) → list_any test names ≡ false → list_any test (filter keep names) ≡ false
 any_left test keep [] none = refl
 any_left test keep (n ∷ names) none =
-    let parts = none_of_two (test n) (list_any test names) none in
+    let parts = or_parts (test n) (list_any test names) none in
     elim (keep n) as (λ b. list_any test (cond b (n ∷ filter keep names) (filter keep names)) ≡ false)
     [ true ↦ ap (λ b. b || list_any test (filter keep names)) parts.0 ∙ any_left test keep names parts.1 | false ↦ any_left test keep names parts.1 ]
 
@@ -46,19 +34,19 @@ any_left test keep (n ∷ names) none =
 distinct_left : (keep : AccountName → Bool) (names : List AccountName) → are_distinct same_account names ≡ true → are_distinct same_account (filter keep names) ≡ true
 distinct_left keep [] h = refl
 distinct_left keep (n ∷ names) h =
-    let parts = both (not (list_any (same_account n) names)) (are_distinct same_account names) h in
+    let parts = and_parts (not (list_any (same_account n) names)) (are_distinct same_account names) h in
     elim (keep n) as (λ b. are_distinct same_account (cond b (n ∷ filter keep names) (filter keep names)) ≡ true) [
-      | true ↦ both_hold (not (list_any (same_account n) (filter keep names))) (are_distinct same_account (filter keep names))
-          (ap not (any_left (same_account n) keep names (is_false (list_any (same_account n) names) parts.0))) (distinct_left keep names parts.1)
+      | true ↦ and_from (not (list_any (same_account n) (filter keep names))) (are_distinct same_account (filter keep names))
+          (ap not (any_left (same_account n) keep names (not-true (list_any (same_account n) names) parts.0))) (distinct_left keep names parts.1)
       | false ↦ distinct_left keep names parts.1
     ]
 
 all_left : (test keep : AccountName → Bool) (names : List AccountName) → list_all test names ≡ true → list_all test (filter keep names) ≡ true
 all_left test keep [] h = refl
 all_left test keep (n ∷ names) h =
-    let parts = both (test n) (list_all test names) h in
+    let parts = and_parts (test n) (list_all test names) h in
     elim (keep n) as (λ b. list_all test (cond b (n ∷ filter keep names) (filter keep names)) ≡ true)
-    [ true ↦ both_hold (test n) (list_all test (filter keep names)) parts.0 (all_left test keep names parts.1) | false ↦ all_left test keep names parts.1 ]
+    [ true ↦ and_from (test n) (list_all test (filter keep names)) parts.0 (all_left test keep names parts.1) | false ↦ all_left test keep names parts.1 ]
 
 -- ---- the users in force are sound
 
@@ -71,9 +59,9 @@ with_sound policy account known (Role.Reader names) sound = by (names_account na
     by true is = sound
     by false is =
         let test : AccountName → Bool = λ (name : AccountName). is_some (account_named policy name) in
-        let parts = both (list_all test names) (are_distinct same_account names) sound in
-        both_hold (list_all test (names ++ account ∷ [])) (are_distinct same_account (names ++ account ∷ []))
-        (list_all-append test names (account ∷ []) ∙ both_hold (list_all test names) (test account && true) parts.0 (ap (λ b. b && true) known))
+        let parts = and_parts (list_all test names) (are_distinct same_account names) sound in
+        and_from (list_all test (names ++ account ∷ [])) (are_distinct same_account (names ++ account ∷ []))
+        (list_all-append test names (account ∷ []) ∙ and_from (list_all test names) (test account && true) parts.0 (ap (λ b. b && true) known))
         (distinct_push names account parts.1 is)
 
 without_sound : (policy : PolicyData) (account : AccountName) (role : Role) → is_role_sound policy role ≡ true → is_role_sound policy (without_account account role) ≡ true
@@ -82,27 +70,27 @@ without_sound policy account (Role.Officer powers scope) sound = sound
 without_sound policy account (Role.Reader names) sound =
     let test : AccountName → Bool = λ (name : AccountName). is_some (account_named policy name) in
     let keep : AccountName → Bool = λ (name : AccountName). not (same_account name account) in
-    let parts = both (list_all test names) (are_distinct same_account names) sound in
-    both_hold (list_all test (filter keep names)) (are_distinct same_account (filter keep names)) (all_left test keep names parts.0) (distinct_left keep names parts.1)
+    let parts = and_parts (list_all test names) (are_distinct same_account names) sound in
+    and_from (list_all test (filter keep names)) (are_distinct same_account (filter keep names)) (all_left test keep names parts.0) (distinct_left keep names parts.1)
 
 changed_sound : (policy : PolicyData) (name : UserName) (change : Role → Role) → ((role : Role) → is_role_sound policy role ≡ true → is_role_sound policy (change role) ≡ true)
     → (users : List User) → list_all (is_user_sound policy) users ≡ true → list_all (is_user_sound policy) (map (change_role name change) users) ≡ true
 changed_sound policy name change stays [] sound = refl
 changed_sound policy name change stays (u ∷ users) sound =
-    let parts = both (is_user_sound policy u) (list_all (is_user_sound policy) users) sound in
-    let own = both _ (is_role_sound policy u.role) parts.0 in
-    both_hold (is_user_sound policy (change_role name change u)) (list_all (is_user_sound policy) (map (change_role name change) users))
-    (both_hold _ (is_role_sound policy (if same_user u.name name then change u.role else u.role)) own.0
+    let parts = and_parts (is_user_sound policy u) (list_all (is_user_sound policy) users) sound in
+    let own = and_parts _ (is_role_sound policy u.role) parts.0 in
+    and_from (is_user_sound policy (change_role name change u)) (list_all (is_user_sound policy) (map (change_role name change) users))
+    (and_from _ (is_role_sound policy (if same_user u.name name then change u.role else u.role)) own.0
     (elim (same_user u.name name) as (λ b. is_role_sound policy (if b then change u.role else u.role) ≡ true) [ true ↦ stays u.role own.1 | false ↦ own.1 ]))
     (changed_sound policy name change stays users parts.1)
 
 -- after a command that names what is known
 given_sound : (policy : PolicyData) (history : List RecordData) (users : List User) (action : Action) → knows_names policy history action ≡ true
-    → list_all (is_user_sound policy) users ≡ true → list_all (is_user_sound policy) (given users action) ≡ true
+    → list_all (is_user_sound policy) users ≡ true → list_all (is_user_sound policy) (users_after users action) ≡ true
 given_sound policy history users (Action.Grant written account) known sound = by (reader_in users written)
   where
     account_known : is_some (account_named policy account) ≡ true
-    account_known = (both (is_some (reader_in policy.users written)) (is_some (account_named policy account)) known).1
+    account_known = (and_parts (is_some (reader_in policy.users written)) (is_some (account_named policy account)) known).1
 
     by : (found : Option User) → list_all (is_user_sound policy) (option_map_or (λ (u : User). granted_to u.name account users) found users) ≡ true
     by None = sound
@@ -129,14 +117,14 @@ next_sound policy history r before follows = subst (AreSound policy) (sym (next_
     users : List User
     users = people_in_force policy history
 
-    by_action : (a : Asked) → r.step ≡ Step.Asked a → r.verdict ≡ Verdict.Granted → (action : Option Action) → action_of a.request ≡ action → AreSound policy (option_map_or (given users) action users)
+    by_action : (a : Asked) → r.step ≡ Step.Asked a → r.verdict ≡ Verdict.Granted → (action : Option Action) → action_of a.request ≡ action → AreSound policy (option_map_or (users_after users) action users)
     by_action a asks granted None is = before
     by_action a asks granted (Some action) is =
         let left : next policy history (Step.Asked a) ≡ Some r = ap (next policy history) (sym asks) ∙ follows.is_next in
         given_sound policy history users action (names_are_known policy history a r action (grants_command policy history a r action left is granted) left) before
 
     by : (v : Verdict) → r.verdict ≡ v → (s : Step) → r.step ≡ s
-        → AreSound policy (option_map_or (given users) (option_and_then (λ (a : Asked). action_of a.request) (if is_granted v then asked s else None)) users)
+        → AreSound policy (option_map_or (users_after users) (option_and_then (λ (a : Asked). action_of a.request) (if is_granted v then asked_of s else None)) users)
     by Verdict.Granted granted (Step.Asked a) asks = by_action a asks granted (action_of a.request) refl
     by Verdict.Granted granted (Step.Matching handed) asks = before
     by (Verdict.Denied rule) denied s is = before
@@ -146,7 +134,7 @@ next_sound policy history r before follows = subst (AreSound policy) (sym (next_
 
 first_sound : (policy : PolicyData) → is_sound policy ≡ true → AreSound policy policy.users
 unfolding is_sound
-first_sound policy sound = (both _ _ (both _ _ sound).0).1
+first_sound policy sound = (and_parts _ _ (and_parts _ _ sound).0).1
 
 pub users_stay_sound : (policy : PolicyData) (history : List RecordData) → is_sound policy ≡ true → IsLegal policy history → AreSound policy (people_in_force policy history)
 users_stay_sound policy history sound legal =
@@ -174,7 +162,7 @@ known_is_member (a ∷ accounts) account known = by (same_account a.name account
     by : (b : Bool) → same_account a.name account ≡ b → is_some (cond b (Some a) (find (λ (x : Account). same_account x.name account) accounts)) ≡ true
         → (is_some (find (λ (x : Account). same_account x.name account) accounts) ≡ true → rest ≡ true) → (same_account account a.name || rest) ≡ true
     by true is h later = ap (λ b. b || rest) (same_account_flip account a.name ∙ is)
-    by false is h later = or_either (same_account account a.name) rest (later h)
+    by false is h later = or_right (same_account account a.name) rest (later h)
 
 -- of known names each member is known
 member_is_known : (policy : PolicyData) (names : List AccountName) → list_all (λ name. is_some (account_named policy name)) names ≡ true
@@ -183,7 +171,7 @@ member_is_known policy [] all account among = cc
 member_is_known policy (n ∷ names) all account among = by (same_account account n) refl among (member_is_known policy names parts.1 account)
   where
     parts : (is_some (account_named policy n) ≡ true) × (list_all (λ name. is_some (account_named policy name)) names ≡ true)
-    parts = both (is_some (account_named policy n)) (list_all (λ name. is_some (account_named policy name)) names) all
+    parts = and_parts (is_some (account_named policy n)) (list_all (λ name. is_some (account_named policy name)) names) all
 
     by : (b : Bool) → same_account account n ≡ b → (b || list_any (same_account account) names) ≡ true
         → (list_any (same_account account) names ≡ true → is_some (account_named policy account) ≡ true) → is_some (account_named policy account) ≡ true
@@ -193,15 +181,15 @@ member_is_known policy (n ∷ names) all account among = by (same_account accoun
 each_apart : (account : AccountName) (names : List AccountName) → list_any (same_account account) names ≡ false → AllByRecursion (λ name. same_account account name ≡ false) names
 each_apart account [] none = tt
 each_apart account (n ∷ names) none =
-    let parts = none_of_two (same_account account n) (list_any (same_account account) names) none in
+    let parts = or_parts (same_account account n) (list_any (same_account account) names) none in
     (parts.0, each_apart account names parts.1)
 
 names_distinct : (names : List AccountName) → are_distinct same_account names ≡ true → IsDistinct same_account names
 unfolding IsDistinct
 names_distinct [] h = tt
 names_distinct (n ∷ names) h =
-    let parts = both (not (list_any (same_account n) names)) (are_distinct same_account names) h in
-    (each_apart n names (is_false (list_any (same_account n) names) parts.0), names_distinct names parts.1)
+    let parts = and_parts (not (list_any (same_account n) names)) (are_distinct same_account names) h in
+    (each_apart n names (not-true (list_any (same_account n) names) parts.0), names_distinct names parts.1)
 
 with_distinct : (account : AccountName) (names : List AccountName) → list_any (same_account account) names ≡ false → are_distinct same_account names ≡ true → IsDistinct same_account (account ∷ names)
 unfolding IsDistinct
@@ -215,10 +203,10 @@ named_flip (n ∷ names) account = ap (λ b. b || list_any (same_account account
 fewer : (policy : PolicyData) (names : List AccountName) (account : AccountName) → is_some (account_named policy account) ≡ true → are_accounts policy names ≡ true
     → names_account names account ≡ false → length names + 1 ≤ length policy.accounts
 fewer policy names account known sound new =
-    let known_names = both (list_all (λ name. is_some (account_named policy name)) names) (are_distinct same_account names) sound in
+    let known_names = and_parts (list_all (λ name. is_some (account_named policy name)) names) (are_distinct same_account names) sound in
     let named : Account → AccountName = λ (a : Account). a.name in
     let all_known : list_all (λ name. is_some (account_named policy name)) (account ∷ names) ≡ true =
-    both_hold (is_some (account_named policy account)) (list_all (λ name. is_some (account_named policy name)) names) known known_names.0
+    and_from (is_some (account_named policy account)) (list_all (λ name. is_some (account_named policy name)) names) known known_names.0
     in
     let no_more : length (account ∷ names) ≤ length (map named policy.accounts) =
     length-le_from_is_member account_equiv (account ∷ names) (map named policy.accounts)
@@ -246,7 +234,7 @@ found_sound policy [] name u sound found = cc
 found_sound policy (v ∷ users) name u sound found = by (same_user v.name name) found (found_sound policy users name u parts.1)
   where
     parts : (is_user_sound policy v ≡ true) × AreSound policy users
-    parts = both (is_user_sound policy v) (list_all (is_user_sound policy) users) sound
+    parts = and_parts (is_user_sound policy v) (list_all (is_user_sound policy) users) sound
 
     by : (b : Bool) → cond b (Some v) (user_in users name) ≡ Some u → (user_in users name ≡ Some u → is_user_sound policy u ≡ true) → is_user_sound policy u ≡ true
     by true is later = let same : v ≡ u = cc in subst (λ (w : User). is_user_sound policy w ≡ true) same parts.0
@@ -262,4 +250,4 @@ readers_have_room policy history reader account sound legal known = by (user_in 
     by (Some u) is =
         ap (λ (o : Option User). option_map_or (λ role. role_has_room role account) (option_map (λ (v : User). v.role) o) true) is
         ∙ role_room policy u.role account sound known
-        (both _ (is_role_sound policy u.role) (found_sound policy (people_in_force policy history) reader u (users_stay_sound policy history sound legal) is)).1
+        (and_parts _ (is_role_sound policy u.role) (found_sound policy (people_in_force policy history) reader u (users_stay_sound policy history sound legal) is)).1

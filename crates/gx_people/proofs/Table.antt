@@ -1,5 +1,5 @@
 -- What the table of persons says of the users that it stands for.
-use Rattle.std.proofs.{Common.{◌≡◌, Bool, true, false, cond, ◌&&◌, List, [], ◌∷◌, ◌++◌, map, refl, ◌∙◌, sym, ap, subst, true≢false, if◌then◌else◌, ℕ, ◌+◌, ◌<◌, length, take, get_or}, lemmas.{List.{map-append, take_more}, Simd.map-map}}
+use Rattle.std.proofs.{Common.{◌≡◌, Bool, true, false, cond, ◌&&◌, List, [], ◌∷◌, ◌++◌, map, refl, ◌∙◌, sym, ap, subst, true≢false, if◌then◌else◌, ℕ, ◌+◌, ◌<◌, length, take, get_or}, lemmas.{List.{map-append, take_more}, Simd.map-map, Bool.and_parts}}
 use Rattle.std.specs.{Option.option_map_or, Prelude.{Option, Some, None, option_map, is_some}, List.{AllByRecursion, IsDistinct}, Map.{keys_of, lookup, set_value}}
 use Rattle.indexmap.specs.IndexMap.{insert_entry}
 use Rattle.indexmap.proofs.MapLemmas.{insert_entry-absent}
@@ -7,7 +7,7 @@ use Rattle.gx_units.specs.{Names.same_user, declared.names.{AccountName.AccountN
 use Rattle.gx_desk.specs.{Names.is_written, declared.WrittenName.WrittenName}
 use Rattle.gx_policy.specs.{declared.policy.{Role.Role, User.User}, Lists.are_distinct, People.{is_reader, user_in, role_in}}
 use Rattle.gx_history.specs.{Logins.{password_is, same_password}, Readers.reader_in}
-use Rattle.gx_laws.proofs.{Adding.{user_is, user_is_itself}, Judging.both, Names.same_user_flip, Order.some_same, Tables.{changed_in_place, new_next}}
+use Rattle.gx_laws.proofs.{Adding.{user_is, user_is_itself}, Names.same_user_flip, Order.some_same, Tables.{changed_in_place, new_next}}
 use Rattle.gx_people.specs.{Entitled.{change_role, has_room, role_has_room}, View.{role_of_standing, user_of, users_of}, declared.person.Person.Person}
 
 -- what the person found by a name says, the user of that name says
@@ -114,7 +114,7 @@ found_reads (e ∷ es) written u distinct found =
     by true test is later =
         ap (λ (w : User). is_reader (role_in (users_of (e ∷ es)) w.name)) (sym (some_same is))
         ∙ ap (λ b. is_reader (role_at b e.0)) (user_is_itself e.0)
-        ∙ (both (is_written written e.0) (is_reader (Some (role_of_standing e.1.standing))) test).1
+        ∙ (and_parts (is_written written e.0) (is_reader (Some (role_of_standing e.1.standing))) test).1
     by false test is later =
         ap (λ b. is_reader (role_at b u.name)) (apart_from e.0 es written u distinct.0 is) ∙ later is
 

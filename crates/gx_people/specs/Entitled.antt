@@ -91,14 +91,14 @@ abbrev pub revoked_from : UserName → AccountName → List User → List User
 revoked_from reader account users = map (change_role reader (without_account account)) users
 
 -- the users after the command was granted
-abbrev pub given : List User → Action → List User
-given users (Action.Grant written account) = option_map_or (λ (u : User). granted_to u.name account users) (reader_in users written) users
-given users (Action.Revoke written account) = option_map_or (λ (u : User). revoked_from u.name account users) (reader_in users written) users
-given users other = users
+abbrev pub users_after : List User → Action → List User
+users_after users (Action.Grant written account) = option_map_or (λ (u : User). granted_to u.name account users) (reader_in users written) users
+users_after users (Action.Revoke written account) = option_map_or (λ (u : User). revoked_from u.name account users) (reader_in users written) users
+users_after users other = users
 
 -- the policy's users with the granted changes
 unfoldable pub people_in_force : PolicyData → List RecordData → List User
-people_in_force policy history = fold given policy.users (granted_actions history)
+people_in_force policy history = fold users_after policy.users (granted_actions history)
 
 -- the power that the command asks for
 abbrev pub power_of : Action → Power

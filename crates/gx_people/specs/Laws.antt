@@ -4,7 +4,7 @@ use Rattle.gx_units.specs.{Names.{same_user, same_account}, declared.names.{Acco
 use Rattle.gx_desk.specs.declared.{WrittenName.WrittenName, Action.Action}
 use Rattle.gx_policy.specs.{declared.policy.{PolicyData.PolicyData, User.User}, People.{account_named, account_of, account_of_role, is_officer, is_reader, is_trader, role_in, user_in}, Soundness.{is_sound, is_user_sound}}
 use Rattle.gx_history.specs.{declared.record.RecordData.RecordData, Asking.{has_power, sees_now}, InForce.is_entitled, Logins.password_is, Readers.reader_in, Requests.granted_action, Verdicts.IsLegal}
-use Rattle.gx_people.specs.Entitled.{given, granted_to, has, has_room, holds, holds_in_role, people_in_force, power_of, revoked_from, sees}
+use Rattle.gx_people.specs.Entitled.{users_after, granted_to, has, has_room, holds, holds_in_role, people_in_force, power_of, revoked_from, sees}
 
 -- who sees which account in force is who is entitled to it
 abbrev pub EntitlementsAreKept : Type 0
@@ -25,7 +25,7 @@ FirstAsThePolicySays = (policy : PolicyData) → people_in_force policy [] ≡ p
 -- one more record changes them by the command that it grants, if it grants one
 abbrev pub NextByTheCommand : Type 0
 NextByTheCommand = (policy : PolicyData) (history : List RecordData) (r : RecordData)
-    → people_in_force policy (history ++ r ∷ []) ≡ option_map_or (given (people_in_force policy history)) (granted_action r) (people_in_force policy history)
+    → people_in_force policy (history ++ r ∷ []) ≡ option_map_or (users_after (people_in_force policy history)) (granted_action r) (people_in_force policy history)
 
 -- powers are the policy's
 abbrev pub PowersStay : Type 0
@@ -85,12 +85,12 @@ RevocationsTakeOnePair = (users : List User) (reader : UserName) (account : Acco
 -- a granted Grant is a grant to the reader whom it names
 abbrev pub GrantsGoToTheNamed : Type 0
 GrantsGoToTheNamed = (users : List User) (written : WrittenName) (account : AccountName) (reader : UserName)
-    → option_map (λ (u : User). u.name) (reader_in users written) ≡ Some reader → given users (Action.Grant written account) ≡ granted_to reader account users
+    → option_map (λ (u : User). u.name) (reader_in users written) ≡ Some reader → users_after users (Action.Grant written account) ≡ granted_to reader account users
 
 -- a granted Revoke is a revocation from the reader whom it names
 abbrev pub RevocationsGoToTheNamed : Type 0
 RevocationsGoToTheNamed = (users : List User) (written : WrittenName) (account : AccountName) (reader : UserName)
-    → option_map (λ (u : User). u.name) (reader_in users written) ≡ Some reader → given users (Action.Revoke written account) ≡ revoked_from reader account users
+    → option_map (λ (u : User). u.name) (reader_in users written) ≡ Some reader → users_after users (Action.Revoke written account) ≡ revoked_from reader account users
 
 -- in a legal day the users in force are sound, as the policy's are
 abbrev pub UsersStaySound : Type 0

@@ -4,6 +4,8 @@
 
 mod accounts;
 pub mod laws;
-pub mod people;
+mod people;
 mod person;
 pub mod power;
+
+pub use people::People;

@@ -8,7 +8,7 @@ use Rattle.gx_answers.specs.Gates.{GateData}
 use Rattle.gx_devices.specs.{Pieces.Flow, Stopping.{AreFewer, Mark, MayEnd, trail}}
 use Rattle.gx_devices.specs.Pieces as pieces
 use Rattle.gx_devices.proofs.{Pieces.{Stands, behind, cut_there, items_cut, refused, unsent}, Stopping.first_same}
-use Rattle.gx_pipe.specs.{declared.{connection.Connection.Connection, fault.PipeFault.PipeFault}, Piping.{Standing, mark, cause_of, Refused, logout_of, IsTaken, IsGivenUp, IsMatchedInPart, row_of, matched_of, pull_marks, packet_marks, IsThere, StopsIn, way, Follows, ArePackets, Broken, IsCutShort}, Serving.IsOnLine, Transcript.{Run, run_at, with_text, silent, and_then, ticked, answered, matched, pulled, handled, on_packet, run_of}}
+use Rattle.gx_pipe.specs.{declared.{connection.Connection.Connection, fault.PipeFault.PipeFault}, Piping.{Standing, mark, cause_of, Refused, logout_of, IsTaken, IsGivenUp, IsMatchedInPart, row_of, matched_of, pull_marks, packet_marks, IsThere, StopsIn, way, Follows, ArePackets, Broken, IsCutShort}, Serving.IsOnLine, Transcript.{Run, run_at, with_text, nothing_written, and_then, connection_after_tick, answered, matched, pulled, handled, on_packet, run_of}}
 use Rattle.gx_session.specs.Events.{is_over}
 use Rattle.gx_pipe.proofs.{Growing.match_going, Marks.packet_ends, OnLine.{settling_keeps, row_keeps, match_keeps, packets_keep, run_keeps}, Runs.fold_from, Turning.{pauses, taken_behind}}
 
@@ -16,11 +16,11 @@ use Rattle.gx_pipe.proofs.{Growing.match_going, Marks.packet_ends, OnLine.{settl
 
 module _ (gate : GateData) (c : Connection) (packet : ClientPacket) (going : is_over c.session.phase ≡ false) where
   abbrev row : Run
-  row = answered gate (ticked c) packet c.coming
+  row = answered gate (connection_after_tick c) packet c.coming
 
   handled_is : handled gate c packet ≡ with_text row.text (pulled (matched row.gate row.connection c.coming).gate row.connection c.coming)
   unfolding handled matched
-  handled_is = ap (λ b. cond b (silent gate c) (and_then row (λ g k. and_then (matched g k c.coming) (λ h l. pulled h l c.coming)))) going
+  handled_is = ap (λ b. cond b (nothing_written gate c) (and_then row (λ g k. and_then (matched g k c.coming) (λ h l. pulled h l c.coming)))) going
 
   -- the packet was answered, and its matching steps made
   pub take_done : (met then : GateData) (on : Connection) (output mid left : Option (List ℕ)) → IsTaken row met on output mid → then ≡ (matched met on c.coming).gate
@@ -49,7 +49,7 @@ module _ (gate : GateData) (c : Connection) (packet : ClientPacket) (going : is_
         → StopsIn start (packet_marks start packet ++ more) fault now state output left
     stops_there fault now state output left h = subst (λ ms. StopsIn start (ms ++ more) fault now state output left) (sym marks_are) h
 
-    pub answer_cut : (fault : PipeFault) (now : GateData) (state : Connection) (output left : Option (List ℕ)) → IsGivenUp gate (ticked c) row fault now state output left
+    pub answer_cut : (fault : PipeFault) (now : GateData) (state : Connection) (output left : Option (List ℕ)) → IsGivenUp gate (connection_after_tick c) row fault now state output left
         → StopsIn start (packet_marks start packet ++ more) fault now state output left
     answer_cut fault now state output left (inl h) = stops_there fault now state output left
         (refused Refused (IsThere now state start) (cause_of fault) (mark start) (mark answered_there) _ output left (mark start) h.1.cause (record { made = first_same gate.records gate.records refl; left = h.0; text = refl; known = refl })
@@ -96,7 +96,7 @@ module _ (gate : GateData) (c : Connection) (packet : ClientPacket) (going : is_
 
 -- the packet at this place was cut short
 pub item_cut : (gate : GateData) (connection : Connection) (packets : List ClientPacket) (i : ℕ) (packet : ClientPacket) → i < length packets → packet ≡ get_or packets i packet → (then : GateData) (state : Connection) (output mid left : Option (List ℕ)) (fault : PipeFault) (now : GateData) (after : Connection)
-    → IsTaken (fold on_packet (silent gate connection) (take i packets)) then state output mid
+    → IsTaken (fold on_packet (nothing_written gate connection) (take i packets)) then state output mid
     → ((text : List ℕ) (more : List (Mark RecordData Standing)) → StopsIn (run_at then state text) (packet_marks (run_at then state text) packet ++ more) fault now after mid left)
     → (text : List ℕ) → StopsIn (run_at gate connection text) (trail packet_marks on_packet (run_at gate connection text) packets) fault now after output left
 item_cut gate connection packets i packet within item then state output mid left fault now after taken cut text =
@@ -105,7 +105,7 @@ item_cut gate connection packets i packet within item then state output mid left
     let all : take i packets ++ packet ∷ others ≡ packets =
     sym (append_assoc (take i packets) (packet ∷ []) others) ∙ (ap (λ x. x ++ others) (sym one) ∙ take-append-drop (i + 1) packets) in
     let start = run_at gate connection text in
-    let done = fold on_packet (silent gate connection) (take i packets) in
+    let done = fold on_packet (nothing_written gate connection) (take i packets) in
     let there : run_at then state (text ++ done.text) ≡ fold on_packet start (take i packets) =
     ap (λ g. run_at g state (text ++ done.text)) taken.gate ∙ ap (λ k. run_at done.gate k (text ++ done.text)) taken.connection ∙ sym (fold_from (take i packets) start) in
     let at : Run = run_at then state (text ++ done.text) in

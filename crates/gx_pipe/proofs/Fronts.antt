@@ -9,7 +9,7 @@ use Rattle.gx_devices.specs.Stopping as First
 use Rattle.gx_devices.proofs.Stopping.{Leads, first_same, items_lead, leads_then}
 use Rattle.gx_devices.proofs.Pieces as pieces
 use Rattle.gx_answers.specs.{Gates.GateData, Asking.asked_by}
-use Rattle.gx_pipe.specs.{declared.{connection.Connection.Connection, fault.PipeFault.PipeFault}, Fronts.AreFirst, Piping.{mark, gate_at, cause_of, Refused, packet_marks, logout_of, IsThere, way, ArePackets, IsAfterFault}, Serving.IsOnLine, Transcript.{Run, after_step, on_packet, opened, run_of, finished, pipe}}
+use Rattle.gx_pipe.specs.{declared.{connection.Connection.Connection, fault.PipeFault.PipeFault}, Fronts.AreFirst, Piping.{mark, gate_at, cause_of, Refused, packet_marks, logout_of, IsThere, way, ArePackets, IsAfterFault}, Serving.IsOnLine, Transcript.{Run, after_step, on_packet, run_opened, run_of, finished, pipe}}
 use Rattle.gx_session.specs.Events.{is_on}
 use Rattle.gx_pipe.proofs.{Growing.finish_on, Leaving.line_there, Marks.{packet_ends, packet_rises}, OnLine.logout_is_granted, Runs.finished_text, Serving.{left_of, left_is}}
 
@@ -59,8 +59,8 @@ module _ (flow : Flow) (before : GateData) (first : ℕ) (after : GateData) (fau
       let all = run_of before first (bytes ++ rest) in
       let g = packets_grow bytes rest in
       let reached : there ≡ fold on_packet (run_of before first f.cut.bytes) f.cut.broken.items =
-      ap (fold on_packet (opened before first)) f.cut.broken.are_next ∙ fold-append on_packet (opened before first) (packets_of f.cut.bytes).packets f.cut.broken.items in
-      let more : all ≡ fold on_packet there g.0 = ap (fold on_packet (opened before first)) g.1 ∙ fold-append on_packet (opened before first) (packets_of bytes).packets g.0 in
+      ap (fold on_packet (run_opened before first)) f.cut.broken.are_next ∙ fold-append on_packet (run_opened before first) (packets_of f.cut.bytes).packets f.cut.broken.items in
+      let more : all ≡ fold on_packet there g.0 = ap (fold on_packet (run_opened before first)) g.1 ∙ fold-append on_packet (run_opened before first) (packets_of bytes).packets g.0 in
       subst (λ (r : Run). Leads (mark r) (mark (finished all))) reached
       (leads_then (mark there) (mark all) (mark (finished all)) (subst (λ (r : Run). Leads (mark there) (mark r)) (sym more) (items_lead mark packet_marks on_packet packet_ends packet_rises g.0 there))
       (record { records = finish_on all; text = first_same all.text (finished all).text (sym (finished_text all)) }))

@@ -7,8 +7,8 @@ use Rattle.gx_history.specs.declared.record.{Asked.Asked, RecordData.RecordData}
 use Rattle.gx_laws.proofs.Settling.{settled_adds}
 use Rattle.gx_devices.specs.Stopping.{AreFewer, AreFirst}
 use Rattle.gx_devices.proofs.Stopping.{first_same, first_then, fewer_then}
-use Rattle.gx_answers.specs.{Gates.GateData, Asking.stepped, Matches.settled_gate}
-use Rattle.gx_pipe.specs.{declared.connection.Connection.Connection, Steps.login_asked_at, Transcript.{Run, acted, on_event, logged_in, answered, matched, finished}}
+use Rattle.gx_answers.specs.{Gates.GateData, Asking.gate_after_step, Matches.settled_gate}
+use Rattle.gx_pipe.specs.{declared.connection.Connection.Connection, Steps.login_asked_at, Transcript.{Run, gate_after_act, on_event, logged_in, answered, matched, finished}}
 use Rattle.gx_session.specs.{declared.event.Next.Next, Events.{asks_step, is_over}, Happenings.Happening, Table.turn}
 use Rattle.gx_session.specs.Happenings as happens
 use Rattle.gx_pipe.proofs.{Keeping.{answer_keeps, event_keeps, match_keeps, row_keeps}, Serving.{left_of, left_is}}
@@ -22,23 +22,23 @@ here gate = first_same gate.records gate.records refl
 further : (a b c : GateData) → GoesOn a b → GoesOn b c → GoesOn a c
 further a b c h k = first_then a.records b.records c.records h k
 
-step_on : (gate : GateData) (a : Asked) → GoesOn gate (stepped gate a)
+step_on : (gate : GateData) (a : Asked) → GoesOn gate (gate_after_step gate a)
 step_on gate a = record { others = left_of gate a ∷ []; whole = ap (λ (found : Option RecordData). option_map_or (λ (r : RecordData). gate.records ++ r ∷ []) found gate.records) (left_is gate a) }
 
 -- and one at least
-step_adds : (gate : GateData) (a : Asked) → AreFewer gate.records (stepped gate a).records
+step_adds : (gate : GateData) (a : Asked) → AreFewer gate.records (gate_after_step gate a).records
 step_adds gate a = record { next = left_of gate a; others = []; whole = ap (λ (found : Option RecordData). option_map_or (λ (r : RecordData). gate.records ++ r ∷ []) found gate.records) (left_is gate a) }
 
 settle_on : (gate : GateData) (moment : ℕ) → GoesOn gate (settled_gate gate moment)
 settle_on gate moment = let adds = settled_adds gate.policy gate.records moment in record { others = adds.more; whole = adds.goes_on }
 
-on_step : (first gate : GateData) (a : Asked) → GoesOn first gate → GoesOn first (stepped gate a)
-on_step first gate a h = further first gate (stepped gate a) h (step_on gate a)
+on_step : (first gate : GateData) (a : Asked) → GoesOn first gate → GoesOn first (gate_after_step gate a)
+on_step first gate a h = further first gate (gate_after_step gate a) h (step_on gate a)
 
 on_settle : (first gate : GateData) (moment : ℕ) → GoesOn first gate → GoesOn first (settled_gate gate moment)
 on_settle first gate moment h = further first gate (settled_gate gate moment) h (settle_on gate moment)
 
-act_adds : (gate : GateData) (user : UserName) (moment : ℕ) (next : Next) → asks_step next ≡ true → AreFewer gate.records (acted gate user moment next).records
+act_adds : (gate : GateData) (user : UserName) (moment : ℕ) (next : Next) → asks_step next ≡ true → AreFewer gate.records (gate_after_act gate user moment next).records
 act_adds gate user moment (Next.Act request) h = step_adds gate _
 act_adds gate user moment Next.Logout h = step_adds gate _
 act_adds gate user moment next h = cc
@@ -53,7 +53,7 @@ event_on gate c e moment = event_keeps (GoesOn gate) (on_step gate) (on_settle g
 pub login_adds : (gate : GateData) (c : Connection) (moment : ℕ) (login : LoginRequest) → AreFewer gate.records (logged_in gate c login moment).gate.records
 unfolding logged_in
 login_adds gate c moment login =
-    let then = stepped gate (login_asked_at gate moment login) in
+    let then = gate_after_step gate (login_asked_at gate moment login) in
     fewer_then gate.records then.records (logged_in gate c login moment).gate.records (step_adds gate (login_asked_at gate moment login)) (event_on then _ _ moment)
 
 pub answer_on : (gate : GateData) (c : Connection) (packet : ClientPacket) (moment : ℕ) → GoesOn (on_event gate c (happens.Packet packet) moment).gate (answered gate c packet moment).gate

@@ -4,13 +4,13 @@ use Rattle.std.specs.Prelude.{fold}
 use Rattle.gx_units.specs.declared.names.UserName.{UserName}
 use Rattle.gx_soup.specs.declared.packet.{LoginRequest.LoginRequest, ClientPacket.ClientPacket}
 use Rattle.gx_history.specs.declared.record.Asked.{Asked}
-use Rattle.gx_answers.specs.{Gates.GateData, Asking.stepped, Matches.settled_gate}
-use Rattle.gx_pipe.specs.{declared.connection.Connection.Connection, Steps.login_asked_at, Transcript.{Run, silent, and_then, acted, on_event, logged_in, with_login, answered, matched, unsent, sent, pulled, ticked, handled, on_packet}}
+use Rattle.gx_answers.specs.{Gates.GateData, Asking.gate_after_step, Matches.settled_gate}
+use Rattle.gx_pipe.specs.{declared.connection.Connection.Connection, Steps.login_asked_at, Transcript.{Run, nothing_written, and_then, gate_after_act, on_event, logged_in, with_login, answered, matched, unsent, sent, pulled, connection_after_tick, handled, on_packet}}
 use Rattle.gx_session.specs.{declared.event.Next.Next, Events.{is_on, is_over, login_in}, Happenings.Happening, Table.turn}
 use Rattle.gx_session.specs.Happenings as happens
 
-module _ (P : GateData → Type 0) (step : (gate : GateData) (a : Asked) → P gate → P (stepped gate a)) (settle : (gate : GateData) (moment : ℕ) → P gate → P (settled_gate gate moment)) where
-  act_keeps : (gate : GateData) (user : UserName) (moment : ℕ) (next : Next) → P gate → P (acted gate user moment next)
+module _ (P : GateData → Type 0) (step : (gate : GateData) (a : Asked) → P gate → P (gate_after_step gate a)) (settle : (gate : GateData) (moment : ℕ) → P gate → P (settled_gate gate moment)) where
+  act_keeps : (gate : GateData) (user : UserName) (moment : ℕ) (next : Next) → P gate → P (gate_after_act gate user moment next)
   act_keeps gate user moment (Next.Act request) p = step gate _ p
   act_keeps gate user moment Next.Logout p = step gate _ p
   act_keeps gate user moment next p = p
@@ -29,7 +29,7 @@ module _ (P : GateData → Type 0) (step : (gate : GateData) (a : Asked) → P g
 
       by : (g : GateData) (k : Connection) (login : Option LoginRequest) → P g → P (with_login g k moment login).gate
       by g k None q = q
-      by g k (Some login) q = event_keeps (stepped g (login_asked_at g moment login)) _ _ moment (step g (login_asked_at g moment login) q)
+      by g k (Some login) q = event_keeps (gate_after_step g (login_asked_at g moment login)) _ _ moment (step g (login_asked_at g moment login) q)
 
   pub row_keeps : (gate : GateData) (c : Connection) (packet : ClientPacket) (moment : ℕ) → P gate → P (answered gate c packet moment).gate
   row_keeps gate c packet moment p = answer_keeps gate c packet moment (event_keeps gate c (happens.Packet packet) moment p)
@@ -40,18 +40,18 @@ module _ (P : GateData → Type 0) (step : (gate : GateData) (a : Asked) → P g
 
   pub pull_keeps : (gate : GateData) (c : Connection) (moment : ℕ) → P gate → P (pulled gate c moment).gate
   unfolding pulled sent
-  pull_keeps gate c moment p = elim (is_on c.session.phase) as (λ b. P (cond b (sent gate c (unsent gate c) moment) (silent gate c)).gate) [ true ↦ event_keeps gate _ _ moment p | false ↦ p ]
+  pull_keeps gate c moment p = elim (is_on c.session.phase) as (λ b. P (cond b (sent gate c (unsent gate c) moment) (nothing_written gate c)).gate) [ true ↦ event_keeps gate _ _ moment p | false ↦ p ]
 
 -- all that a packet leads to, while the session is not over
 abbrev pub taken : GateData → Connection → ClientPacket → Run
 taken gate c packet =
-    and_then (answered gate (ticked c) packet c.coming) (λ g k. and_then (matched g k c.coming) (λ g l. pulled g l c.coming))
+    and_then (answered gate (connection_after_tick c) packet c.coming) (λ g k. and_then (matched g k c.coming) (λ g l. pulled g l c.coming))
 
-pub handled_by : (P : Run → Type 0) (gate : GateData) (c : Connection) (packet : ClientPacket) → (is_over c.session.phase ≡ true → P (silent gate c)) → (is_over c.session.phase ≡ false → P (taken gate c packet)) → P (handled gate c packet)
+pub handled_by : (P : Run → Type 0) (gate : GateData) (c : Connection) (packet : ClientPacket) → (is_over c.session.phase ≡ true → P (nothing_written gate c)) → (is_over c.session.phase ≡ false → P (taken gate c packet)) → P (handled gate c packet)
 unfolding handled
 handled_by P gate c packet over goes = at (is_over c.session.phase) refl
   where
-    at : (b : Bool) → is_over c.session.phase ≡ b → P (cond b (silent gate c) (taken gate c packet))
+    at : (b : Bool) → is_over c.session.phase ≡ b → P (cond b (nothing_written gate c) (taken gate c packet))
     at true e = over e
     at false e = goes e
 

@@ -3,7 +3,7 @@ use Rattle.std.proofs.Common.{◌≡◌, ℕ, Bool, true, false, cond, [], ◌�
 use Rattle.gx_soup.specs.declared.packet.ClientPacket.{ClientPacket}
 use Rattle.gx_devices.proofs.Stopping.{Rises, first_same, last_of}
 use Rattle.gx_session.specs.{Events.{is_on, is_over}, Sending.reports_text}
-use Rattle.gx_pipe.specs.{Piping.{mark, row_of, matched_of, reported_of, told_of, pull_marks, packet_marks}, Transcript.{Run, run_at, silent, and_then, ticked, answered, matched, unsent, sent, pulled, handled, on_packet}}
+use Rattle.gx_pipe.specs.{Piping.{mark, row_of, matched_of, reported_of, told_of, pull_marks, packet_marks}, Transcript.{Run, run_at, nothing_written, and_then, connection_after_tick, answered, matched, unsent, sent, pulled, handled, on_packet}}
 use Rattle.gx_pipe.proofs.Growing.{event_on, row_on, match_on}
 
 abbrev told : Run → ℕ → Run
@@ -16,7 +16,7 @@ pull_ends : (run : Run) (moment : ℕ) → last_of (mark run) (pull_marks run mo
 unfolding pulled sent
 pull_ends run moment = by (is_on run.connection.session.phase)
   where
-    by : (b : Bool) → last_of (mark run) (cond b (mark (reported_of run) ∷ mark (told run moment) ∷ []) []) ≡ mark (and_then run (λ g c. cond b (sent g c (unsent g c) moment) (silent g c)))
+    by : (b : Bool) → last_of (mark run) (cond b (mark (reported_of run) ∷ mark (told run moment) ∷ []) []) ≡ mark (and_then run (λ g c. cond b (sent g c (unsent g c) moment) (nothing_written g c)))
     by true = ap (λ t. mark (run_at (told run moment).gate (told run moment).connection t)) (append_assoc run.text (reports_text (unsent run.gate run.connection)) _)
     by false = ap (λ t. mark (run_at run.gate run.connection t)) (sym (append-nil run.text))
 
@@ -25,9 +25,9 @@ unfolding handled matched
 packet_ends run packet = by (is_over run.connection.session.phase)
   where
     by : (b : Bool) → last_of (mark run) (cond b [] (mark (row_of run packet) ∷ mark (met run packet) ∷ pull_marks (met run packet) run.connection.coming))
-        ≡ mark (and_then run (λ g c. cond b (silent g c) (and_then (answered g (ticked c) packet c.coming) (λ h k. and_then (matched h k c.coming) (λ i l. pulled i l c.coming)))))
+        ≡ mark (and_then run (λ g c. cond b (nothing_written g c) (and_then (answered g (connection_after_tick c) packet c.coming) (λ h k. and_then (matched h k c.coming) (λ i l. pulled i l c.coming)))))
     by true = ap (λ t. mark (run_at run.gate run.connection t)) (sym (append-nil run.text))
-    by false = pull_ends (met run packet) run.connection.coming ∙ ap (λ t. mark (run_at (pulled (met run packet).gate (met run packet).connection run.connection.coming).gate (pulled (met run packet).gate (met run packet).connection run.connection.coming).connection t)) (append_assoc run.text (answered run.gate (ticked run.connection) packet run.connection.coming).text (pulled (met run packet).gate (met run packet).connection run.connection.coming).text)
+    by false = pull_ends (met run packet) run.connection.coming ∙ ap (λ t. mark (run_at (pulled (met run packet).gate (met run packet).connection run.connection.coming).gate (pulled (met run packet).gate (met run packet).connection run.connection.coming).connection t)) (append_assoc run.text (answered run.gate (connection_after_tick run.connection) packet run.connection.coming).text (pulled (met run packet).gate (met run packet).connection run.connection.coming).text)
 
 pull_rises : (run : Run) (moment : ℕ) → Rises (mark run) (pull_marks run moment)
 pull_rises run moment = by (is_on run.connection.session.phase)
@@ -45,6 +45,6 @@ packet_rises run packet = by (is_over run.connection.session.phase)
     by : (b : Bool) → Rises (mark run) (cond b [] (mark (row_of run packet) ∷ mark (met run packet) ∷ pull_marks (met run packet) run.connection.coming))
     by true = tt
     by false = (
-      record { records = row_on run.gate (ticked run.connection) packet run.connection.coming; text = record { others = (answered run.gate (ticked run.connection) packet run.connection.coming).text; whole = refl } },
+      record { records = row_on run.gate (connection_after_tick run.connection) packet run.connection.coming; text = record { others = (answered run.gate (connection_after_tick run.connection) packet run.connection.coming).text; whole = refl } },
       (record { records = match_on (row_of run packet).gate (row_of run packet).connection run.connection.coming; text = first_same (row_of run packet).text (row_of run packet).text refl }, pull_rises (met run packet) run.connection.coming),
     )

@@ -5,8 +5,8 @@ use Rattle.gx_units.specs.declared.names.UserName.{UserName}
 use Rattle.gx_soup.specs.{declared.packet.{ClientPacket.ClientPacket}, Packets.packets_of}
 use Rattle.gx_history.specs.{declared.record.{Asked.Asked, RecordData.RecordData, Step.Step}, InForce.is_closed, Settling.{most_matches, settled}, Verdicts.{next, IsLegal}}
 use Rattle.gx_laws.proofs.{Runs.step_left, Orderly.{IsOrderly, legal_is_orderly, orderly_next}, Settling.{match_is_orderly, settled_keeps, settled_ends}}
-use Rattle.gx_answers.specs.{Gates.GateData, Matches.{matching_of, settled_gate}, Asking.stepped}
-use Rattle.gx_pipe.specs.{declared.connection.Connection.Connection, Transcript.{Run, opened_at, silent, on_event, answered, matched, sent, pulled, ticked, on_packet, run_of}}
+use Rattle.gx_answers.specs.{Gates.GateData, Matches.{matching_of, settled_gate}, Asking.gate_after_step}
+use Rattle.gx_pipe.specs.{declared.connection.Connection.Connection, Transcript.{Run, opened_at, nothing_written, on_event, answered, matched, sent, pulled, connection_after_tick, on_packet, run_of}}
 use Rattle.gx_session.specs.{declared.{session.Phase.{Phase, TheVariants.{On, Abandoned, Done}}}, Events.{is_over}, Happenings.Happening, Table.turn}
 use Rattle.gx_session.specs.Happenings as happens
 use Rattle.gx_pipe.proofs.Keeping.{all_keep, handled_by, match_keeps, pull_keeps, row_keeps, taken}
@@ -16,7 +16,7 @@ use Rattle.gx_pipe.proofs.Keeping.{all_keep, handled_by, match_keeps, pull_keeps
 abbrev HasOrder : GateData → Type 0
 HasOrder gate = IsOrderly gate.policy gate.records
 
-stepped_has_order : (gate : GateData) (a : Asked) → HasOrder gate → HasOrder (stepped gate a)
+stepped_has_order : (gate : GateData) (a : Asked) → HasOrder gate → HasOrder (gate_after_step gate a)
 stepped_has_order gate a orderly = at (next gate.policy gate.records (Step.Asked a)) refl
   where
     at : (found : Option RecordData) → next gate.policy gate.records (Step.Asked a) ≡ found
@@ -77,8 +77,8 @@ quiet_pull gate c moment orderly =
 quiet_taken : (gate : GateData) (c : Connection) (packet : ClientPacket) → HasOrder gate → IsQuiet (taken gate c packet)
 unfolding matched
 quiet_taken gate c packet orderly =
-    let row = answered gate (ticked c) packet c.coming in
-    let q = quiet_pull row.gate row.connection c.coming (row_keeps HasOrder stepped_has_order settled_has_order gate (ticked c) packet c.coming orderly) in
+    let row = answered gate (connection_after_tick c) packet c.coming in
+    let q = quiet_pull row.gate row.connection c.coming (row_keeps HasOrder stepped_has_order settled_has_order gate (connection_after_tick c) packet c.coming orderly) in
     record { has_order = q.has_order; none_waits = q.none_waits }
 
 quiet_next : (run : Run) (packet : ClientPacket) → HasOrder run.gate → IsQuiet (on_packet run packet)
@@ -86,9 +86,9 @@ quiet_next run packet orderly =
     let q = handled_by IsQuiet run.gate run.connection packet (λ over. record { has_order = orderly; none_waits = λ alive. cc }) (λ goes. quiet_taken run.gate run.connection packet orderly) in
     record { has_order = q.has_order; none_waits = q.none_waits }
 
-none_waits_after : (gate : GateData) (c : Connection) (packets : List ClientPacket) → HasOrder gate → 0 < length packets → IsQuiet (fold on_packet (silent gate c) packets)
+none_waits_after : (gate : GateData) (c : Connection) (packets : List ClientPacket) → HasOrder gate → 0 < length packets → IsQuiet (fold on_packet (nothing_written gate c) packets)
 none_waits_after gate c [] orderly some = absurd (omega arith)
-none_waits_after gate c (packet ∷ packets) orderly some = all_keep IsQuiet (λ run p quiet. quiet_next run p quiet.has_order) packets (on_packet (silent gate c) packet) (quiet_next (silent gate c) packet orderly)
+none_waits_after gate c (packet ∷ packets) orderly some = all_keep IsQuiet (λ run p quiet. quiet_next run p quiet.has_order) packets (on_packet (nothing_written gate c) packet) (quiet_next (nothing_written gate c) packet orderly)
 
 -- after one packet at least, where the session goes on, no order waits
 pub none_waits : (gate : GateData) (first : ℕ) (bytes : List ℕ) → IsLegal gate.policy gate.records → 0 < length (packets_of bytes).packets

@@ -6,10 +6,10 @@ use Rattle.gx_desk.specs.{declared.Command.Command, Reading.command_of}
 use Rattle.gx_ouch.specs.{declared.inbound.Inbound.Inbound, Reading.inbound_of}
 use Rattle.gx_soup.specs.{declared.packet.{LoginRequest.LoginRequest, ClientPacket.ClientPacket}, Packets.packets_of}
 use Rattle.gx_policy.specs.{declared.policy.PolicyData.PolicyData, Lists.where_true}
-use Rattle.gx_history.specs.{declared.record.{Asked.Asked, RecordData.RecordData, Request.Request, Step.Step, Verdict.Verdict}, InForce.{is_closed, line_by, line_of, login_or_logout_of}, Payloads.{asked_by as meant_by, request_of, unreadable}, Requests.{asked, is_granted}, Verdicts.verdict}
+use Rattle.gx_history.specs.{declared.record.{Asked.Asked, RecordData.RecordData, Request.Request, Step.Step, Verdict.Verdict}, InForce.{is_closed, line_by, line_of, login_or_logout_of}, Payloads.{asked_by as meant_by, request_of, unreadable}, Requests.{asked_of, is_granted}, Verdicts.verdict}
 use Rattle.gx_laws.proofs.{Logouts.logouts_are_granted, NextInForce.line_of_next, Adding.{granted_is, user_is_itself}, Settling.settled_adds}
-use Rattle.gx_answers.specs.{Gates.GateData, Asking.{asked_by, stepped}, Logins.login_answered, Matches.{settled_gate, IsSettling}, declared.outcome.LoginAnswer.LoginAnswer}
-use Rattle.gx_pipe.specs.{declared.connection.Connection.Connection, Serving.IsOnLine, Steps.{login_asked_at, login_told}, Transcript.{Run, on_event, first_told, logged_in, answered, matched, sent, pulled, ticked, on_packet, opened, run_of}}
+use Rattle.gx_answers.specs.{Gates.GateData, Asking.{asked_by, gate_after_step}, Logins.login_answered, Matches.{settled_gate, IsSettling}, declared.outcome.LoginAnswer.LoginAnswer}
+use Rattle.gx_pipe.specs.{declared.connection.Connection.Connection, Serving.IsOnLine, Steps.{login_asked_at, login_told}, Transcript.{Run, on_event, first_told, logged_in, answered, matched, sent, pulled, connection_after_tick, on_packet, run_opened, run_of}}
 use Rattle.gx_session.specs.{declared.session.Phase.{Phase, TheVariants.{Fresh, Waiting, On, Abandoned, Done}}, Events.is_over, Table.turn}
 use Rattle.gx_session.specs.Happenings as happens
 use Rattle.gx_pipe.proofs.{Keeping.{all_keep, handled_by, taken}, Serving.{left_of, left_is, rejects, never}}
@@ -46,11 +46,11 @@ payload_puts_nowhere : (user : UserName) (a : Asked) (payload : List ℕ) → li
 unfolding request_of
 payload_puts_nowhere user a payload = means_no_line user a payload (inbound_of payload) (command_of payload)
 
-after_step_is : (gate : GateData) (a : Asked) (user : UserName) → line_of (stepped gate a).records user ≡ line_of (gate.records ++ left_of gate a ∷ []) user
+after_step_is : (gate : GateData) (a : Asked) (user : UserName) → line_of (gate_after_step gate a).records user ≡ line_of (gate.records ++ left_of gate a ∷ []) user
 after_step_is gate a user = ap (λ (found : Option RecordData). line_of (option_map_or (λ (r : RecordData). gate.records ++ r ∷ []) found gate.records) user) (left_is gate a)
 
 payload_keeps : (gate : GateData) (user asker : UserName) (payload : List ℕ) (moment : ℕ)
-    → line_of (stepped gate (asked_by asker (request_of payload) moment)).records user ≡ line_of gate.records user
+    → line_of (gate_after_step gate (asked_by asker (request_of payload) moment)).records user ≡ line_of gate.records user
 unfolding left_of
 payload_keeps gate user asker payload moment =
     let a : Asked = asked_by asker (request_of payload) moment in
@@ -60,7 +60,7 @@ payload_keeps gate user asker payload moment =
 
 match_puts_nowhere : (user : UserName) (moment : ℕ) (r : RecordData) → r.step ≡ Step.Matching moment → login_or_logout_of user r ≡ None
 match_puts_nowhere user moment r e =
-    ap (λ (s : Step). put_by user (cond (is_granted r.verdict) (asked s) None)) e ∙ none_put user (is_granted r.verdict)
+    ap (λ (s : Step). put_by user (cond (is_granted r.verdict) (asked_of s) None)) e ∙ none_put user (is_granted r.verdict)
 
 matches_keep : (user : UserName) (moment : ℕ) (more : List RecordData) (history : List RecordData) → AllByRecursion (λ (r : RecordData). r.step ≡ Step.Matching moment) more
     → line_of (history ++ more) user ≡ line_of history user
@@ -83,7 +83,7 @@ settling_keeps gate now c moment s on = λ h.
 -- A login that is accepted.
 
 granted_login : (gate : GateData) (moment : ℕ) (login : LoginRequest) → verdict gate.policy gate.records (login_asked_at gate moment login) ≡ Verdict.Granted
-    → line_of (stepped gate (login_asked_at gate moment login)).records (folded_user login.user) ≡ Some 1
+    → line_of (gate_after_step gate (login_asked_at gate moment login)).records (folded_user login.user) ≡ Some 1
 unfolding left_of
 granted_login gate moment login granted =
     let a : Asked = login_asked_at gate moment login in
@@ -94,16 +94,16 @@ granted_login gate moment login granted =
 
 accepted_by : (gate : GateData) (moment : ℕ) (login : LoginRequest) (name : SessionName) (from : ℕ) (v : Verdict)
     → verdict gate.policy gate.records (login_asked_at gate moment login) ≡ v
-    → login_answered gate.policy (stepped gate (login_asked_at gate moment login)).records (folded_user login.user) login.wanted v ≡ LoginAnswer.Accepted name from
-    → line_of (stepped gate (login_asked_at gate moment login)).records (folded_user login.user) ≡ Some 1
+    → login_answered gate.policy (gate_after_step gate (login_asked_at gate moment login)).records (folded_user login.user) login.wanted v ≡ LoginAnswer.Accepted name from
+    → line_of (gate_after_step gate (login_asked_at gate moment login)).records (folded_user login.user) ≡ Some 1
 accepted_by gate moment login name from Verdict.Granted granted e = granted_login gate moment login granted
 accepted_by gate moment login name from (Verdict.Denied rule) denied e =
-    let r = rejects gate.policy (stepped gate (login_asked_at gate moment login)).records (folded_user login.user) login.wanted rule in
+    let r = rejects gate.policy (gate_after_step gate (login_asked_at gate moment login)).records (folded_user login.user) login.wanted rule in
     never _ r.0 name from r.1 e
 accepted_by gate moment login name from other v e = cc
 
 accepted_line : (gate : GateData) (moment : ℕ) (login : LoginRequest) (name : SessionName) (from : ℕ) → login_told gate moment login ≡ LoginAnswer.Accepted name from
-    → line_of (stepped gate (login_asked_at gate moment login)).records (folded_user login.user) ≡ Some 1
+    → line_of (gate_after_step gate (login_asked_at gate moment login)).records (folded_user login.user) ≡ Some 1
 unfolding login_told
 accepted_line gate moment login name from e = accepted_by gate moment login name from _ refl e
 
@@ -113,7 +113,7 @@ abbrev RunIsOnLine : Run → Type 0
 RunIsOnLine run = IsOnLine run.gate run.connection
 
 login_keeps : (gate : GateData) (heard spoke : ℕ) (login : LoginRequest) (coming moment : ℕ) (answer : LoginAnswer) → login_told gate moment login ≡ answer
-    → RunIsOnLine (on_event (stepped gate (login_asked_at gate moment login)) (record { session = record { phase = Waiting; heard = heard; sent = spoke }; user = login.user; next = first_told answer; coming = coming }) (happens.Answered answer) moment)
+    → RunIsOnLine (on_event (gate_after_step gate (login_asked_at gate moment login)) (record { session = record { phase = Waiting; heard = heard; sent = spoke }; user = login.user; next = first_told answer; coming = coming }) (happens.Answered answer) moment)
 unfolding on_event turn
 login_keeps gate heard spoke login coming moment (LoginAnswer.Accepted name from) e = λ h. accepted_line gate moment login name from e
 login_keeps gate heard spoke login coming moment (LoginAnswer.Rejected reason) e = λ h. cc
@@ -131,8 +131,8 @@ row_keeps_by gate Abandoned heard spoke user number coming moment (ClientPacket.
 row_keeps_by gate Done heard spoke user number coming moment (ClientPacket.Login login) on = λ h. cc
 row_keeps_by gate phase heard spoke user number coming moment packet on = λ h. cc
 
-pub row_keeps : (gate : GateData) (c : Connection) (packet : ClientPacket) (moment : ℕ) → IsOnLine gate c → RunIsOnLine (answered gate (ticked c) packet moment)
-row_keeps gate c packet moment on = row_keeps_by gate c.session.phase c.session.heard c.session.sent c.user c.next (ticked c).coming moment packet on
+pub row_keeps : (gate : GateData) (c : Connection) (packet : ClientPacket) (moment : ℕ) → IsOnLine gate c → RunIsOnLine (answered gate (connection_after_tick c) packet moment)
+row_keeps gate c packet moment on = row_keeps_by gate c.session.phase c.session.heard c.session.sent c.user c.next (connection_after_tick c).coming moment packet on
 
 pub match_keeps : (gate : GateData) (c : Connection) (moment : ℕ) → IsOnLine gate c → RunIsOnLine (matched gate c moment)
 unfolding matched
@@ -161,7 +161,7 @@ pull_keeps gate c moment on = pull_keeps_by gate c.session.phase c.session.heard
 
 taken_keeps : (gate : GateData) (c : Connection) (packet : ClientPacket) → IsOnLine gate c → RunIsOnLine (taken gate c packet)
 taken_keeps gate c packet on =
-    let row = answered gate (ticked c) packet c.coming in
+    let row = answered gate (connection_after_tick c) packet c.coming in
     let met = matched row.gate row.connection c.coming in
     pull_keeps met.gate met.connection c.coming (match_keeps row.gate row.connection c.coming (row_keeps gate c packet c.coming on))
 
@@ -171,9 +171,9 @@ packet_keeps run packet on = handled_by RunIsOnLine run.gate run.connection pack
 pub packets_keep : (packets : List ClientPacket) (run : Run) → RunIsOnLine run → RunIsOnLine (fold on_packet run packets)
 packets_keep packets run on = all_keep RunIsOnLine packet_keeps packets run on
 
-pub nobody_is_on : (gate : GateData) (first : ℕ) → RunIsOnLine (opened gate first)
+pub nobody_is_on : (gate : GateData) (first : ℕ) → RunIsOnLine (run_opened gate first)
 nobody_is_on gate first = λ h. cc
 
 pub run_keeps : (gate : GateData) (first : ℕ) (bytes : List ℕ) → RunIsOnLine (run_of gate first bytes)
 unfolding run_of
-run_keeps gate first bytes = packets_keep (packets_of bytes).packets (opened gate first) (nobody_is_on gate first)
+run_keeps gate first bytes = packets_keep (packets_of bytes).packets (run_opened gate first) (nobody_is_on gate first)

@@ -6,7 +6,7 @@ use Rattle.gx_soup.proofs.PacketLaws.{nothing_after_fault, packets_grow}
 use Rattle.gx_devices.specs.Pieces.{Flow}
 use Rattle.gx_devices.proofs.Pieces.{Stands, all_of_whole, stands_first, whole}
 use Rattle.gx_answers.specs.Gates.{GateData}
-use Rattle.gx_pipe.specs.{declared.connection.Connection.Connection, Transcript.{Run, and_then, on_event, answered, matched, pulled, ticked, with_text, silent, handled, on_packet, opened, opened_at, run_of, finished, pipe, is_ended}, Piping.{mark, gate_at, way, IsTaken, Follows, Exchanged, IsTranscript, IsPipe}}
+use Rattle.gx_pipe.specs.{declared.connection.Connection.Connection, Transcript.{Run, and_then, on_event, answered, matched, pulled, connection_after_tick, with_text, nothing_written, handled, on_packet, run_opened, opened_at, run_of, finished, pipe, is_ended}, Piping.{mark, gate_at, way, IsTaken, Follows, Exchanged, IsTranscript, IsPipe}}
 use Rattle.gx_session.specs.{Events.is_over, Table.{SessionData, row_in, turn}, declared.session.Phase.{Phase, TheVariants.{Fresh}}, Sending.control_text}
 use Rattle.gx_session.specs.Happenings as happens
 
@@ -18,35 +18,35 @@ fold_behind (p ∷ ps) before run =
     ap (λ t. fold on_packet (record { gate = h.gate; connection = h.connection; text = t }) ps) (append_assoc before run.text h.text) ∙ fold_behind ps before (on_packet run p)
 
 -- a run from another's end
-pub fold_from : (ps : List ClientPacket) (run : Run) → fold on_packet run ps ≡ with_text run.text (fold on_packet (silent run.gate run.connection) ps)
+pub fold_from : (ps : List ClientPacket) (run : Run) → fold on_packet run ps ≡ with_text run.text (fold on_packet (nothing_written run.gate run.connection) ps)
 fold_from ps run =
-    ap (λ t. fold on_packet (record { gate = run.gate; connection = run.connection; text = t }) ps) (sym (append-nil run.text)) ∙ fold_behind ps run.text (silent run.gate run.connection)
+    ap (λ t. fold on_packet (record { gate = run.gate; connection = run.connection; text = t }) ps) (sym (append-nil run.text)) ∙ fold_behind ps run.text (nothing_written run.gate run.connection)
 
-run_nil : (before : GateData) (first : ℕ) → (packets_of []).packets ≡ [] → run_of before first [] ≡ opened before first
+run_nil : (before : GateData) (first : ℕ) → (packets_of []).packets ≡ [] → run_of before first [] ≡ run_opened before first
 unfolding run_of
-run_nil before first e = ap (fold on_packet (opened before first)) e
+run_nil before first e = ap (fold on_packet (run_opened before first)) e
 
-run_more : (before : GateData) (first : ℕ) (bytes piece : List ℕ) (given : List ClientPacket) → (packets_of (bytes ++ piece)).packets ≡ (packets_of bytes).packets ++ given → run_of before first (bytes ++ piece) ≡ with_text (run_of before first bytes).text (fold on_packet (silent (run_of before first bytes).gate (run_of before first bytes).connection) given)
+run_more : (before : GateData) (first : ℕ) (bytes piece : List ℕ) (given : List ClientPacket) → (packets_of (bytes ++ piece)).packets ≡ (packets_of bytes).packets ++ given → run_of before first (bytes ++ piece) ≡ with_text (run_of before first bytes).text (fold on_packet (nothing_written (run_of before first bytes).gate (run_of before first bytes).connection) given)
 unfolding run_of
 run_more before first bytes piece given e =
-    ap (fold on_packet (opened before first)) e ∙ (fold-append on_packet (opened before first) (packets_of bytes).packets given ∙ fold_from given (fold on_packet (opened before first) (packets_of bytes).packets))
+    ap (fold on_packet (run_opened before first)) e ∙ (fold-append on_packet (run_opened before first) (packets_of bytes).packets given ∙ fold_from given (fold on_packet (run_opened before first) (packets_of bytes).packets))
 
 over_is : (before : GateData) (first : ℕ) (bytes : List ℕ) (fault : Option SoupFault) (connection : Connection) → fault ≡ (packets_of bytes).fault → connection ≡ (run_of before first bytes).connection → (is_some fault || is_over connection.session.phase) ≡ is_ended before first bytes
 unfolding is_ended
 over_is before first bytes fault connection f s = rw (f, s) refl
 
 -- a piece that was fed, and its packets taken
-pub exchanged_by : (before : GateData) (first : ℕ) (bytes piece : List ℕ) (gate gate' : GateData) (connection connection' : Connection) (feeder feeder' : Held) (given : List ClientPacket) (told : Option SoupFault) (output written : Option (List ℕ)) → Gives given told feeder' bytes piece → IsTaken (fold on_packet (silent gate connection) given) gate' connection' output written
+pub exchanged_by : (before : GateData) (first : ℕ) (bytes piece : List ℕ) (gate gate' : GateData) (connection connection' : Connection) (feeder feeder' : Held) (given : List ClientPacket) (told : Option SoupFault) (output written : Option (List ℕ)) → Gives given told feeder' bytes piece → IsTaken (fold on_packet (nothing_written gate connection) given) gate' connection' output written
     → Follows before first gate connection feeder bytes → Exchanged before first bytes piece (is_some told || is_over connection'.session.phase) gate' connection' feeder' output written
 exchanged_by before first bytes piece gate gate' connection connection' feeder feeder' given told output written gives taken follows =
     let run = run_of before first bytes in
-    let e : run_of before first (bytes ++ piece) ≡ with_text run.text (fold on_packet (silent gate connection) given) =
-    run_more before first bytes piece given gives.packets ∙ ap (with_text run.text) (ap (λ h. fold on_packet (silent h run.connection) given) (sym follows.gate) ∙ ap (λ s. fold on_packet (silent gate s) given) (sym follows.connection)) in
+    let e : run_of before first (bytes ++ piece) ≡ with_text run.text (fold on_packet (nothing_written gate connection) given) =
+    run_more before first bytes piece given gives.packets ∙ ap (with_text run.text) (ap (λ h. fold on_packet (nothing_written h run.connection) given) (sym follows.gate) ∙ ap (λ s. fold on_packet (nothing_written gate s) given) (sym follows.connection)) in
     let same : connection' ≡ (run_of before first (bytes ++ piece)).connection = taken.connection ∙ sym (ap (λ (r : Run). r.connection) e) in
     record {
       takes = record {
         follows = record { reads = gives.reads; gate = taken.gate ∙ sym (ap (λ (r : Run). r.gate) e); connection = same };
-        told = (fold on_packet (silent gate connection) given).text;
+        told = (fold on_packet (nothing_written gate connection) given).text;
         written = taken.text;
         more = ap (λ (r : Run). r.text) e;
       };
@@ -68,7 +68,7 @@ end_is_silent : (session : SessionData) (moment : ℕ) → (turn session happens
 unfolding turn
 end_is_silent session moment = row_end session.phase _ _
 
-finished_from : (run : Run) (gate : GateData) (connection : Connection) → gate ≡ run.gate → connection ≡ run.connection → (finished run).gate ≡ (finished (silent gate connection)).gate
+finished_from : (run : Run) (gate : GateData) (connection : Connection) → gate ≡ run.gate → connection ≡ run.connection → (finished run).gate ≡ (finished (nothing_written gate connection)).gate
 unfolding finished
 finished_from run gate connection h s =
     ap (λ x. (on_event x run.connection happens.End run.connection.session.heard).gate) (sym h) ∙ ap (λ (x : Connection). (on_event gate x happens.End x.session.heard).gate) (sym s)
@@ -78,7 +78,7 @@ unfolding finished on_event
 finished_text run =
     ap (λ c. run.text ++ control_text c) (end_is_silent run.connection.session run.connection.session.heard) ∙ append-nil run.text
 
-pipe_history : (before : GateData) (first : ℕ) (bytes : List ℕ) (gate : GateData) (connection : Connection) → gate ≡ (run_of before first bytes).gate → connection ≡ (run_of before first bytes).connection → (pipe before first bytes).gate ≡ (finished (silent gate connection)).gate
+pipe_history : (before : GateData) (first : ℕ) (bytes : List ℕ) (gate : GateData) (connection : Connection) → gate ≡ (run_of before first bytes).gate → connection ≡ (run_of before first bytes).connection → (pipe before first bytes).gate ≡ (finished (nothing_written gate connection)).gate
 unfolding pipe
 pipe_history before first bytes gate connection h s = finished_from (run_of before first bytes) gate connection h s
 
@@ -87,7 +87,7 @@ unfolding pipe
 pipe_text before first bytes = finished_text (run_of before first bytes)
 
 -- the end of a connection
-pub ended : (before : GateData) (first : ℕ) (gate gate' : GateData) (connection : Connection) (feeder : Held) (flow : Flow) → (s : Stands (way before first) (Follows before first gate connection feeder) flow) → gate' ≡ (finished (silent gate connection)).gate
+pub ended : (before : GateData) (first : ℕ) (gate gate' : GateData) (connection : Connection) (feeder : Held) (flow : Flow) → (s : Stands (way before first) (Follows before first gate connection feeder) flow) → gate' ≡ (finished (nothing_written gate connection)).gate
     → IsAtEnd flow.left ⊎ (is_ended before first s.bytes ≡ true) → IsTranscript flow before first gate'
 ended before first gate gate' connection feeder flow s f over =
     whole (way before first) _ flow s (λ bytes. mark (pipe before first bytes)) (is_ended before first) (λ m. gate' ≡ gate_at m) flow.written [] (f ∙ sym (pipe_history before first s.bytes gate connection s.follows.gate s.follows.connection)) (pipe_text before first s.bytes ∙ sym (append-nil _)) (Appends-nil flow.written) over
@@ -95,7 +95,7 @@ ended before first gate gate' connection feeder flow s f over =
 pub on_done : (run : Run) (p : ClientPacket) → is_over run.connection.session.phase ≡ true → on_packet run p ≡ run
 unfolding handled
 on_done run p h =
-    ap (λ b. with_text run.text (cond b (silent run.gate run.connection) (and_then (answered run.gate (ticked run.connection) p run.connection.coming) (λ g c. and_then (matched g c run.connection.coming) (λ g c. pulled g c run.connection.coming))))) h
+    ap (λ b. with_text run.text (cond b (nothing_written run.gate run.connection) (and_then (answered run.gate (connection_after_tick run.connection) p run.connection.coming) (λ g c. and_then (matched g c run.connection.coming) (λ g c. pulled g c run.connection.coming))))) h
     ∙ ap (λ t. record { gate = run.gate; connection = run.connection; text = t }) (append-nil run.text)
 
 fold_done : (ps : List ClientPacket) (run : Run) → is_over run.connection.session.phase ≡ true → fold on_packet run ps ≡ run
@@ -107,10 +107,10 @@ fold_done (p ∷ ps) run h =
 over_follows : (before : GateData) (first : ℕ) (bytes more : List ℕ) → (fault : Bool) → (done : Bool) → fault ≡ is_some (packets_of bytes).fault → done ≡ is_over (run_of before first bytes).connection.session.phase → (fault || done) ≡ true → run_of before first (bytes ++ more) ≡ run_of before first bytes
 unfolding run_of
 over_follows before first bytes more true done f d h =
-    ap (λ s. fold on_packet (opened before first) s.packets) (nothing_after_fault bytes more (sym f))
+    ap (λ s. fold on_packet (run_opened before first) s.packets) (nothing_after_fault bytes more (sym f))
 over_follows before first bytes more false true f d h =
     let g = packets_grow bytes more in
-    ap (fold on_packet (opened before first)) g.1 ∙ (fold-append on_packet (opened before first) (packets_of bytes).packets g.0 ∙ fold_done g.0 (fold on_packet (opened before first) (packets_of bytes).packets) (sym d))
+    ap (fold on_packet (run_opened before first)) g.1 ∙ (fold-append on_packet (run_opened before first) (packets_of bytes).packets g.0 ∙ fold_done g.0 (fold on_packet (run_opened before first) (packets_of bytes).packets) (sym d))
 over_follows before first bytes more false false f d h = cc
 
 -- once the connection is over, nothing that follows counts

@@ -1,13 +1,13 @@
 -- What a connection was sent: the session table keeps it from packet to packet.
-use Rattle.std.proofs.{Common.{◌≡◌, ℕ, ◌+◌, ◌-◌, ◌≤◌, max, Bool, true, false, cond, not, ◌&&◌, ◌==◌, nat_le, List, [], ◌∷◌, ◌++◌, length, drop, Option, None, Some, refl, sym, ap, ◌∙◌, subst, append-nil, append_assoc, arith, length-append, length-drop}, lemmas.{Bool.Decides.nat_tests, List.{drop-append-le, drop_at}}}
+use Rattle.std.proofs.{Common.{◌≡◌, ℕ, ◌+◌, ◌-◌, ◌≤◌, max, Bool, true, false, cond, ◌==◌, nat_le, List, [], ◌∷◌, ◌++◌, length, drop, Option, None, Some, refl, sym, ap, ◌∙◌, subst, append-nil, append_assoc, arith, length-append, length-drop}, lemmas.{Bool.{Decides.nat_tests, not-false, leb-true, and_parts}, List.{drop-append-le, drop_at}}}
 use Rattle.std.specs.{List.{flat_map, AllByRecursion}, Option.option_map_or}
 use Rattle.gx_units.specs.{Spelling.folded_user, declared.names.{LoginRejection.LoginRejection, SessionName.SessionName, UserName.UserName}}
 use Rattle.gx_soup.specs.{declared.packet.{LoginRequest.LoginRequest, ClientPacket.ClientPacket, ServerPacket.ServerPacket}, Writing.server_bytes, Packets.packets_of}
 use Rattle.gx_policy.specs.declared.{policy.PolicyData.PolicyData, rule_name.RuleName.{RuleName, TheVariants.{L3}}}
-use Rattle.gx_history.specs.{declared.{«record».{Asked.Asked, RecordData.RecordData, Step.Step, Verdict.Verdict}, report.Report.Report}, Asking.facts, Logins.first_wanted, Payloads.request_of, Requests.asked, Rules.forbids, Streams.{stream, reports_of}, Verdicts.{next, verdict, facts_now, moment_of}, InForce.is_closed}
+use Rattle.gx_history.specs.{declared.{«record».{Asked.Asked, RecordData.RecordData, Step.Step, Verdict.Verdict}, report.Report.Report}, Asking.facts, Logins.first_wanted, Payloads.request_of, Requests.asked_of, Rules.forbids, Streams.{stream, reports_of}, Verdicts.{next, verdict, facts_now, moment_of}, InForce.is_closed}
 use Rattle.gx_laws.proofs.{Granting.{left_by_request, is_no_bar}, NextReports.stream_next, Owners.all_both, Settling.settled_adds}
-use Rattle.gx_answers.specs.{Gates.GateData, Matches.settled_gate, Logins.login_answered, declared.outcome.LoginAnswer.LoginAnswer, Asking.{asked_by, stepped}}
-use Rattle.gx_pipe.specs.{declared.connection.Connection.Connection, Serving.{owed, IsServed, HasOnlyMatched, Serves}, Steps.{login_asked_at, login_told}, Transcript.{Run, with_text, on_event, first_told, logged_in, answered, sent, matched, pulled, handled, on_packet, opened, run_of, later}}
+use Rattle.gx_answers.specs.{Gates.GateData, Matches.settled_gate, Logins.login_answered, declared.outcome.LoginAnswer.LoginAnswer, Asking.{asked_by, gate_after_step}}
+use Rattle.gx_pipe.specs.{declared.connection.Connection.Connection, Serving.{reports_owed, IsServed, HasOnlyMatched, Serves}, Steps.{login_asked_at, login_told}, Transcript.{Run, with_text, on_event, first_told, logged_in, answered, sent, matched, pulled, handled, on_packet, run_opened, run_of, later}}
 use Rattle.gx_session.specs.{declared.session.Phase.{Phase, TheVariants.{Fresh, Waiting, On, Abandoned}}, Table.turn, Sending.{report_packet, reports_text}}
 use Rattle.gx_session.specs.Happenings as happens
 use Rattle.gx_pipe.proofs.Keeping.{all_keep}
@@ -32,7 +32,7 @@ unfolding left_of
 left_is gate a = left_by_request gate.policy gate.records a
 
 -- a step's record adds reports behind those that are there
-stream_on : (gate : GateData) (a : Asked) (user : UserName) → (more : List Report) × (owed (stepped gate a) user ≡ owed gate user ++ more)
+stream_on : (gate : GateData) (a : Asked) (user : UserName) → (more : List Report) × (reports_owed (gate_after_step gate a) user ≡ reports_owed gate user ++ more)
 stream_on gate a user = (
   reports_of gate.policy (folded_user user) (gate.records, left_of gate a),
   ap (λ (o : Option RecordData). stream gate.policy (option_map_or (λ (x : RecordData). gate.records ++ x ∷ []) o gate.records) (folded_user user)) (left_is gate a)
@@ -51,23 +51,23 @@ stream_grows policy history (r ∷ more) user =
     )
 
 -- matching steps add reports behind those that are there
-settled_on : (gate : GateData) (moment : ℕ) (user : UserName) → (more : List Report) × (owed (settled_gate gate moment) user ≡ owed gate user ++ more)
+settled_on : (gate : GateData) (moment : ℕ) (user : UserName) → (more : List Report) × (reports_owed (settled_gate gate moment) user ≡ reports_owed gate user ++ more)
 settled_on gate moment user =
     let adds = settled_adds gate.policy gate.records moment in
     let grown = stream_grows gate.policy gate.records adds.more (folded_user user) in
     (grown.0, ap (λ h. stream gate.policy h (folded_user user)) adds.goes_on ∙ grown.1)
 
 -- and so do a step and the matching steps that follow it
-step_settled_on : (gate : GateData) (a : Asked) (moment : ℕ) (user : UserName) → (more : List Report) × (owed (settled_gate (stepped gate a) moment) user ≡ owed gate user ++ more)
+step_settled_on : (gate : GateData) (a : Asked) (moment : ℕ) (user : UserName) → (more : List Report) × (reports_owed (settled_gate (gate_after_step gate a) moment) user ≡ reports_owed gate user ++ more)
 step_settled_on gate a moment user =
     let one = stream_on gate a user in
-    let rest = settled_on (stepped gate a) moment user in
-    (one.0 ++ rest.0, rest.1 ∙ (ap (λ s. s ++ rest.0) one.1 ∙ append_assoc (owed gate user) one.0 rest.0))
+    let rest = settled_on (gate_after_step gate a) moment user in
+    (one.0 ++ rest.0, rest.1 ∙ (ap (λ s. s ++ rest.0) one.1 ∙ append_assoc (reports_owed gate user) one.0 rest.0))
 
 -- matching steps ask for nothing
-ask_nothing : (moment : ℕ) (rs : List RecordData) → AllByRecursion (λ (r : RecordData). r.step ≡ Step.Matching moment) rs → AllByRecursion (λ (r : RecordData). asked r.step ≡ None) rs
+ask_nothing : (moment : ℕ) (rs : List RecordData) → AllByRecursion (λ (r : RecordData). r.step ≡ Step.Matching moment) rs → AllByRecursion (λ (r : RecordData). asked_of r.step ≡ None) rs
 ask_nothing moment [] h = tt
-ask_nothing moment (r ∷ rs) h = (ap asked h.0, ask_nothing moment rs h.1)
+ask_nothing moment (r ∷ rs) h = (ap asked_of h.0, ask_nothing moment rs h.1)
 
 only_matched : (before gate : GateData) (moment : ℕ) → HasOnlyMatched before gate → HasOnlyMatched before (settled_gate gate moment)
 only_matched before gate moment h =
@@ -76,16 +76,16 @@ only_matched before gate moment h =
       policy_kept = h.policy_kept;
       more = h.more ++ adds.more;
       goes_on = adds.goes_on ∙ (ap (λ (rs : List RecordData). rs ++ adds.more) h.goes_on ∙ append_assoc before.records h.more adds.more);
-      are_matches = all_both (λ (r : RecordData). asked r.step ≡ None) h.more adds.more h.are_matches (ask_nothing moment adds.more adds.are_matches);
+      are_matches = all_both (λ (r : RecordData). asked_of r.step ≡ None) h.more adds.more h.are_matches (ask_nothing moment adds.more adds.are_matches);
     }
 
 -- what was sent, once more reports were sent behind it
 served_more : (gate gate' : GateData) (text : List ℕ) (user : UserName) (next : ℕ) (more : List Report) → IsServed gate text user next
-    → gate'.policy ≡ gate.policy → owed gate' user ≡ owed gate user ++ more
-    → IsServed gate' (text ++ ([] ++ flat_map report_packet (drop (next - 1) (owed gate' user)))) user (max 1 next + length (drop (next - 1) (owed gate' user)))
+    → gate'.policy ≡ gate.policy → reports_owed gate' user ≡ reports_owed gate user ++ more
+    → IsServed gate' (text ++ ([] ++ flat_map report_packet (drop (next - 1) (reports_owed gate' user)))) user (max 1 next + length (drop (next - 1) (reports_owed gate' user)))
 served_more gate gate' text user next more h p e =
-    let old = owed gate user in
-    let now = owed gate' user in
+    let old = reports_owed gate user in
+    let now = reports_owed gate' user in
     let front = server_bytes (ServerPacket.Accepted gate.policy.session h.from) in
     let first : length old ≡ next - 1 = omega (arith, h.follows) in
     let reach : h.from - 1 ≤ length old = omega (arith, h.is_available) in
@@ -108,25 +108,17 @@ served_more gate gate' text user next more h p e =
 
 -- the first reports, behind Login Accepted
 served_first : (gate : GateData) (text : List ℕ) (user : UserName) (name : SessionName) (from : ℕ) → text ≡ [] → name ≡ gate.policy.session → 1 ≤ from
-    → from ≤ length (owed gate user) + 1
-    → IsServed gate (text ++ (server_bytes (ServerPacket.Accepted name from) ++ flat_map report_packet (drop (from - 1) (owed gate user)))) user (max 1 from + length (drop (from - 1) (owed gate user)))
+    → from ≤ length (reports_owed gate user) + 1
+    → IsServed gate (text ++ (server_bytes (ServerPacket.Accepted name from) ++ flat_map report_packet (drop (from - 1) (reports_owed gate user)))) user (max 1 from + length (drop (from - 1) (reports_owed gate user)))
 served_first gate text user name from none named one there = record {
   from = from;
   sent =
-      ap (λ t. t ++ (server_bytes (ServerPacket.Accepted name from) ++ flat_map report_packet (drop (from - 1) (owed gate user)))) none
-      ∙ ap (λ n. server_bytes (ServerPacket.Accepted n from) ++ flat_map report_packet (drop (from - 1) (owed gate user))) named;
+      ap (λ t. t ++ (server_bytes (ServerPacket.Accepted name from) ++ flat_map report_packet (drop (from - 1) (reports_owed gate user)))) none
+      ∙ ap (λ n. server_bytes (ServerPacket.Accepted n from) ++ flat_map report_packet (drop (from - 1) (reports_owed gate user))) named;
   counts_from_one = one;
   is_available = there;
-  follows = omega (arith, length-drop (from - 1) (owed gate user));
+  follows = omega (arith, length-drop (from - 1) (reports_owed gate user));
 }
-
-not_false : (b : Bool) → not b ≡ false → b ≡ true
-not_false true h = refl
-not_false false h = cc
-
-second_true : (a b : Bool) → (a && b) ≡ true → b ≡ true
-second_true true b h = h
-second_true false b h = cc
 
 no_bar : (gate : GateData) (a : Asked) → verdict gate.policy gate.records a ≡ Verdict.Granted → forbids L3 (facts_now gate.policy gate.records a) a.request ≡ false
 unfolding left_of
@@ -134,13 +126,10 @@ no_bar gate a granted = is_no_bar gate.policy gate.records a (left_of gate a) (l
 
 -- a login that is granted asked for a report that is there, or for the next one
 number_is_there : (gate : GateData) (moment : ℕ) (login : LoginRequest) → verdict gate.policy gate.records (login_asked_at gate moment login) ≡ Verdict.Granted
-    → nat_le login.wanted (length (owed gate login.user) + 1) ≡ true
+    → nat_le login.wanted (length (reports_owed gate login.user) + 1) ≡ true
 unfolding facts
 number_is_there gate moment login granted =
-    second_true _ _ (not_false _ (no_bar gate (login_asked_at gate moment login) granted))
-
-le_is : (m n : ℕ) → nat_le m n ≡ true → m ≤ n
-le_is m n h = grind (arith, nat_tests)
+    (and_parts _ _ (not-false _ (no_bar gate (login_asked_at gate moment login) granted))).1
 
 first_within : (wanted old now : ℕ) → (none : Bool) → (wanted == 0) ≡ none → wanted ≤ old + 1 → old ≤ now
     → (1 ≤ cond none (max 1 now) wanted) × (cond none (max 1 now) wanted ≤ now + 1)
@@ -159,23 +148,23 @@ never answer reason name from e f = cc
 record IsAcceptance (gate : GateData) (moment : ℕ) (login : LoginRequest) (name : SessionName) (from : ℕ) : Type 0 where
   named : name ≡ gate.policy.session
   counts_from_one : 1 ≤ from
-  is_there : from ≤ length (owed (stepped gate (login_asked_at gate moment login)) login.user) + 1
+  is_there : from ≤ length (reports_owed (gate_after_step gate (login_asked_at gate moment login)) login.user) + 1
 
 accepted_by : (gate : GateData) (moment : ℕ) (login : LoginRequest) (name : SessionName) (from : ℕ) (v : Verdict)
     → verdict gate.policy gate.records (login_asked_at gate moment login) ≡ v
-    → login_answered gate.policy (stepped gate (login_asked_at gate moment login)).records (folded_user login.user) login.wanted v ≡ LoginAnswer.Accepted name from
+    → login_answered gate.policy (gate_after_step gate (login_asked_at gate moment login)).records (folded_user login.user) login.wanted v ≡ LoginAnswer.Accepted name from
     → IsAcceptance gate moment login name from
 accepted_by gate moment login name from Verdict.Granted granted e =
     let a = login_asked_at gate moment login in
-    let now = owed (stepped gate a) login.user in
+    let now = reports_owed (gate_after_step gate a) login.user in
     let more = stream_on gate a login.user in
-    let there = le_is login.wanted (length (owed gate login.user) + 1) (number_is_there gate moment login granted) in
-    let longer : length now ≡ length (owed gate login.user) + length more.0 = ap length more.1 ∙ length-append (owed gate login.user) more.0 in
-    let bounds = first_within login.wanted (length (owed gate login.user)) (length now) (login.wanted == 0) refl there (omega (arith, longer)) in
+    let there = leb-true login.wanted (length (reports_owed gate login.user) + 1) (number_is_there gate moment login granted) in
+    let longer : length now ≡ length (reports_owed gate login.user) + length more.0 = ap length more.1 ∙ length-append (reports_owed gate login.user) more.0 in
+    let bounds = first_within login.wanted (length (reports_owed gate login.user)) (length now) (login.wanted == 0) refl there (omega (arith, longer)) in
     let same : first_wanted (length now) login.wanted ≡ from = cc in
     record { named = cc; counts_from_one = omega (arith, same, bounds.0); is_there = omega (arith, same, bounds.1) }
 accepted_by gate moment login name from (Verdict.Denied rule) denied e =
-    let r = rejects gate.policy (stepped gate (login_asked_at gate moment login)).records (folded_user login.user) login.wanted rule in
+    let r = rejects gate.policy (gate_after_step gate (login_asked_at gate moment login)).records (folded_user login.user) login.wanted rule in
     never _ r.0 name from r.1 e
 accepted_by gate moment login name from other v e = cc
 
@@ -197,12 +186,12 @@ after_reports before gate text heard spoke user next coming moment count false h
 
 -- all reports that are there are sent behind what was
 after_pull : (before gate : GateData) (text front : List ℕ) (heard spoke : ℕ) (user : UserName) (next coming moment : ℕ)
-    → IsServed gate (text ++ (front ++ flat_map report_packet (drop (next - 1) (owed gate user)))) user (max 1 next + length (drop (next - 1) (owed gate user)))
+    → IsServed gate (text ++ (front ++ flat_map report_packet (drop (next - 1) (reports_owed gate user)))) user (max 1 next + length (drop (next - 1) (reports_owed gate user)))
     → let c : Connection = record { session = record { phase = On; heard = heard; sent = spoke }; user = user; next = next; coming = coming } in
     ServesRun before (with_text text (with_text front (pulled gate c moment)))
 unfolding pulled sent
 after_pull before gate text front heard spoke user next coming moment h =
-    let news = drop (next - 1) (owed gate user) in
+    let news = drop (next - 1) (reports_owed gate user) in
     let c : Connection = record { session = record { phase = On; heard = heard; sent = spoke }; user = user; next = max 1 next + length news; coming = coming } in
     let last = on_event gate c (happens.Pulled (length news) (is_closed gate.records)) moment in
     let e : (text ++ (front ++ reports_text news)) ++ last.text ≡ text ++ (front ++ (reports_text news ++ last.text)) =
@@ -216,15 +205,15 @@ login_run gate heard spoke login coming moment answer =
 
 after_login : (before gate : GateData) (text : List ℕ) (heard spoke : ℕ) (login : LoginRequest) (coming moment : ℕ) → text ≡ [] → (answer : LoginAnswer)
     → login_told gate moment login ≡ answer
-    → let run = login_run (stepped gate (login_asked_at gate moment login)) heard spoke login coming moment answer in
+    → let run = login_run (gate_after_step gate (login_asked_at gate moment login)) heard spoke login coming moment answer in
     ServesRun before (with_text text (with_text run.text (pulled (matched run.gate run.connection moment).gate run.connection moment)))
 unfolding on_event turn matched pulled
 after_login before gate text heard spoke login coming moment none (LoginAnswer.Accepted name from) e =
     let asks = login_asked_at gate moment login in
-    let now = settled_gate (stepped gate asks) moment in
+    let now = settled_gate (gate_after_step gate asks) moment in
     let k = accepted_is gate moment login name from e in
-    let more = settled_on (stepped gate asks) moment login.user in
-    let longer : length (owed now login.user) ≡ length (owed (stepped gate asks) login.user) + length more.0 = ap length more.1 ∙ length-append (owed (stepped gate asks) login.user) more.0 in
+    let more = settled_on (gate_after_step gate asks) moment login.user in
+    let longer : length (reports_owed now login.user) ≡ length (reports_owed (gate_after_step gate asks) login.user) + length more.0 = ap length more.1 ∙ length-append (reports_owed (gate_after_step gate asks) login.user) more.0 in
     after_pull before now text (server_bytes (ServerPacket.Accepted name from)) heard (max spoke moment) login.user from coming moment
     (served_first now text login.user name from none k.named k.counts_from_one (omega (arith, longer, k.is_there)))
 after_login before gate text heard spoke login coming moment none (LoginAnswer.Rejected reason) e = tt
@@ -240,8 +229,8 @@ serves_next before gate text Fresh heard spoke user number coming ClientPacket.D
 serves_next before gate text On heard spoke user number coming (ClientPacket.Data payload) h =
     let a = asked_by user (request_of payload) coming in
     let more = step_settled_on gate a coming user in
-    after_pull before (settled_gate (stepped gate a) coming) text [] (max heard coming) spoke user number (later coming) coming
-    (served_more gate (settled_gate (stepped gate a) coming) text user number more.0 h refl more.1)
+    after_pull before (settled_gate (gate_after_step gate a) coming) text [] (max heard coming) spoke user number (later coming) coming
+    (served_more gate (settled_gate (gate_after_step gate a) coming) text user number more.0 h refl more.1)
 serves_next before gate text On heard spoke user number coming ClientPacket.Heartbeat h =
     let more = settled_on gate coming user in
     after_pull before (settled_gate gate coming) text [] (max heard coming) spoke user number (later coming) coming
@@ -258,7 +247,7 @@ run_serves : (gate : GateData) (first : ℕ) (bytes : List ℕ) → ServesRun ga
 unfolding run_of
 run_serves gate first bytes =
     let nothing : HasOnlyMatched gate gate = record { policy_kept = refl; more = []; goes_on = sym (append-nil gate.records); are_matches = tt } in
-    all_keep (ServesRun gate) (λ run packet h. let c = run.connection in serves_next gate run.gate run.text c.session.phase c.session.heard c.session.sent c.user c.next c.coming packet h) (packets_of bytes).packets (opened gate first) (nothing, refl)
+    all_keep (ServesRun gate) (λ run packet h. let c = run.connection in serves_next gate run.gate run.text c.session.phase c.session.heard c.session.sent c.user c.next c.coming packet h) (packets_of bytes).packets (run_opened gate first) (nothing, refl)
 
 pub served_in : (gate : GateData) (first : ℕ) (bytes : List ℕ) (phase : Phase) → (run_of gate first bytes).connection.session.phase ≡ phase
     → let run = run_of gate first bytes in Serves gate run.gate run.text run.connection.user run.connection.next phase

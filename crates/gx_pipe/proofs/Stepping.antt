@@ -2,7 +2,7 @@
 use Rattle.std.specs.Prelude.{is_ok}
 use Rattle.std.proofs.{lemmas.Bool.cases_lt, Common.{◌≡◌, ℕ, ◌<◌, ◌≤◌, ◌⊎◌, inl, inr, subst, Bool, true, false, Result, Ok, Err, is_some, List, [], ◌∷◌, ◌++◌, length, Option, None, Some, option_map, refl, sym, ap, ◌∙◌, append-nil}}
 use Rattle.gx_history.specs.{Verdicts.{day_limit, next, verdict, IsLegal}, declared.record.{Asked.Asked, RecordData.RecordData, Step.Step, Verdict.Verdict}, Matching.matching, Settling.AddsMatches}
-use Rattle.gx_answers.specs.{Steps.IsFull, declared.outcome.{StepFault.StepFault, LoginAnswer.LoginAnswer, Outcome.Outcome}, Gates.{GateData, left_by, matched_by}, Matches.{matching_of, next_match, with_match, settled_gate, IsSettling}, Logins.login_answered, Asking.stepped}
+use Rattle.gx_answers.specs.{Steps.IsFull, declared.outcome.{StepFault.StepFault, LoginAnswer.LoginAnswer, Outcome.Outcome}, Gates.{GateData, left_by, matched_by}, Matches.{matching_of, next_match, with_match, settled_gate, IsSettling}, Logins.login_answered, Asking.gate_after_step}
 use Rattle.gx_pipe.specs.{Faults.{fault_of_step, HasRoom, IsToldFull}, Piping.{cause_of, Refused}, Steps.{login_asked_at, login_told}}
 use Rattle.gx_devices.specs.Stopping.{AreFewer}
 use Rattle.gx_units.specs.{Spelling.folded_user, declared.names.UserName.UserName}
@@ -17,12 +17,12 @@ pub told_is : (gate : GateData) (moment : ℕ) (login : LoginRequest) (after : G
     → answer ≡ login_answered after.policy after.records user login.wanted o.verdict → answer ≡ login_told gate moment login
 unfolding login_told
 told_is gate moment login after a o user answer asked p n r u e =
-    let s : after ≡ stepped gate a = stepped_is gate after a o p n r in
+    let s : after ≡ gate_after_step gate a = stepped_is gate after a o p n r in
     let v : o.verdict ≡ verdict gate.policy gate.records a = verdict_of_next gate.policy gate.records a (left_by a o) n in
     e ∙ (ap (λ (x : GateData). login_answered x.policy x.records user login.wanted o.verdict) s
-    ∙ (ap (λ (x : UserName). login_answered gate.policy (stepped gate a).records x login.wanted o.verdict) u
-    ∙ (ap (λ (x : Verdict). login_answered gate.policy (stepped gate a).records (folded_user login.user) login.wanted x) v
-    ∙ ap (λ (x : Asked). login_answered gate.policy (stepped gate x).records (folded_user login.user) login.wanted (verdict gate.policy gate.records x)) asked)))
+    ∙ (ap (λ (x : UserName). login_answered gate.policy (gate_after_step gate a).records x login.wanted o.verdict) u
+    ∙ (ap (λ (x : Verdict). login_answered gate.policy (gate_after_step gate a).records (folded_user login.user) login.wanted x) v
+    ∙ ap (λ (x : Asked). login_answered gate.policy (gate_after_step gate x).records (folded_user login.user) login.wanted (verdict gate.policy gate.records x)) asked)))
 
 -- where no step more is to be made, all are
 pub settled_here : (before now after : GateData) (moment : ℕ) (found : Option Outcome) → is_some found ≡ false → IsSettling before moment now

@@ -6,14 +6,15 @@ use Rattle.gx_units.specs.{Spelling.folded_user, declared.names.UserName.UserNam
 use Rattle.gx_soup.specs.declared.packet.{LoginRequest.LoginRequest, ClientPacket.ClientPacket}
 use Rattle.gx_history.specs.{declared.{«record».{Request.Request, RecordData.RecordData}, report.Report.Report}, InForce.is_closed, Streams.stream}
 use Rattle.gx_policy.specs.Lists.{slice}
-use Rattle.gx_answers.specs.{Gates.GateData, Told.ends_before, declared.outcome.{LoginAnswer.LoginAnswer, StepFault.StepFault}, Asking.{asked_by, stepped}}
-use Rattle.gx_pipe.specs.{declared.{connection.Connection.Connection, fault.PipeFault.PipeFault}, Serving.IsOnLine, Faults.{fault_of_send, fault_of_step, IsToldFull}, Piping.{Standing, mark, cause_of, Refused, logout_of, IsRunOf, IsTaken, IsUnwritten, IsGivenUp, IsTurnGivenUp, GivesAll, reported_of, told_of, pull_marks, IsThere, StopsIn}, Steps.{login_asked_at, login_told}, Transcript.{Run, run_at, and_then, with_text, silent, acted, on_event, first_told, logged_in, with_login, answered, sent, unsent, pulled}}
+use Rattle.gx_answers.specs.{Gates.GateData, Told.ends_before, declared.outcome.{LoginAnswer.LoginAnswer, StepFault.StepFault}, Asking.{asked_by, gate_after_step}}
+use Rattle.gx_pipe.specs.{declared.{connection.Connection.Connection, fault.PipeFault.PipeFault}, Serving.IsOnLine, Faults.{fault_of_send, fault_of_step, IsToldFull}, Piping.{Standing, mark, cause_of, Refused, logout_of, IsRunOf, IsTaken, IsUnwritten, IsGivenUp, IsTurnGivenUp, GivesAll, reported_of, told_of, pull_marks, IsThere, StopsIn}, Steps.{login_asked_at, login_told}, Transcript.{Run, run_at, and_then, with_text, nothing_written, gate_after_act, on_event, first_told, logged_in, with_login, answered, sent, unsent, pulled}}
 use Rattle.gx_session.specs.{declared.{event.{Control.Control, Next.Next, Reply.Reply}, session.Phase.{Phase, TheVariants.{Fresh, Waiting, On}}}, Events.{asks_step, is_on, login_in}, Happenings.Happening, Table.{SessionData, row_in, turn}, Sending.{control_bytes, control_text, reports_text}}
 use Rattle.gx_devices.proofs.Stopping.{fewer_then, first_same}
 use Rattle.gx_devices.proofs.Pieces as pieces
 use Rattle.gx_pipe.proofs.{Growing.{event_adds, answer_on, login_adds}, OnLine.pull_keeps, Stepping.of_step}
 use Rattle.gx_session.specs.Happenings as happens
 use Rattle.gx_answers.proofs.Stepped.{all_taken}
+use Rattle.gx_units.proofs.Tests.{and_true}
 
 -- Rows of the table.
 
@@ -69,27 +70,27 @@ pub unwritten : (run : Run) (fault : WriteFault) (now : GateData) (state : Conne
 unwritten run fault now state output left g l f none = let s = sending fault run.text output left f none in record { gate = g; logout = l; text = s.0; sending = s.1 }
 
 pub turn_unwritten : (gate : GateData) (c : Connection) (event : Happening) (moment : ℕ) (reply : Reply) (session : SessionData) (control : Control) (fault : WriteFault) (now : GateData) (output left : Option (List ℕ)) → reply ≡ (turn c.session event moment).reply → session ≡ (turn c.session event moment).session
-    → reply.send ≡ Some control → now ≡ acted gate c.user moment reply.next → IsFront output left (control_bytes control) → (fault ≡ WriteFault.OutOfMemory → Appends output left [])
+    → reply.send ≡ Some control → now ≡ gate_after_act gate c.user moment reply.next → IsFront output left (control_bytes control) → (fault ≡ WriteFault.OutOfMemory → Appends output left [])
     → IsTurnGivenUp gate c event moment (fault_of_send fault) now (record c { session = session }) output left
 unfolding on_event
 turn_unwritten gate c event moment reply session control fault now output left r s sends acts f none =
     let sent : (turn c.session event moment).reply.send ≡ Some control = ap (λ (x : Reply). x.send) (sym r) ∙ sends in
     inr (
       ap is_some sent,
-      unwritten (on_event gate c event moment) fault now (record c { session = session }) output left (acts ∙ ap (λ (x : Reply). acted gate c.user moment x.next) r)
+      unwritten (on_event gate c event moment) fault now (record c { session = session }) output left (acts ∙ ap (λ (x : Reply). gate_after_act gate c.user moment x.next) r)
           (ap (λ (x : SessionData). logout_of (record c { session = x })) s) (subst (λ (x : Option Control). IsFront output left (control_text x)) (sym sent) f) none,
     )
 
 -- A login.
 
-logged_in_is : (gate gate' : GateData) (c : Connection) (login : LoginRequest) (moment : ℕ) (answer : LoginAnswer) (next : ℕ) → gate' ≡ stepped gate (login_asked_at gate moment login) → answer ≡ login_told gate moment login → next ≡ first_told answer → logged_in gate c login moment ≡ on_event gate' (record c { user = login.user; next = next }) (happens.Answered answer) moment
+logged_in_is : (gate gate' : GateData) (c : Connection) (login : LoginRequest) (moment : ℕ) (answer : LoginAnswer) (next : ℕ) → gate' ≡ gate_after_step gate (login_asked_at gate moment login) → answer ≡ login_told gate moment login → next ≡ first_told answer → logged_in gate c login moment ≡ on_event gate' (record c { user = login.user; next = next }) (happens.Answered answer) moment
 unfolding logged_in
 logged_in_is gate gate' c login moment answer next g a n =
-    ap (λ (x : LoginAnswer). on_event (stepped gate (login_asked_at gate moment login)) (record c { user = login.user; next = first_told x }) (happens.Answered x) moment) (sym a)
+    ap (λ (x : LoginAnswer). on_event (gate_after_step gate (login_asked_at gate moment login)) (record c { user = login.user; next = first_told x }) (happens.Answered x) moment) (sym a)
     ∙ (ap (λ x. on_event x (record c { user = login.user; next = first_told answer }) (happens.Answered answer) moment) (sym g)
     ∙ ap (λ k. on_event gate' (record c { user = login.user; next = k }) (happens.Answered answer) moment) (sym n))
 
-pub log_in_cut : (gate gate' : GateData) (c : Connection) (login : LoginRequest) (moment : ℕ) (answer : LoginAnswer) (next : ℕ) → c.session.phase ≡ Waiting → gate' ≡ stepped gate (login_asked_at gate moment login) → answer ≡ login_told gate moment login → next ≡ first_told answer → (fault : PipeFault) (now : GateData) (state : Connection) (output left : Option (List ℕ)) → IsTurnGivenUp gate' (record c { user = login.user; next = next }) (happens.Answered answer) moment fault now state output left → IsGivenUp gate c (logged_in gate c login moment) fault now state output left
+pub log_in_cut : (gate gate' : GateData) (c : Connection) (login : LoginRequest) (moment : ℕ) (answer : LoginAnswer) (next : ℕ) → c.session.phase ≡ Waiting → gate' ≡ gate_after_step gate (login_asked_at gate moment login) → answer ≡ login_told gate moment login → next ≡ first_told answer → (fault : PipeFault) (now : GateData) (state : Connection) (output left : Option (List ℕ)) → IsTurnGivenUp gate' (record c { user = login.user; next = next }) (happens.Answered answer) moment fault now state output left → IsGivenUp gate c (logged_in gate c login moment) fault now state output left
 log_in_cut gate gate' c login moment answer next waiting g a n fault now state output left (inl h) =
     let quiet = answer_asks_nothing c.session answer moment waiting in
     let asks = h.0 in
@@ -129,10 +130,10 @@ message_cut gate now c state packet payload moment fault output is asks same ful
     (inl (asks, record { gate_is = same.0; logout = ap logout_of same.1; cause = of_step gate now fault same.0 full; written = Appends-nil output })))
 
 -- what the session makes of a message, its reply known
-pub message_run : (gate now : GateData) (c : Connection) (payload : List ℕ) (moment : ℕ) (request : Request) (session : SessionData) → (turn c.session (happens.Packet (ClientPacket.Data payload)) moment).reply ≡ record { send = None; next = Next.Act request } → session ≡ (turn c.session (happens.Packet (ClientPacket.Data payload)) moment).session → now ≡ acted gate c.user moment (Next.Act request) → IsRunOf (on_event gate c (happens.Packet (ClientPacket.Data payload)) moment) now (record c { session = session })
+pub message_run : (gate now : GateData) (c : Connection) (payload : List ℕ) (moment : ℕ) (request : Request) (session : SessionData) → (turn c.session (happens.Packet (ClientPacket.Data payload)) moment).reply ≡ record { send = None; next = Next.Act request } → session ≡ (turn c.session (happens.Packet (ClientPacket.Data payload)) moment).session → now ≡ gate_after_act gate c.user moment (Next.Act request) → IsRunOf (on_event gate c (happens.Packet (ClientPacket.Data payload)) moment) now (record c { session = session })
 unfolding on_event
 message_run gate now c payload moment request session r s g = record {
-  gate = g ∙ sym (ap (λ (x : Reply). acted gate c.user moment x.next) r);
+  gate = g ∙ sym (ap (λ (x : Reply). gate_after_act gate c.user moment x.next) r);
   connection = ap (λ (x : SessionData). record c { session = x }) s;
 }
 
@@ -141,7 +142,7 @@ pub pull_goes_on : (gate : GateData) (c : Connection) (count : ℕ) (ended : Boo
 unfolding on_event
 pull_goes_on gate c count true moment session output e r s = cc
 pull_goes_on gate c count false moment session output e r s = record {
-  gate = sym (ap (λ (x : Reply). acted gate c.user moment x.next) r);
+  gate = sym (ap (λ (x : Reply). gate_after_act gate c.user moment x.next) r);
   connection = ap (λ (x : SessionData). record c { session = x }) s;
   text = subst (λ (x : Reply). Appends output output (control_text x.send)) (sym r) (Appends-nil output);
 }
@@ -159,7 +160,7 @@ module _ (gate : GateData) (c : Connection) (packet : ClientPacket) (moment : �
   same_gate = told.gate ∙ ap (λ n. acted_by n) asks
     where
       acted_by : Next → GateData
-      acted_by n = acted gate c.user moment n
+      acted_by n = gate_after_act gate c.user moment n
 
   nothing_sent : Appends output mid []
   unfolding on_event
@@ -215,10 +216,6 @@ gives_all gate c user reports next ended most u given few n e =
       next_is = n;
       ended_is = e ∙ (ap (λ b. is_closed gate.records && b) past ∙ and_true (is_closed gate.records));
     }
-  where
-    and_true : (b : Bool) → (b && true) ≡ b
-    and_true true = refl
-    and_true false = refl
 
 module _ (gate : GateData) (c : Connection) (moment : ℕ) (reports : List Report) (count next : ℕ) (ended : Bool) (on : is_on c.session.phase ≡ true) (all : GivesAll gate c reports next ended) (counted : count ≡ length reports) where
   abbrev pub turned : Run
@@ -227,7 +224,7 @@ module _ (gate : GateData) (c : Connection) (moment : ℕ) (reports : List Repor
   pulled_is : pulled gate c moment ≡ with_text (reports_text reports) turned
   unfolding pulled sent
   pulled_is =
-      ap (λ b. cond b (sent gate c (unsent gate c) moment) (silent gate c)) on
+      ap (λ b. cond b (sent gate c (unsent gate c) moment) (nothing_written gate c)) on
       ∙ (ap (λ xs. sent gate c xs moment) (sym all.reports_are)
       ∙ (ap (λ k. with_text (reports_text reports) (on_event gate (record c { next = k }) (happens.Pulled (length reports) (is_closed gate.records)) moment)) (sym all.next_is)
       ∙ (ap (λ b. with_text (reports_text reports) (on_event gate (record c { next = next }) (happens.Pulled (length reports) b) moment)) (sym all.ended_is)

@@ -3,10 +3,10 @@ use Rattle.std.specs.{Option.option_map_or, Prelude.{◌≡◌, ℕ, ◌+◌, �
 use Rattle.gx_soup.specs.{declared.packet.ClientPacket.ClientPacket, Packets.packets_of, Feeding.{Held, HasRead}}
 use Rattle.gx_history.specs.{InForce.is_closed, Verdicts.day_limit, declared.{report.Report.Report, «record».{Asked.Asked, RecordData.RecordData, Request.Request}}}
 use Rattle.gx_policy.specs.declared.policy.PolicyData.{PolicyData}
-use Rattle.gx_answers.specs.{Gates.GateData, Matches.{settled_gate, IsSettling}, Steps.has_its_places, Asking.asked_by}
+use Rattle.gx_answers.specs.{Gates.GateData, Matches.{settled_gate, IsSettling}, Steps.never_refuses, Asking.asked_by}
 use Rattle.gx_devices.specs.{Devices.IsFront, Pieces.{Flow, Way, TakesPiece, IsBroken, IsWhole, IsWholeOfAll}, Stopping.{AreFewer, Cause, Memory, Full, Writing, Reading, IsOfSending, Mark}}
 use Rattle.gx_devices.specs.Pieces as pieces
-use Rattle.gx_pipe.specs.{declared.{connection.Connection.Connection, fault.PipeFault.PipeFault}, Serving.IsOnLine, Transcript.{Run, after_step, and_then, unsent, ticked, on_event, answered, matched, reported, on_packet, run_of, pipe, is_ended}}
+use Rattle.gx_pipe.specs.{declared.{connection.Connection.Connection, fault.PipeFault.PipeFault}, Serving.IsOnLine, Transcript.{Run, after_step, and_then, unsent, connection_after_tick, on_event, answered, matched, reports_written, on_packet, run_of, pipe, is_ended}}
 use Rattle.gx_session.specs.{Events.{asks_step, is_on, is_over}, Happenings.Happening, Table.turn}
 use Rattle.gx_session.specs.Happenings as happens
 
@@ -16,8 +16,8 @@ logout_of connection =
     if is_on connection.session.phase then Some (asked_by connection.user Request.Logout connection.session.heard) else None
 
 -- a granted Kill or Logout, which no gate refuses
-abbrev pub is_never_refused : GateData → Option Asked → Bool
-is_never_refused gate found = option_map_or (has_its_places gate) found false
+abbrev pub is_unrefusable : GateData → Option Asked → Bool
+is_unrefusable gate found = option_map_or (never_refuses gate) found false
 
 -- beside its records and its text, what is known where a run stands
 pub record Standing : Type 0 where
@@ -103,7 +103,7 @@ IsLeaving other = ⊥
 
 -- where the run stands once the next packet is answered
 abbrev pub row_of : Run → ClientPacket → Run
-row_of run packet = and_then run (λ g c. answered g (ticked c) packet c.coming)
+row_of run packet = and_then run (λ g c. answered g (connection_after_tick c) packet c.coming)
 
 -- and once the matching steps that follow are made
 abbrev pub matched_of : Run → ℕ → Run
@@ -111,7 +111,7 @@ matched_of run moment = record run { gate = (matched run.gate run.connection mom
 
 -- and once the reports are sent
 abbrev pub reported_of : Run → Run
-reported_of run = and_then run (λ g c. reported g c (unsent g c))
+reported_of run = and_then run (λ g c. reports_written g c (unsent g c))
 
 -- and once the session is told of these
 abbrev pub told_of : Run → ℕ → ℕ → Run

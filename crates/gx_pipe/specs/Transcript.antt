@@ -3,7 +3,7 @@ use Rattle.std.specs.{Prelude.{ℕ, ◌+◌, ◌-◌, ◌^◌, min, max, Bool, �
 use Rattle.gx_units.specs.{Spelling.folded_user, declared.names.UserName.UserName}
 use Rattle.gx_soup.specs.{declared.packet.{LoginRequest.LoginRequest, ClientPacket.ClientPacket}, Packets.packets_of}
 use Rattle.gx_history.specs.{declared.{«record».{Asked.Asked, Request.Request}, report.Report.Report}, InForce.is_closed, Streams.stream}
-use Rattle.gx_answers.specs.{Gates.GateData, Matches.settled_gate, declared.outcome.LoginAnswer.LoginAnswer, Asking.{asked_by, stepped}}
+use Rattle.gx_answers.specs.{Gates.GateData, Matches.settled_gate, declared.outcome.LoginAnswer.LoginAnswer, Asking.{asked_by, gate_after_step}}
 use Rattle.gx_pipe.specs.{declared.connection.Connection.Connection, Steps.{login_asked_at, login_told}}
 use Rattle.gx_session.specs.{declared.event.Next.Next, Events.{is_on, is_over, login_in}, Happenings.Happening, Sending.{control_text, reports_text}, Table.{Turn, turn, new_session}}
 use Rattle.gx_session.specs.Happenings as happens
@@ -21,8 +21,8 @@ abbrev pub run_at : GateData → Connection → List ℕ → Run
 run_at gate connection text = record { gate = gate; connection = connection; text = text }
 
 -- nothing is written
-abbrev pub silent : GateData → Connection → Run
-silent gate connection = run_at gate connection []
+abbrev pub nothing_written : GateData → Connection → Run
+nothing_written gate connection = run_at gate connection []
 
 -- a run, and what follows where it stopped
 abbrev pub and_then : Run → (GateData → Connection → Run) → Run
@@ -36,15 +36,15 @@ step_of user moment other = None
 
 -- the gate after this step, if there is one
 abbrev pub after_step : GateData → Option Asked → GateData
-after_step gate found = option_map_or (stepped gate) found gate
+after_step gate found = option_map_or (gate_after_step gate) found gate
 
 -- the gate once the step that the session asks for is made
-abbrev pub acted : GateData → UserName → ℕ → Next → GateData
-acted gate user moment next = after_step gate (step_of user moment next)
+abbrev pub gate_after_act : GateData → UserName → ℕ → Next → GateData
+gate_after_act gate user moment next = after_step gate (step_of user moment next)
 
 abbrev pub by_turn : GateData → Connection → ℕ → Turn → Run
 by_turn gate connection moment t = record {
-  gate = acted gate connection.user moment t.reply.next;
+  gate = gate_after_act gate connection.user moment t.reply.next;
   connection = record connection { session = t.session };
   text = control_text t.reply.send;
 }
@@ -61,13 +61,13 @@ first_told (LoginAnswer.Rejected reason) = 0
 -- a login's step is made, and the session is told of its answer
 unfoldable pub logged_in : GateData → Connection → LoginRequest → ℕ → Run
 logged_in gate connection login moment =
-    on_event (stepped gate (login_asked_at gate moment login))
+    on_event (gate_after_step gate (login_asked_at gate moment login))
     (record connection { user = login.user; next = first_told (login_told gate moment login) })
     (happens.Answered (login_told gate moment login)) moment
 
 abbrev pub with_login : GateData → Connection → ℕ → Option LoginRequest → Run
 with_login gate connection moment (Some login) = logged_in gate connection login moment
-with_login gate connection moment None = silent gate connection
+with_login gate connection moment None = nothing_written gate connection
 
 -- the session is told of a packet; where it asks for a login, that is made and answered
 unfoldable pub answered : GateData → Connection → ClientPacket → ℕ → Run
@@ -77,17 +77,17 @@ answered gate connection packet moment =
 
 -- matching steps until no order waits; none once the session is over
 unfoldable pub matched : GateData → Connection → ℕ → Run
-matched gate connection moment = silent (if is_over connection.session.phase then gate else settled_gate gate moment) connection
+matched gate connection moment = nothing_written (if is_over connection.session.phase then gate else settled_gate gate moment) connection
 
 -- reports are sent, and the next number is the one after them
-abbrev pub reported : GateData → Connection → List Report → Run
-reported gate connection reports =
+abbrev pub reports_written : GateData → Connection → List Report → Run
+reports_written gate connection reports =
     record { gate = gate; connection = record connection { next = max 1 connection.next + length reports }; text = reports_text reports }
 
 -- and the session is told how many, and whether the day is closed
 unfoldable pub sent : GateData → Connection → List Report → ℕ → Run
 sent gate connection reports moment =
-    and_then (reported gate connection reports) (λ g c.
+    and_then (reports_written gate connection reports) (λ g c.
     on_event g c (happens.Pulled (length reports) (is_closed g.records)) moment)
 
 -- the user's stream from the next number on
@@ -97,21 +97,21 @@ unsent gate connection = drop (connection.next - 1) (stream gate.policy gate.rec
 -- where a user is logged in, all reports that are there are sent
 unfoldable pub pulled : GateData → Connection → ℕ → Run
 pulled gate connection moment =
-    if is_on connection.session.phase then sent gate connection (unsent gate connection) moment else silent gate connection
+    if is_on connection.session.phase then sent gate connection (unsent gate connection) moment else nothing_written gate connection
 
 -- one moment later, as long as 64 bits hold it
 abbrev pub later : ℕ → ℕ
 later moment = min (moment + 1) (2 ^ 64 - 1)
 
-abbrev pub ticked : Connection → Connection
-ticked connection = record connection { coming = later connection.coming }
+abbrev pub connection_after_tick : Connection → Connection
+connection_after_tick connection = record connection { coming = later connection.coming }
 
 -- a packet at its moment: the session is told of it, orders are matched until none waits, and then reports are sent;
 -- nothing once the session is over
 unfoldable pub handled : GateData → Connection → ClientPacket → Run
 handled gate connection packet =
-    if is_over connection.session.phase then silent gate connection
-    else and_then (answered gate (ticked connection) packet connection.coming) (λ g c.
+    if is_over connection.session.phase then nothing_written gate connection
+    else and_then (answered gate (connection_after_tick connection) packet connection.coming) (λ g c.
     and_then (matched g c connection.coming) (λ g c. pulled g c connection.coming))
 
 abbrev pub on_packet : Run → ClientPacket → Run
@@ -125,12 +125,12 @@ nobody = record { bytes = 32 ∷ 32 ∷ 32 ∷ 32 ∷ 32 ∷ 32 ∷ [] }
 abbrev pub opened_at : ℕ → Connection
 opened_at first = record { session = new_session first; user = nobody; next = 0; coming = first }
 
-abbrev pub opened : GateData → ℕ → Run
-opened gate first = silent gate (opened_at first)
+abbrev pub run_opened : GateData → ℕ → Run
+run_opened gate first = nothing_written gate (opened_at first)
 
 -- after all packets of the bytes, each one moment later than the one before
 unfoldable pub run_of : GateData → ℕ → List ℕ → Run
-run_of gate first bytes = fold on_packet (opened gate first) (packets_of bytes).packets
+run_of gate first bytes = fold on_packet (run_opened gate first) (packets_of bytes).packets
 
 -- at a fault of the input or at its end, at the last packet's moment, a user who is logged in is logged out
 unfoldable pub finished : Run → Run

@@ -2,7 +2,7 @@
 
 ghost use Rattle.std.specs.Prelude.{◌≡◌, IsTrue, IfOk, IfErr, OnOk, OnErr};
 ghost use Rattle.gx_history.specs.Showing.{has_its_first};
-ghost use Rattle.gx_answers.specs.Asking.{stepped};
+ghost use Rattle.gx_answers.specs.Asking.{gate_after_step};
 ghost use Rattle.gx_pipe.specs.{Faults.IsToldFull, Steps.{login_of, login_asked_at, login_told}};
 
 use gx_answers::{AccessGate, LoginAnswer, StepFault, asked};
@@ -27,7 +27,7 @@ pub(crate) fn login_step<G: AccessGate>(
 ) -> Result<LoginAnswer, StepFault>
     ensures gate { OnOk result
         (G.seen gate.new
-        ≡ stepped (G.seen gate.old) (login_asked_at (G.seen gate.old) moment login.now)) }
+        ≡ gate_after_step (G.seen gate.old) (login_asked_at (G.seen gate.old) moment login.now)) }
     ensures told { IfOk result
         (λ answer. answer ≡ login_told (G.seen gate.old) moment login.now) }
     ensures err { OnErr result (G.seen gate.new ≡ G.seen gate.old) }

@@ -6,15 +6,15 @@ ghost use Rattle.gx_history.specs.{declared.record.RecordData.RecordData, Showin
 ghost use Rattle.gx_answers.specs.Matches.{settled_gate, IsSettling};
 ghost use Rattle.gx_soup.specs.declared.packet.ClientPacket.TheVariants.{Data};
 ghost use Rattle.gx_devices.specs.Stopping.{AreFewer, Mark};
-ghost use Rattle.gx_session.specs.{declared.{event.Next.TheVariants.Act, session.Phase.TheVariants.Waiting}, Events.{CanAsk, asks_step, is_on}, Happenings.happening, Table.turn};
+ghost use Rattle.gx_session.specs.{declared.{event.Next.TheVariants.Act, session.Phase.TheVariants.Waiting}, Events.{CanAsk, asks_step, is_on}, Happenings.happening_of, Table.turn};
 ghost use Rattle.gx_session.specs.Happenings as happens;
-ghost use Rattle.gx_pipe.specs.{Faults.{IsToldFull, IsTold, fault_of_step}, Piping.{is_never_refused, logout_of, IsRunOf, IsTaken, IsGivenUp, IsTurnGivenUp, Standing, pull_marks, packet_marks, StopsIn, GivesAll, IsLeaving, IsMatchedInPart}, Transcript.{acted, silent, step_of, on_event, logged_in, answered, matched, pulled, handled, opened_at, run_at, finished, first_told}};
+ghost use Rattle.gx_pipe.specs.{Faults.{IsToldFull, IsTold, fault_of_step}, Piping.{is_unrefusable, logout_of, IsRunOf, IsTaken, IsGivenUp, IsTurnGivenUp, Standing, pull_marks, packet_marks, StopsIn, GivesAll, IsLeaving, IsMatchedInPart}, Transcript.{gate_after_act, nothing_written, step_of, on_event, logged_in, answered, matched, pulled, handled, opened_at, run_at, finished, first_told}};
 
 use crate::asking::login_step;
 use crate::fault::PipeFault;
 use crate::room::PullRoom;
 use gx_answers::{AccessGate, LoginAnswer, Reached, StepFault, asked, count_of};
-use gx_devices::Counted;
+use gx_devices::CallCounter;
 use gx_history::record::Request;
 use gx_history::report::Report;
 use gx_session::{Event, Next, Session, send_control, send_reports};
@@ -53,11 +53,12 @@ fn act<G: AccessGate>(
     moment: u64,
 ) -> Result<(), StepFault>
     requires { CanAsk next }
-    ensures ok { OnOk result (G.seen gate.new ≡ acted (G.seen gate.old) user moment next) }
+    ensures ok { OnOk result
+        (G.seen gate.new ≡ gate_after_act (G.seen gate.old) user moment next) }
     ensures err { OnErr result (G.seen gate.new ≡ G.seen gate.old) }
     ensures step { OnErr result (IsTrue (asks_step next)) }
     ensures sure { OnErr result
-        (IsFalse (is_never_refused (G.seen gate.old) (step_of user moment next))) }
+        (IsFalse (is_unrefusable (G.seen gate.old) (step_of user moment next))) }
     ensures grows { length (G.seen gate.old).records ≤ length (G.seen gate.new).records }
     ensures full { IfErr result (IsToldFull (G.seen gate.new)) }
 {
@@ -86,7 +87,7 @@ fn make_step<G: AccessGate>(
     requires { IsTrue (has_its_first request) }
     ensures name { IfOk result (λ name. name ≡ folded_user user) }
     ensures ok { OnOk result
-        (G.seen gate.new ≡ acted (G.seen gate.old) user moment (Act request)) }
+        (G.seen gate.new ≡ gate_after_act (G.seen gate.old) user moment (Act request)) }
     ensures err { OnErr result (G.seen gate.new ≡ G.seen gate.old) }
     ensures full { IfErr result (IsToldFull (G.seen gate.new)) }
 {
@@ -141,17 +142,17 @@ impl Connection {
         gate: &mut G,
         event: Event<'_>,
         moment: u64,
-        writer: &mut Counted<W>,
+        writer: &mut CallCounter<W>,
     ) -> Result<Next, PipeFault>
         requires { writer.old.failed < 2 ^ 64 - 1 }
         ensures next { IfOk result (λ next.
-            next ≡ (turn self.old.session (happening event.entry) moment).reply.next) }
+            next ≡ (turn self.old.session (happening_of event.entry) moment).reply.next) }
         ensures ok { OnOk result (IsTaken
-            (on_event (G.seen gate.old) self.old (happening event.entry) moment)
+            (on_event (G.seen gate.old) self.old (happening_of event.entry) moment)
             (G.seen gate.new) self.new
             (W.contents writer.old.device) (W.contents writer.new.device)) }
         ensures err { IfErr result (λ fault. IsTurnGivenUp (G.seen gate.old) self.old
-            (happening event.entry) moment fault (G.seen gate.new) self.new
+            (happening_of event.entry) moment fault (G.seen gate.new) self.new
             (W.contents writer.old.device) (W.contents writer.new.device)) }
         ensures kept { OnOk result (writer.new.failed ≡ writer.old.failed) }
         ensures told { IfErr result (IsTold writer.old.failed writer.new.failed (G.seen gate.new)) }
@@ -174,7 +175,7 @@ impl Connection {
         gate: &mut G,
         login: &LoginRequest,
         moment: u64,
-        writer: &mut Counted<W>,
+        writer: &mut CallCounter<W>,
     ) -> Result<(), PipeFault>
         requires waiting { self.old.session.phase ≡ Waiting }
         requires writer { writer.old.failed < 2 ^ 64 - 1 }
@@ -203,7 +204,7 @@ impl Connection {
         gate: &mut G,
         packet: &ClientPacket,
         moment: u64,
-        writer: &mut Counted<W>,
+        writer: &mut CallCounter<W>,
     ) -> Result<(), PipeFault>
         requires { writer.old.failed < 2 ^ 64 - 1 }
         ensures ok { OnOk result (IsTaken (answered (G.seen gate.old) self.old packet.now moment)
@@ -258,7 +259,7 @@ impl Connection {
         gate: &mut G,
         packet: &ClientPacket,
         moment: u64,
-        writer: &mut Counted<W>,
+        writer: &mut CallCounter<W>,
     ) -> Result<UserName, PipeFault>
         requires { writer.old.failed < 2 ^ 64 - 1 }
         ensures name { IfOk result (λ name. name ≡ folded_user self.new.user) }
@@ -324,7 +325,7 @@ impl Connection {
         gate: &mut G,
         pull: Pull,
         moment: u64,
-        writer: &mut Counted<W>,
+        writer: &mut CallCounter<W>,
     ) -> Result<(), PipeFault>
         requires { writer.old.failed < 2 ^ 64 - 1 }
         ensures ok { OnOk result (IsTaken
@@ -355,7 +356,7 @@ impl Connection {
         gate: &mut G,
         name: UserName,
         moment: u64,
-        writer: &mut Counted<W>,
+        writer: &mut CallCounter<W>,
     ) -> Result<(), PipeFault>
         requires name { name ≡ folded_user self.old.user }
         requires writer { writer.old.failed < 2 ^ 64 - 1 }
@@ -397,7 +398,7 @@ impl Connection {
         room: &mut PullRoom,
         gate: &mut G,
         packet: &ClientPacket,
-        writer: &mut Counted<W>,
+        writer: &mut CallCounter<W>,
     ) -> Result<(), PipeFault>
         requires { writer.old.failed < 2 ^ 64 - 1 }
         ensures ok { OnOk result (IsTaken (handled (G.seen gate.old) self.old packet.now)
@@ -431,14 +432,14 @@ impl Connection {
         gate: &mut G,
         event: Event<'_>,
     ) -> Result<(), StepFault>
-        requires { IsLeaving (happening event) }
+        requires { IsLeaving (happening_of event) }
         ensures ok { OnOk result
-            (G.seen gate.new ≡ (finished (silent (G.seen gate.old) self.old)).gate) }
+            (G.seen gate.new ≡ (finished (nothing_written (G.seen gate.old) self.old)).gate) }
         ensures err { OnErr result
             ((G.seen gate.new ≡ G.seen gate.old) × (self.new ≡ self.old)) }
         ensures asks { OnErr result (IsTrue (is_on self.old.session.phase)) }
         ensures sure { OnErr result
-            (IsFalse (is_never_refused (G.seen gate.old) (logout_of self.old))) }
+            (IsFalse (is_unrefusable (G.seen gate.old) (logout_of self.old))) }
         ensures grows { length (G.seen gate.old).records ≤ length (G.seen gate.new).records }
         ensures full { IfErr result (IsToldFull (G.seen gate.new)) }
     {

@@ -6,7 +6,7 @@ ghost use Rattle.gx_history.specs.Verdicts.{IsLegal};
 ghost use Rattle.gx_answers.specs.{Gates.GateData, Matches.matching_of};
 ghost use Rattle.gx_devices.specs.{Devices.IsFront, Pieces.Flow};
 ghost use Rattle.gx_session.specs.{declared.session.Phase.TheVariants.{Fresh, On}, Events.is_over};
-ghost use Rattle.gx_pipe.specs.{declared.fault.PipeFault.PipeFault, Fronts.AreFirst, Piping.{is_never_refused, logout_of, IsAfterFault}, Serving.{WasServed, IsSilent, IsOnLine}, Transcript.{run_of, pipe, is_ended}};
+ghost use Rattle.gx_pipe.specs.{declared.fault.PipeFault.PipeFault, Fronts.AreFirst, Piping.{is_unrefusable, logout_of, IsAfterFault}, Serving.{WasServed, IsSilent, IsOnLine}, Transcript.{run_of, pipe, is_ended}};
 
 /// Before a login is answered nothing is written, and no step is made but matching steps: each record that is there then
 /// and was not before is of one.
@@ -46,7 +46,7 @@ pub fn whoever_is_on_may_leave()
         → IsOnLine (run_of gate first bytes).gate (run_of gate first bytes).connection }
     ensures logout { (gate : GateData) (first : ℕ) (bytes : List ℕ)
         → (run_of gate first bytes).connection.session.phase ≡ On
-        → IsTrue (is_never_refused (run_of gate first bytes).gate
+        → IsTrue (is_unrefusable (run_of gate first bytes).gate
         (logout_of (run_of gate first bytes).connection)) }
 {}
 

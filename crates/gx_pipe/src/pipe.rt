@@ -3,14 +3,14 @@
 ghost use Rattle.std.specs.Prelude.{◌≡◌, ℕ, ◌-◌, ◌^◌, ◌<◌, ◌≤◌, List, fold, IfOk, IfErr, IsErrOf, OnOk};
 ghost use Rattle.gx_answers.specs.Gates.{GateData};
 ghost use Rattle.gx_devices.specs.{Devices.{IsUnfailing, counted_on}, Pieces.flow_of, Stopping.trail};
-ghost use Rattle.gx_pipe.specs.{Faults.{IsTold, IsToldRightly}, Piping.{IsTaken, StopsIn, IsCutShort, Follows, Exchanged, Broken, IsAfterFault, IsLeaving, IsTranscript, IsPipe, packet_marks}, Transcript.{run_at, silent, on_packet, opened_at}};
-ghost use Rattle.gx_session.specs.Happenings.{happening};
+ghost use Rattle.gx_pipe.specs.{Faults.{IsTold, IsToldRightly}, Piping.{IsTaken, StopsIn, IsCutShort, Follows, Exchanged, Broken, IsAfterFault, IsLeaving, IsTranscript, IsPipe, packet_marks}, Transcript.{run_at, nothing_written, on_packet, opened_at}};
+ghost use Rattle.gx_session.specs.Happenings.{happening_of};
 
 use crate::connection::Connection;
 use crate::fault::PipeFault;
 use crate::room::{PullRoom, Room};
 use gx_answers::{AccessGate, StepFault};
-use gx_devices::Counted;
+use gx_devices::CallCounter;
 use gx_session::Event;
 use gx_soup::{ClientPacket, Feeder};
 use std::alloc::Global;
@@ -24,12 +24,12 @@ fn take_packets<G: AccessGate, W: Write>(
     room: &mut PullRoom,
     gate: &mut G,
     connection: &mut Connection,
-    writer: &mut Counted<W>,
+    writer: &mut CallCounter<W>,
     packets: &[ClientPacket],
 ) -> Result<(), PipeFault>
     requires { writer.old.failed < 2 ^ 64 - 1 }
     ensures ok { OnOk result
-        (IsTaken (fold on_packet (silent (G.seen gate.old) connection.old) packets.now)
+        (IsTaken (fold on_packet (nothing_written (G.seen gate.old) connection.old) packets.now)
         (G.seen gate.new) connection.new
         (W.contents writer.old.device) (W.contents writer.new.device)) }
     ensures err { IfErr result (λ fault. (text : List ℕ) → StopsIn
@@ -55,7 +55,7 @@ fn exchange<G: AccessGate, W: Write>(
     gate: &mut G,
     connection: &mut Connection,
     feeder: &mut Feeder,
-    writer: &mut Counted<W>,
+    writer: &mut CallCounter<W>,
     piece: &[u8],
 ) -> Result<bool, PipeFault>
     requires { writer.old.failed < 2 ^ 64 - 1 }
@@ -88,8 +88,8 @@ fn serve<G: AccessGate, R: Read, W: Write>(
     gate: &mut G,
     first: u64,
     connection: &mut Connection,
-    reader: &mut Counted<R>,
-    writer: &mut Counted<W>,
+    reader: &mut CallCounter<R>,
+    writer: &mut CallCounter<W>,
     reads: u64,
 ) -> Result<(), PipeFault>
     requires opened { connection.old ≡ opened_at first }
@@ -139,7 +139,7 @@ fn serve<G: AccessGate, R: Read, W: Write>(
 
 /// What a session is told of a fault: a refused step, or that no more input comes.
 fn told<'a>(fault: PipeFault) -> Event<'a>
-    ensures { IsLeaving (happening result) }
+    ensures { IsLeaving (happening_of result) }
 {
     match fault {
         PipeFault::OutOfMemory => Event::Refused(StepFault::OutOfMemory),
@@ -161,8 +161,8 @@ pub fn run_pipe_within<G: AccessGate, R: Read, W: Write>(
     alloc: Global,
     gate: &mut G,
     first: u64,
-    reader: &mut Counted<R>,
-    writer: &mut Counted<W>,
+    reader: &mut CallCounter<R>,
+    writer: &mut CallCounter<W>,
     reads: u64,
 ) -> Result<(), PipeFault>
     requires reader { reader.old.failed < 2 ^ 64 - 1 }
@@ -201,8 +201,8 @@ pub fn run_pipe<G: AccessGate, R: Read, W: Write>(
     alloc: Global,
     gate: &mut G,
     first: u64,
-    reader: &mut Counted<R>,
-    writer: &mut Counted<W>,
+    reader: &mut CallCounter<R>,
+    writer: &mut CallCounter<W>,
 ) -> Result<(), PipeFault>
     requires reader { reader.old.failed < 2 ^ 64 - 1 }
     requires writer { writer.old.failed < 2 ^ 64 - 1 }

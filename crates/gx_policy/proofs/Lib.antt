@@ -1,2 +1,2 @@
 pub mod Letters
-mod Names
+pub mod Names

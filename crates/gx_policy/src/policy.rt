@@ -256,7 +256,7 @@ impl Policy {
     }
 
     /// Lets it go. Its drop is proved here once, and not in each crate that owns one.
-    pub fn let_go(self) {}
+    pub fn release(self) {}
 }
 
 /// Names of accounts.

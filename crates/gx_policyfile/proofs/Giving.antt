@@ -1,6 +1,6 @@
 -- What was answered, where a policy is meant.
 use Rattle.std.proofs.{Common.{◌≡◌, ◌≢◌, false, Result, Ok, Err, IsOk, refl, sym, subst, IfOk, IfErr}, lemmas.Bool.false≢true}
-use Rattle.gx_policyfile.specs.{declared.fault.{FaultKind.{FaultKind, TheVariants.{NotToml, MissingKey, UnknownKey, BadValue, UnknownName, DuplicateName, TooMany, OutOfMemory}}, PolicyFault.PolicyFault}, Field.{seen, is_memory}}
+use Rattle.gx_policyvalues.specs.{declared.fault.{FaultKind.{FaultKind, TheVariants.{NotToml, MissingKey, UnknownKey, BadValue, UnknownName, DuplicateName, TooMany, OutOfMemory}}, PolicyFault.PolicyFault}, Field.{seen, is_memory}}
 
 pub not_memory : (kind : FaultKind) → kind ≢ OutOfMemory → is_memory kind ≡ false
 not_memory OutOfMemory h = absurd (h refl)

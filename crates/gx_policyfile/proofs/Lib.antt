@@ -1,5 +1,3 @@
-pub mod Keys
-pub mod Trees
 pub mod Parts
 pub mod Placed
 pub mod Spelled

@@ -4,7 +4,8 @@ use Rattle.std.specs.Option.{ok_or, option_and_then, option_map_or}
 use Rattle.toml.specs.Data.{Data, Members, as_array, as_str, get_member}
 use Rattle.gx_units.specs.Names.{same_rule}
 use Rattle.gx_policy.specs.{Kinds.{first_kind_words, later_kind_words}, declared.{kinds.KindName.KindName, policy.{PolicyData.PolicyData, Lifters.Lifters, Account.Account, Stock.Stock, User.User, FileRule.FileRule}}}
-use Rattle.gx_policyfile.specs.{declared.{fault.{FaultKind.{FaultKind, TheVariants.{BadValue, DuplicateName, MissingKey, TooMany}}, Letters.TheVariants.Visible}, version.FileVersion.{FileVersion, TheVariants.{One, Two}}}, Field.{◌>>=◌, choice, choice_at, field, field_at, only_keys, value_at, word_at, word_in}, Known.scope, Place.{each, is_taken, next}, Rules.{keys_of_rule, kind, kind_words, rule, rule_keys, rule_name}, Version.version, Policies.{accounts, stocks, users, rules, policy}, Reads.{tables_in, entries_at}, Migrating.{say_the_same, lift_alike}}
+use Rattle.gx_policyvalues.specs.{declared.fault.{FaultKind.{FaultKind, TheVariants.{BadValue, DuplicateName, MissingKey, TooMany}}, Letters.TheVariants.Visible}, Field.{◌>>=◌, choice, choice_at, field, field_at, only_keys, value_at, word_at, word_in}}
+use Rattle.gx_policyfile.specs.{declared.version.FileVersion.{FileVersion, TheVariants.{One, Two}}, Known.scope, Place.{each, is_taken, next}, Rules.{keys_of_rule, kind, kind_words, rule, rule_keys, rule_name}, Version.version, Policies.{accounts, stocks, users, rules, policy}, Reads.{tables_in, entries_at}, Migrating.{say_the_same, lift_alike}}
 use Rattle.gx_policyfile.proofs.{Parts.bind_ok, WasRead.{WasRead, was_read, ok_of}}
 
 -- what two equal results hold

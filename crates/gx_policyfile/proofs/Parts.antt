@@ -1,6 +1,6 @@
 -- The parts of a step that succeeded.
 use Rattle.std.proofs.Common.{◌≡◌, Bool, true, false, ◌&&◌, cond, Result, Ok, Err, refl, subst}
-use Rattle.gx_policyfile.specs.{declared.fault.FaultKind.FaultKind, Field.◌>>=◌}
+use Rattle.gx_policyvalues.specs.{declared.fault.FaultKind.FaultKind, Field.◌>>=◌}
 
 -- the parts of a step that succeeded
 pub bind_ok : {A B : Type 0} (r : Result A FaultKind) (f : A → Result B FaultKind) (y : B) → (r >>= f) ≡ Ok y → (x : A) × (r ≡ Ok x) × (f x ≡ Ok y)

@@ -3,7 +3,8 @@ use Rattle.std.proofs.{Common.{◌≡◌, ℕ, Bool, true, false, not, ◌&&◌,
 use Rattle.std.specs.List.{list_all, list_any}
 use Rattle.toml.specs.Data.{Members}
 use Rattle.gx_policy.specs.Lists.{are_distinct}
-use Rattle.gx_policyfile.specs.{declared.fault.FaultKind.{FaultKind, TheVariants.{DuplicateName, TooMany}}, Place.{is_taken, next, each, place_of}}
+use Rattle.gx_policyvalues.specs.declared.fault.FaultKind.{FaultKind, TheVariants.{DuplicateName, TooMany}}
+use Rattle.gx_policyfile.specs.Place.{is_taken, next, each, place_of}
 use Rattle.gx_policyfile.proofs.Parts.{bind_ok, failed, by_ok, and_both}
 
 or_false : (a b : Bool) → (a || b) ≡ false → (a ≡ false) × (b ≡ false)

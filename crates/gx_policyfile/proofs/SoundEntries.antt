@@ -3,7 +3,8 @@ use Rattle.std.proofs.Common.{◌≡◌, true, [], codes, Ok, refl}
 use Rattle.toml.specs.Data.{Members, get_member}
 use Rattle.gx_units.specs.Names.{same_account}
 use Rattle.gx_policy.specs.{declared.policy.{PolicyData.PolicyData, Account.Account, Stock.Stock, User.User, Role.Role}, Soundness.{is_account_sound, is_stock_sound, is_role_sound, is_user_sound, are_accounts}}
-use Rattle.gx_policyfile.specs.{declared.{fault.Letters.TheVariants.{Plain, Visible}, user.RoleWord.{RoleWord, TheVariants.{Trader, Officer, Reader}}}, Field.{◌>>=◌, value_at, number_at, field_at, only_keys, choice_at, optional}, Known.{known_account, known_accounts, scope}, Users.{role_words, keys_of_user, powers, role, user}, Policies.{account_keys, stock_keys, account, stock}}
+use Rattle.gx_policyvalues.specs.{declared.fault.Letters.TheVariants.{Plain, Visible}, Field.{◌>>=◌, value_at, number_at, field_at, only_keys, choice_at, optional}}
+use Rattle.gx_policyfile.specs.{declared.user.RoleWord.{RoleWord, TheVariants.{Trader, Officer, Reader}}, Known.{known_account, known_accounts, scope}, Users.{role_words, keys_of_user, powers, role, user}, Policies.{account_keys, stock_keys, account, stock}}
 use Rattle.gx_policyfile.proofs.{Parts.{bind_ok, by_ok, and_both}, Spelled.{field_at_spelled, folded_at_spelled, number_ok}, SoundNames.{find_some, known_account_ok, accounts_sound, scope_sound, optional_ok}}
 
 pub account_sound : (entry : Members) (a : Account) → account entry ≡ Ok a → is_account_sound a ≡ true

@@ -4,7 +4,8 @@ use Rattle.std.specs.{Option.{is_some, ok_or, option_map_or}, List.{find, list_a
 use Rattle.toml.specs.Data.{Data, Items, no_items, item, Members, get_member, as_array}
 use Rattle.gx_units.specs.{Names.{same_account, same_stock}, declared.names.{AccountName.AccountName, Symbol.Symbol}}
 use Rattle.gx_policy.specs.{Lists.are_distinct, declared.policy.{PolicyData.PolicyData, Account.Account, Stock.Stock, Scope.Scope}, Soundness.{are_accounts, are_stocks, is_scope}, People.{account_named, stock_named}}
-use Rattle.gx_policyfile.specs.{declared.fault.FaultKind.{FaultKind, TheVariants.{BadValue, UnknownName}}, Field.{◌>>=◌, each_item}, Known.{is_account, is_stock, account_name, stock_name, with_account, with_stock, with_known_account, with_known_stock, listed_accounts, listed_stocks, known_account, known_accounts, known_stocks, scope}}
+use Rattle.gx_policyvalues.specs.{declared.fault.FaultKind.{FaultKind, TheVariants.{BadValue, UnknownName}}, Field.{◌>>=◌, each_item}}
+use Rattle.gx_policyfile.specs.Known.{is_account, is_stock, account_name, stock_name, with_account, with_stock, with_known_account, with_known_stock, listed_accounts, listed_stocks, known_account, known_accounts, known_stocks, scope}
 use Rattle.gx_policyfile.proofs.{Parts.{bind_ok, passed, by_ok, and_both}, Placed.{all_push, distinct_push}}
 
 pub find_some : {X : Type 0} (p : X → Bool) (xs : List X) → list_any p xs ≡ true → is_some (find p xs) ≡ true

@@ -3,7 +3,8 @@ use Rattle.std.proofs.Common.{◌≡◌, Bool, true, ◌&&◌, codes, Ok, refl}
 use Rattle.toml.specs.Data.{Members}
 use Rattle.gx_units.specs.Names.{same_account, same_stock, same_user, same_rule}
 use Rattle.gx_policy.specs.{declared.policy.{PolicyData.PolicyData, Account.Account, Stock.Stock, User.User, FileRule.FileRule}, Soundness.{is_sound, is_account_sound, is_stock_sound, is_user_sound, is_rule_sound}}
-use Rattle.gx_policyfile.specs.{declared.fault.Letters.TheVariants.Visible, Users.user, Rules.rule, Version.version, Policies.{account, stock, accounts, stocks, users, rules, policy}}
+use Rattle.gx_policyvalues.specs.declared.fault.Letters.TheVariants.{Visible}
+use Rattle.gx_policyfile.specs.{Users.user, Rules.rule, Version.version, Policies.{account, stock, accounts, stocks, users, rules, policy}}
 use Rattle.gx_policyfile.proofs.{Placed.place_placed, Spelled.field_at_spelled, WasRead.was_read, SoundEntries.{account_sound, stock_sound, user_sound}, SoundRules.rule_sound}
 
 all_four : (a b c d : Bool) → a ≡ true → b ≡ true → c ≡ true → d ≡ true → (((a && b) && c) && d) ≡ true

@@ -3,7 +3,8 @@ use Rattle.gx_policy.specs.{declared.{kinds.KindName.KindName, policy.{PolicyDat
 use Rattle.std.proofs.{Common.{◌≡◌, ℕ, true, not, ◌&&◌, nat_le, List, codes, Ok, refl, ap}, lemmas.Bool.and_parts}
 use Rattle.toml.specs.Data.{Data, Members}
 use Rattle.gx_units.specs.declared.names.{Symbol.Symbol, RuleId.RuleId}
-use Rattle.gx_policyfile.specs.{declared.{fault.{FaultKind.TheVariants.BadValue, Letters.TheVariants.Plain}, version.FileVersion.FileVersion}, Field.{◌>>=◌, value_at, number_at, field, choice_at, only_keys}, Known.{known_stocks, scope}, Rules.{kind_words, keys_of_rule, rule_name, limit, count, listed, kind, rule}}
+use Rattle.gx_policyvalues.specs.{declared.fault.{FaultKind.TheVariants.BadValue, Letters.TheVariants.Plain}, Field.{◌>>=◌, value_at, number_at, field, choice_at, only_keys}}
+use Rattle.gx_policyfile.specs.{declared.version.FileVersion.FileVersion, Known.{known_stocks, scope}, Rules.{kind_words, keys_of_rule, rule_name, limit, count, listed, kind, rule}}
 use Rattle.gx_policyfile.proofs.{Parts.{bind_ok, failed, by_ok, and_both}, Spelled.{field_spelled, number_ok}, SoundNames.{stocks_sound, scope_sound}}
 
 listed_sound : (p : PolicyData) (entry : Members) (names : List Symbol) → listed p.stocks entry ≡ Ok names → are_stocks p names ≡ true

@@ -2,9 +2,9 @@
 use Rattle.std.proofs.{Common.{◌≡◌, ℕ, ℤ, pos, negsuc, zero, suc, ◌-◌, Bool, true, false, not, ◌&&◌, ◌||◌, nat_eq, List, [], ◌∷◌, ◌++◌, length, replicate, Ok, refl, sym, ap, ◌∙◌, inl, inr, subst, arith}, lemmas.{Bool.{cases_Bool, and_parts, false≢true, eqb-true, Decides.nat_tests}, List.{map-append, length-map, Folds.list_all-map}}}
 use Rattle.std.specs.{Option.ok_or, List.list_all, Char.to_ascii_uppercase, Str.str_to_ascii_uppercase}
 use Rattle.toml.specs.Data.{Data, Members, as_str, as_integer}
-use Rattle.gx_units.specs.Spelling.{is_blank, padded}
+use Rattle.gx_units.specs.Spelling.{is_blank, padded_to}
 use Rattle.gx_policy.specs.Soundness.{is_among, is_padded, is_spelled, is_visible, is_folded}
-use Rattle.gx_policyfile.specs.{declared.fault.{FaultKind.TheVariants.BadValue, Letters.{Letters, TheVariants.Visible}}, Field.{is_letter, value_at, whole, number, number_at, text, spelled, field, field_at}}
+use Rattle.gx_policyvalues.specs.{declared.fault.{FaultKind.TheVariants.BadValue, Letters.{Letters, TheVariants.Visible}}, Field.{is_letter, value_at, whole, number, number_at, text, spelled, field, field_at}}
 use Rattle.gx_policyfile.proofs.Parts.{bind_ok, passed, by_ok, and_both}
 
 blank_spaces : (n : ℕ) → is_blank (replicate n 32) ≡ true
@@ -36,7 +36,7 @@ no_space letter b space h =
     ]
 
 -- a text that was read, with the spaces behind it
-pub spelled_padded : (letter : ℕ → Bool) (s : List ℕ) (width most : ℕ) → letter 32 ≡ false → (is_among 1 most (length s) && list_all letter s) ≡ true → is_spelled letter (padded width s) ≡ true
+pub spelled_padded : (letter : ℕ → Bool) (s : List ℕ) (width most : ℕ) → letter 32 ≡ false → (is_among 1 most (length s) && list_all letter s) ≡ true → is_spelled letter (padded_to width s) ≡ true
 spelled_padded letter [] width most space h = absurd (false≢true h)
 spelled_padded letter (b ∷ s) width most space h =
     let all : list_all letter (b ∷ s) ≡ true = (and_parts (is_among 1 most (length (b ∷ s))) (list_all letter (b ∷ s)) h).1 in
@@ -52,10 +52,10 @@ spelled_ok value letters most s h =
 
 -- a name's field: the text that was read, with spaces behind it
 field_ok : (value : Data) (letters : Letters) (width : ℕ) (bytes : List ℕ) → field letters width value ≡ Ok bytes
-    → (s : List ℕ) × (bytes ≡ padded width s) × ((is_among 1 width (length s) && list_all (is_letter letters) s) ≡ true)
+    → (s : List ℕ) × (bytes ≡ padded_to width s) × ((is_among 1 width (length s) && list_all (is_letter letters) s) ≡ true)
 field_ok value letters width bytes h =
     let (s, is, same) = bind_ok (text letters width value) _ bytes h in
-    by_ok (λ b. (s : List ℕ) × (b ≡ padded width s) × ((is_among 1 width (length s) && list_all (is_letter letters) s) ≡ true)) (padded width s) bytes same
+    by_ok (λ b. (s : List ℕ) × (b ≡ padded_to width s) × ((is_among 1 width (length s) && list_all (is_letter letters) s) ≡ true)) (padded_to width s) bytes same
     (s, refl, spelled_ok value letters width s is)
 
 pub field_spelled : (value : Data) (letters : Letters) (width : ℕ) (bytes : List ℕ) → is_letter letters 32 ≡ false → field letters width value ≡ Ok bytes → is_spelled (is_letter letters) bytes ≡ true
@@ -93,10 +93,10 @@ upper_spaces (suc n) = ap (λ xs. 32 ∷ xs) (upper_spaces n)
 upper_folded : (b : ℕ) → is_visible b ≡ true → is_folded (to_ascii_uppercase b) ≡ true
 upper_folded b h = grind (arith, nat_tests)
 
-upper_padded : (width : ℕ) (s : List ℕ) → str_to_ascii_uppercase (padded width s) ≡ padded width (str_to_ascii_uppercase s)
+upper_padded : (width : ℕ) (s : List ℕ) → str_to_ascii_uppercase (padded_to width s) ≡ padded_to width (str_to_ascii_uppercase s)
 upper_padded width s = map-append to_ascii_uppercase s (replicate (width - length s) 32) ∙ rw (upper_spaces (width - length s), length-map) refl
 
-folded_spelled : (s : List ℕ) (width : ℕ) → (is_among 1 width (length s) && list_all is_visible s) ≡ true → is_spelled is_folded (str_to_ascii_uppercase (padded width s)) ≡ true
+folded_spelled : (s : List ℕ) (width : ℕ) → (is_among 1 width (length s) && list_all is_visible s) ≡ true → is_spelled is_folded (str_to_ascii_uppercase (padded_to width s)) ≡ true
 folded_spelled s width h =
     let (long, all) = and_parts (is_among 1 width (length s)) (list_all is_visible s) h in
     let up : list_all is_folded (str_to_ascii_uppercase s) ≡ true = list_all-map is_folded to_ascii_uppercase s ∙ all_weaker is_visible _ s upper_folded all in

@@ -3,7 +3,8 @@ use Rattle.std.proofs.{Common.{◌≡◌, ℕ, true, List, [], ◌∷◌, ◌++�
 use Rattle.std.specs.Option.{ok_or, option_and_then, option_map_or}
 use Rattle.toml.specs.Data.{Data, Items, no_items, item, Members, get_member, as_array, as_table}
 use Rattle.gx_policy.specs.declared.policy.PolicyData.{PolicyData}
-use Rattle.gx_policyfile.specs.{declared.fault.{FaultKind.{FaultKind, TheVariants.{UnknownKey, BadValue}}, Letters.TheVariants.Visible}, Field.{has_only, only_keys, field_at, each_item}, Place.{table, tables, tables_at}, Version.{number, version, top_keys, lifters}, Policies.{accounts, stocks, users, rules, policy}, Reads.{with_table, tables_in, entries_at}}
+use Rattle.gx_policyvalues.specs.{declared.fault.{FaultKind.{FaultKind, TheVariants.{UnknownKey, BadValue}}, Letters.TheVariants.Visible}, Field.{has_only, only_keys, field_at, each_item}, Tables.{table, tables, tables_at}}
+use Rattle.gx_policyfile.specs.{Version.{number, version, top_keys, lifters}, Policies.{accounts, stocks, users, rules, policy}, Reads.{with_table, tables_in, entries_at}}
 use Rattle.gx_policyfile.proofs.Parts.{bind_ok, passed, by_ok}
 
 pub some_of : {X : Type 0} (o : Option X) (e : FaultKind) (x : X) → ok_or o e ≡ Ok x → o ≡ Some x

@@ -2,9 +2,10 @@
 use Rattle.std.proofs.{Common.{◌≡◌, ℕ, Bool, true, List, [], length, map, nat_le, codes, Result, Ok, refl, ap, subst}, lemmas.Bool.and_parts}
 use Rattle.std.specs.{List.list_all, Option.ok_or}
 use Rattle.toml.specs.Data.{Data, Members, get_member, as_str}
-use Rattle.gx_units.specs.{Names.{same_account, same_stock, same_user, same_rule}, Spelling.{padded, folded_user}}
+use Rattle.gx_units.specs.{Names.{same_account, same_stock, same_user, same_rule}, Spelling.{padded_to, folded_user}}
 use Rattle.gx_policy.specs.{declared.policy.{PolicyData.PolicyData, Account.Account, Stock.Stock, User.User, FileRule.FileRule}, RuleNames.is_built_in, Soundness.{is_sound, names_differ, is_within_limits}}
-use Rattle.gx_policyfile.specs.{declared.{fault.{FaultKind.{FaultKind, TheVariants.{MissingKey, BadValue}}, Letters.{Letters, TheVariants.{Plain, Visible}}}, version.FileVersion.FileVersion}, Field.{◌>>=◌, has_only, only_keys, value_at, text, spelled, field, field_at, number_at, choice_at}, Place.place_of, Users.{keys_of_user, role_words, role, user}, Rules.{kind_words, keys_of_rule, rule_name, kind, rule}, Known.scope, Version.version, Policies.{account_keys, stock_keys, account, stock, accounts, stocks, users, rules, policy, tree, means}, Reads.{entries_at, written_name, are_keys_known, are_places_short, IsInFileOrder}}
+use Rattle.gx_policyvalues.specs.{declared.fault.{FaultKind.{FaultKind, TheVariants.{MissingKey, BadValue}}, Letters.{Letters, TheVariants.{Plain, Visible}}}, Field.{◌>>=◌, has_only, only_keys, value_at, text, spelled, field, field_at, number_at, choice_at}, Parsing.tree}
+use Rattle.gx_policyfile.specs.{declared.version.FileVersion.FileVersion, Place.place_of, Users.{keys_of_user, role_words, role, user}, Rules.{kind_words, keys_of_rule, rule_name, kind, rule}, Known.scope, Version.version, Policies.{account_keys, stock_keys, account, stock, accounts, stocks, users, rules, policy, means}, Reads.{entries_at, written_name, are_keys_known, are_places_short, IsInFileOrder}}
 use Rattle.gx_policyfile.proofs.{Parts.{bind_ok, passed, failed, by_ok, and_both}, Placed.{each_map, each_asked, place_ok}, WasRead.{some_of, only_ok, WasRead, was_read}, SoundPolicy.policy_sound}
 
 meant_by_tree : (bytes : List ℕ) (top : Members) (p : PolicyData) → tree bytes ≡ Ok top → means bytes ≡ Ok p → policy top ≡ Ok p
@@ -35,7 +36,7 @@ name_read letters width entry bytes value at h =
     let (t, t_is, spelling) = bind_ok (ok_or (as_str value) BadValue) (spelled letters width) s s_is in
     let (fits, kept) = passed _ (Ok t) BadValue s spelling in
     let e : t ≡ s = cc in
-    let f : padded width s ≡ bytes = cc in
+    let f : padded_to width s ≡ bytes = cc in
     rw (some_of (get_member (codes "name") entry) MissingKey value at, some_of (as_str value) BadValue t t_is, e, f) refl
 
 name_at_read : (letters : Letters) (width : ℕ) (entry : Members) (bytes : List ℕ) → field_at (codes "name") letters width entry ≡ Ok bytes → bytes ≡ written_name width entry

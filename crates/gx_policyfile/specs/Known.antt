@@ -3,7 +3,7 @@ use Rattle.std.specs.{Prelude.{Bool, true, false, List, [], ◌∷◌, ◌++◌,
 use Rattle.toml.specs.Data.{Data, Items, Members, as_array}
 use Rattle.gx_units.specs.{Names.{same_account, same_stock}, declared.names.{AccountName.AccountName, Symbol.Symbol}}
 use Rattle.gx_policy.specs.declared.policy.{Account.Account, Stock.Stock, Scope.Scope}
-use Rattle.gx_policyfile.specs.{declared.fault.{FaultKind.{FaultKind, TheVariants.{BadValue, UnknownName}}, Letters.TheVariants.{Plain, Visible}}, Field.{◌>>=◌, field, optional, each_item}}
+use Rattle.gx_policyvalues.specs.{declared.fault.{FaultKind.{FaultKind, TheVariants.{BadValue, UnknownName}}, Letters.TheVariants.{Plain, Visible}}, Field.{◌>>=◌, field, optional, each_item}}
 
 -- an account of the file has this name
 abbrev pub is_account : List Account → AccountName → Bool

@@ -1,4 +1,3 @@
-pub mod Field
 pub mod Known
 pub mod Place
 pub mod Version
@@ -8,4 +7,3 @@ pub mod Policies
 pub mod Sample
 pub mod Reads
 pub mod Migrating
-pub mod Telling

@@ -1,19 +1,7 @@
 -- A place of several entries: an array of tables.
-use Rattle.std.specs.{Prelude.{ℕ, Bool, nat_lt, List, [], ◌∷◌, ◌++◌, length, Result, Ok, Err, if◌then◌else◌}, List.list_any, Option.ok_or}
-use Rattle.toml.specs.Data.{Data, Members, as_array, as_table}
-use Rattle.gx_policyfile.specs.{declared.fault.FaultKind.{FaultKind, TheVariants.{BadValue, DuplicateName, TooMany}}, Field.{◌>>=◌, optional, each_item}}
-
--- a table
-abbrev pub table : Data → Result Members FaultKind
-table value = ok_or (as_table value) BadValue
-
--- an array of tables
-abbrev pub tables : Data → Result (List Members) FaultKind
-tables value = ok_or (as_array value) BadValue >>= each_item table (λ found entry. found ++ entry ∷ []) []
-
--- the array of tables under a key, which may be absent
-abbrev pub tables_at : List ℕ → Members → Result (List Members) FaultKind
-tables_at key top = optional key tables [] top
+use Rattle.std.specs.{Prelude.{ℕ, Bool, nat_lt, List, [], ◌∷◌, ◌++◌, length, Result, Ok, Err, if◌then◌else◌}, List.list_any}
+use Rattle.toml.specs.Data.{Members}
+use Rattle.gx_policyvalues.specs.{declared.fault.FaultKind.{FaultKind, TheVariants.{DuplicateName, TooMany}}, Field.◌>>=◌}
 
 -- an entry of this name stands among these
 unfoldable pub is_taken : {X : Type 0} → (X → X → Bool) → List X → X → Bool

@@ -1,9 +1,10 @@
 -- What a policy file says: in each place the keys in the order in which they are checked.
-use Rattle.std.specs.{Prelude.{ℕ, List, [], ◌∷◌, codes, Result, Ok, Err, if◌then◌else◌}, Option.ok_or, Str.is_utf8}
-use Rattle.toml.specs.{Data.Members, Parse.parse_document}
+use Rattle.std.specs.Prelude.{ℕ, List, [], ◌∷◌, codes, Result, Ok}
+use Rattle.toml.specs.Data.{Members}
 use Rattle.gx_units.specs.Names.{same_account, same_stock, same_user, same_rule}
 use Rattle.gx_policy.specs.declared.policy.{Lifters.Lifters, PolicyData.PolicyData, Account.Account, Stock.Stock, User.User, FileRule.FileRule}
-use Rattle.gx_policyfile.specs.{Version.{number, version, top_keys, lifters}, Users.user, Rules.rule, declared.{fault.{FaultKind.{FaultKind, TheVariants.NotToml}, Letters.TheVariants.{Plain, Visible}}, version.FileVersion.FileVersion}, Field.{◌>>=◌, number_at, field_at, only_keys}, Place.{tables_at, place_of}}
+use Rattle.gx_policyfile.specs.{Version.{number, version, top_keys, lifters}, Users.user, Rules.rule, declared.version.FileVersion.FileVersion, Place.place_of}
+use Rattle.gx_policyvalues.specs.{declared.fault.{FaultKind.FaultKind, Letters.TheVariants.{Plain, Visible}}, Field.{◌>>=◌, number_at, field_at, only_keys}, Parsing.tree, Tables.tables_at}
 
 -- the keys of an account
 abbrev pub account_keys : List (List ℕ)
@@ -71,10 +72,6 @@ policy top = do
   session ← field_at (codes "session") Visible 10 top
   lifting ← lifters (version top) top
   of_places (version top) session lifting top
-
--- the tree that the bytes are
-unfoldable pub tree : List ℕ → Result Members FaultKind
-tree bytes = if is_utf8 bytes then ok_or (parse_document bytes) NotToml else Err NotToml
 
 -- what the bytes of a policy file mean: a policy, or their first fault
 unfoldable pub means : List ℕ → Result PolicyData FaultKind

@@ -1,9 +1,10 @@
 -- What holds of each policy that is read, in words of the tree and not of the reading.
 use Rattle.std.specs.{Prelude.{ℕ, Bool, ◌&&◌, nat_le, ◌≡◌, List, [], ◌∷◌, codes, length, map, Option, Some, None, unwrap_or}, List.list_all, Option.{option_and_then, option_map_or}}
 use Rattle.toml.specs.Data.{Items, no_items, item, Members, get_member, as_array, as_table, as_str}
-use Rattle.gx_units.specs.Spelling.{padded, folded_user}
+use Rattle.gx_units.specs.Spelling.{padded_to, folded_user}
 use Rattle.gx_policy.specs.declared.policy.{PolicyData.PolicyData, Account.Account, Stock.Stock, User.User, FileRule.FileRule}
-use Rattle.gx_policyfile.specs.{Field.has_only, Users.keys_of_user, Rules.keys_of_rule, Version.{version, top_keys}, Policies.{account_keys, stock_keys}}
+use Rattle.gx_policyvalues.specs.Field.{has_only}
+use Rattle.gx_policyfile.specs.{Users.keys_of_user, Rules.keys_of_rule, Version.{version, top_keys}, Policies.{account_keys, stock_keys}}
 
 -- the table, if it is one, and the others
 abbrev pub with_table : Option Members → List Members → List Members
@@ -36,7 +37,7 @@ are_places_short top =
 
 -- the entry's name as it is written, with spaces behind it
 abbrev pub written_name : ℕ → Members → List ℕ
-written_name width entry = padded width (unwrap_or (option_and_then as_str (get_member (codes "name") entry)) [])
+written_name width entry = padded_to width (unwrap_or (option_and_then as_str (get_member (codes "name") entry)) [])
 
 -- In each place the policy has the entries of the file, in its order: none left out, none added.
 pub record IsInFileOrder (top : Members) (policy : PolicyData) : Type 0 where

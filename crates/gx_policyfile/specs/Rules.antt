@@ -3,7 +3,8 @@ use Rattle.gx_policy.specs.{declared.{kinds.KindName.KindName, policy.{Account.A
 use Rattle.std.specs.Prelude.{ℕ, List, [], ◌∷◌, ◌++◌, codes, Option, Some, None, Result, Ok, Err, if◌then◌else◌}
 use Rattle.toml.specs.Data.{Data, Members}
 use Rattle.gx_units.specs.declared.names.{RuleId.RuleId, Symbol.Symbol}
-use Rattle.gx_policyfile.specs.{declared.{fault.{FaultKind.{FaultKind, TheVariants.BadValue}, Letters.TheVariants.Plain}, version.FileVersion.{FileVersion, TheVariants.{One, Two}}}, Field.{◌>>=◌, value_at, number_at, field, choice_at, word_at, only_keys}, Known.{known_stocks, scope}}
+use Rattle.gx_policyvalues.specs.{declared.fault.{FaultKind.{FaultKind, TheVariants.BadValue}, Letters.TheVariants.Plain}, Field.{◌>>=◌, value_at, number_at, field, choice_at, word_at, only_keys}}
+use Rattle.gx_policyfile.specs.{declared.version.FileVersion.{FileVersion, TheVariants.{One, Two}}, Known.{known_stocks, scope}}
 
 -- the words of the key `kind` in a file of this version
 unfoldable pub kind_words : FileVersion → List (List ℕ × KindName)

@@ -3,7 +3,8 @@ use Rattle.std.specs.{Prelude.{ℕ, true, false, List, [], ◌∷◌, codes, Opt
 use Rattle.toml.specs.Data.{Data, Members, as_array}
 use Rattle.gx_units.specs.Spelling.{folded_user, folded_password}
 use Rattle.gx_policy.specs.declared.policy.{Account.Account, Powers.Powers, Role.Role, User.User}
-use Rattle.gx_policyfile.specs.{declared.{fault.{FaultKind.{FaultKind, TheVariants.BadValue}, Letters.TheVariants.Visible}, user.{RoleWord.{RoleWord, TheVariants.{Trader, Officer, Reader}}, Power.{Power, TheVariants.{Kill, Lift, Limits, Symbols, People, Close}}}}, Field.{◌>>=◌, value_at, field_at, choice, choice_at, word_at, optional, each_item, only_keys}, Known.{known_account, known_accounts, scope}}
+use Rattle.gx_policyvalues.specs.{declared.fault.{FaultKind.{FaultKind, TheVariants.BadValue}, Letters.TheVariants.Visible}, Field.{◌>>=◌, value_at, field_at, choice, choice_at, word_at, optional, each_item, only_keys}}
+use Rattle.gx_policyfile.specs.{declared.user.{RoleWord.{RoleWord, TheVariants.{Trader, Officer, Reader}}, Power.{Power, TheVariants.{Kill, Lift, Limits, Symbols, People, Close}}}, Known.{known_account, known_accounts, scope}}
 
 -- the words of the key `role`
 abbrev pub role_words : List (List ℕ × RoleWord)

@@ -2,7 +2,8 @@
 use Rattle.std.specs.Prelude.{ℕ, List, [], ◌∷◌, ◌==◌, codes, Result, Ok, Err, if◌then◌else◌}
 use Rattle.toml.specs.Data.{Members}
 use Rattle.gx_policy.specs.declared.policy.Lifters.{Lifters}
-use Rattle.gx_policyfile.specs.{declared.{fault.FaultKind.FaultKind, version.FileVersion.{FileVersion, TheVariants.{One, Two}}}, Field.{◌>>=◌, number_at}}
+use Rattle.gx_policyvalues.specs.{declared.fault.FaultKind.FaultKind, Field.{◌>>=◌, number_at}}
+use Rattle.gx_policyfile.specs.declared.version.FileVersion.{FileVersion, TheVariants.{One, Two}}
 
 -- the number that the file gives itself
 abbrev pub number : Members → Result ℕ FaultKind

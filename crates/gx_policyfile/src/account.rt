@@ -3,13 +3,13 @@
 ghost use Rattle.std.specs.Prelude.{map};
 ghost use Rattle.toml.specs.View.{table_view};
 ghost use Rattle.gx_units.specs.Names.{same_account};
-ghost use Rattle.gx_policyfile.specs.{Policies.{account, accounts}, Field.Gives};
+ghost use Rattle.gx_policyfile.specs.Policies.{account, accounts};
+ghost use Rattle.gx_policyvalues.specs.Field.{Gives};
 
-use crate::fault::{Letters, PolicyFault};
-use crate::field;
 use crate::place::{Entry, entries};
 use crate::version::FileVersion;
 use gx_policy::{Account, Stock};
+use gx_policyvalues::{Letters, PolicyFault, field};
 use gx_units::{AccountName, Firm};
 use std::alloc::Global;
 use toml::Table;

@@ -3,11 +3,11 @@
 ghost use Rattle.std.specs.{Prelude.{◌≡◌, OnOk, IfErr, ok_or}, List.list_any};
 ghost use Rattle.toml.specs.View.{view, table_view, items_view};
 ghost use Rattle.gx_units.specs.Names.{same_account, same_stock};
-ghost use Rattle.gx_policyfile.specs.{declared.fault.FaultKind.TheVariants.{BadValue, OutOfMemory}, Field.{Gives, seen}, Known.{is_account, is_stock, account_name, stock_name, with_account, with_stock, listed_accounts, listed_stocks, known_account, known_accounts, known_stocks, scope}};
+ghost use Rattle.gx_policyvalues.specs.{declared.fault.FaultKind.TheVariants.{BadValue, OutOfMemory}, Field.{Gives, seen}};
+ghost use Rattle.gx_policyfile.specs.Known.{is_account, is_stock, account_name, stock_name, with_account, with_stock, listed_accounts, listed_stocks, known_account, known_accounts, known_stocks, scope};
 
-use crate::fault::{Allowed, FaultKind, Letters, PolicyFault};
-use crate::field;
 use gx_policy::{Account, AccountNames, Scope, Stock};
+use gx_policyvalues::{Allowed, FaultKind, Letters, PolicyFault, field};
 use gx_units::{AccountName, Symbol};
 use std::alloc::Global;
 use toml::{Table, Value};

@@ -3,7 +3,8 @@
 ghost use Rattle.std.specs.Prelude.{◌≡◌, ℕ, List, Ok, IsTrue};
 ghost use Rattle.toml.specs.Data.{Members};
 ghost use Rattle.gx_policy.specs.{declared.policy.PolicyData.PolicyData, Soundness.{is_sound, names_differ}};
-ghost use Rattle.gx_policyfile.specs.{Policies.{tree, means}, Reads.{are_keys_known, are_places_short, IsInFileOrder}};
+ghost use Rattle.gx_policyvalues.specs.Parsing.{tree};
+ghost use Rattle.gx_policyfile.specs.{Policies.means, Reads.{are_keys_known, are_places_short, IsInFileOrder}};
 
 /// No policy is read from a tree that has a key that is unknown where it stands.
 pub fn keys_are_known()

@@ -2,8 +2,6 @@
 #![tactic(auto)]
 
 mod account;
-mod fault;
-mod field;
 mod known;
 mod laws;
 mod migrating;
@@ -15,7 +13,6 @@ mod stock;
 mod user;
 mod version;
 
-pub use fault::{Allowed, Cause, EntryPlace, FaultKind, FaultPlace, Letters, PolicyFault};
 pub use laws::{
     each_is_sound, keys_are_known, names_in_places_differ, order_is_kept, places_are_short,
 };

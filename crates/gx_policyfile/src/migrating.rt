@@ -2,13 +2,14 @@
 
 ghost use Rattle.std.specs.Prelude.{codes, ◌≡◌, ◌≢◌, Ok, Err, OnOk, IfOk, IfErr, IsOk, IsTrue};
 ghost use Rattle.toml.specs.View.{table_view};
-ghost use Rattle.gx_policyfile.specs.{declared.fault.FaultKind.TheVariants.OutOfMemory, Version.{number, version, lifters}, Policies.{policy, means, version_of}, Migrating.{say_the_same, lift_alike}};
+ghost use Rattle.gx_policyvalues.specs.declared.fault.FaultKind.TheVariants.{OutOfMemory};
+ghost use Rattle.gx_policyfile.specs.{Version.{number, version, lifters}, Policies.{policy, means, version_of}, Migrating.{say_the_same, lift_alike}};
 
-use crate::fault::PolicyFault;
-use crate::reading::{accepted, tree};
+use crate::reading::accepted;
 use crate::version::{lifters, number, version};
 use gx_policy::Lifters;
 use gx_policytext::{is_same_at, printed};
+use gx_policyvalues::{PolicyFault, tree};
 use std::alloc::Global;
 use toml::Table;
 

@@ -1,18 +1,15 @@
 //! A place of several entries: an array of tables.
 
-ghost use Rattle.std.specs.Prelude.{◌≡◌, [], ◌∷◌, ◌++◌, map, false};
-ghost use Rattle.toml.specs.View.{table_view, items_view};
-ghost use Rattle.gx_policyfile.specs.{Field.{Gives, is_memory, each_item}, Place.{tables_at, table, is_taken, next, each, place_of}};
+ghost use Rattle.std.specs.Prelude.{◌≡◌, [], map, false};
+ghost use Rattle.toml.specs.View.{table_view};
+ghost use Rattle.gx_policyvalues.specs.Field.{Gives, is_memory};
+ghost use Rattle.gx_policyfile.specs.Place.{is_taken, next, each, place_of};
 
-use crate::fault::{Allowed, EntryPlace, FaultKind, PolicyFault};
-use crate::field;
 use crate::version::FileVersion;
 use gx_policy::{Account, Stock};
+use gx_policyvalues::{Allowed, EntryPlace, FaultKind, PolicyFault, field};
 use std::alloc::{AllocError, Global};
-use toml::{Table, Value};
-
-/// What a key of several entries allows.
-const TABLES: Allowed = Allowed::Words("an array of tables");
+use toml::Table;
 
 /// What the name of an entry allows, once it is spelled as it may be.
 const ANOTHER_NAME: Allowed = Allowed::Words("a name that no entry before it has");
@@ -23,7 +20,7 @@ pub trait Entry: Drop + Sized {
     ghost use Rattle.toml.specs.Data.{Members};
     ghost use Rattle.gx_policy.specs.declared.policy.Account.{Account};
     ghost use Rattle.gx_policy.specs.declared.policy.Stock.{Stock};
-    ghost use Rattle.gx_policyfile.specs.declared.fault.FaultKind.{FaultKind};
+    ghost use Rattle.gx_policyvalues.specs.declared.fault.FaultKind.{FaultKind};
     ghost use Rattle.gx_policyfile.specs.declared.version.FileVersion.{FileVersion};
 
     /// What a table means in a file of the version, beside the file's accounts and stocks.
@@ -46,42 +43,6 @@ pub trait Entry: Drop + Sized {
     /// Whether the two have one name.
     fn is_same(&self, other: &Self) -> bool
         ensures { result ≡ is_same self.now other.now };
-}
-
-fn tables<'a>(
-    alloc: Global,
-    key: &'static str,
-    values: &'a [Value],
-) -> Result<Vec<&'a Table>, PolicyFault>
-    ensures { Gives (λ v. map (λ t. table_view t.now) v.items) result
-        (each_item table (λ found entry. found ++ entry ∷ []) [] (items_view values.now)) }
-{
-    let mut found = Vec::new(alloc);
-    for value in values {
-        match value.as_table() {
-            Some(table) => found.push(table)?,
-            None => return Err(PolicyFault::at(FaultKind::BadValue, key, TABLES)),
-        }
-    }
-    Ok(found)
-}
-
-/// The tables under a key, none where the key is absent.
-pub fn tables_at<'a>(
-    alloc: Global,
-    top: &'a Table,
-    key: &'static str,
-) -> Result<Vec<&'a Table>, PolicyFault>
-    ensures { Gives (λ v. map (λ t. table_view t.now) v.items) result
-        (tables_at key.now (table_view top.now)) }
-{
-    match field::find(top, key) {
-        Some(value) => match value.as_array() {
-            Some(values) => tables(alloc, key, values.as_slice()),
-            None => Err(PolicyFault::at(FaultKind::BadValue, key, TABLES)),
-        },
-        None => Ok(Vec::new(alloc)),
-    }
 }
 
 /// The name of an entry as it is written, where it is a string.

@@ -3,17 +3,16 @@
 ghost use Rattle.std.specs.Prelude.{◌≡◌, ◌≢◌, false, Ok, Err, OnOk, IfOk, IfErr, IsOk, IsTrue, map};
 ghost use Rattle.toml.specs.View.{table_view};
 ghost use Rattle.gx_policy.specs.Soundness.{is_sound};
-ghost use Rattle.gx_policyfile.specs.{declared.fault.FaultKind.TheVariants.{NotToml, OutOfMemory}, Field.{Gives, is_memory}, Policies.{of_entries, of_places, policy, tree, means, version_of}};
+ghost use Rattle.gx_policyvalues.specs.{declared.fault.FaultKind.TheVariants.OutOfMemory, Field.{Gives, is_memory}};
+ghost use Rattle.gx_policyfile.specs.Policies.{of_entries, of_places, policy, means, version_of};
 
 use crate::account::accounts;
-use crate::fault::{Cause, FaultKind, Letters, PolicyFault};
-use crate::field;
-use crate::place::tables_at;
 use crate::rule::rules;
 use crate::stock::stocks;
 use crate::user::users;
 use crate::version::{FileVersion, lifters, number, top_keys, version};
 use gx_policy::{Accounts, FileRules, Lifters, Policy, PolicyData, Stocks, Users};
+use gx_policyvalues::{Letters, PolicyFault, field, tables_at, tree};
 use gx_units::SessionName;
 use std::alloc::Global;
 use toml::Table;
@@ -83,40 +82,6 @@ fn policy(alloc: Global, top: &Table) -> Result<PolicyData, PolicyFault>
         lifters: lifters(version, top)?,
     };
     of_places(alloc, heading, top)
-}
-
-/// The fault of a text that is no TOML.
-fn not_toml(alloc: Global, refused: &toml::de::Error) -> PolicyFault
-    ensures { is_memory result.kind ≡ false → result.kind ≡ NotToml }
-{
-    match format!(in alloc; "{refused}") {
-        Ok(text) => PolicyFault {
-            kind: FaultKind::NotToml,
-            entry: None,
-            cause: Cause::Text(text),
-        },
-        Err(_) => PolicyFault::memory(),
-    }
-}
-
-/// The table at the top of the file.
-///
-/// # Errors
-///
-/// `NotToml` where the bytes are no TOML, or that memory was refused.
-pub fn tree(alloc: Global, bytes: &[u8]) -> Result<Table, PolicyFault>
-    ensures { Gives (λ top. table_view top) result (tree bytes.now) }
-{
-    match toml::table_from_slice(alloc, bytes) {
-        Ok(top) => Ok(top),
-        Err(e) => {
-            if e.is_memory() {
-                Err(PolicyFault::memory())
-            } else {
-                Err(not_toml(alloc, &e))
-            }
-        }
-    }
 }
 
 /// The policy that the bytes of a file mean, or their first fault.

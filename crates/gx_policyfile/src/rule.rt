@@ -1,12 +1,11 @@
 //! The file's rules.
 
-ghost use Rattle.std.specs.Prelude.{◌≡◌, map, codes, ok_or};
+ghost use Rattle.std.specs.Prelude.{◌≡◌, map, codes};
 ghost use Rattle.toml.specs.View.{view, table_view};
 ghost use Rattle.gx_units.specs.Names.{same_rule};
-ghost use Rattle.gx_policyfile.specs.{declared.fault.FaultKind.TheVariants.BadValue, Field.{Gives, seen, choice_at, word_at}, Rules.{kind_words, rule_keys, rule_name, limit, count, listed, kind, rule}, Policies.rules};
+ghost use Rattle.gx_policyvalues.specs.{declared.fault.FaultKind.TheVariants.BadValue, Field.{Gives, seen, choice_at, word_at}};
+ghost use Rattle.gx_policyfile.specs.{Rules.{kind_words, rule_keys, rule_name, limit, count, listed, kind, rule}, Policies.rules};
 
-use crate::fault::{Allowed, FaultKind, Letters, PolicyFault};
-use crate::field;
 use crate::known::{STOCKS, known_stocks, scope};
 use crate::place::{Entry, entries};
 use crate::version::FileVersion;
@@ -14,6 +13,7 @@ use gx_policy::{
     Account, Count, FIRST_KINDS, FIRST_KINDS_TOLD, FileRule, KIND_WORDS, KINDS_TOLD, KindName,
     Rate, Repeat, RuleKind, Stock, Symbols, is_built_in,
 };
+use gx_policyvalues::{Allowed, FaultKind, Letters, PolicyFault, field};
 use gx_units::RuleId;
 use std::alloc::Global;
 use toml::{Table, Value};

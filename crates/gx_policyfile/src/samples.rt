@@ -1,12 +1,13 @@
 //! The sample policy.
 
 ghost use Rattle.std.specs.Prelude.{◌≡◌, Ok, IfOk, IfErr};
-ghost use Rattle.gx_policyfile.specs.{declared.fault.FaultKind.TheVariants.OutOfMemory, Policies.means};
+ghost use Rattle.gx_policyvalues.specs.declared.fault.FaultKind.TheVariants.{OutOfMemory};
+ghost use Rattle.gx_policyfile.specs.Policies.{means};
 ghost use Rattle.gx_policyfile.specs.Sample as specs;
 
-use crate::fault::PolicyFault;
 use crate::reading::read_policy;
 use gx_policy::Policy;
+use gx_policyvalues::PolicyFault;
 use std::alloc::Global;
 
 /// The text of the sample policy.

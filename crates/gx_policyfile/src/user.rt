@@ -3,14 +3,14 @@
 ghost use Rattle.std.specs.Prelude.{◌≡◌, [], map, codes, ok_or};
 ghost use Rattle.toml.specs.View.{view, table_view, items_view};
 ghost use Rattle.gx_units.specs.Names.{same_user};
-ghost use Rattle.gx_policyfile.specs.{declared.fault.FaultKind.TheVariants.BadValue, Field.{Gives, seen, choice, word_at, optional, each_item}, Known.known_accounts, Users.{role_words, user_keys, power_words, no_powers, with_power, powers, role, user}, Policies.users};
+ghost use Rattle.gx_policyvalues.specs.{declared.fault.FaultKind.TheVariants.BadValue, Field.{Gives, seen, choice, word_at, optional, each_item}};
+ghost use Rattle.gx_policyfile.specs.{Known.known_accounts, Users.{role_words, user_keys, power_words, no_powers, with_power, powers, role, user}, Policies.users};
 
-use crate::fault::{Allowed, FaultKind, Letters, PolicyFault};
-use crate::field;
 use crate::known::{AN_ACCOUNT, known_account, known_accounts, scope};
 use crate::place::{Entry, entries};
 use crate::version::FileVersion;
 use gx_policy::{Account, AccountNames, Powers, Role, Stock, User};
+use gx_policyvalues::{Allowed, FaultKind, Letters, PolicyFault, field};
 use gx_units::{AccountName, Password, UserName};
 use std::alloc::Global;
 use toml::{Table, Value};

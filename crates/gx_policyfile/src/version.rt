@@ -2,11 +2,11 @@
 
 ghost use Rattle.std.specs.Prelude.{◌≡◌, map};
 ghost use Rattle.toml.specs.View.{table_view};
-ghost use Rattle.gx_policyfile.specs.{Field.seen, Version.{number, version, top_keys, lifters_of, lifters}};
+ghost use Rattle.gx_policyvalues.specs.Field.{seen};
+ghost use Rattle.gx_policyfile.specs.Version.{number, version, top_keys, lifters_of, lifters};
 
-use crate::fault::PolicyFault;
-use crate::field;
 use gx_policy::Lifters;
+use gx_policyvalues::{PolicyFault, field};
 use toml::Table;
 
 /// The version of a policy file.

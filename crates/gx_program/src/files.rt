@@ -3,9 +3,9 @@
 ghost use Rattle.std.specs.Prelude.{◌-◌, ◌^◌, ◌<◌};
 
 use crate::ending::Ended;
-use gx_devices::Counted;
+use gx_devices::CallCounter;
 use gx_files::{FileIdentity, Measured, ReadFault, read_within, shared_file};
-use gx_server::{Noted, ProgramFault};
+use gx_server::{ErrorRecorder, ProgramFault};
 use gx_units::OutOfMemory;
 use std::fs;
 use std::fs::{File, Metadata};
@@ -129,7 +129,7 @@ pub fn read_file<'a, R: Read + Drop>(
     file: R,
     expected: usize,
 ) -> Result<Vec<u8>, Ended<'a>> {
-    let mut reader = Counted::new(Noted::new(file));
+    let mut reader = CallCounter::new(ErrorRecorder::new(file));
     match read_within(rt.alloc(), &mut reader, content.most(), expected) {
         Ok(bytes) => Ok(bytes),
         Err(ReadFault::OutOfMemory) => Err(OutOfMemory.into()),

@@ -4,7 +4,7 @@ ghost use Rattle.std.specs.Prelude.{◌≤◌, IfOk, length};
 
 use crate::ending::Ended;
 use crate::files::{file_named, identity_of};
-use gx_devices::Counted;
+use gx_devices::CallCounter;
 use std::fs::File;
 use std::io::{Read, Seek, SeekFrom};
 
@@ -26,7 +26,7 @@ pub fn go_to<'a>(path: &'a str, file: &mut File, place: u64) -> Result<(), Ended
 pub fn read_once<'a>(path: &'a str, file: &mut File, room: &mut [u8]) -> Result<usize, Ended<'a>>
     ensures few { IfOk result (λ n. n ≤ length room.new) }
 {
-    match Counted::new(file).read(room) {
+    match CallCounter::new(file).read(room) {
         Ok(count) => Ok(count),
         Err(error) => Err(Ended::unread(path, error)),
     }

@@ -2,8 +2,8 @@
 
 ghost use Rattle.std.specs.Prelude.{◌≡◌, IfOk};
 
-use gx_devices::Counted;
-use gx_server::Noted;
+use gx_devices::CallCounter;
+use gx_server::ErrorRecorder;
 use gx_units::OutOfMemory;
 use std::alloc::Global;
 use std::io::{BufWriter, Write};
@@ -20,11 +20,11 @@ const HELD_BACK: usize = 65_536;
 pub fn held_back<W: Write + Drop>(
     alloc: Global,
     device: W,
-) -> Result<Counted<Noted<BufWriter<W, Global>>>, OutOfMemory>
+) -> Result<CallCounter<ErrorRecorder<BufWriter<W, Global>>>, OutOfMemory>
     ensures unfailed { IfOk result (λ writer. writer.failed ≡ 0) }
 {
     match BufWriter::with_capacity(alloc, HELD_BACK, device) {
-        Ok(buffered) => Ok(Counted::new(Noted::new(buffered))),
+        Ok(buffered) => Ok(CallCounter::new(ErrorRecorder::new(buffered))),
         Err(_) => Err(OutOfMemory),
     }
 }

@@ -1,2 +1,2 @@
-pub mod Denied
-pub mod Idling
+pub mod Login_denied
+pub mod Packets_idle

@@ -6,7 +6,7 @@ ghost use Rattle.gx_soup.specs.{declared.packet.LoginRequest.LoginRequest, Feedi
 ghost use Rattle.gx_reception.specs.{Arrivals.{ComesTo, HasEnded, IsKnock, Knocks}, Openings.{from_first, is_idle, IsIdle}};
 
 use crate::opening::{Knock, Opening};
-use gx_devices::Counted;
+use gx_devices::CallCounter;
 use gx_soup::{ClientPacket, Fed, Feeder, LoginRequest};
 use std::alloc::Global;
 use std::io::Read;
@@ -50,7 +50,7 @@ fn login_of(packet: &ClientPacket) -> Option<LoginRequest>
 }
 
 /// What a piece comes to that has a packet in this place.
-#[tactic(auto, using(crate::proofs::Idling::is_other))]
+#[tactic(auto, using(crate::proofs::Packets_idle::is_other))]
 fn knock_at(feeder: Feeder, fed: Fed, at: usize) -> Knock
     requires within { at < length fed.packets.items }
     ensures knock { IsKnock (drop at fed.packets.items) fed.fault feeder result }
@@ -69,7 +69,7 @@ fn knock_at(feeder: Feeder, fed: Fed, at: usize) -> Knock
 }
 
 /// What a piece comes to, behind idle packets; the feeder, where all of it is idle.
-#[tactic(auto, using(crate::proofs::Idling::comes_knocking, crate::proofs::Idling::comes_broken, crate::proofs::Idling::stays_idle))]
+#[tactic(auto, using(crate::proofs::Packets_idle::comes_knocking, crate::proofs::Packets_idle::comes_broken, crate::proofs::Packets_idle::stays_idle))]
 fn take_piece(feeder: Feeder, piece: &[u8]) -> Result<Feeder, Knock>
     ensures idle { IfOk result (λ f. (before : List ℕ)
         → HasRead feeder before → IsIdle before
@@ -93,7 +93,7 @@ fn take_piece(feeder: Feeder, piece: &[u8]) -> Result<Feeder, Knock>
 }
 
 /// Reads the next piece: how many bytes it has, at least one; `None` at the end of the input, or where the reader fails.
-pub fn read_piece<I: Read>(reader: &mut Counted<I>, buffer: &mut [u8; 4096]) -> Option<usize>
+pub fn read_piece<I: Read>(reader: &mut CallCounter<I>, buffer: &mut [u8; 4096]) -> Option<usize>
     ensures some { IfSome result (λ n. (0 < n) × (n ≤ length buffer.new)) }
     ensures read { IfSome result (λ n. Consumes (I.remaining reader.old.device)
         (I.remaining reader.new.device) (take n buffer.new)) }
@@ -108,7 +108,7 @@ pub fn read_piece<I: Read>(reader: &mut Counted<I>, buffer: &mut [u8; 4096]) -> 
 }
 
 /// Reads a connection up to the piece that has its first packet other than a heartbeat or a Debug packet, and no further.
-pub fn await_login<I: Read, R: Wait>(rt: &R, alloc: Global, reader: &mut Counted<I>) -> Knock
+pub fn await_login<I: Read, R: Wait>(rt: &R, alloc: Global, reader: &mut CallCounter<I>) -> Knock
     ensures { Knocks (I.remaining reader.old.device) (I.remaining reader.new.device)
         reader.new.failed result }
 {

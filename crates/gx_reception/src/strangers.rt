@@ -4,7 +4,7 @@ ghost use Rattle.std.specs.Prelude.{◌≡◌, ◌≤◌, ◌<◌, ◌+◌, [], 
 ghost use Rattle.gx_units.specs.declared.names.LoginRejection.TheVariants as rejections;
 ghost use Rattle.gx_answers.specs.declared.outcome.LoginAnswer.TheVariants as answers;
 ghost use Rattle.gx_pass.specs.Views.{mine};
-ghost use Rattle.gx_door.specs.{Acts.met, Callers.caller_of};
+ghost use Rattle.gx_door.specs.{Acts.history_met, Callers.caller_of};
 ghost use Rattle.gx_door.specs.declared.caller.Caller.TheVariants as callers;
 ghost use Rattle.gx_reception.specs.Denials.{are_denied};
 
@@ -56,8 +56,8 @@ pub struct Strangers<D: Door> {
     pass: Option<D::Ticket>,
     count: u32,
     ghost has_pass: { IsTrue (is_some pass) },
-    ghost denied: { IsTrue (are_denied (mine (met D.held pass))) },
-    ghost counted: { length (mine (met D.held pass)) ≡ count },
+    ghost denied: { IsTrue (are_denied (mine (history_met D.held pass))) },
+    ghost counted: { length (mine (history_met D.held pass)) ≡ count },
     ghost few: { count ≤ 1048576 },
 }
 
@@ -94,7 +94,7 @@ impl<D: Door> Strangers<D> {
     }
 
     /// Makes a login's step.
-    #[tactic(auto, using(crate::proofs::Denied::more_denied, crate::proofs::Denied::one_more, crate::proofs::Denied::stranger_is_told))]
+    #[tactic(auto, using(crate::proofs::Login_denied::more_denied, crate::proofs::Login_denied::one_more, crate::proofs::Login_denied::stranger_is_told))]
     fn log_in<R: Wait + Dial>(
         &mut self,
         rt: &R,

@@ -31,91 +31,91 @@ buy_terms shares price time_in_force = record {
 }
 
 -- Accepted
-abbrev pub accepted : List ℕ → OrderTerms → ℕ → Outbound
-accepted text terms number = Outbound.Accepted (record { token = token text; terms = terms; order_reference = number })
+abbrev pub accepted_row : List ℕ → OrderTerms → ℕ → Outbound
+accepted_row text terms number = Outbound.Accepted (record { token = token text; terms = terms; order_reference = number })
 
 -- Executed
-abbrev pub executed : List ℕ → ℕ → ℕ → Liquidity → ℕ → Outbound
-executed text shares price liquidity number =
+abbrev pub executed_row : List ℕ → ℕ → ℕ → Liquidity → ℕ → Outbound
+executed_row text shares price liquidity number =
     Outbound.Executed (record { token = token text; shares = shares; price = price; liquidity = liquidity; match_number = number })
 
 -- Canceled
-abbrev pub canceled : List ℕ → ℕ → CancelReason → Outbound
-canceled text shares reason = Outbound.Canceled (record { token = token text; decrement = shares; reason = reason })
+abbrev pub canceled_row : List ℕ → ℕ → CancelReason → Outbound
+canceled_row text shares reason = Outbound.Canceled (record { token = token text; decrement = shares; reason = reason })
 
 -- Rejected
-abbrev pub rejected : List ℕ → RejectReason → Outbound
-rejected text reason = Outbound.Rejected (record { token = token text; reason = reason })
+abbrev pub rejected_row : List ℕ → RejectReason → Outbound
+rejected_row text reason = Outbound.Rejected (record { token = token text; reason = reason })
 
 -- the killed trader is told of his fill, and of what was ended
 abbrev pub AKillIsTold : Type 0
 AKillIsTold = told_alice a_kill_ends_a_sweep_steps
-    ≡ at 4 (accepted (codes "A1") (buy_terms 300 10000 99999) 10)
-    ∷ at 5 (executed (codes "A1") 100 10000 Liquidity.Removed 11)
-    ∷ at 6 (canceled (codes "A1") 200 CancelReason.Supervisory)
+    ≡ at 4 (accepted_row (codes "A1") (buy_terms 300 10000 99999) 10)
+    ∷ at 5 (executed_row (codes "A1") 100 10000 Liquidity.Removed 11)
+    ∷ at 6 (canceled_row (codes "A1") 200 CancelReason.Supervisory)
     ∷ []
 
 -- a value above the limit is answered
 abbrev pub ADeniedValueIsTold : Type 0
 ADeniedValueIsTold = told_alice value_above_the_limit_steps
-    ≡ at 2 (accepted (codes "T1") (buy_terms 100 100000 99999) 2)
-    ∷ at 3 (rejected (codes "T2") RejectReason.DollarLimit)
+    ≡ at 2 (accepted_row (codes "T1") (buy_terms 100 100000 99999) 2)
+    ∷ at 3 (rejected_row (codes "T2") RejectReason.DollarLimit)
     ∷ []
 
 -- a killed account is told so with each order
 abbrev pub AKilledAccountIsTold : Type 0
 AKilledAccountIsTold = told_alice a_kill_stands_until_the_lift_steps
-    ≡ at 2 (accepted (codes "A1") (buy_terms 100 10000 99999) 3)
-    ∷ at 3 (canceled (codes "A1") 100 CancelReason.Supervisory)
-    ∷ at 4 (rejected (codes "A2") RejectReason.RejectAll)
-    ∷ at 6 (accepted (codes "A3") (buy_terms 1 10000 99999) 7)
+    ≡ at 2 (accepted_row (codes "A1") (buy_terms 100 10000 99999) 3)
+    ∷ at 3 (canceled_row (codes "A1") 100 CancelReason.Supervisory)
+    ∷ at 4 (rejected_row (codes "A2") RejectReason.RejectAll)
+    ∷ at 6 (accepted_row (codes "A3") (buy_terms 1 10000 99999) 7)
     ∷ []
 
 -- after the lift he is told of new orders, and of nothing that was ended; a token that was used is not answered
 abbrev pub ALiftIsTold : Type 0
 ALiftIsTold = drop 3 (told_alice a_lift_lets_trade_again_steps)
-    ≡ at 8 (rejected (codes "A2") RejectReason.RejectAll)
-    ∷ at 9 (accepted (codes "A3") (buy_terms 1 10000 99999) 18)
-    ∷ at 9 (executed (codes "A3") 1 10000 Liquidity.Removed 19)
+    ≡ at 8 (rejected_row (codes "A2") RejectReason.RejectAll)
+    ∷ at 9 (accepted_row (codes "A3") (buy_terms 1 10000 99999) 18)
+    ∷ at 9 (executed_row (codes "A3") 1 10000 Liquidity.Removed 19)
     ∷ []
 
 -- a cancel is told with the shares that went; useless ones are not answered
 abbrev pub ACancelIsTold : Type 0
 ACancelIsTold = told_alice cancels_lower_the_size_steps
-    ≡ at 2 (accepted (codes "A1") (buy_terms 100 10000 99999) 4)
-    ∷ at 3 (executed (codes "A1") 60 10000 Liquidity.Removed 6)
-    ∷ at 4 (canceled (codes "A1") 40 CancelReason.UserRequested)
-    ∷ at 4 (accepted (codes "A2") (buy_terms 100 10000 99999) 10)
+    ≡ at 2 (accepted_row (codes "A1") (buy_terms 100 10000 99999) 4)
+    ∷ at 3 (executed_row (codes "A1") 60 10000 Liquidity.Removed 6)
+    ∷ at 4 (canceled_row (codes "A1") 40 CancelReason.UserRequested)
+    ∷ at 4 (accepted_row (codes "A2") (buy_terms 100 10000 99999) 10)
     ∷ []
 
 -- an order that is cut is told its decrease, and then its fill
 abbrev pub ACutIsTold : Type 0
 ACutIsTold = drop 2 (told_alice a_cut_order_keeps_its_place_steps)
-    ≡ at 3 (canceled (codes "A1") 50 CancelReason.UserRequested)
-    ∷ at 4 (executed (codes "A1") 50 10000 Liquidity.Added 9)
-    ∷ at 4 (executed (codes "A2") 10 10000 Liquidity.Added 10)
+    ≡ at 3 (canceled_row (codes "A1") 50 CancelReason.UserRequested)
+    ∷ at 4 (executed_row (codes "A1") 50 10000 Liquidity.Added 9)
+    ∷ at 4 (executed_row (codes "A2") 10 10000 Liquidity.Added 10)
     ∷ []
 
 -- Replaced has the shares that are open, and the order behind it is filled first
 abbrev pub AReplaceIsTold : Type 0
 AReplaceIsTold = drop 3 (told_alice a_replace_loses_its_place_steps)
-    ≡ at 5 (rejected (codes "A2") RejectReason.Other)
+    ≡ at 5 (rejected_row (codes "A2") RejectReason.Other)
     ∷ at 5 (Outbound.Replaced (record { token = token (codes "A3"); terms = buy_terms 1 10000 99999; order_reference = 12; previous_token = token (codes "A1") }))
-    ∷ at 6 (executed (codes "A9") 1 10000 Liquidity.Added 15)
+    ∷ at 6 (executed_row (codes "A9") 1 10000 Liquidity.Added 15)
     ∷ []
 
 -- an immediate order is told that it ended
 abbrev pub AnExpiryIsTold : Type 0
 AnExpiryIsTold = told_alice immediate_orders_expire_steps
-    ≡ at 2 (accepted (codes "A1") (buy_terms 5 10000 0) 2)
-    ∷ at 3 (canceled (codes "A1") 5 CancelReason.ImmediateOrCancel)
+    ≡ at 2 (accepted_row (codes "A1") (buy_terms 5 10000 0) 2)
+    ∷ at 3 (canceled_row (codes "A1") 5 CancelReason.ImmediateOrCancel)
     ∷ []
 
 -- the end of the day is told to traders, and no order is taken behind it
 abbrev pub TheEndOfTheDayIsTold : Type 0
 TheEndOfTheDayIsTold = told_alice useless_commands_are_denied_steps
     ≡ at 2 (Outbound.SystemEvent EventCode.EndOfDay)
-    ∷ at 3 (rejected (codes "A1") RejectReason.Closed)
+    ∷ at 3 (rejected_row (codes "A1") RejectReason.Closed)
     ∷ []
 
 -- the sample is a policy that a policy file can say

@@ -3,8 +3,8 @@ use Rattle.gx_policy.specs.{Kinds.{limit_of, stocks_of, with_limit, with_stocks}
 use Rattle.std.proofs.{Common.{◌≡◌, ℕ, Bool, true, false, cond, not, ◌||◌, List, [], ◌∷◌, ◌++◌, map, refl, sym, ap, ◌∙◌, Option, Some, None, is_some}, lemmas.{Cmp.nat_list_eq_equiv, List.Folds.list_any-append}, Math.Bool.or-false}
 use Rattle.std.specs.Option.{option_and_then, option_map_or}
 use Rattle.gx_units.specs.{Names.{same_rule, same_stock}, declared.names.{RuleId.RuleId, Symbol.Symbol}}
-use Rattle.gx_history.specs.{Asking.knows_stocks, InForce.{adding, change_rule, lists_stock, removing}}
-use Rattle.gx_rules.specs.{Laws.{names_of, scopes_of}, Settings.{limit_in, lists_in, restricted, unrestricted, with_limit_of}}
+use Rattle.gx_history.specs.{Asking.knows_stocks, InForce.{with_stock, change_rule, lists_stock, without_stock}}
+use Rattle.gx_rules.specs.{Laws.{names_of, scopes_of}, Settings.{limit_in, lists_in, with_stock_restricted, with_stock_unrestricted, with_limit_of}}
 
 -- the rules of other names
 module _ (name : RuleId) (change : RuleKind → RuleKind) where
@@ -120,45 +120,45 @@ last_listed : (stocks : List Symbol) (stock other : Symbol) → lists_stock (sto
 last_listed stocks stock other =
     list_any-append (λ s. same_stock s other) stocks (stock ∷ []) ∙ ap (λ b. lists_stock stocks other || b) (or-false (same_stock stock other))
 
-added_is_listed : (stock : Symbol) (stocks : List Symbol) → lists_stock (adding stock stocks) stock ≡ true
+added_is_listed : (stock : Symbol) (stocks : List Symbol) → lists_stock (with_stock stock stocks) stock ≡ true
 added_is_listed stock stocks = by (lists_stock stocks stock) refl
   where
     by : (b : Bool) → lists_stock stocks stock ≡ b → lists_stock (cond b stocks (stocks ++ stock ∷ [])) stock ≡ true
     by true h = h
     by false h = last_listed stocks stock stock ∙ ap (λ b. b || same_stock stock stock) h ∙ nat_list_eq_equiv.refl stock.bytes
 
-others_after_adding : (stock other : Symbol) → same_stock stock other ≡ false → (stocks : List Symbol) → lists_stock (adding stock stocks) other ≡ lists_stock stocks other
+others_after_adding : (stock other : Symbol) → same_stock stock other ≡ false → (stocks : List Symbol) → lists_stock (with_stock stock stocks) other ≡ lists_stock stocks other
 others_after_adding stock other apart stocks = by (lists_stock stocks stock)
   where
     by : (b : Bool) → lists_stock (cond b stocks (stocks ++ stock ∷ [])) other ≡ lists_stock stocks other
     by true = refl
     by false = last_listed stocks stock other ∙ ap (λ b. lists_stock stocks other || b) apart ∙ or-false (lists_stock stocks other)
 
-removed_is_not_listed : (stock : Symbol) (stocks : List Symbol) → lists_stock (removing stock stocks) stock ≡ false
+removed_is_not_listed : (stock : Symbol) (stocks : List Symbol) → lists_stock (without_stock stock stocks) stock ≡ false
 removed_is_not_listed stock [] = refl
 removed_is_not_listed stock (s ∷ stocks) = by (same_stock s stock) refl (removed_is_not_listed stock stocks)
   where
-    by : (b : Bool) → same_stock s stock ≡ b → lists_stock (removing stock stocks) stock ≡ false → lists_stock (cond (not b) (s ∷ removing stock stocks) (removing stock stocks)) stock ≡ false
+    by : (b : Bool) → same_stock s stock ≡ b → lists_stock (without_stock stock stocks) stock ≡ false → lists_stock (cond (not b) (s ∷ without_stock stock stocks) (without_stock stock stocks)) stock ≡ false
     by true h deeper = deeper
     by false h deeper = (λ i. h i || deeper i)
 
-others_after_removing : (stock other : Symbol) → same_stock stock other ≡ false → (stocks : List Symbol) → lists_stock (removing stock stocks) other ≡ lists_stock stocks other
+others_after_removing : (stock other : Symbol) → same_stock stock other ≡ false → (stocks : List Symbol) → lists_stock (without_stock stock stocks) other ≡ lists_stock stocks other
 others_after_removing stock other apart [] = refl
 others_after_removing stock other apart (s ∷ stocks) = by (same_stock s stock) refl (others_after_removing stock other apart stocks)
   where
-    by : (b : Bool) → same_stock s stock ≡ b → lists_stock (removing stock stocks) other ≡ lists_stock stocks other
-        → lists_stock (cond (not b) (s ∷ removing stock stocks) (removing stock stocks)) other ≡ lists_stock (s ∷ stocks) other
+    by : (b : Bool) → same_stock s stock ≡ b → lists_stock (without_stock stock stocks) other ≡ lists_stock stocks other
+        → lists_stock (cond (not b) (s ∷ without_stock stock stocks) (without_stock stock stocks)) other ≡ lists_stock (s ∷ stocks) other
     by true h deeper = deeper ∙ ap (λ b. b || lists_stock stocks other) (sym (nat_list_eq_equiv.congr s.bytes stock.bytes other.bytes h ∙ apart))
     by false h deeper = ap (λ b. same_stock s other || b) deeper
 
-pub restricted_listed : (name : RuleId) (stock : Symbol) (rules : List FileRule) → knows_stocks (rule_in rules name) ≡ true → lists_in (restricted name stock rules) name stock ≡ true
-restricted_listed name stock rules known = always_listed name (adding stock) stock rules (added_is_listed stock) known
+pub restricted_listed : (name : RuleId) (stock : Symbol) (rules : List FileRule) → knows_stocks (rule_in rules name) ≡ true → lists_in (with_stock_restricted name stock rules) name stock ≡ true
+restricted_listed name stock rules known = always_listed name (with_stock stock) stock rules (added_is_listed stock) known
 
-pub unrestricted_not_listed : (name : RuleId) (stock : Symbol) (rules : List FileRule) → lists_in (unrestricted name stock rules) name stock ≡ false
-unrestricted_not_listed name stock rules = none_listed name (removing stock) stock rules (removed_is_not_listed stock)
+pub unrestricted_not_listed : (name : RuleId) (stock : Symbol) (rules : List FileRule) → lists_in (with_stock_unrestricted name stock rules) name stock ≡ false
+unrestricted_not_listed name stock rules = none_listed name (without_stock stock) stock rules (removed_is_not_listed stock)
 
-pub kept_by_restrict : (name : RuleId) (stock other : Symbol) (rules : List FileRule) → same_stock stock other ≡ false → lists_in (restricted name stock rules) name other ≡ lists_in rules name other
-kept_by_restrict name stock other rules apart = same_listed name (adding stock) other rules (others_after_adding stock other apart)
+pub kept_by_restrict : (name : RuleId) (stock other : Symbol) (rules : List FileRule) → same_stock stock other ≡ false → lists_in (with_stock_restricted name stock rules) name other ≡ lists_in rules name other
+kept_by_restrict name stock other rules apart = same_listed name (with_stock stock) other rules (others_after_adding stock other apart)
 
-pub kept_by_unrestrict : (name : RuleId) (stock other : Symbol) (rules : List FileRule) → same_stock stock other ≡ false → lists_in (unrestricted name stock rules) name other ≡ lists_in rules name other
-kept_by_unrestrict name stock other rules apart = same_listed name (removing stock) other rules (others_after_removing stock other apart)
+pub kept_by_unrestrict : (name : RuleId) (stock other : Symbol) (rules : List FileRule) → same_stock stock other ≡ false → lists_in (with_stock_unrestricted name stock rules) name other ≡ lists_in rules name other
+kept_by_unrestrict name stock other rules apart = same_listed name (without_stock stock) other rules (others_after_removing stock other apart)

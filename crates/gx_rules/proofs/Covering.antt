@@ -1,13 +1,13 @@
 -- The rules that an account is under, asked in the place of all.
-use Rattle.std.proofs.{Common.{◌≡◌, ℕ, zero, suc, ◌+◌, ◌<◌, Bool, true, false, cond, ◌&&◌, List, [], ◌∷◌, ◌++◌, map, length, get_or, take, slice_get, refl, sym, ap, ◌∙◌, arith}, lemmas.{List.take_more, Cmp.nat_list_eq_equiv, Slice.Eq.bytes_eq-Decides}}
+use Rattle.std.proofs.{Common.{◌≡◌, ℕ, zero, suc, ◌+◌, ◌<◌, Bool, true, false, cond, ◌&&◌, List, [], ◌∷◌, ◌++◌, map, length, get_or, take, slice_get, refl, sym, ap, ◌∙◌, arith}, lemmas.{List.take_more, Cmp.nat_list_eq_equiv}}
 use Rattle.std.specs.{Prelude.{Option, Some, None, find, option_map, option_and_then}, Option.option_map_or, List.list_any, Map.{keys_of, values_of, lookup}}
 use Rattle.indexmap.specs.IndexMap.{insert_entry, set_value_at}
 use Rattle.gx_units.specs.{Names.same_account, declared.names.{AccountName.AccountName, RuleId.RuleId}}
-use Rattle.gx_history.specs.{declared.{facts.{Facts.Facts, ProposedOrder.ProposedOrder, RuleFigures.RuleFigures}, «record».Request.Request}, Rules.{figured, figured_from, first_file_rule, kind_forbids, of_proposed, proposed, rule_forbids}}
+use Rattle.gx_history.specs.{declared.{facts.{Facts.Facts, ProposedOrder.ProposedOrder, RuleFigures.RuleFigures}, «record».Request.Request}, Rules.{rules_with_figures, figured_from, first_file_rule, kind_forbids, of_proposed, proposed_order, rule_forbids}}
 use Rattle.gx_policy.specs.{declared.{policy.{Account.Account, FileRule.FileRule}, rule_name.RuleName.{RuleName, TheVariants.File}}, People.covers}
-use Rattle.gx_laws.proofs.Granting.{left_false, right_false}
-use Rattle.gx_rules.specs.{declared.book_rule.BookRule.BookRule, Books.{kind_of, rule_named, rules_of}, Places.{accounts_differ, covering, covering_from, forbids_at, named_at, places_of}}
-use Rattle.gx_rules.proofs.Keeping.{none_before}
+use Rattle.gx_laws.proofs.{Granting.{left_false, right_false}, Names.account_is, Tables.none_before}
+use Rattle.gx_rules.specs.{declared.book_rule.BookRule.BookRule, Books.{kind_of, rule_named, rules_of}, Places.{accounts_differ, places_covering, covering_from, forbids_at, named_at, places_of}}
+use Rattle.gx_units.proofs.Tests.{and_false}
 
 -- the place of one more rule
 pub covering-more : (account : AccountName) (place : ℕ) (rules : List FileRule) (i : ℕ) (d : FileRule) → i < length rules
@@ -47,8 +47,8 @@ covering-more account place (rule ∷ rules) (suc i) d within =
     by false deeper = deeper
 
 -- the next of the rules
-pub next_place : (account : AccountName) (rules : List FileRule) (places : List ℕ) (i : ℕ) (rule d : FileRule) (inside : Bool) → i < length rules → places ≡ covering (take i rules) account
-    → inside ≡ covers rule.scope account → rule ≡ get_or rules i d → cond inside (places ++ i ∷ []) places ≡ covering (take (i + 1) rules) account
+pub next_place : (account : AccountName) (rules : List FileRule) (places : List ℕ) (i : ℕ) (rule d : FileRule) (inside : Bool) → i < length rules → places ≡ places_covering (take i rules) account
+    → inside ≡ covers rule.scope account → rule ≡ get_or rules i d → cond inside (places ++ i ∷ []) places ≡ places_covering (take (i + 1) rules) account
 next_place account rules places i rule d inside within so_far asked is =
     (λ j. cond ((asked ∙ ap (λ (r : FileRule). covers r.scope account) is) j) (so_far j ++ zero_more j ∷ []) (so_far j))
     ∙ sym (covering-more account 0 rules i d within)
@@ -69,24 +69,21 @@ covering-kept account place (e ∷ es) (suc i) v w at scope =
 
 -- a table stays right, where a rule's scope stays
 pub table_kept : (table : List (AccountName × List ℕ)) (es : List (RuleId × BookRule)) (i : ℕ) (v w : BookRule) → slice_get (values_of es) i ≡ Some v → w.scope ≡ v.scope
-    → values_of table ≡ map (covering (rules_of es)) (keys_of table) → values_of table ≡ map (covering (rules_of (set_value_at es i w))) (keys_of table)
+    → values_of table ≡ map (places_covering (rules_of es)) (keys_of table) → values_of table ≡ map (places_covering (rules_of (set_value_at es i w))) (keys_of table)
 table_kept table es i v w at scope are = are ∙ (λ j. map (λ (account : AccountName). sym (covering-kept account 0 es i v w at scope) j) (keys_of table))
 
-account_is : (a b : AccountName) → same_account a b ≡ true → a ≡ b
-account_is a b same = let name : List ℕ → AccountName = λ (bytes : List ℕ). record { bytes = bytes } in ap name ((bytes_eq-Decides a.bytes b.bytes).0 same)
-
 place_last : (rules : List FileRule) (before : List Account) (a : Account) → list_any (λ (b : Account). same_account a.name b.name) before ≡ false
-    → insert_entry same_account (places_of rules before) a.name (covering rules a.name) ≡ places_of rules (before ++ a ∷ [])
+    → insert_entry same_account (places_of rules before) a.name (places_covering rules a.name) ≡ places_of rules (before ++ a ∷ [])
 place_last rules [] a none = refl
 place_last rules (b ∷ before) a none =
     let others = list_any (λ (b : Account). same_account a.name b.name) before in
-    ap (λ t. cond t ((b.name, covering rules a.name) ∷ places_of rules before) ((b.name, covering rules b.name) ∷ insert_entry same_account (places_of rules before) a.name (covering rules a.name)))
+    ap (λ t. cond t ((b.name, places_covering rules a.name) ∷ places_of rules before) ((b.name, places_covering rules b.name) ∷ insert_entry same_account (places_of rules before) a.name (places_covering rules a.name)))
     (left_false (same_account a.name b.name) others none)
-    ∙ ap (λ l. (b.name, covering rules b.name) ∷ l) (place_last rules before a (right_false (same_account a.name b.name) others none))
+    ∙ ap (λ l. (b.name, places_covering rules b.name) ∷ l) (place_last rules before a (right_false (same_account a.name b.name) others none))
 
 -- the next of the accounts goes last
 pub next_account : (rules : List FileRule) (accounts : List Account) (table : List (AccountName × List ℕ)) (i : ℕ) (a d : Account) (places : List ℕ)
-    → accounts_differ accounts ≡ true → i < length accounts → table ≡ places_of rules (take i accounts) → places ≡ covering rules a.name → a ≡ get_or accounts i d
+    → accounts_differ accounts ≡ true → i < length accounts → table ≡ places_of rules (take i accounts) → places ≡ places_covering rules a.name → a ≡ get_or accounts i d
     → insert_entry same_account table a.name places ≡ places_of rules (take (i + 1) accounts)
 next_account rules accounts table i a d places differ within so_far are is =
     let same : Account → Account → Bool = λ (a b : Account). same_account a.name b.name in
@@ -98,14 +95,14 @@ next_account rules accounts table i a d places differ within so_far are is =
     ∙ ap (places_of rules) (ap (λ x. take i accounts ++ x ∷ []) is ∙ sym (take_more accounts i d within))
 
 -- a new table has the places of each account
-all_placed : (rules : List FileRule) (accounts : List Account) → values_of (places_of rules accounts) ≡ map (covering rules) (keys_of (places_of rules accounts))
+all_placed : (rules : List FileRule) (accounts : List Account) → values_of (places_of rules accounts) ≡ map (places_covering rules) (keys_of (places_of rules accounts))
 all_placed rules [] = refl
-all_placed rules (a ∷ accounts) = ap (λ l. covering rules a.name ∷ l) (all_placed rules accounts)
+all_placed rules (a ∷ accounts) = ap (λ l. places_covering rules a.name ∷ l) (all_placed rules accounts)
 
 -- a new table is that of the rules as they are kept
 pub table_made : (rules kept : List FileRule) (accounts : List Account) (table : List (AccountName × List ℕ)) → table ≡ places_of rules accounts → rules ≡ kept
-    → values_of table ≡ map (covering kept) (keys_of table)
-table_made rules kept accounts table is same = ap values_of is ∙ all_placed rules accounts ∙ (λ i. map (covering (same i)) (keys_of (sym is i)))
+    → values_of table ≡ map (places_covering kept) (keys_of table)
+table_made rules kept accounts table is same = ap values_of is ∙ all_placed rules accounts ∙ (λ i. map (places_covering (same i)) (keys_of (sym is i)))
 
 -- what is found under an account are the places of its rules
 pub placed : (f : AccountName → List ℕ) (account : AccountName) (places : List ℕ) (table : List (AccountName × List ℕ)) → values_of table ≡ map f (keys_of table)
@@ -132,22 +129,18 @@ none_asked told place (rule ∷ rules) given q none =
     (none rule (told place))
     ∙ none_asked told (suc place) rules given q none
 
-none_after : (b : Bool) → (b && false) ≡ false
-none_after true = refl
-none_after false = refl
-
-pub no_account : (told : ℕ → RuleFigures) (rules : List FileRule) (given : Facts) (q : Request) → given.account ≡ None → None ≡ first_file_rule (figured told rules) given q
+pub no_account : (told : ℕ → RuleFigures) (rules : List FileRule) (given : Facts) (q : Request) → given.account ≡ None → None ≡ first_file_rule (rules_with_figures told rules) given q
 no_account told rules given q none =
     sym (none_asked told 0 rules given q (λ rule figures. ap (λ o. option_map_or (covers rule.scope) o false && of_proposed given q (kind_forbids rule.kind figures)) none))
 
-pub no_order : (told : ℕ → RuleFigures) (rules : List FileRule) (given : Facts) (q : Request) → proposed given q ≡ None → None ≡ first_file_rule (figured told rules) given q
+pub no_order : (told : ℕ → RuleFigures) (rules : List FileRule) (given : Facts) (q : Request) → proposed_order given q ≡ None → None ≡ first_file_rule (rules_with_figures told rules) given q
 no_order told rules given q none =
     sym (none_asked told 0 rules given q (λ rule figures.
     ap (λ o. option_map_or (covers rule.scope) given.account false && option_map_or (kind_forbids rule.kind figures) o false) none
-    ∙ none_after (option_map_or (covers rule.scope) given.account false)))
+    ∙ and_false (option_map_or (covers rule.scope) given.account false)))
 
 module _ (told : ℕ → RuleFigures) (all : List (RuleId × BookRule)) (given : Facts) (q : Request) (account : AccountName) (w : ProposedOrder)
-    (his : given.account ≡ Some account) (asks : proposed given q ≡ Some w) where
+    (his : given.account ≡ Some account) (asks : proposed_order given q ≡ Some w) where
   abbrev first_at : List ℕ → Option RuleName
   first_at places = option_and_then (named_at all) (find (forbids_at told all w) places)
 
@@ -199,5 +192,5 @@ module _ (told : ℕ → RuleFigures) (all : List (RuleId × BookRule)) (given :
       by false deeper = deeper
 
   -- the rules that the account is under are all that can forbid its orders
-  pub first_of_his : (places : List ℕ) → places ≡ covering (rules_of all) account → first_at places ≡ first_file_rule (figured told (rules_of all)) given q
+  pub first_of_his : (places : List ℕ) → places ≡ places_covering (rules_of all) account → first_at places ≡ first_file_rule (rules_with_figures told (rules_of all)) given q
   first_of_his places are = ap first_at are ∙ sym (first_from 0 all (λ k. ap (slice_get all) (omega arith)))

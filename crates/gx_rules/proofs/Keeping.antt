@@ -1,35 +1,12 @@
 -- How stocks and rules are put one by one under names that differ.
-use Rattle.std.proofs.{Common.{◌≡◌, ◌+◌, ℕ, zero, suc, ◌<◌, Bool, true, false, cond, not, ◌||◌, ◌&&◌, List, [], ◌∷◌, ◌++◌, length, get_or, take, refl, sym, ap, ◌∙◌, arith}, lemmas.{List.take_more, Cmp.nat_list_eq_equiv}}
+use Rattle.std.proofs.{Common.{◌≡◌, ◌+◌, ℕ, ◌<◌, Bool, true, false, cond, not, ◌||◌, List, [], ◌∷◌, ◌++◌, length, get_or, take, refl, sym, ap, ◌∙◌}, lemmas.{List.take_more, Cmp.nat_list_eq_equiv}}
 use Rattle.std.specs.List.{list_any, AllByRecursion}
 use Rattle.indexmap.specs.{IndexMap.insert_entry, IndexSet.{insert_key, remove_key}}
 use Rattle.gx_units.specs.{Names.{same_rule, same_stock}, declared.names.{RuleId.RuleId, Symbol.Symbol}}
 use Rattle.gx_policy.specs.{declared.policy.FileRule.FileRule, Lists.are_distinct}
-use Rattle.gx_history.specs.InForce.{adding, lists_stock, removing}
-use Rattle.gx_laws.proofs.Granting.{left_false, right_false}
+use Rattle.gx_history.specs.InForce.{with_stock, lists_stock, without_stock}
+use Rattle.gx_laws.proofs.{Granting.{left_false, right_false}, Tables.none_before}
 use Rattle.gx_rules.specs.{declared.book_rule.BookRule.BookRule, Books.{names_differ, rule_named, rules_of}}
-
-left_true : (a b : Bool) → (not a && b) ≡ true → a ≡ false
-left_true true b h = cc
-left_true false b h = refl
-
-right_true : (a b : Bool) → (a && b) ≡ true → b ≡ true
-right_true true b h = h
-right_true false b h = cc
-
-none_at : {X : Type 0} (p : X → Bool) (xs : List X) (i : ℕ) (d : X) → list_any p xs ≡ false → i < length xs → p (get_or xs i d) ≡ false
-none_at p [] i d none within = absurd (omega (arith, within))
-none_at p (x ∷ xs) zero d none within = left_false (p x) (list_any p xs) none
-none_at p (x ∷ xs) (suc i) d none within = none_at p xs i d (right_false (p x) (list_any p xs) none) (omega (arith, within))
-
--- one of a list of distinct ones is unlike those before it
-pub none_before : {X : Type 0} (same : X → X → Bool) (symm : (x y : X) → same x y ≡ same y x) (xs : List X) (i : ℕ) (d : X)
-    → are_distinct same xs ≡ true → i < length xs → list_any (same (get_or xs i d)) (take i xs) ≡ false
-none_before same symm [] i d distinct within = absurd (omega (arith, within))
-none_before same symm (x ∷ xs) zero d distinct within = refl
-none_before same symm (x ∷ xs) (suc i) d distinct within =
-    let here : same (get_or xs i d) x ≡ false = symm (get_or xs i d) x ∙ none_at (same x) xs i d (left_true (list_any (same x) xs) (are_distinct same xs) distinct) (omega (arith, within)) in
-    ap (λ b. b || list_any (same (get_or xs i d)) (take i xs)) here
-    ∙ none_before same symm xs i d (right_true (not (list_any (same x) xs)) (are_distinct same xs) distinct) (omega (arith, within))
 
 same_stock_symm : (a b : Symbol) → same_stock a b ≡ same_stock b a
 same_stock_symm a b = nat_list_eq_equiv.symm a.bytes b.bytes
@@ -47,13 +24,13 @@ pub lists_by_key : (stocks : List Symbol) (stock : Symbol) → list_any (same_st
 lists_by_key [] stock = refl
 lists_by_key (s ∷ stocks) stock = λ i. same_stock_symm stock s i || lists_by_key stocks stock i
 
-pub insert_is_adding : (stocks : List Symbol) (stock : Symbol) → insert_key same_stock stocks stock ≡ adding stock stocks
+pub insert_is_adding : (stocks : List Symbol) (stock : Symbol) → insert_key same_stock stocks stock ≡ with_stock stock stocks
 insert_is_adding stocks stock = ap (λ b. cond b stocks (stocks ++ stock ∷ [])) (lists_by_key stocks stock)
 
-none_removed : (stock : Symbol) (stocks : List Symbol) → AllByRecursion (λ s. same_stock stock s ≡ false) stocks → stocks ≡ removing stock stocks
+none_removed : (stock : Symbol) (stocks : List Symbol) → AllByRecursion (λ s. same_stock stock s ≡ false) stocks → stocks ≡ without_stock stock stocks
 none_removed stock [] apart = refl
 none_removed stock (s ∷ stocks) apart =
-    ap (λ l. s ∷ l) (none_removed stock stocks apart.1) ∙ ap (λ b. cond (not b) (s ∷ removing stock stocks) (removing stock stocks)) (sym (same_stock_symm s stock ∙ apart.0))
+    ap (λ l. s ∷ l) (none_removed stock stocks apart.1) ∙ ap (λ b. cond (not b) (s ∷ without_stock stock stocks) (without_stock stock stocks)) (sym (same_stock_symm s stock ∙ apart.0))
 
 absent : (stock : Symbol) (stocks : List Symbol) → list_any (same_stock stock) stocks ≡ false → AllByRecursion (λ s. same_stock stock s ≡ false) stocks
 absent stock [] none = tt
@@ -61,19 +38,19 @@ absent stock (s ∷ stocks) none = (left_false (same_stock stock s) (list_any (s
 
 -- where none like the stock is left, the first that was like it was the only one
 pub remove_is_removing : (stocks : List Symbol) (stock : Symbol) → list_any (same_stock stock) (remove_key (same_stock stock) stocks) ≡ false
-    → remove_key (same_stock stock) stocks ≡ removing stock stocks
+    → remove_key (same_stock stock) stocks ≡ without_stock stock stocks
 remove_is_removing [] stock none = refl
 remove_is_removing (s ∷ stocks) stock none = by (same_stock stock s) refl none (remove_is_removing stocks stock)
   where
     by : (b : Bool) → same_stock stock s ≡ b → list_any (same_stock stock) (cond b stocks (s ∷ remove_key (same_stock stock) stocks)) ≡ false
-        → (list_any (same_stock stock) (remove_key (same_stock stock) stocks) ≡ false → remove_key (same_stock stock) stocks ≡ removing stock stocks)
-        → cond b stocks (s ∷ remove_key (same_stock stock) stocks) ≡ removing stock (s ∷ stocks)
+        → (list_any (same_stock stock) (remove_key (same_stock stock) stocks) ≡ false → remove_key (same_stock stock) stocks ≡ without_stock stock stocks)
+        → cond b stocks (s ∷ remove_key (same_stock stock) stocks) ≡ without_stock stock (s ∷ stocks)
     by true h none deeper =
         none_removed stock stocks (absent stock stocks none)
-        ∙ ap (λ b. cond (not b) (s ∷ removing stock stocks) (removing stock stocks)) (sym (same_stock_symm s stock ∙ h))
+        ∙ ap (λ b. cond (not b) (s ∷ without_stock stock stocks) (without_stock stock stocks)) (sym (same_stock_symm s stock ∙ h))
     by false h none deeper =
         ap (λ l. s ∷ l) (deeper (right_false (same_stock stock s) (list_any (same_stock stock) (remove_key (same_stock stock) stocks)) none))
-        ∙ ap (λ b. cond (not b) (s ∷ removing stock stocks) (removing stock stocks)) (sym (same_stock_symm s stock ∙ h))
+        ∙ ap (λ b. cond (not b) (s ∷ without_stock stock stocks) (without_stock stock stocks)) (sym (same_stock_symm s stock ∙ h))
 
 kept_last : (es : List (RuleId × BookRule)) (name : RuleId) (rule : BookRule) → list_any (λ (r : FileRule). same_rule name r.name) (rules_of es) ≡ false
     → rules_of (insert_entry same_rule es name rule) ≡ rules_of es ++ rule_named name rule ∷ []

@@ -1,5 +1,5 @@
 -- Where a rule stands among the entries, and what a change of it there does to the rules.
-use Rattle.std.proofs.{Common.{◌≡◌, ◌+◌, ℕ, zero, suc, ◌<◌, Bool, true, false, cond, not, List, [], ◌∷◌, map, length, slice_get, position, refl, sym, ap, ◌∙◌, Some, Option, is_some, option_map, arith}, lemmas.{Cmp.nat_list_eq_equiv, Slice.Eq.bytes_eq-Decides, Map.Keys.{IsDistinct-head, IsDistinct-tail}}}
+use Rattle.std.proofs.{Common.{◌≡◌, ◌+◌, ℕ, zero, suc, ◌<◌, Bool, true, false, cond, not, List, [], ◌∷◌, map, length, slice_get, position, refl, sym, ap, ◌∙◌, Some, Option, is_some, option_map, arith}, lemmas.{Cmp.nat_list_eq_equiv, Map.Keys.{IsDistinct-head, IsDistinct-tail}}}
 use Rattle.std.specs.{List.{position_or_len, IsDistinct, AllByRecursion}, Map.{keys_of, values_of, lookup}}
 use Rattle.indexmap.specs.IndexMap.{set_value_at}
 use Rattle.indexmap.proofs.MapLemmas.{Found-position}
@@ -7,9 +7,7 @@ use Rattle.gx_units.specs.{Names.same_rule, declared.names.RuleId.RuleId}
 use Rattle.gx_policy.specs.{declared.policy.RuleKind.RuleKind, People.rule_in}
 use Rattle.gx_history.specs.InForce.{change_rule}
 use Rattle.gx_rules.specs.{declared.book_rule.BookRule.BookRule, Books.{kind_of, rule_named, rules_of}}
-
-rule_is : (a b : RuleId) → same_rule a b ≡ true → a ≡ b
-rule_is a b same = let name : List ℕ → RuleId = λ (bytes : List ℕ). record { bytes = bytes } in ap name ((bytes_eq-Decides a.bytes b.bytes).0 same)
+use Rattle.gx_laws.proofs.Names.{rule_is}
 
 pub same_rule_symm : (a b : RuleId) → same_rule a b ≡ same_rule b a
 same_rule_symm a b = nat_list_eq_equiv.symm a.bytes b.bytes

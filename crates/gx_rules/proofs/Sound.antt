@@ -1,22 +1,13 @@
 -- What a policy's soundness says of its rules.
 use Rattle.gx_policy.specs.{Kinds.stocks_of, declared.policy.{FileRule.FileRule, PolicyData.PolicyData, RuleKind.RuleKind}, Lists.are_distinct, Soundness.{is_kind_sound, is_rule_sound, is_sound}}
-use Rattle.std.proofs.{Common.{◌≡◌, ℕ, ◌≤◌, Bool, true, false, ◌&&◌, List, [], ◌∷◌, length, refl, ap, ◌∙◌, arith}, lemmas.{Bool.Decides.nat_tests, List.length-map}}
+use Rattle.std.proofs.{Common.{◌≡◌, ℕ, ◌≤◌, true, List, length, refl, ap, ◌∙◌, arith}, lemmas.{Bool.{Decides.nat_tests, and_parts}, List.length-map}}
 use Rattle.std.specs.{Prelude.nat_le, List.list_all, Option.option_map_or}
 use Rattle.gx_units.specs.{Names.same_stock, declared.names.RuleId.RuleId}
 use Rattle.gx_rules.specs.{declared.book_rule.BookRule.BookRule, Books.{lists_once, names_differ, rule_named, rules_of}}
-
-both : (a b : Bool) → (a && b) ≡ true → (a ≡ true) × (b ≡ true)
-both true b h = (refl, h)
-both false b h = cc
-
-all_imply : {X : Type 0} (p q : X → Bool) → ((x : X) → p x ≡ true → q x ≡ true) → (xs : List X) → list_all p xs ≡ true → list_all q xs ≡ true
-all_imply p q each [] h = refl
-all_imply p q each (x ∷ xs) h =
-    let parts = both (p x) (list_all p xs) h in
-    (λ i. each x parts.0 i && all_imply p q each xs parts.1 i)
+use Rattle.gx_laws.proofs.Showable.{all_imply}
 
 kind_once : (policy : PolicyData) (kind : RuleKind) → is_kind_sound policy kind ≡ true → option_map_or (are_distinct same_stock) (stocks_of kind) true ≡ true
-kind_once policy (RuleKind.Listed kind stocks) h = (both _ _ h).1
+kind_once policy (RuleKind.Listed kind stocks) h = (and_parts _ _ h).1
 kind_once policy (RuleKind.Plain kind) h = refl
 kind_once policy (RuleKind.Order kind limit) h = refl
 kind_once policy (RuleKind.Exposure kind limit count) h = refl
@@ -24,13 +15,13 @@ kind_once policy (RuleKind.Rate rate count) h = refl
 kind_once policy (RuleKind.Repeat repeat count) h = refl
 
 rule_once : (policy : PolicyData) (rule : FileRule) → is_rule_sound policy rule ≡ true → lists_once rule ≡ true
-rule_once policy rule h = kind_once policy rule.kind (both _ _ (both _ _ h).0).1
+rule_once policy rule h = kind_once policy rule.kind (and_parts _ _ (and_parts _ _ h).0).1
 
 few_rules : (policy : PolicyData) → is_sound policy ≡ true → length policy.rules ≤ 128
 unfolding is_sound
 few_rules policy h =
-    let within = (both _ _ (both _ _ (both _ _ (both _ _ (both _ _ (both _ _ h).0).0).0).0).0).0 in
-    few (length policy.rules) (both _ _ within).1
+    let within = (and_parts _ _ (and_parts _ _ (and_parts _ _ (and_parts _ _ (and_parts _ _ (and_parts _ _ h).0).0).0).0).0).0 in
+    few (length policy.rules) (and_parts _ _ within).1
   where
     few : (n : ℕ) → nat_le n 128 ≡ true → n ≤ 128
     few n h = grind (arith, nat_tests)
@@ -46,11 +37,11 @@ few_entries policy rules es sound same of =
 -- no list of the policy has a stock twice
 pub sound_lists : (policy : PolicyData) → is_sound policy ≡ true → list_all lists_once policy.rules ≡ true
 unfolding is_sound
-sound_lists policy h = all_imply (is_rule_sound policy) lists_once (rule_once policy) policy.rules (both _ _ h).1
+sound_lists policy h = all_imply (is_rule_sound policy) lists_once (rule_once policy) policy.rules (and_parts _ _ h).1
 
 -- no two rules of the policy have one name
 pub sound_names : (policy : PolicyData) → is_sound policy ≡ true → names_differ policy.rules ≡ true
 unfolding is_sound
 sound_names policy h =
-    let of_names = (both _ _ (both _ _ (both _ _ (both _ _ (both _ _ (both _ _ h).0).0).0).0).0).1 in
-    (both _ _ of_names).1
+    let of_names = (and_parts _ _ (and_parts _ _ (and_parts _ _ (and_parts _ _ (and_parts _ _ (and_parts _ _ h).0).0).0).0).0).1 in
+    (and_parts _ _ of_names).1

@@ -12,8 +12,8 @@ covering_from account place (rule ∷ rules) =
     if covers rule.scope account then place ∷ covering_from account (suc place) rules else covering_from account (suc place) rules
 
 -- the places of the rules that the account is under
-abbrev pub covering : List FileRule → AccountName → List ℕ
-covering rules account = covering_from account 0 rules
+abbrev pub places_covering : List FileRule → AccountName → List ℕ
+places_covering rules account = covering_from account 0 rules
 
 -- no two accounts have one name
 abbrev pub accounts_differ : List Account → Bool
@@ -21,7 +21,7 @@ accounts_differ accounts = are_distinct (λ (a b : Account). same_account a.name
 
 -- each account with the places of the rules that it is under
 abbrev pub places_of : List FileRule → List Account → List (AccountName × List ℕ)
-places_of rules accounts = map (λ (a : Account). (a.name, covering rules a.name)) accounts
+places_of rules accounts = map (λ (a : Account). (a.name, places_covering rules a.name)) accounts
 
 -- the rule at the place forbids the order, by the figures that are told of the place
 abbrev pub forbids_at : (ℕ → RuleFigures) → List (RuleId × BookRule) → ProposedOrder → ℕ → Bool
@@ -34,4 +34,4 @@ named_at entries place = option_map (λ (e : RuleId × BookRule). File e.0) (sli
 -- there are few rules, and the table has the places of those that each of its accounts is under
 pub record AreTied (entries : List (RuleId × BookRule)) (table : List (AccountName × List ℕ)) : Type 0 where
   pub few : length entries ≤ 128
-  pub places : values_of table ≡ map (covering (rules_of entries)) (keys_of table)
+  pub places : values_of table ≡ map (places_covering (rules_of entries)) (keys_of table)

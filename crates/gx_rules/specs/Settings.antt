@@ -2,7 +2,7 @@
 use Rattle.gx_policy.specs.{Kinds.{limit_of, with_limit, with_stocks}, declared.policy.FileRule.FileRule, People.{covers, rule_in}}
 use Rattle.std.specs.{Prelude.{ℕ, Bool, false, List, map, Option, option_and_then}, Option.option_map_or}
 use Rattle.gx_units.specs.declared.names.{AccountName.AccountName, RuleId.RuleId, Symbol.Symbol}
-use Rattle.gx_history.specs.{Asking.has_stock, InForce.{adding, removing, change_rule}}
+use Rattle.gx_history.specs.{Asking.has_stock, InForce.{with_stock, without_stock, change_rule}}
 
 -- the rule's limit, if it has one that Set Limit may change
 abbrev pub limit_in : List FileRule → RuleId → Option ℕ
@@ -21,9 +21,9 @@ abbrev pub with_limit_of : RuleId → ℕ → List FileRule → List FileRule
 with_limit_of name value rules = map (change_rule name (with_limit value)) rules
 
 -- the rules with the stock on the list
-abbrev pub restricted : RuleId → Symbol → List FileRule → List FileRule
-restricted name stock rules = map (change_rule name (with_stocks (adding stock))) rules
+abbrev pub with_stock_restricted : RuleId → Symbol → List FileRule → List FileRule
+with_stock_restricted name stock rules = map (change_rule name (with_stocks (with_stock stock))) rules
 
 -- the rules with the stock off the list
-abbrev pub unrestricted : RuleId → Symbol → List FileRule → List FileRule
-unrestricted name stock rules = map (change_rule name (with_stocks (removing stock))) rules
+abbrev pub with_stock_unrestricted : RuleId → Symbol → List FileRule → List FileRule
+with_stock_unrestricted name stock rules = map (change_rule name (with_stocks (without_stock stock))) rules

@@ -3,7 +3,7 @@
 ghost use Rattle.gx_policy.specs.{Kinds.{limit_of, stocks_of, with_limit, with_stocks}, Lists.are_distinct};
 ghost use Rattle.std.specs.{Prelude.{◌≡◌, [], false, is_some, unwrap_or, IsTrue, IfOk, OnOk, OnErr}, Option.option_map_or, List.list_any};
 ghost use Rattle.gx_units.specs.Names.{same_stock};
-ghost use Rattle.gx_history.specs.{Asking.has_stock, InForce.{adding, lists_stock, removing}, Rules.{kind_forbids, rule_forbids}};
+ghost use Rattle.gx_history.specs.{Asking.has_stock, InForce.{with_stock, lists_stock, without_stock}, Rules.{kind_forbids, rule_forbids}};
 ghost use Rattle.gx_rules.specs.Books.{kind_of, lists_once, rule_named};
 
 use crate::file_rule::{is_for_scope, is_gross_above, is_net_above, is_outside_collar, new_open};
@@ -128,7 +128,7 @@ impl BookRule {
     /// `OutOfMemory` where memory was refused; then nothing has changed.
     pub fn restrict(&mut self, stock: Symbol) -> Result<(), OutOfMemory>
         ensures kind { OnOk result (kind_of self.new
-            ≡ with_stocks (adding stock) (kind_of self.old)) }
+            ≡ with_stocks (with_stock stock) (kind_of self.old)) }
         ensures refused { OnErr result (kind_of self.new ≡ kind_of self.old) }
         ensures scope { self.new.scope ≡ self.old.scope }
     {
@@ -138,7 +138,7 @@ impl BookRule {
 
     /// Takes the stock off the rule's list.
     pub fn unrestrict(&mut self, stock: Symbol)
-        ensures kind { kind_of self.new ≡ with_stocks (removing stock) (kind_of self.old) }
+        ensures kind { kind_of self.new ≡ with_stocks (without_stock stock) (kind_of self.old) }
         ensures scope { self.new.scope ≡ self.old.scope }
     {
         self.stocks.shift_remove(&stock);

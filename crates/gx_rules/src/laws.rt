@@ -1,6 +1,6 @@
 //! Laws of the settings, each as what a function without a body ensures.
 
-ghost use Rattle.gx_rules.specs.{Laws.{NamesAndScopesStay, OtherRulesStay, OtherStocksStay, RestrictedAreListed, RulesAfterOneMore, SetLimitsAreInForce, UnrestrictedAreNotListed}, Settings.{restricted, unrestricted}};
+ghost use Rattle.gx_rules.specs.{Laws.{NamesAndScopesStay, OtherRulesStay, OtherStocksStay, RestrictedAreListed, RulesAfterOneMore, SetLimitsAreInForce, UnrestrictedAreNotListed}, Settings.{with_stock_restricted, with_stock_unrestricted}};
 
 /// The rules in force after one more record are those before it, changed by the command that it grants.
 pub fn rules_after_one_more()
@@ -13,8 +13,8 @@ pub fn other_rules_stay()
     ensures limit { SetLimitsAreInForce }
     ensures listed { RestrictedAreListed }
     ensures not_listed { UnrestrictedAreNotListed }
-    ensures kept_by_restrict { OtherStocksStay restricted }
-    ensures kept_by_unrestrict { OtherStocksStay unrestricted }
+    ensures kept_by_restrict { OtherStocksStay with_stock_restricted }
+    ensures kept_by_unrestrict { OtherStocksStay with_stock_unrestricted }
 {}
 
 /// A setting changes no rule's name, no rule's scope and not the order of the rules.

@@ -1,7 +1,7 @@
 //! What kind of request it is, and what it asks for.
 
 ghost use Rattle.std.specs.Prelude.{◌≡◌};
-ghost use Rattle.gx_history.specs.{Requests.{is_login, is_command, is_order, names_order}, Rules.{proposed, takes_nothing}};
+ghost use Rattle.gx_history.specs.{Requests.{is_login, is_command, is_order, names_order}, Rules.{proposed_order, takes_nothing}};
 
 use gx_history::facts::{Facts, ProposedOrder};
 use gx_history::live_order::LiveOrder;
@@ -47,7 +47,7 @@ pub fn takes_nothing(named: Option<LiveOrder>, request: &Request) -> bool
 
 /// What the request asks for, if it is an Enter, or a Replace of a live order.
 pub fn proposed(facts: &Facts, request: &Request) -> Option<ProposedOrder>
-    ensures { result ≡ proposed facts.now request.now }
+    ensures { result ≡ proposed_order facts.now request.now }
 {
     match request {
         Request::Enter(m) => Some(ProposedOrder {

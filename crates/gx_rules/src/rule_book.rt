@@ -2,9 +2,9 @@
 
 ghost use Rattle.std.specs.{Prelude.{◌≡◌, ◌≤◌, ◌+◌, find, length, option_and_then, option_copied, IsTrue, IsFalse, is_some, IfOk, OnOk, OnErr, IfSome, IfNone}, List.{list_all, list_any}, Map.lookup};
 ghost use Rattle.gx_units.specs.Names.{same_account};
-ghost use Rattle.gx_history.specs.{Asking.knows_stocks, Rules.{applies, figured, figured_from, first_forbidding, first_file_rule, written_order, IsFirstForbidding}};
+ghost use Rattle.gx_history.specs.{Asking.knows_stocks, Rules.{applies, rules_with_figures, figured_from, first_forbidding, first_file_rule, written_order, IsFirstForbidding}};
 ghost use Rattle.gx_policy.specs.People.{rule_in};
-ghost use Rattle.gx_rules.specs.{Books.{lists_once, names_differ, rules_of}, Places.{forbids_at, named_at, AreTied}, Settings.{covers_in, limit_in, lists_in, restricted, unrestricted, with_limit_of}};
+ghost use Rattle.gx_rules.specs.{Books.{lists_once, names_differ, rules_of}, Places.{forbids_at, named_at, AreTied}, Settings.{covers_in, limit_in, lists_in, with_stock_restricted, with_stock_unrestricted, with_limit_of}};
 
 use crate::book_rule::BookRule;
 use crate::order::{first_before, first_behind};
@@ -159,7 +159,7 @@ fn first_of_file<F: TellsFigures>(
 ) -> Option<RuleName>
     requires tied { AreTied rules.now.entries by_account.now.entries }
     ensures { result ≡ first_file_rule
-        (figured (F.told figures.now) (rules_of rules.now.entries)) facts.now request.now }
+        (rules_with_figures (F.told figures.now) (rules_of rules.now.entries)) facts.now request.now }
 {
     let Some(account) = facts.account else {
         return None;
@@ -184,7 +184,7 @@ fn first_in_order<F: TellsFigures>(
 ) -> Option<RuleName>
     requires tied { AreTied rules.now.entries by_account.now.entries }
     ensures { result ≡ first_forbidding
-        (figured (F.told figures.now) (rules_of rules.now.entries)) facts.now request.now }
+        (rules_with_figures (F.told figures.now) (rules_of rules.now.entries)) facts.now request.now }
 {
     match first_before(facts, request) {
         None => first_of_file(rules, by_account, figures, facts, near, request).or_else(
@@ -225,7 +225,7 @@ impl RuleBook {
     /// `OutOfMemory` where the list was refused the memory to grow; then nothing has changed.
     pub fn restrict(&mut self, rule: RuleId, stock: Symbol) -> Result<(), OutOfMemory>
         requires has_list { IsTrue (knows_stocks (rule_in self.old rule)) }
-        ensures restricted { OnOk result (self.new ≡ restricted rule stock self.old) }
+        ensures restricted { OnOk result (self.new ≡ with_stock_restricted rule stock self.old) }
         ensures refused { OnErr result (self.new ≡ self.old) }
     {
         match self.rules.get_index_of(&rule) {
@@ -237,7 +237,7 @@ impl RuleBook {
     /// Takes the stock off the rule's list, as a granted Unrestrict does.
     pub fn unrestrict(&mut self, rule: RuleId, stock: Symbol)
         requires has_list { IsTrue (knows_stocks (rule_in self.old rule)) }
-        ensures unrestricted { self.new ≡ unrestricted rule stock self.old }
+        ensures unrestricted { self.new ≡ with_stock_unrestricted rule stock self.old }
     {
         if let Some(index) = self.rules.get_index_of(&rule) {
             self.rules[index].unrestrict(stock);
@@ -296,15 +296,15 @@ impl RuleBook {
     ) -> Option<RuleName>
         ensures few { length self.now ≤ 128 }
         ensures first { result ≡
-            first_forbidding (figured (F.told figures.now) self.now) facts.now request.now }
+            first_forbidding (rules_with_figures (F.told figures.now) self.now) facts.now request.now }
         ensures is_first { IfSome result (IsFirstForbidding
-            (figured (F.told figures.now) self.now) facts.now request.now) }
+            (rules_with_figures (F.told figures.now) self.now) facts.now request.now) }
         ensures none { IfNone result (IsFalse (list_any (applies facts.now request.now)
-            (written_order (figured (F.told figures.now) self.now)))) }
+            (written_order (rules_with_figures (F.told figures.now) self.now)))) }
     {
         first_in_order(&self.rules, &self.by_account, figures, facts, near, request)
     }
 
     /// Lets it go. Its drop is proved here once, and not in each crate that owns one.
-    pub fn let_go(self) {}
+    pub fn release(self) {}
 }

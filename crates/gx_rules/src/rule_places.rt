@@ -1,7 +1,7 @@
 //! Which rules each account is under.
 
 ghost use Rattle.std.specs.Prelude.{◌≡◌, ◌∷◌, ◌++◌, [], IfOk, OnOk, IsTrue, if◌then◌else◌};
-ghost use Rattle.gx_rules.specs.Places.{accounts_differ, covering, places_of};
+ghost use Rattle.gx_rules.specs.Places.{accounts_differ, places_covering, places_of};
 
 use gx_policy::{Account, FileRule};
 use gx_units::{AccountName, OutOfMemory};
@@ -42,7 +42,7 @@ impl RulePlaces {
         rules: &[FileRule],
         account: AccountName,
     ) -> Result<RulePlaces, OutOfMemory>
-        ensures { IfOk result (λ places. places ≡ covering rules.now account) }
+        ensures { IfOk result (λ places. places ≡ places_covering rules.now account) }
     {
         let mut items = Vec::new(alloc);
         for place in 0..rules.len() {

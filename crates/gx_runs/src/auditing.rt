@@ -4,11 +4,11 @@ ghost use Rattle.std.specs.Prelude.{◌-◌, ◌^◌, ◌<◌};
 
 use gx_audit::write_audit;
 use gx_audit_bytes::AuditVersion;
-use gx_devices::Counted;
+use gx_devices::CallCounter;
 use gx_files::FileIdentity;
 use gx_program::{Ended, Named, Place, file_named, identity_of, tell_apart};
 use gx_records::ShowsRecords;
-use gx_server::{Noted, ProgramFault};
+use gx_server::{ErrorRecorder, ProgramFault};
 use gx_units::OutOfMemory;
 use std::fs::{File, OpenOptions, TryLockError};
 use std::io::{Error, ErrorKind, Write};
@@ -160,7 +160,7 @@ fn write_records<'a, G: ShowsRecords, W: Write + Drop>(
     device: W,
     place: Place<'a>,
 ) -> Result<(), Ended<'a>> {
-    let mut writer = Counted::new(Noted::new(device));
+    let mut writer = CallCounter::new(ErrorRecorder::new(device));
     match write_audit(version, gate, &mut writer) {
         Ok(()) => Ok(()),
         Err(failed) => Err(Ended::of_writing(failed.into(), place, writer.into_inner().cause)),

@@ -6,12 +6,12 @@ use gx_answers::AccessGate;
 use gx_audit::{Resumed, resume};
 use gx_audit_bytes::{AuditVersion, write_header_in};
 use gx_command_line::JournalFile;
-use gx_devices::{Counted, write_whole};
+use gx_devices::{CallCounter, write_whole};
 use gx_files::Watched;
 use gx_log::Log;
 use gx_policy::Policy;
 use gx_program::{Content, Ended, Place, expected_of, look_before, read_file};
-use gx_server::{Noted, ProgramFault};
+use gx_server::{ErrorRecorder, ProgramFault};
 use std::fs::{File, OpenOptions, TryLockError};
 use std::io::Write;
 use std::sync::Wait;
@@ -48,7 +48,7 @@ pub struct Day<G> {
     /// How many bytes of another one, which was cut off, stood behind them.
     pub cut: u64,
     /// The journal, behind its last whole record.
-    pub device: Noted<JournalDevice>,
+    pub device: ErrorRecorder<JournalDevice>,
 }
 
 /// Opens the file of a journal, to be read and written, and leaves it as it is. Where there is none it is made, or refused.
@@ -129,7 +129,7 @@ fn prepare<'a>(
     version: AuditVersion,
     path: &'a str,
     kept: u64,
-    device: &mut Counted<Noted<JournalDevice>>,
+    device: &mut CallCounter<ErrorRecorder<JournalDevice>>,
 ) -> Result<(), Ended<'a>>
     requires { device.old.failed < 2 ^ 64 - 1 }
 {
@@ -156,7 +156,7 @@ fn prepare_named<'a>(
     version: AuditVersion,
     journal: JournalFile<'a>,
     kept: u64,
-    device: &mut Counted<Noted<JournalDevice>>,
+    device: &mut CallCounter<ErrorRecorder<JournalDevice>>,
 ) -> Result<(), Ended<'a>>
     requires { device.old.failed < 2 ^ 64 - 1 }
 {
@@ -197,7 +197,7 @@ pub(crate) fn go_on_from<'a, G: AccessGate>(
         length,
     } = found;
     let Resumed { gate, kept } = resumed;
-    let mut device = Counted::new(Noted::new(JournalDevice {
+    let mut device = CallCounter::new(ErrorRecorder::new(JournalDevice {
         watched: Watched { file, length: kept },
         is_synced: journal.is_synced,
     }));

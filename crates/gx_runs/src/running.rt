@@ -7,12 +7,12 @@ use crate::starts::Start;
 use gx_audit_bytes::AuditVersion;
 use gx_clock::UtcOffset;
 use gx_command_line::RunFiles;
-use gx_devices::Counted;
+use gx_devices::CallCounter;
 use gx_pipe::run_pipe;
 use gx_program::{Ended, Named, Place, held_back, policy_file, tell_apart};
 use gx_records::ShowsRecords;
 use gx_scripting::run_script;
-use gx_server::{Noted, ProgramFault, open_gate};
+use gx_server::{ErrorRecorder, ProgramFault, open_gate};
 use std::alloc::Global;
 use std::io;
 use std::io::{Read, Write};
@@ -34,8 +34,8 @@ fn run_input<G: ShowsRecords, R: Read, W: Write>(
     alloc: Global,
     input: Input,
     gate: &mut G,
-    reader: &mut Counted<R>,
-    writer: &mut Counted<W>,
+    reader: &mut CallCounter<R>,
+    writer: &mut CallCounter<W>,
 ) -> Result<(), ProgramFault>
     requires reader { reader.old.failed < 2 ^ 64 - 1 }
     requires writer { writer.old.failed < 2 ^ 64 - 1 }
@@ -47,7 +47,7 @@ fn run_input<G: ShowsRecords, R: Read, W: Write>(
 }
 
 /// Writes what is held back still.
-fn write_rest<'a, W: Write>(writer: &mut Counted<W>) -> Result<(), Ended<'a>> {
+fn write_rest<'a, W: Write>(writer: &mut CallCounter<W>) -> Result<(), Ended<'a>> {
     match writer.flush() {
         Ok(()) => Ok(()),
         Err(error) => Err(Ended::unwritten(Place::Output, error)),
@@ -60,7 +60,7 @@ fn follow<'a, G: ShowsRecords>(
     input: Input,
     gate: &mut G,
 ) -> Result<(), Ended<'a>> {
-    let mut reader = Counted::new(Noted::new(rt.reader()));
+    let mut reader = CallCounter::new(ErrorRecorder::new(rt.reader()));
     let mut writer = held_back(rt.alloc(), io::writer(rt))?;
     let ended = match run_input(rt.alloc(), input, gate, &mut reader, &mut writer) {
         Ok(()) => Ok(()),

@@ -1,14 +1,14 @@
 -- Names that are put into their fields as they are read.
 use Rattle.std.proofs.{Common.{◌≡◌, ℕ, zero, suc, ◌+◌, ◌-◌, ◌<◌, ◌≤◌, Bool, true, false, not, ◌&&◌, List, [], ◌∷◌, ◌++◌, length, take, slice_get, slice_set, slice_index_or, replicate, refl, sym, ap, ◌∙◌, arith}, lemmas.{Bool.{and_from, and_parts, leb-true}, List.length-take}}
 use Rattle.std.specs.{Prelude.{IfSome, IsFalse, Some, None, nat_le, if◌then◌else◌}, List.list_all}
-use Rattle.gx_units.specs.Spelling.{padded}
+use Rattle.gx_units.specs.Spelling.{padded_to}
 use Rattle.gx_script.specs.Words.{is_empty, is_name, is_visible, name_of}
 
-pub padded_behind : (b m : ℕ) (t : List ℕ) → padded (suc m) (b ∷ t) ≡ b ∷ padded m t
+pub padded_behind : (b m : ℕ) (t : List ℕ) → padded_to (suc m) (b ∷ t) ≡ b ∷ padded_to m t
 padded_behind b m t = ap (λ k. b ∷ (t ++ replicate k 32)) (omega arith)
 
 -- the field has one more byte of the text
-pub put_next : (n end : ℕ) (text : List ℕ) → end < length text → end < n → slice_set (padded n (take end text)) end (slice_index_or text end 0) ≡ padded n (take (end + 1) text)
+pub put_next : (n end : ℕ) (text : List ℕ) → end < length text → end < n → slice_set (padded_to n (take end text)) end (slice_index_or text end 0) ≡ padded_to n (take (end + 1) text)
 put_next n end [] within room = absurd (omega (arith, within))
 put_next zero end (b ∷ bs) within room = absurd (omega (arith, room))
 put_next (suc m) zero (b ∷ bs) within room =
@@ -20,7 +20,7 @@ put_next (suc m) (suc e) (b ∷ bs) within room =
     ap (λ l. slice_set l (suc e) (slice_index_or bs e 0)) (padded_behind b m (take e bs))
     ∙ ap (λ l. b ∷ l) (put_next m e bs (omega (arith, within)) (omega (arith, room)))
     ∙ sym (padded_behind b m (take (e + 1) bs))
-    ∙ ap (λ k. padded (suc m) (take k (b ∷ bs))) next
+    ∙ ap (λ k. padded_to (suc m) (take k (b ∷ bs))) next
 
 -- what stands in a front stands in the text
 pub front_item : (most end : ℕ) (text : List ℕ) → end < length (take most text) → slice_index_or (take most text) end 0 ≡ slice_index_or text end 0
@@ -61,7 +61,7 @@ all_here P (suc e) (b ∷ bs) within room hidden all = all_here P e bs (omega (a
 pub not_named : (n end : ℕ) (word : List ℕ) → end < length word → IfSome (slice_get word end) (λ byte. end < n → IsFalse (is_visible byte)) → None ≡ name_of n word
 not_named n end word within hidden = by (is_name word && nat_le (length word) n) refl
   where
-    by : (b : Bool) → (is_name word && nat_le (length word) n) ≡ b → None ≡ (if b then Some (padded n word) else None)
+    by : (b : Bool) → (is_name word && nat_le (length word) n) ≡ b → None ≡ (if b then Some (padded_to n word) else None)
     by false is = refl
     by true is =
         let parts = and_parts (is_name word) (nat_le (length word) n) is in

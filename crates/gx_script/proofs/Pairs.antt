@@ -1,5 +1,5 @@
 -- The digits of each byte, as the table has them.
-use Rattle.std.proofs.{Common.{◌≡◌, ℕ, zero, suc, ◌+◌, ◌*◌, ◌/◌, ◌%◌, ◌<◌, Bool, true, false, ◌&&◌, ◌==◌, refl, ap, ◌∙◌, arith, slice_index, eqb-true}, lemmas.Bool.eqb-false}
+use Rattle.std.proofs.{Common.{◌≡◌, ℕ, zero, suc, ◌+◌, ◌*◌, ◌/◌, ◌%◌, ◌<◌, Bool, true, false, ◌&&◌, ◌==◌, refl, ap, ◌∙◌, arith, slice_index, eqb-true}, lemmas.Bool.{eqb-false, and_parts}}
 use Rattle.hex.specs.Hex.{lower_digits}
 use Rattle.gx_script.specs.declared.digits.TheConstants.{PAIRS}
 
@@ -16,14 +16,10 @@ all_told : are_told 256 ≡ true
 unfolding is_told are_told
 all_told = refl
 
-both : (a b : Bool) → (a && b) ≡ true → (a ≡ true) × (b ≡ true)
-both true b h = (refl, h)
-both false b h = cc
-
 told : (n byte : ℕ) → are_told n ≡ true → byte < n → is_told byte ≡ true
 unfolding are_told
 told zero byte all below = let never : ⊥ = omega (arith, below) in elim never [ ]
-told (suc n) byte all below = by (byte == n) refl (both (is_told n) (are_told n) all) (told n byte)
+told (suc n) byte all below = by (byte == n) refl (and_parts (is_told n) (are_told n) all) (told n byte)
   where
     by : (b : Bool) → (byte == n) ≡ b → (is_told n ≡ true) × (are_told n ≡ true) → (are_told n ≡ true → byte < n → is_told byte ≡ true) → is_told byte ≡ true
     by true is parts later = ap is_told (eqb-true byte n is) ∙ parts.0
@@ -31,7 +27,7 @@ told (suc n) byte all below = by (byte == n) refl (both (is_told n) (are_told n)
 
 digits_of : (byte : ℕ) → byte < 256 → ((slice_index PAIRS.now (2 * byte) == slice_index lower_digits (byte / 16)) ≡ true) × ((slice_index PAIRS.now (2 * byte + 1) == slice_index lower_digits (byte % 16)) ≡ true)
 unfolding is_told
-digits_of byte below = both _ _ (told 256 byte all_told below)
+digits_of byte below = and_parts _ _ (told 256 byte all_told below)
 
 pub high_digit : (byte : ℕ) → byte < 256 → slice_index PAIRS.now (2 * byte) ≡ slice_index lower_digits (byte / 16)
 high_digit byte below = eqb-true _ _ (digits_of byte below).0

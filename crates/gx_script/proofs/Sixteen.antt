@@ -2,7 +2,7 @@
 use Rattle.std.proofs.{Common.{◌≡◌, ◌≢◌, ℕ, suc, zero, ◌+◌, ◌-◌, ◌%◌, ◌^◌, ◌≤◌, ◌<◌, Bool, true, false, not, ◌&&◌, ◌||◌, cond, List, [], ◌∷◌, ◌++◌, length, take, slice_get, slice_index_or, replicate, map, leb, ltb, eqb, bit_or, w8, subst, refl, sym, ap, ◌∙◌, arith}, lemmas.{Bool.{and_from, eqb-true, le-ltb, lt-ltb}, List.{length-map, length-take, take-replicate}, Simd.{bitmask_splat, first_set_mask_l, mask_l-mod, map-map, tops_compared, zip2_of_maps, zip2_splat, zip2_splat_left}}}
 use Rattle.std.specs.{List.{prefix_len, range_with_len, list_all}, Prelude.{IfSome, IsFalse}, Simd.Lanes.{mask_l, sel_l, top, zip2}}
 use lib.Count.{count_trailing_zeros}
-use Rattle.gx_units.specs.Spelling.{is_space, padded}
+use Rattle.gx_units.specs.Spelling.{is_space, padded_to}
 use Rattle.gx_script.specs.Words.{is_visible}
 
 either : (a b : Bool) → top 7 (bit_or (cond a 255 0) (cond b 255 0)) ≡ (a || b)
@@ -127,7 +127,7 @@ front_ends n count end text few long counted is =
     let same : end ≡ seen (take 16 text) = is below ∙ counted in
     ap (λ k. is_visible (slice_index_or text k 0)) same ∙ stops 16 text (omega (arith, same, below, few)) long)
 
-take_padded : (n m : ℕ) (word : List ℕ) → length word ≤ n → n ≤ length word + m → take n (word ++ replicate m 32) ≡ padded n word
+take_padded : (n m : ℕ) (word : List ℕ) → length word ≤ n → n ≤ length word + m → take n (word ++ replicate m 32) ≡ padded_to n word
 take_padded n m [] fits within =
     take-replicate n m 32 (omega (arith, within))
     ∙ ap (λ k. replicate k 32) (let e : n ≡ n - 0 = omega arith in e)
@@ -146,7 +146,7 @@ take_front (suc end) (suc width) [] within = refl
 take_front (suc end) (suc width) (b ∷ bs) within = ap (λ l. b ∷ l) (take_front end width bs (omega (arith, within)))
 
 -- a field of these bytes, with spaces behind them
-pub front_field : (n end : ℕ) (text : List ℕ) → n ≤ 16 → end ≤ n → 16 ≤ length text → take n (take end (take 16 text) ++ replicate (16 - end) 32) ≡ padded n (take end text)
+pub front_field : (n end : ℕ) (text : List ℕ) → n ≤ 16 → end ≤ n → 16 ≤ length text → take n (take end (take 16 text) ++ replicate (16 - end) 32) ≡ padded_to n (take end text)
 front_field n end text few fits long =
     ap (λ l. take n (l ++ replicate (16 - end) 32)) (take_front end 16 text (omega (arith, few, fits)))
     ∙ take_padded n (16 - end) (take end text) (omega (arith, fits, length-take end text)) (omega (arith, few, fits, long, length-take end text))

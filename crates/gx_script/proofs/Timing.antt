@@ -1,7 +1,7 @@
 -- Lines that begin with a moment, by the words behind it.
 use Rattle.std.proofs.{Common.{◌≡◌, ℕ, zero, suc, ◌-◌, ◌≤◌, Bool, true, false, not, ◌&&◌, List, [], ◌∷◌, ◌++◌, length, replicate, nat_eq, refl, sym, ap, ◌∙◌, arith}, lemmas.{Bool.{and_parts, leb-true}, Slice.Eq.bytes_eq-Decides}}
 use Rattle.std.specs.{Prelude.{Option, Some, None, option_map, bytes_eq, codes, nat_le, if◌then◌else◌}}
-use Rattle.gx_units.specs.Spelling.{is_space, padded, folded_user}
+use Rattle.gx_units.specs.Spelling.{is_space, padded_to, folded_user}
 use Rattle.gx_script.specs.{declared.line.ScriptLine.{ScriptLine, TheVariants.{Match, Settle}}, Words.{◌>>=◌, first, has_no_space, is_done, is_name, name_of, number_of}, ScriptLines.{asked_line, last_line, line_of_words, step_line, stream_line, timed_line, user_line}}
 use Rattle.gx_script.proofs.{Fronts.padded_behind, Reading.visible_clear}
 
@@ -47,41 +47,41 @@ timed (word ∷ rest) left moment e =
     ∙ ap (timed_line moment) parts.1
 
 -- what a name is
-name_parts : (n : ℕ) (word field : List ℕ) → name_of n word ≡ Some field → (is_name word ≡ true) × ((nat_le (length word) n ≡ true) × (padded n word ≡ field))
+name_parts : (n : ℕ) (word field : List ℕ) → name_of n word ≡ Some field → (is_name word ≡ true) × ((nat_le (length word) n ≡ true) × (padded_to n word ≡ field))
 name_parts n word field e = at (is_name word && nat_le (length word) n) refl
   where
-    at : (test : Bool) → (is_name word && nat_le (length word) n) ≡ test → (is_name word ≡ true) × ((nat_le (length word) n ≡ true) × (padded n word ≡ field))
+    at : (test : Bool) → (is_name word && nat_le (length word) n) ≡ test → (is_name word ≡ true) × ((nat_le (length word) n ≡ true) × (padded_to n word ≡ field))
     at true is =
         let parts = and_parts (is_name word) (nat_le (length word) n) is in
-        let some : Some (padded n word) ≡ Some field = sym (ap (λ t. if t then Some (padded n word) else None) is) ∙ e in
+        let some : Some (padded_to n word) ≡ Some field = sym (ap (λ t. if t then Some (padded_to n word) else None) is) ∙ e in
         (parts.0, (parts.1, ap (got field) some))
-    at false is = let none : None ≡ Some field = sym (ap (λ t. if t then Some (padded n word) else None) is) ∙ e in cc
+    at false is = let none : None ≡ Some field = sym (ap (λ t. if t then Some (padded_to n word) else None) is) ∙ e in cc
 
 apart : (byte : ℕ) → not (is_space byte) ≡ true → (nat_eq 32 byte ≡ false) × (nat_eq byte 32 ≡ false)
 apart byte clear = grind (arith, clear)
 
 -- fields are the same where the words in them are
-fields : (n : ℕ) (a b : List ℕ) → has_no_space a ≡ true → has_no_space b ≡ true → length a ≤ n → length b ≤ n → bytes_eq (padded n a) (padded n b) ≡ bytes_eq a b
-fields n [] [] ca cb fa fb = (bytes_eq-Decides (padded n []) (padded n [])).1 refl
+fields : (n : ℕ) (a b : List ℕ) → has_no_space a ≡ true → has_no_space b ≡ true → length a ≤ n → length b ≤ n → bytes_eq (padded_to n a) (padded_to n b) ≡ bytes_eq a b
+fields n [] [] ca cb fa fb = (bytes_eq-Decides (padded_to n []) (padded_to n [])).1 refl
 fields zero [] (y ∷ ys) ca cb fa fb = absurd (omega (arith, fb))
 fields zero (x ∷ xs) b ca cb fa fb = absurd (omega (arith, fa))
 fields (suc n) [] (y ∷ ys) ca cb fa fb =
-    ap (λ k. bytes_eq (replicate k 32) (padded (suc n) (y ∷ ys))) (let e : suc n - 0 ≡ suc n = omega arith in e)
+    ap (λ k. bytes_eq (replicate k 32) (padded_to (suc n) (y ∷ ys))) (let e : suc n - 0 ≡ suc n = omega arith in e)
     ∙ ap (λ t. t && bytes_eq (replicate n 32) (ys ++ replicate (suc n - length (y ∷ ys)) 32)) (apart y (and_parts _ _ cb).0).0
 fields (suc n) (x ∷ xs) [] ca cb fa fb =
-    ap (λ k. bytes_eq (padded (suc n) (x ∷ xs)) (replicate k 32)) (let e : suc n - 0 ≡ suc n = omega arith in e)
+    ap (λ k. bytes_eq (padded_to (suc n) (x ∷ xs)) (replicate k 32)) (let e : suc n - 0 ≡ suc n = omega arith in e)
     ∙ ap (λ t. t && bytes_eq (xs ++ replicate (suc n - length (x ∷ xs)) 32) (replicate n 32)) (apart x (and_parts _ _ ca).0).1
 fields (suc n) (x ∷ xs) (y ∷ ys) ca cb fa fb =
     (λ i. bytes_eq (padded_behind x n xs i) (padded_behind y n ys i))
     ∙ ap (λ t. nat_eq x y && t) (fields n xs ys (and_parts _ _ ca).1 (and_parts _ _ cb).1 (omega (arith, fa)) (omega (arith, fb)))
 
 -- a word is one that fits its field where the fields are the same
-same_field : (word other field : List ℕ) → name_of 6 word ≡ Some field → has_no_space other ≡ true → length other ≤ 6 → bytes_eq word other ≡ bytes_eq field (padded 6 other)
+same_field : (word other field : List ℕ) → name_of 6 word ≡ Some field → has_no_space other ≡ true → length other ≤ 6 → bytes_eq word other ≡ bytes_eq field (padded_to 6 other)
 same_field word other field e clear fits =
     let parts = name_parts 6 word field e in
     let visible = (and_parts _ _ parts.0).1 in
     sym (fields 6 word other (visible_clear word visible) clear (leb-true (length word) 6 parts.1.0) fits)
-    ∙ ap (λ f. bytes_eq f (padded 6 other)) parts.1.1
+    ∙ ap (λ f. bytes_eq f (padded_to 6 other)) parts.1.1
 
 -- a user of whom something is asked
 pub asked_so : (moment : ℕ) (words left : List (List ℕ)) (field : List ℕ) → first (name_of 6) words ≡ Some (field, left) → is_done left ≡ false

@@ -110,8 +110,8 @@ close_form words = do
   alone (record { tag = record { bytes = tag.0 }; action = Action.CloseDay }) tag.1
 
 -- what is asked for under the tag, of what else is named
-abbrev pub asking : {A : Type 0} → (A → Action) → Option (Tag × A) → Option Command
-asking action = option_map (λ named. record { tag = named.0; action = action named.1 })
+abbrev pub command_under : {A : Type 0} → (A → Action) → Option (Tag × A) → Option Command
+command_under action = option_map (λ named. record { tag = named.0; action = action named.1 })
 
 -- what is asked for of two names
 abbrev pub of_both : {A B : Type 0} → (A → B → Action) → A × B → Action
@@ -120,13 +120,13 @@ of_both action named = action named.0 named.1
 -- the command that the word names, of the words behind it
 unfoldable pub command_form : List ℕ → List (List ℕ) → Option Command
 command_form name words =
-    if bytes_eq name (codes "kill") then asking Action.Kill (account_form words)
-    else (if bytes_eq name (codes "lift") then asking Action.Lift (account_form words)
-    else (if bytes_eq name (codes "limit") then asking (of_both Action.SetLimit) (limit_form words)
-    else (if bytes_eq name (codes "restrict") then asking (of_both Action.Restrict) (stock_form words)
-    else (if bytes_eq name (codes "unrestrict") then asking (of_both Action.Unrestrict) (stock_form words)
-    else (if bytes_eq name (codes "grant") then asking (of_both Action.Grant) (reader_form words)
-    else (if bytes_eq name (codes "revoke") then asking (of_both Action.Revoke) (reader_form words)
+    if bytes_eq name (codes "kill") then command_under Action.Kill (account_form words)
+    else (if bytes_eq name (codes "lift") then command_under Action.Lift (account_form words)
+    else (if bytes_eq name (codes "limit") then command_under (of_both Action.SetLimit) (limit_form words)
+    else (if bytes_eq name (codes "restrict") then command_under (of_both Action.Restrict) (stock_form words)
+    else (if bytes_eq name (codes "unrestrict") then command_under (of_both Action.Unrestrict) (stock_form words)
+    else (if bytes_eq name (codes "grant") then command_under (of_both Action.Grant) (reader_form words)
+    else (if bytes_eq name (codes "revoke") then command_under (of_both Action.Revoke) (reader_form words)
     else (if bytes_eq name (codes "close") then close_form words
     else None)))))))
 

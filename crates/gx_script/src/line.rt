@@ -5,7 +5,7 @@ ghost use Rattle.gx_history.specs.{Payloads.request_of, Showing.has_its_first};
 ghost use Rattle.gx_script.specs.{Words.{Puts, Takes, first, words_of, alone, name_of, user_of, number_of, byte_of, bytes_of, itself}, ScriptLines.{login_form, plain_order, enter_form, replace_form, cancel_form, account_form, limit_form, stock_form, reader_form, close_form, command_form, raw_form, step_form, user_line, last_line, timed_line, stream_line, line_of_words, without_cr, is_too_long, is_skipped, line_of, IsAskable, IsAskableLine}};
 
 use crate::words::Words;
-use crate::wrong::{Wanted, Wrong};
+use crate::wrong::{ExpectedWord, Wrong};
 use gx_desk::{Action, Command, Tag, WrittenName};
 use gx_history::record::Request;
 use gx_ouch::{CancelOrder, EnterOrder, ReplaceOrder};
@@ -55,14 +55,14 @@ pub enum ScriptLine {
 
 /// The value, or that the last word taken is wrong.
 #[inline(always)]
-fn wanted<T: Drop>(words: &Words, found: Option<T>, wanted: Wanted) -> Result<T, Wrong>
+fn wanted<T: Drop>(words: &Words, found: Option<T>, wanted: ExpectedWord) -> Result<T, Wrong>
     ensures { result_ok result ≡ found }
 {
     found.ok_or(Wrong::new(words.taken(), wanted))
 }
 
 #[inline(always)]
-fn take_word<'a>(words: &mut Words<'a>, wants: Wanted) -> Result<&'a [u8], Wrong>
+fn take_word<'a>(words: &mut Words<'a>, wants: ExpectedWord) -> Result<&'a [u8], Wrong>
     ensures first { MatchResult result (λ word. words.old ≡ word.now ∷ words.new)
         (λ _. words.old ≡ []) }
     ensures short { IfOk result (λ word. length word.now ≤ 1024) }
@@ -76,7 +76,7 @@ fn take_word<'a>(words: &mut Words<'a>, wants: Wanted) -> Result<&'a [u8], Wrong
 fn fill_name<const N: usize>(
     words: &mut Words,
     field: &mut [u8; N],
-    wants: Wanted,
+    wants: ExpectedWord,
 ) -> Result<(), Wrong>
     ensures { Puts (first (name_of N) words.old) (field.new, words.new) result }
 {
@@ -86,7 +86,7 @@ fn fill_name<const N: usize>(
     Err(Wrong::new(words.taken(), wants))
 }
 
-fn take_name<const N: usize>(words: &mut Words, wants: Wanted) -> Result<[u8; N], Wrong>
+fn take_name<const N: usize>(words: &mut Words, wants: ExpectedWord) -> Result<[u8; N], Wrong>
     ensures { Takes (name_of N) words.old words.new result }
 {
     let mut field = [b' '; N];
@@ -102,7 +102,7 @@ fn take_written(words: &mut Words) -> Result<UserName, Wrong>
         (λ _. first (name_of 6) words.old ≡ None) }
 {
     let mut name = UserName { bytes: [b' '; 6] };
-    fill_name(words, &mut name.bytes, Wanted::User)?;
+    fill_name(words, &mut name.bytes, ExpectedWord::User)?;
     Ok(name)
 }
 
@@ -113,7 +113,7 @@ fn take_user(words: &mut Words) -> Result<UserName, Wrong>
     Ok(name.folded())
 }
 
-fn take_number64(words: &mut Words, wants: Wanted) -> Result<u64, Wrong>
+fn take_number64(words: &mut Words, wants: ExpectedWord) -> Result<u64, Wrong>
     ensures { Takes (number_of 64) words.old words.new result }
 {
     let found = words.number64();
@@ -121,7 +121,7 @@ fn take_number64(words: &mut Words, wants: Wanted) -> Result<u64, Wrong>
 }
 
 #[inline(always)]
-fn take_number32(words: &mut Words, wants: Wanted) -> Result<u32, Wrong>
+fn take_number32(words: &mut Words, wants: ExpectedWord) -> Result<u32, Wrong>
     ensures { Takes (number_of 32) words.old words.new result }
 {
     let found = words.number32();
@@ -129,7 +129,7 @@ fn take_number32(words: &mut Words, wants: Wanted) -> Result<u32, Wrong>
 }
 
 #[inline(always)]
-fn take_byte(words: &mut Words, wants: Wanted) -> Result<u8, Wrong>
+fn take_byte(words: &mut Words, wants: ExpectedWord) -> Result<u8, Wrong>
     ensures { Takes byte_of words.old words.new result }
 {
     let found = words.byte();
@@ -144,7 +144,7 @@ fn end(words: &Words) -> Result<(), Wrong>
     if words.is_done() {
         return Ok(());
     }
-    Err(Wrong::new(words.taken().wrapping_add(1), Wanted::End))
+    Err(Wrong::new(words.taken().wrapping_add(1), ExpectedWord::End))
 }
 
 #[tactic(auto, unfolding(crate::specs::ScriptLines::login_form))]
@@ -152,8 +152,8 @@ fn login_form(mut words: Words, step: &mut ScriptStep) -> Result<(), Wrong>
     ensures meaning { Puts (login_form words.entry) step.new result }
     ensures askable { OnOk result (IsAskable step.new) }
 {
-    let bytes = take_name(&mut words, Wanted::Password)?;
-    let wanted = take_number64(&mut words, Wanted::Number)?;
+    let bytes = take_name(&mut words, ExpectedWord::Password)?;
+    let wanted = take_number64(&mut words, ExpectedWord::Number)?;
     end(&words)?;
     *step = ScriptStep::Login(Password { bytes }, wanted);
     Ok(())
@@ -166,12 +166,12 @@ fn enter_form(mut words: Words, step: &mut ScriptStep) -> Result<(), Wrong>
 {
     let mut token = [b' '; 14];
     let mut stock = [b' '; 8];
-    fill_name(&mut words, &mut token, Wanted::Token)?;
-    let side = take_byte(&mut words, Wanted::Side)?;
-    let shares = take_number32(&mut words, Wanted::Shares)?;
-    fill_name(&mut words, &mut stock, Wanted::Stock)?;
-    let price = take_number32(&mut words, Wanted::Price)?;
-    let time_in_force = take_number32(&mut words, Wanted::TimeInForce)?;
+    fill_name(&mut words, &mut token, ExpectedWord::Token)?;
+    let side = take_byte(&mut words, ExpectedWord::Side)?;
+    let shares = take_number32(&mut words, ExpectedWord::Shares)?;
+    fill_name(&mut words, &mut stock, ExpectedWord::Stock)?;
+    let price = take_number32(&mut words, ExpectedWord::Price)?;
+    let time_in_force = take_number32(&mut words, ExpectedWord::TimeInForce)?;
     end(&words)?;
     *step = ScriptStep::Enter(EnterOrder {
         token: Token { bytes: token },
@@ -198,11 +198,11 @@ fn replace_form(mut words: Words, step: &mut ScriptStep) -> Result<(), Wrong>
 {
     let mut old = [b' '; 14];
     let mut new = [b' '; 14];
-    fill_name(&mut words, &mut old, Wanted::Token)?;
-    fill_name(&mut words, &mut new, Wanted::Token)?;
-    let shares = take_number32(&mut words, Wanted::Shares)?;
-    let price = take_number32(&mut words, Wanted::Price)?;
-    let time_in_force = take_number32(&mut words, Wanted::TimeInForce)?;
+    fill_name(&mut words, &mut old, ExpectedWord::Token)?;
+    fill_name(&mut words, &mut new, ExpectedWord::Token)?;
+    let shares = take_number32(&mut words, ExpectedWord::Shares)?;
+    let price = take_number32(&mut words, ExpectedWord::Price)?;
+    let time_in_force = take_number32(&mut words, ExpectedWord::TimeInForce)?;
     end(&words)?;
     *step = ScriptStep::Replace(ReplaceOrder {
         existing_token: Token { bytes: old },
@@ -223,8 +223,8 @@ fn cancel_form(mut words: Words, step: &mut ScriptStep) -> Result<(), Wrong>
     ensures askable { OnOk result (IsAskable step.new) }
 {
     let mut token = [b' '; 14];
-    fill_name(&mut words, &mut token, Wanted::Token)?;
-    let shares = take_number32(&mut words, Wanted::Shares)?;
+    fill_name(&mut words, &mut token, ExpectedWord::Token)?;
+    let shares = take_number32(&mut words, ExpectedWord::Shares)?;
     end(&words)?;
     *step = ScriptStep::Cancel(CancelOrder {
         token: Token { bytes: token },
@@ -238,8 +238,8 @@ fn cancel_form(mut words: Words, step: &mut ScriptStep) -> Result<(), Wrong>
 fn account_form(words: &mut Words) -> Result<(Tag, AccountName), Wrong>
     ensures { result_ok result ≡ account_form words.old }
 {
-    let tag = take_name(words, Wanted::Tag)?;
-    let account = take_name(words, Wanted::Account)?;
+    let tag = take_name(words, ExpectedWord::Tag)?;
+    let account = take_name(words, ExpectedWord::Account)?;
     end(words)?;
     Ok((Tag { bytes: tag }, AccountName { bytes: account }))
 }
@@ -249,9 +249,9 @@ fn account_form(words: &mut Words) -> Result<(Tag, AccountName), Wrong>
 fn limit_form(words: &mut Words) -> Result<(Tag, (RuleId, u64)), Wrong>
     ensures { result_ok result ≡ limit_form words.old }
 {
-    let tag = take_name(words, Wanted::Tag)?;
-    let rule = take_name(words, Wanted::Rule)?;
-    let limit = take_number64(words, Wanted::Value)?;
+    let tag = take_name(words, ExpectedWord::Tag)?;
+    let rule = take_name(words, ExpectedWord::Rule)?;
+    let limit = take_number64(words, ExpectedWord::Value)?;
     end(words)?;
     Ok((Tag { bytes: tag }, (RuleId { bytes: rule }, limit)))
 }
@@ -261,9 +261,9 @@ fn limit_form(words: &mut Words) -> Result<(Tag, (RuleId, u64)), Wrong>
 fn stock_form(words: &mut Words) -> Result<(Tag, (RuleId, Symbol)), Wrong>
     ensures { result_ok result ≡ stock_form words.old }
 {
-    let tag = take_name(words, Wanted::Tag)?;
-    let rule = take_name(words, Wanted::Rule)?;
-    let stock = take_name(words, Wanted::Stock)?;
+    let tag = take_name(words, ExpectedWord::Tag)?;
+    let rule = take_name(words, ExpectedWord::Rule)?;
+    let stock = take_name(words, ExpectedWord::Stock)?;
     end(words)?;
     let named = (RuleId { bytes: rule }, Symbol { bytes: stock });
     Ok((Tag { bytes: tag }, named))
@@ -274,9 +274,9 @@ fn stock_form(words: &mut Words) -> Result<(Tag, (RuleId, Symbol)), Wrong>
 fn reader_form(words: &mut Words) -> Result<(Tag, (WrittenName, AccountName)), Wrong>
     ensures { result_ok result ≡ reader_form words.old }
 {
-    let tag = take_name(words, Wanted::Tag)?;
-    let reader = take_name(words, Wanted::Reader)?;
-    let account = take_name(words, Wanted::Account)?;
+    let tag = take_name(words, ExpectedWord::Tag)?;
+    let reader = take_name(words, ExpectedWord::Reader)?;
+    let account = take_name(words, ExpectedWord::Account)?;
     end(words)?;
     let named = (
         WrittenName { bytes: reader },
@@ -289,7 +289,7 @@ fn reader_form(words: &mut Words) -> Result<(Tag, (WrittenName, AccountName)), W
 fn close_form(words: &mut Words) -> Result<Command, Wrong>
     ensures { result_ok result ≡ close_form words.old }
 {
-    let bytes = take_name(words, Wanted::Tag)?;
+    let bytes = take_name(words, ExpectedWord::Tag)?;
     end(words)?;
     Ok(command(Tag { bytes }, Action::CloseDay))
 }
@@ -336,7 +336,7 @@ fn command_form(form: &[u8], mut words: Words) -> Result<Command, Wrong>
     if is(form, b"close") {
         return close_form(&mut words);
     }
-    wanted(&words, None, Wanted::Form)
+    wanted(&words, None, ExpectedWord::Form)
 }
 
 /// What the bytes that hex digits spell ask for.
@@ -361,8 +361,8 @@ fn raw_form(mut words: Words, step: &mut ScriptStep) -> Result<(), Wrong>
     ensures meaning { Puts (raw_form words.entry) step.new result }
     ensures askable { OnOk result (IsAskable step.new) }
 {
-    let word = take_word(&mut words, Wanted::Hex)?;
-    let request = wanted(&words, request_of_hex(word), Wanted::Hex)?;
+    let word = take_word(&mut words, ExpectedWord::Hex)?;
+    let request = wanted(&words, request_of_hex(word), ExpectedWord::Hex)?;
     end(&words)?;
     *step = ScriptStep::Raw(request);
     Ok(())
@@ -427,7 +427,7 @@ fn user_line(
     ensures askable { OnOk result (IsAskableLine said.new) }
 {
     let Some(form) = words.next() else {
-        return Err(Wrong::new(words.taken(), Wanted::Form));
+        return Err(Wrong::new(words.taken(), ExpectedWord::Form));
     };
     let mut step = ScriptStep::Logout;
     step_form(form, words, &mut step)?;
@@ -449,7 +449,7 @@ fn last_line(moment: u64, name: UserName, words: &Words, said: &mut ScriptLine) 
         *said = ScriptLine::Settle(moment);
         return Ok(());
     }
-    Err(Wrong::new(words.taken().wrapping_add(1), Wanted::Form))
+    Err(Wrong::new(words.taken().wrapping_add(1), ExpectedWord::Form))
 }
 
 /// What is to be done at the moment, by the words behind it.
@@ -486,11 +486,11 @@ fn other_line(line: &[u8], said: &mut ScriptLine) -> Result<(), Wrong>
     ensures askable { OnOk result (IsAskableLine said.new) }
 {
     let mut words = Words::new(line);
-    let word = take_word(&mut words, Wanted::Moment)?;
+    let word = take_word(&mut words, ExpectedWord::Moment)?;
     if is(word, b"stream") {
         return stream_line(&mut words, said);
     }
-    Err(Wrong::new(words.taken(), Wanted::Moment))
+    Err(Wrong::new(words.taken(), ExpectedWord::Moment))
 }
 
 /// What a line of at most 1,024 bytes says, by its words.
@@ -557,7 +557,7 @@ impl ScriptLine {
         ensures askable { OnOk result (IsAskableLine self.new) }
     {
         if is_too_long(line) {
-            return Err(Wrong::new(1, Wanted::Shorter));
+            return Err(Wrong::new(1, ExpectedWord::Shorter));
         }
         let line = without_cr(line);
         if is_skipped(line) {

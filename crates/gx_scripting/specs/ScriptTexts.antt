@@ -3,8 +3,8 @@ use Rattle.std.specs.{Prelude.{ℕ, Bool, not, ◌&&◌, ◌==◌, List, [], ◌
 use Rattle.gx_scripting.specs.Scripting.{Cut}
 
 -- a line and its LF
-abbrev pub ended : List ℕ → List ℕ
-ended line = line ++ 10 ∷ []
+abbrev pub with_line_end : List ℕ → List ℕ
+with_line_end line = line ++ 10 ∷ []
 
 -- LF
 abbrev pub is_end : ℕ → Bool
@@ -15,8 +15,8 @@ abbrev pub has_no_end : List ℕ → Bool
 has_no_end line = list_all (λ byte. not (byte == 10)) line
 
 -- the lines with their LFs, and what is behind them
-abbrev pub joined : Cut → List ℕ
-joined cut = flat_map ended cut.whole ++ cut.rest
+abbrev pub joined_lines : Cut → List ℕ
+joined_lines cut = flat_map with_line_end cut.whole ++ cut.rest
 
 abbrev pub are_lines : Cut → Bool
 are_lines cut = list_all has_no_end cut.whole && has_no_end cut.rest

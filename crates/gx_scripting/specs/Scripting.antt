@@ -3,7 +3,7 @@ use Rattle.std.specs.{Prelude.{ℕ, ◌+◌, max, take, drop, Bool, not, ◌==�
 use Rattle.gx_units.specs.declared.names.UserName.{UserName}
 use Rattle.gx_history.specs.{declared.record.{Asked.Asked, RecordData.RecordData, Request.Request}, Logins.blank_session, Streams.stream, Verdicts.{verdict, day_limit}}
 use Rattle.gx_policy.specs.People.{user_in}
-use Rattle.gx_answers.specs.{Gates.GateData, Told.login_of, Matches.{next_match, settled_gate}, Steps.has_its_places, Asking.{asked_by, stepped}}
+use Rattle.gx_answers.specs.{Gates.GateData, Told.login_of, Matches.{next_match, settled_gate}, Steps.never_refuses, Asking.{asked_by, gate_after_step}}
 use Rattle.gx_script.specs.{declared.line.{ScriptStep.{ScriptStep, TheVariants.{Login, Logout, Enter, Replace, Cancel, Command, Raw}}, ScriptLine.{ScriptLine, TheVariants.{Skipped, Step, Match, Settle, Stream}}}, Words.◌>>=◌, ScriptLines.{line_of, is_too_long}, Printing.{idle_line, outcome_line, refused_line, report_lines}}
 
 -- what a step asks the gate for
@@ -28,13 +28,13 @@ is_full gate = nat_le day_limit (length gate.records)
 
 -- the step is refused: the day is full, and this is no granted Kill or Logout
 abbrev pub refuses : GateData → Asked → Bool
-refuses gate asked = is_full gate && not (has_its_places gate asked)
+refuses gate asked = is_full gate && not (never_refuses gate asked)
 
 -- a step's record, and its line; a full day refuses the step, unless it is a granted Kill or Logout
 unfoldable pub step_of : GateData → Asked → Printed
 step_of gate asked =
     if refuses gate asked then record { gate = gate; text = refused_line }
-    else record { gate = stepped gate asked; text = outcome_line (length gate.records + 1) (verdict gate.policy gate.records asked) }
+    else record { gate = gate_after_step gate asked; text = outcome_line (length gate.records + 1) (verdict gate.policy gate.records asked) }
 
 -- the records' lines
 abbrev pub record_lines : List RecordData → List ℕ

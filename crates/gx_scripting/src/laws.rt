@@ -3,7 +3,7 @@
 ghost use Rattle.std.specs.Prelude.{◌≡◌, ℕ, List, ◌++◌, IfSome, IsTrue};
 ghost use Rattle.gx_answers.specs.Gates.{GateData};
 ghost use Rattle.gx_devices.specs.{Devices.IsFront, Pieces.Flow, Stopping.AreFirst};
-ghost use Rattle.gx_scripting.specs.{declared.script_fault.ScriptFault.ScriptFault, ScriptPiping.IsCutShort, Scripting.{cut_of, script_of, is_settled}, ScriptTexts.{joined, are_lines}};
+ghost use Rattle.gx_scripting.specs.{declared.script_fault.ScriptFault.ScriptFault, ScriptPiping.IsCutShort, Scripting.{cut_of, script_of, is_settled}, ScriptTexts.{joined_lines, are_lines}};
 
 /// Once a line of a script is bad, or too long already, nothing that follows makes a step or is printed.
 pub fn nothing_follows_a_bad_line()
@@ -13,7 +13,7 @@ pub fn nothing_follows_a_bad_line()
 
 /// The lines of a text, with their LFs, and what is behind them are the text, and no LF stands in a line.
 pub fn lines_make_the_text()
-    ensures text { (text : List ℕ) → joined (cut_of text) ≡ text }
+    ensures text { (text : List ℕ) → joined_lines (cut_of text) ≡ text }
     ensures lines { (text : List ℕ) → IsTrue (are_lines (cut_of text)) }
 {}
 

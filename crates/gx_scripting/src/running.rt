@@ -10,7 +10,7 @@ use crate::script_fault::LineFault;
 use gx_answers::{AccessGate, StepFault, asked, count_of};
 use gx_history::record::{Asked, Request};
 use gx_script::{
-    ScriptLine, ScriptStep, Wanted, Wrong, append_idle, append_outcome, append_refused,
+    ExpectedWord, ScriptLine, ScriptStep, Wrong, append_idle, append_outcome, append_refused,
     append_reports,
 };
 use gx_units::{OutOfMemory, SessionName, UserName};
@@ -152,7 +152,7 @@ fn add_stream<G: AccessGate>(gate: &G, user: UserName, text: &mut Vec<u8>) -> Re
         (Leaves (G.seen gate.now) (effect_of (G.seen gate.now) (Stream user)) (G.seen gate.now)) }
 {
     if !gate.knows(user) {
-        return Err(LineFault::Bad(Wrong::new(2, Wanted::KnownUser)));
+        return Err(LineFault::Bad(Wrong::new(2, ExpectedWord::KnownUser)));
     }
     append_stream(gate, user, text)?;
     Ok(())

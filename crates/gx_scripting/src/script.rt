@@ -3,13 +3,13 @@
 ghost use Rattle.std.specs.Prelude.{◌≡◌, ◌+◌, ◌-◌, ◌^◌, ◌<◌, ◌≤◌, [], ◌++◌, length, position, Some, None, IsTrue, IsFalse, IfErr, IfNone, IfOk, IfSome, OnOk};
 ghost use Rattle.gx_devices.specs.{Blaming.IsBlamed, Devices.{counted_on, IsUnfailing}, Pieces.flow_of};
 ghost use Rattle.gx_script.specs.ScriptLines.{is_too_long};
-ghost use Rattle.gx_scripting.specs.{ScriptPiping.{EndsLine, StopsAtLine, TakesPiece, FindsBad, StopsInPiece, IsScript, IsCutShort, IsAll, IsBlamedRightly, IfBadLine, UnlessBadLine}, ScriptTexts.{ended, has_no_end, is_end}};
+ghost use Rattle.gx_scripting.specs.{ScriptPiping.{EndsLine, StopsAtLine, TakesPiece, FindsBad, StopsInPiece, IsScript, IsCutShort, IsAll, IsBlamedRightly, IfBadLine, UnlessBadLine}, ScriptTexts.{with_line_end, has_no_end, is_end}};
 
 use crate::running::take_line;
 use crate::script_fault::{Explained, LineFault, ScriptFault};
 use gx_answers::AccessGate;
-use gx_devices::{Counted, WriteFault, write_flushing};
-use gx_script::{Wanted, Wrong};
+use gx_devices::{CallCounter, WriteFault, write_flushing};
+use gx_script::{ExpectedWord, Wrong};
 use gx_units::OutOfMemory;
 use memchr::{memchr, memrchr};
 use std::alloc::Global;
@@ -43,7 +43,7 @@ fn do_line<G: AccessGate, W: Write>(
     gate: &mut G,
     line: &[u8],
     progress: &mut Progress,
-    writer: &mut Counted<W>,
+    writer: &mut CallCounter<W>,
 ) -> Result<bool, WriteFault>
     requires writer { writer.old.failed < 2 ^ 64 - 1 }
     requires room { progress.old.lines < 2 ^ 64 - 1 }
@@ -86,7 +86,7 @@ fn take_front(held: &mut Held, front: &[u8]) -> Result<bool, OutOfMemory>
         → held.new.progress.lines ≡ held.old.progress.lines + 1) }
 {
     if held.rest.len() + front.len() > LONGEST {
-        held.progress.wrong = Some(Wrong::new(1, Wanted::Shorter));
+        held.progress.wrong = Some(Wrong::new(1, ExpectedWord::Shorter));
         held.progress.lines += 1;
         return Ok(true);
     }
@@ -99,7 +99,7 @@ fn take_front(held: &mut Held, front: &[u8]) -> Result<bool, OutOfMemory>
 fn take_ended<G: AccessGate, W: Write>(
     gate: &mut G,
     held: &mut Held,
-    writer: &mut Counted<W>,
+    writer: &mut CallCounter<W>,
     front: &[u8],
 ) -> Result<bool, WriteFault>
     requires writer { writer.old.failed < 2 ^ 64 - 1 }
@@ -127,7 +127,7 @@ fn take_ended<G: AccessGate, W: Write>(
 }
 
 /// Where the first LF stands.
-#[tactic(auto, using(crate::proofs::Texts::first_place))]
+#[tactic(auto, using(crate::proofs::Lines_text::first_place))]
 fn end_of_line(text: &[u8]) -> Option<usize>
     ensures { result ≡ position is_end text.now }
 {
@@ -137,7 +137,7 @@ fn end_of_line(text: &[u8]) -> Option<usize>
 /// The first line of a text without its LF, and what stands behind that; `None` where no LF stands in it.
 fn first_line(text: &[u8]) -> Option<(&[u8], &[u8])>
     ensures parts { IfSome result (λ parts.
-        text.now ≡ ended parts.0.now ++ parts.1.now) }
+        text.now ≡ with_line_end parts.0.now ++ parts.1.now) }
     ensures line { IfSome result (λ parts. IsTrue (has_no_end parts.0.now)) }
     ensures none { IfNone result (IsTrue (has_no_end text.now)) }
 {
@@ -158,7 +158,7 @@ fn unended_size(piece: &[u8]) -> usize {
 fn take_piece<G: AccessGate, W: Write>(
     gate: &mut G,
     held: &mut Held,
-    writer: &mut Counted<W>,
+    writer: &mut CallCounter<W>,
     piece: &[u8],
 ) -> Result<bool, WriteFault>
     requires writer { writer.old.failed < 2 ^ 64 - 1 }
@@ -197,8 +197,8 @@ fn take_piece<G: AccessGate, W: Write>(
 fn follow<G: AccessGate, R: Read, W: Write>(
     gate: &mut G,
     held: &mut Held,
-    reader: &mut Counted<R>,
-    writer: &mut Counted<W>,
+    reader: &mut CallCounter<R>,
+    writer: &mut CallCounter<W>,
 ) -> Result<(), ScriptFault>
     requires nothing { held.old.rest.items ≡ [] }
     requires no_line { held.old.progress.lines ≡ 0 }
@@ -270,8 +270,8 @@ impl Held {
 pub fn run_script<G: AccessGate, R: Read, W: Write>(
     alloc: Global,
     gate: &mut G,
-    reader: &mut Counted<R>,
-    writer: &mut Counted<W>,
+    reader: &mut CallCounter<R>,
+    writer: &mut CallCounter<W>,
 ) -> Result<(), Explained>
     requires reader { reader.old.failed < 2 ^ 64 - 1 }
     requires writer { writer.old.failed < 2 ^ 64 - 1 }

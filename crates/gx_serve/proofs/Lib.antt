@@ -1,3 +1,3 @@
-pub mod Hearing
-pub mod Sitting
-pub mod Speaking
+pub mod Reader_next
+pub mod Session_call
+pub mod Writer_next

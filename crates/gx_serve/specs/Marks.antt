@@ -19,16 +19,16 @@ pub record Given : Type 0 where
   pub login : ℕ
   pub answer : LoginAnswer
 
-abbrev pub given : UserName → ℕ → LoginAnswer → Given
-given user login answer = record { user = user; login = login; answer = answer }
+abbrev pub given_login : UserName → ℕ → LoginAnswer → Given
+given_login user login answer = record { user = user; login = login; answer = answer }
 
 -- reports that were pulled, and how many records there were before
 pub record FetchedData : Type 0 where
   pub pulled : Pulled
   pub count : ℕ
 
-abbrev pub fetched : Pulled → ℕ → FetchedData
-fetched pulled count = record { pulled = pulled; count = count }
+abbrev pub fetched_data : Pulled → ℕ → FetchedData
+fetched_data pulled count = record { pulled = pulled; count = count }
 
 -- once they were sent, the next report is the one behind them
 abbrev pub mark_sent : Mark → FetchedData → Mark

@@ -9,7 +9,7 @@ use Rattle.gx_door.specs.Acts.{IsLater}
 use Rattle.gx_control.specs.PullCursors.{may_have_more, pull_cursor, PullCursorData}
 use Rattle.gx_session.specs.{declared.{event.Sign.Sign, outbox.Outbox.Outbox}, Events.{is_on, is_over}, Outboxes.left_after, Table.{SessionData, turn}}
 use Rattle.gx_session.specs.Happenings as happens
-use Rattle.gx_serve.specs.{declared.state.outgoing.{NextWrite.NextWrite, Finished.Finished}, Marks.{fetched, given, FetchedData, Given, Mark}, States.{HasLooked, WasTold, WasToldRefusal}, Speech.IsShown}
+use Rattle.gx_serve.specs.{declared.state.outgoing.{NextWrite.NextWrite, Finished.Finished}, Marks.{fetched_data, given_login, FetchedData, Given, Mark}, States.{HasLooked, WasTold, WasToldRefusal}, Speech.IsShown}
 
 -- there is nothing to greet with: for good where the session is over, else for now
 abbrev pub IsQuiet : Bool → Option (Result Given Finished) → Type 0
@@ -26,7 +26,7 @@ Ticks false policy user moment session was session' is = WasTold policy user hap
 -- nothing, for good once the session is over
 abbrev pub WasGreeted : Option LoginAnswer → PolicyData → UserName → ℕ → ℕ → SessionData → Holds → SessionData → Holds → Option (Result Given Finished) → Type 0
 WasGreeted (Some answer) policy user login moment session was session' is greeting =
-    ((session' ≡ session) × (is ≡ was)) × (greeting ≡ Some (Ok (given user login answer)))
+    ((session' ≡ session) × (is ≡ was)) × (greeting ≡ Some (Ok (given_login user login answer)))
 WasGreeted None policy user login moment session was session' is greeting =
     Ticks (is_over session.phase) policy user moment session was session' is × IsQuiet (is_over session'.phase) greeting
 
@@ -66,8 +66,8 @@ pub record WasFetched (policy : PolicyData) (m : Mark) (session : SessionData) (
   pub looked : HasLooked was is
   pub shown : IsShown policy m.user m.next pulled
   pub same : session' ≡ session
-  pub seen : cursor' ≡ cursor_after cursor (fetched pulled count)
-  pub brought : due ≡ due_of (fetched pulled count)
+  pub seen : cursor' ≡ cursor_after cursor (fetched_data pulled count)
+  pub brought : due ≡ due_of (fetched_data pulled count)
 
 -- the pull was refused, and the session was told so: for want of memory, or since the user is not logged in on the line
 pub record WasUnfetched (policy : PolicyData) (user : UserName) (m : Mark) (moment : ℕ) (session : SessionData) (was : Holds) (cursor : PullCursorData) (session' : SessionData) (is : Holds) (cursor' : PullCursorData) (due : NextWrite) : Type 0 where

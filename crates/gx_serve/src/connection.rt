@@ -6,7 +6,7 @@ use crate::shared_connection::SharedConnection;
 use crate::state::{Break, BrokenOff};
 use crate::writing::write_on;
 use gx_control::{AnswerTimes, ShutdownFlag, Wakeup, Wakeups, WriterWakeup};
-use gx_devices::Counted;
+use gx_devices::CallCounter;
 use gx_door::{Dial, Door};
 use gx_reception::Opening;
 use std::alloc::Global;
@@ -62,7 +62,7 @@ fn run_writer<'x, D: Door, O: Write + Drop, H: HangUp, R: Wait + Clock + Dial>(
     writer: O,
     line: &'x H,
 ) -> HungUp<'x, H> {
-    let mut writer = Counted::new(writer);
+    let mut writer = CallCounter::new(writer);
     let finished = write_on(
         rt,
         alloc,
@@ -106,7 +106,7 @@ fn run_reader<D: Door, I: Read + Drop, R: Wait + Clock + Dial + Announces>(
     wakeups: Wakeups<'_>,
     shared: &SharedConnection<D::Ticket>,
     opening: Opening,
-    reader: Counted<I>,
+    reader: CallCounter<I>,
 ) -> Heard {
     let mut reader = reader;
     read_on(rt, door, &wakeups, shared, opening, &mut reader)
@@ -133,7 +133,7 @@ pub fn run_connection<
     times: &'x AnswerTimes,
     shared: &'x SharedConnection<T>,
     opening: Opening,
-    reader: Counted<I>,
+    reader: CallCounter<I>,
     writer: O,
     line: &'x H,
 ) -> (HungUp<'x, H>, Listening) {

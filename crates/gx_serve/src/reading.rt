@@ -12,7 +12,7 @@ use crate::state::taking::Taken;
 use crate::state::{Break, BrokenOff, Ended, Over};
 use gx_answers::StepFault;
 use gx_control::{Notified, Wakeups};
-use gx_devices::Counted;
+use gx_devices::CallCounter;
 use gx_door::{Dial, Door};
 use gx_reception::{Opening, is_idle, read_piece};
 use gx_soup::{ClientPacket, Feeder, SoupFault};
@@ -232,7 +232,7 @@ fn take_piece<D: Door, R: Wait + Clock + Dial + Announces>(
 }
 
 /// Takes the packets of a piece, unless the session is over, or was told that it ends.
-#[tactic(auto, using(crate::proofs::Hearing::opened, crate::proofs::Hearing::still_broken))]
+#[tactic(auto, using(crate::proofs::Reader_next::opened, crate::proofs::Reader_next::still_broken))]
 fn hear_piece<D: Door, R: Wait + Clock + Dial + Announces>(
     rt: &R,
     door: &D,
@@ -282,7 +282,7 @@ pub fn read_on<D: Door, I: Read, R: Wait + Clock + Dial + Announces>(
     wakeups: &Wakeups<'_>,
     shared: &SharedConnection<D::Ticket>,
     opening: Opening,
-    reader: &mut Counted<I>,
+    reader: &mut CallCounter<I>,
 ) -> Heard
     ensures { (before : List ℕ) → IsOpening before opening
         → WasHeard before (I.remaining reader.old.device) (I.remaining reader.new.device)

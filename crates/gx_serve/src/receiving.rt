@@ -10,7 +10,7 @@ ghost use Rattle.gx_serve.specs.Receptions.{WasReceived, WasTurnedAway, WasTurne
 use crate::reading::Cut;
 use crate::writing::send_answer;
 use gx_control::ShutdownFlag;
-use gx_devices::Counted;
+use gx_devices::CallCounter;
 use gx_door::{Caller, Dial, Door};
 use gx_reception::{Admission, Admits, Denial, Knock, NoLine, Opening, Undenied, await_login};
 use gx_soup::LoginRequest;
@@ -68,7 +68,7 @@ pub fn receive<D: Door, A: Admits<D>, N: Read, R: Wait>(
     alloc: Global,
     door: &D,
     reception: &A,
-    reader: &mut Counted<N>,
+    reader: &mut CallCounter<N>,
 ) -> Received<D::Ticket>
     ensures { WasReceived D.policy D.held result }
 {
@@ -86,7 +86,7 @@ fn turn_off<D: Door, O: Write, R: Wait>(
     door: &D,
     shutdown: &ShutdownFlag,
     denial: Denial,
-    writer: &mut Counted<O>,
+    writer: &mut CallCounter<O>,
 )
     requires writer { writer.old.failed < 2 ^ 64 - 1 }
     requires denied { denial ≡ answers.Rejected rejections.NotAuthorized }
@@ -105,7 +105,7 @@ pub fn turn_away<D: Door, A: Admits<D>, O: Write, R: Wait + Dial>(
     shutdown: &ShutdownFlag,
     reception: &A,
     login: &LoginRequest,
-    writer: &mut Counted<O>,
+    writer: &mut CallCounter<O>,
 ) -> Gone
     requires writer { writer.old.failed < 2 ^ 64 - 1 }
     requires stranger { caller_of D.policy login.now.user login.now.password ≡ callers.Stranger }
@@ -122,7 +122,7 @@ pub fn turn_away<D: Door, A: Admits<D>, O: Write, R: Wait + Dial>(
 }
 
 /// Reads on until the input ends or fails, and lets go of what comes.
-pub fn let_go_of<N: Read, R: Wait>(rt: &R, reader: &mut Counted<N>) {
+pub fn let_go_of<N: Read, R: Wait>(rt: &R, reader: &mut CallCounter<N>) {
     let mut buffer = [0u8; 4096];
     for _ in rt.forever() {
         match reader.read(&mut buffer) {

@@ -250,7 +250,7 @@ impl<T: Drop> SharedConnection<T> {
     /// What the writer has to do for the bookmark's user, and so many nanoseconds he may rest where that is nothing. The
     /// session is told of the server's end, where that was asked for. Where the session may have packets
     /// unread, its reader is given time to take them.
-    #[tactic(auto, using(crate::proofs::Sitting::sought_is_due))]
+    #[tactic(auto, using(crate::proofs::Session_call::sought_is_due))]
     fn look<D: Door<Ticket = T>, R: Wait + Clock + Dial>(
         &self,
         rt: &R,

@@ -4,9 +4,9 @@ ghost use Rattle.std.specs.Prelude.{◌≡◌, IsFalse, IsTrue, is_some, true, I
 ghost use Rattle.gx_history.specs.declared.record.Request.TheVariants as requests;
 ghost use Rattle.gx_history.specs.Showing.{has_its_first};
 ghost use Rattle.gx_control.specs.PullCursors.{pull_cursor};
-ghost use Rattle.gx_session.specs.{Events.{is_over, CanAsk}, Happenings.happening, Outboxes.{empty, left_after}, Table.{turn, new_session}};
+ghost use Rattle.gx_session.specs.{Events.{is_over, CanAsk}, Happenings.happening_of, Outboxes.{empty, left_after}, Table.{turn, new_session}};
 ghost use Rattle.gx_session.specs.Happenings as happens;
-ghost use Rattle.gx_door.specs.Acts.{asked_on, gate_met, met};
+ghost use Rattle.gx_door.specs.Acts.{asked_on, gate_met, history_met};
 ghost use Rattle.gx_serve.specs.{States.{user_after, Follows, Heeds, WasAnswered, WasLoggedOut, WasRefused, WasTaken, WasTold, WasToldRefusal, WasTurned}, Announcements.{Announces, WasAnnounced}, Breaks.break_of, Tellings.is_idle_event};
 ghost use Rattle.gx_answers.specs.Matches.{matching_of};
 
@@ -42,7 +42,7 @@ pub enum Break {
 impl Break {
     /// What the session is told.
     fn event<'a>(self) -> Event<'a>
-        ensures { happening result ≡ break_of self }
+        ensures { happening_of result ≡ break_of self }
     {
         match self {
             Break::Refused(fault) => Event::Refused(fault),
@@ -76,13 +76,13 @@ pub struct Told<'a> {
 }
 
 impl<'a> Model for Told<'a> {
-    ghost use Rattle.gx_session.specs.Happenings.{happening};
+    ghost use Rattle.gx_session.specs.Happenings.{happening_of};
     ghost use Rattle.gx_serve.specs.Tellings.{ToldData};
 
     ghost Value = { ToldData };
 
     ghost view = { λ t. record {
-      event = happening t.event;
+      event = happening_of t.event;
       ended = t.ended;
       over = t.over;
     } };
@@ -202,16 +202,16 @@ impl<T: Drop> ConnectionState<T> {
         requires clock { R.shown moment }
         requires first { IsTrue (has_its_first request) }
         ensures announced { IfOk result (λ told. WasAnnounced D.policy
-            (asked_on (met D.held self.old.pass).line self.old.user request moment)
-            (met D.held self.old.pass) (met D.held self.new.pass) told) }
+            (asked_on (history_met D.held self.old.pass).line self.old.user request moment)
+            (history_met D.held self.old.pass) (history_met D.held self.new.pass) told) }
         ensures made { OnOk result (WasTurned D.policy
-            (asked_on (met D.held self.old.pass).line self.old.user request moment)
-            (met D.held self.old.pass) (met D.held self.new.pass)) }
+            (asked_on (history_met D.held self.old.pass).line self.old.user request moment)
+            (history_met D.held self.old.pass) (history_met D.held self.new.pass)) }
         ensures refused { IfErr result (λ fault. WasRefused D.policy
-            (asked_on (met D.held self.old.pass).line self.old.user request moment) fault
-            (met D.held self.old.pass) (met D.held self.new.pass)) }
+            (asked_on (history_met D.held self.old.pass).line self.old.user request moment) fault
+            (history_met D.held self.old.pass) (history_met D.held self.new.pass)) }
         ensures settled { OnOk result (IsTrue self.new.is_settled
-            → matching_of (gate_met D.policy (met D.held self.new.pass)) ≡ None) }
+            → matching_of (gate_met D.policy (history_met D.held self.new.pass)) ≡ None) }
         ensures user { self.new.user ≡ self.old.user }
         ensures login { self.new.login ≡ self.old.login }
         ensures session { self.new.session ≡ self.old.session }
@@ -239,7 +239,7 @@ impl<T: Drop> ConnectionState<T> {
     fn log_out<D: Door<Ticket = T>, R: Wait + Dial>(&mut self, rt: &R, door: &D, moment: Moment)
         requires clock { R.shown moment }
         ensures out { WasLoggedOut D.policy self.old.user moment
-            (met D.held self.old.pass) (met D.held self.new.pass) }
+            (history_met D.held self.old.pass) (history_met D.held self.new.pass) }
         ensures user { self.new.user ≡ self.old.user }
         ensures login { self.new.login ≡ self.old.login }
         ensures session { self.new.session ≡ self.old.session }
@@ -263,8 +263,8 @@ impl<T: Drop> ConnectionState<T> {
     )
         requires clock { R.shown moment }
         ensures told { WasToldRefusal D.policy self.old.user fault moment
-            self.old.session (met D.held self.old.pass)
-            self.new.session (met D.held self.new.pass) }
+            self.old.session (history_met D.held self.old.pass)
+            self.new.session (history_met D.held self.new.pass) }
         ensures user { self.new.user ≡ self.old.user }
         ensures login { self.new.login ≡ self.old.login }
         ensures outbox { self.new.outbox ≡ self.old.outbox }
@@ -287,11 +287,11 @@ impl<T: Drop> ConnectionState<T> {
         requires clock { R.shown moment }
         requires able { CanAsk next }
         ensures announced { Announces next D.policy self.old.user moment
-            self.old.session (met D.held self.old.pass)
-            self.new.session (met D.held self.new.pass) result }
+            self.old.session (history_met D.held self.old.pass)
+            self.new.session (history_met D.held self.new.pass) result }
         ensures follows { Follows next D.policy self.old.user moment
-            self.old.session (met D.held self.old.pass)
-            self.new.session (met D.held self.new.pass) }
+            self.old.session (history_met D.held self.old.pass)
+            self.new.session (history_met D.held self.new.pass) }
         ensures user { self.new.user ≡ self.old.user }
         ensures login { self.new.login ≡ self.old.login }
         ensures outbox { self.new.outbox ≡ self.old.outbox }
@@ -324,20 +324,20 @@ impl<T: Drop> ConnectionState<T> {
     ) -> (Next, Option<EndedOrders>)
         requires clock { R.shown moment }
         ensures next { result.0
-            ≡ (turn self.old.session (happening event.entry) moment).reply.next }
+            ≡ (turn self.old.session (happening_of event.entry) moment).reply.next }
         ensures announced { Announces
-            (turn self.old.session (happening event.entry) moment).reply.next
+            (turn self.old.session (happening_of event.entry) moment).reply.next
             D.policy self.old.user moment
-            (turn self.old.session (happening event.entry) moment).session
-            (met D.held self.old.pass)
-            self.new.session (met D.held self.new.pass) result.1 }
-        ensures told { WasTold D.policy self.old.user (happening event.entry) moment
-            self.old.session (met D.held self.old.pass)
-            self.new.session (met D.held self.new.pass) }
+            (turn self.old.session (happening_of event.entry) moment).session
+            (history_met D.held self.old.pass)
+            self.new.session (history_met D.held self.new.pass) result.1 }
+        ensures told { WasTold D.policy self.old.user (happening_of event.entry) moment
+            self.old.session (history_met D.held self.old.pass)
+            self.new.session (history_met D.held self.new.pass) }
         ensures user { self.new.user ≡ self.old.user }
         ensures login { self.new.login ≡ self.old.login }
         ensures outbox { self.new.outbox ≡ left_after self.old.outbox
-            (turn self.old.session (happening event.entry) moment).reply.send }
+            (turn self.old.session (happening_of event.entry) moment).reply.send }
         ensures cursor { self.new.cursor ≡ self.old.cursor }
     {
         let reply = self.session.on(event, moment);
@@ -357,8 +357,8 @@ impl<T: Drop> ConnectionState<T> {
         requires clock { R.shown moment }
         ensures cause { result ≡ break_of cause }
         ensures told { WasTold D.policy self.old.user (break_of cause) moment
-            self.old.session (met D.held self.old.pass)
-            self.new.session (met D.held self.new.pass) }
+            self.old.session (history_met D.held self.old.pass)
+            self.new.session (history_met D.held self.new.pass) }
         ensures user { self.new.user ≡ self.old.user }
         ensures outbox { self.new.outbox ≡ left_after self.old.outbox
             (turn self.old.session (break_of cause) moment).reply.send }
@@ -369,7 +369,7 @@ impl<T: Drop> ConnectionState<T> {
     }
 
     /// Tells the session of the server's end, where it was asked for.
-    #[tactic(auto, using(crate::proofs::Sitting::ends_leave_nothing))]
+    #[tactic(auto, using(crate::proofs::Session_call::ends_leave_nothing))]
     pub fn heed<D: Door<Ticket = T>, R: Wait + Dial>(
         &mut self,
         rt: &R,
@@ -379,8 +379,8 @@ impl<T: Drop> ConnectionState<T> {
     ) -> Heeded
         requires clock { R.shown moment }
         ensures told { Heeds asked D.policy self.old.user moment
-            self.old.session (met D.held self.old.pass)
-            self.new.session (met D.held self.new.pass) }
+            self.old.session (history_met D.held self.old.pass)
+            self.new.session (history_met D.held self.new.pass) }
         ensures user { self.new.user ≡ self.old.user }
         ensures outbox { self.new.outbox ≡ self.old.outbox }
         ensures cursor { self.new.cursor ≡ self.old.cursor }
@@ -392,7 +392,7 @@ impl<T: Drop> ConnectionState<T> {
     }
 
     /// The reader has ended: its input has no more, and the session is told so.
-    #[tactic(auto, using(crate::proofs::Sitting::ends_leave_nothing))]
+    #[tactic(auto, using(crate::proofs::Session_call::ends_leave_nothing))]
     pub fn end<D: Door<Ticket = T>, R: Wait + Dial>(
         &mut self,
         rt: &R,
@@ -402,8 +402,8 @@ impl<T: Drop> ConnectionState<T> {
         requires clock { R.shown moment }
         ensures reader_done { self.new.reader_done ≡ true }
         ensures told { WasTold D.policy self.old.user happens.End moment
-            self.old.session (met D.held self.old.pass)
-            self.new.session (met D.held self.new.pass) }
+            self.old.session (history_met D.held self.old.pass)
+            self.new.session (history_met D.held self.new.pass) }
         ensures user { self.new.user ≡ self.old.user }
         ensures outbox { self.new.outbox ≡ self.old.outbox }
         ensures cursor { self.new.cursor ≡ self.old.cursor }
@@ -422,8 +422,8 @@ impl<T: Drop> ConnectionState<T> {
     )
         requires clock { R.shown moment }
         ensures answered { WasAnswered D.policy login.now moment
-            self.old.session (met D.held self.old.pass) self.old.outbox
-            self.new.session (met D.held self.new.pass) self.new.outbox }
+            self.old.session (history_met D.held self.old.pass) self.old.outbox
+            self.new.session (history_met D.held self.new.pass) self.new.outbox }
         ensures user { self.new.user ≡ login.now.user }
         ensures login { self.new.login ≡ moment }
     {
@@ -463,11 +463,11 @@ impl<T: Drop> ConnectionState<T> {
             (turn self.old.session (happens.Packet packet.now) moment).reply.next
             D.policy self.old.user moment
             (turn self.old.session (happens.Packet packet.now) moment).session
-            (met D.held self.old.pass)
-            self.new.session (met D.held self.new.pass) result }
+            (history_met D.held self.old.pass)
+            self.new.session (history_met D.held self.new.pass) result }
         ensures taken { WasTaken D.policy self.old.user packet.now moment
-            self.old.session (met D.held self.old.pass) self.old.outbox
-            self.new.session (met D.held self.new.pass) self.new.outbox }
+            self.old.session (history_met D.held self.old.pass) self.old.outbox
+            self.new.session (history_met D.held self.new.pass) self.new.outbox }
         ensures user { self.new.user ≡ user_after
             (turn self.old.session (happens.Packet packet.now) moment).reply.next packet.now self.old.user }
     {
@@ -495,12 +495,12 @@ impl<T: Drop> ConnectionState<T> {
             (turn self.old.session (happens.Packet packet.now) moment).reply.next
             D.policy self.old.user moment
             (turn self.old.session (happens.Packet packet.now) moment).session
-            (met D.held self.old.pass)
-            self.new.session (met D.held self.new.pass) result.ended }
+            (history_met D.held self.old.pass)
+            self.new.session (history_met D.held self.new.pass) result.ended }
         ensures over { result.over ≡ is_over self.new.session.phase }
         ensures taken { WasTaken D.policy self.old.user packet.now moment
-            self.old.session (met D.held self.old.pass) self.old.outbox
-            self.new.session (met D.held self.new.pass) self.new.outbox }
+            self.old.session (history_met D.held self.old.pass) self.old.outbox
+            self.new.session (history_met D.held self.new.pass) self.new.outbox }
         ensures user { self.new.user ≡ user_after
             (turn self.old.session (happens.Packet packet.now) moment).reply.next packet.now self.old.user }
     {

@@ -11,7 +11,7 @@ use crate::state::outgoing::{Bookmark, Fetched, Finished, LoginOutcome, NextWrit
 use crate::timing::times_of;
 use gx_answers::{LoginAnswer, StepFault};
 use gx_control::{AnswerTimes, AnswersNoted, ShutdownFlag, WriterWakeup};
-use gx_devices::{Counted, WriteFault};
+use gx_devices::{CallCounter, WriteFault};
 use gx_door::{Dial, Door};
 use gx_session::{Control, send_control, send_pulled};
 use std::alloc::Global;
@@ -31,7 +31,11 @@ fn cause_of(fault: WriteFault) -> Break
 
 /// Sends what is due: a packet of the session's own, or one for each report, in order; and nothing
 /// else.
-fn send<O: Write>(alloc: Global, due: &NextWrite, writer: &mut Counted<O>) -> Result<(), WriteFault>
+fn send<O: Write>(
+    alloc: Global,
+    due: &NextWrite,
+    writer: &mut CallCounter<O>,
+) -> Result<(), WriteFault>
     requires { writer.old.failed < 2 ^ 64 - 1 }
     ensures sent { OnOk result (Appends
         (O.contents writer.old.device) (O.contents writer.new.device) (due_text due.now)) }
@@ -65,14 +69,14 @@ fn may_send<D: Door, R: Wait>(rt: &R, door: &D, shutdown: &ShutdownFlag, due: &N
 }
 
 /// Sends what is due, reports once all that was done is kept. At `Err` it answers what breaks the session off.
-#[tactic(auto, using(crate::proofs::Speaking::nothing_sent))]
+#[tactic(auto, using(crate::proofs::Writer_next::nothing_sent))]
 fn send_kept<D: Door, O: Write, R: Wait>(
     rt: &R,
     alloc: Global,
     door: &D,
     shutdown: &ShutdownFlag,
     due: &NextWrite,
-    writer: &mut Counted<O>,
+    writer: &mut CallCounter<O>,
 ) -> Result<(), Break>
     requires { writer.old.failed < 2 ^ 64 - 1 }
     ensures sent { OnOk result (Appends
@@ -91,14 +95,14 @@ fn send_kept<D: Door, O: Write, R: Wait>(
 }
 
 /// Sends the answer to a login, once all that was done is kept. At `Err` it answers what breaks the session off.
-#[tactic(auto, using(crate::proofs::Speaking::nothing_sent))]
+#[tactic(auto, using(crate::proofs::Writer_next::nothing_sent))]
 pub(crate) fn send_answer<D: Door, O: Write, R: Wait>(
     rt: &R,
     alloc: Global,
     door: &D,
     shutdown: &ShutdownFlag,
     answer: LoginAnswer,
-    writer: &mut Counted<O>,
+    writer: &mut CallCounter<O>,
 ) -> Result<(), Break>
     requires { writer.old.failed < 2 ^ 64 - 1 }
     ensures sent { OnOk result (Appends (O.contents writer.old.device)
@@ -160,7 +164,7 @@ fn go_on<D: Door, R: Wait + Clock + Dial>(
 }
 
 /// Waits for the answer to the login, and sends it once all that was done is kept.
-#[tactic(auto, using(crate::proofs::Speaking::is_greeted))]
+#[tactic(auto, using(crate::proofs::Writer_next::is_greeted))]
 fn write_answer<D: Door, O: Write, R: Wait + Clock + Dial>(
     rt: &R,
     alloc: Global,
@@ -168,7 +172,7 @@ fn write_answer<D: Door, O: Write, R: Wait + Clock + Dial>(
     shutdown: &ShutdownFlag,
     wakeup: &WriterWakeup,
     shared: &SharedConnection<D::Ticket>,
-    writer: &mut Counted<O>,
+    writer: &mut CallCounter<O>,
 ) -> LoginOutcome
     requires { writer.old.failed < 2 ^ 64 - 1 }
     ensures answered { IsGreeted
@@ -199,7 +203,7 @@ fn write_reports<D: Door, O: Write, R: Wait + Clock + Dial>(
     times: &AnswerTimes,
     shared: &SharedConnection<D::Ticket>,
     bookmark: Bookmark,
-    writer: &mut Counted<O>,
+    writer: &mut CallCounter<O>,
 ) -> Option<Finished>
     requires { writer.old.failed < 2 ^ 64 - 1 }
     ensures spoken { WasSpoken (is_some result) D.policy bookmark.user bookmark.next
@@ -232,7 +236,7 @@ pub fn write_on<D: Door, O: Write, R: Wait + Clock + Dial>(
     wakeup: &WriterWakeup,
     times: &AnswerTimes,
     shared: &SharedConnection<D::Ticket>,
-    writer: &mut Counted<O>,
+    writer: &mut CallCounter<O>,
 ) -> Option<Finished>
     requires { writer.old.failed < 2 ^ 64 - 1 }
     ensures said { WasSaid (is_some result) D.policy

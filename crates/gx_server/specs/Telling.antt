@@ -2,7 +2,7 @@
 use Rattle.std.specs.Prelude.{ℕ, List, Option, Some, None, ◌++◌, codes, decimal, if◌then◌else◌}
 use Rattle.gx_audit.specs.declared.fault.AuditFault.{AuditFault}
 use Rattle.gx_files.specs.declared.identity.SharedFile.{SharedFile}
-use Rattle.gx_policyfile.specs.{declared.fault.FaultKind.FaultKind, Field.is_memory, Telling.kind_words}
+use Rattle.gx_policyvalues.specs.{declared.fault.FaultKind.FaultKind, Field.is_memory, Telling.kind_words}
 use Rattle.gx_script.specs.Printing.{line_end}
 use Rattle.gx_pipe.specs.{Faults.fault_words, declared.fault.PipeFault.PipeFault}
 use Rattle.gx_scripting.specs.declared.script_fault.ScriptFault.{ScriptFault}

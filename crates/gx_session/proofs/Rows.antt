@@ -1,5 +1,5 @@
 -- What follows a row of events, by the phase.
-use Rattle.std.proofs.{Common.{◌≡◌, ℕ, ◌+◌, ◌≤◌, Bool, true, false, ◌&&◌, cond, List, [], ◌∷◌, refl, arith, count_by, lit≤}, lemmas.List.Sums.sum_by-cons}
+use Rattle.std.proofs.{Common.{◌≡◌, ℕ, ◌+◌, ◌≤◌, Bool, true, false, cond, List, [], ◌∷◌, refl, arith, count_by, lit≤}, lemmas.{List.Sums.sum_by-cons, Bool.{and_from, and_parts}}}
 use Rattle.std.specs.List.{list_all}
 use Rattle.gx_soup.specs.declared.packet.ClientPacket.{ClientPacket}
 use Rattle.gx_answers.specs.declared.outcome.LoginAnswer.{LoginAnswer}
@@ -87,23 +87,11 @@ turn_parts : (session : SessionData) (event : Happening) (moment : ℕ) → is_o
 unfolding turn
 turn_parts session event moment h = row_parts session.phase event _ _ h
 
-both : (a b : Bool) → a ≡ true → b ≡ true → (a && b) ≡ true
-both true b h k = k
-both false b h k = cc
-
-first_holds : (a b : Bool) → (a && b) ≡ true → a ≡ true
-first_holds true b h = refl
-first_holds false b h = cc
-
-second_holds : (a b : Bool) → (a && b) ≡ true → b ≡ true
-second_holds true b h = h
-second_holds false b h = cc
-
 pub all_parting : (session : SessionData) (hs : List Timed) → is_over session.phase ≡ true → list_all is_parting (replies session hs) ≡ true
 all_parting session [] h = refl
 all_parting session (x ∷ hs) h =
     let step = turn_parts session x.event x.moment h in
-    both _ _ step.0 (all_parting (turn session x.event x.moment).session hs step.1)
+    and_from _ _ step.0 (all_parting (turn session x.event x.moment).session hs step.1)
 
 -- How many logins and logouts a session may still ask for.
 
@@ -344,8 +332,8 @@ turn_wordless session event moment h k = row_wordless session.phase event _ _ h 
 all_wordless : (session : SessionData) (hs : List Timed) → users_on session.phase ≡ 0 → list_all (λ (h : Timed). is_no_answer h.event) hs ≡ true → list_all is_wordless (replies session hs) ≡ true
 all_wordless session [] h k = refl
 all_wordless session (x ∷ hs) h k =
-    let step = turn_wordless session x.event x.moment h (first_holds _ _ k) in
-    both _ _ step.0 (all_wordless (turn session x.event x.moment).session hs step.1 (second_holds _ _ k))
+    let step = turn_wordless session x.event x.moment h (and_parts _ _ k).0 in
+    and_from _ _ step.0 (all_wordless (turn session x.event x.moment).session hs step.1 (and_parts _ _ k).1)
 
 pub new_wordless : (moment : ℕ) (hs : List Timed) → list_all (λ (h : Timed). is_no_answer h.event) hs ≡ true → list_all is_wordless (replies (new_session moment) hs) ≡ true
 new_wordless moment hs k = all_wordless (new_session moment) hs refl k

@@ -16,11 +16,11 @@ pub data Happening : Type 0 where
   End : Happening
 
 -- the event, less the place where its packet lies
-abbrev pub happening : Event → Happening
-happening (Event.Packet packet) = Packet packet.now
-happening (Event.Answered answer) = Answered answer
-happening (Event.Refused fault) = Refused fault
-happening (Event.Pulled count ended) = Pulled count ended
-happening Event.Tick = Tick
-happening Event.Fault = Fault
-happening Event.End = End
+abbrev pub happening_of : Event → Happening
+happening_of (Event.Packet packet) = Packet packet.now
+happening_of (Event.Answered answer) = Answered answer
+happening_of (Event.Refused fault) = Refused fault
+happening_of (Event.Pulled count ended) = Pulled count ended
+happening_of Event.Tick = Tick
+happening_of Event.Fault = Fault
+happening_of Event.End = End

@@ -6,7 +6,7 @@ ghost use Rattle.gx_session.specs.{Sending.{control_bytes, report_packet, report
 
 use crate::event::{Control, Sign};
 use gx_answers::{LoginAnswer, Pulled};
-use gx_devices::{Counted, WriteFault, write_flushing, write_whole};
+use gx_devices::{CallCounter, WriteFault, write_flushing, write_whole};
 use gx_history::report::Report;
 use gx_ouch::MESSAGE_ROOM;
 use gx_soup::{ServerPacket, append_sequenced, encode};
@@ -43,7 +43,7 @@ fn put_reports(text: &mut Vec<u8>, reports: &[Report]) -> Result<(), OutOfMemory
 pub fn send_pulled<W: Write>(
     alloc: Global,
     pulled: &Pulled,
-    writer: &mut Counted<W>,
+    writer: &mut CallCounter<W>,
 ) -> Result<(), WriteFault>
     requires { writer.old.failed < 2 ^ 64 - 1 }
     ensures sent { OnOk result (Appends
@@ -66,7 +66,7 @@ pub fn send_pulled<W: Write>(
 pub fn send_reports<W: Write>(
     text: &mut Vec<u8>,
     reports: &[Report],
-    writer: &mut Counted<W>,
+    writer: &mut CallCounter<W>,
     flushes: bool,
 ) -> Result<(), WriteFault>
     requires { writer.old.failed < 2 ^ 64 - 1 }
@@ -91,7 +91,7 @@ pub fn send_reports<W: Write>(
 pub fn send_control<W: Write>(
     alloc: Global,
     control: Control,
-    writer: &mut Counted<W>,
+    writer: &mut CallCounter<W>,
 ) -> Result<(), WriteFault>
     requires { writer.old.failed < 2 ^ 64 - 1 }
     ensures sent { OnOk result (Appends

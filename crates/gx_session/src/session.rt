@@ -3,7 +3,7 @@
 ghost use Rattle.std.specs.Prelude.{◌≡◌, false, None, IsTrue};
 ghost use Rattle.gx_history.specs.Showing.{has_its_first};
 ghost use Rattle.gx_soup.specs.declared.packet.ClientPacket.TheVariants.{Data};
-ghost use Rattle.gx_session.specs.{Happenings.Happening.{Packet, Pulled}, declared.event.Next.TheVariants.{Idle, Act}, Table.{is_silent, fresh_packet, fresh_row, waiting_row, on_packet, on_row, abandoned_row, row, row_at, is_sending, heard_after, sent_after, turn, new_session, rest_of}, Happenings.happening, Events.{is_on, is_over, CanAsk}};
+ghost use Rattle.gx_session.specs.{Happenings.Happening.{Packet, Pulled}, declared.event.Next.TheVariants.{Idle, Act}, Table.{is_silent, fresh_packet, fresh_row, waiting_row, on_packet, on_row, abandoned_row, row, row_at, is_sending, heard_after, sent_after, turn, new_session, rest_of}, Happenings.happening_of, Events.{is_on, is_over, CanAsk}};
 
 use crate::event::{Control, Event, Next, Reply, Sign};
 use gx_answers::LoginAnswer;
@@ -74,7 +74,7 @@ fn fresh_packet(packet: &ClientPacket) -> Row
 }
 
 fn fresh_row(event: Event<'_>, silent: bool) -> Row
-    ensures row { result ≡ fresh_row (happening event.entry) silent }
+    ensures row { result ≡ fresh_row (happening_of event.entry) silent }
     ensures able { CanAsk result.reply.next }
 {
     match event {
@@ -88,7 +88,7 @@ fn fresh_row(event: Event<'_>, silent: bool) -> Row
 }
 
 fn waiting_row(event: Event<'_>, silent: bool) -> Row
-    ensures row { result ≡ waiting_row (happening event.entry) silent }
+    ensures row { result ≡ waiting_row (happening_of event.entry) silent }
     ensures able { CanAsk result.reply.next }
 {
     match event {
@@ -120,7 +120,7 @@ fn on_packet(packet: &ClientPacket) -> Row
 }
 
 fn on_row(event: Event<'_>, silent: bool, quiet: bool) -> Row
-    ensures row { result ≡ on_row (happening event.entry) silent quiet }
+    ensures row { result ≡ on_row (happening_of event.entry) silent quiet }
     ensures able { CanAsk result.reply.next }
 {
     match event {
@@ -140,7 +140,7 @@ fn on_row(event: Event<'_>, silent: bool, quiet: bool) -> Row
 }
 
 fn abandoned_row(event: Event<'_>) -> Row
-    ensures row { result ≡ abandoned_row (happening event.entry) }
+    ensures row { result ≡ abandoned_row (happening_of event.entry) }
     ensures able { CanAsk result.reply.next }
 {
     match event {
@@ -152,7 +152,7 @@ fn abandoned_row(event: Event<'_>) -> Row
 
 /// Whether a packet goes to the client: the session's own, or reports of a user who is on.
 fn is_sending(phase: Phase, event: Event<'_>, send: Option<Control>) -> bool
-    ensures { result ≡ is_sending phase (happening event.entry) send }
+    ensures { result ≡ is_sending phase (happening_of event.entry) send }
 {
     match (phase, event) {
         (Phase::On, Event::Pulled { count, .. }) => count > 0 || send.is_some(),
@@ -232,7 +232,7 @@ impl Session {
     }
 
     fn row(&self, event: Event<'_>, moment: u64) -> Row
-        ensures row { result ≡ row_at self.now (happening event.entry) moment }
+        ensures row { result ≡ row_at self.now (happening_of event.entry) moment }
         ensures able { CanAsk result.reply.next }
     {
         let silent = self.is_silent(moment);
@@ -247,7 +247,7 @@ impl Session {
     }
 
     fn heard_after(&self, event: Event<'_>, moment: u64) -> u64
-        ensures { result ≡ heard_after self.now (happening event.entry) moment }
+        ensures { result ≡ heard_after self.now (happening_of event.entry) moment }
     {
         match event {
             Event::Packet(_) => self.heard.max(moment),
@@ -256,7 +256,7 @@ impl Session {
     }
 
     fn sent_after(&self, event: Event<'_>, moment: u64, send: Option<Control>) -> u64
-        ensures { result ≡ sent_after self.now (happening event.entry) moment send }
+        ensures { result ≡ sent_after self.now (happening_of event.entry) moment send }
     {
         if is_sending(self.phase, event, send) {
             self.sent.max(moment)
@@ -269,8 +269,8 @@ impl Session {
     /// memory. A request that it asks for is one that a gate may be asked (`able`).
     #[tactic(auto, unfolding(crate::specs::Table::turn))]
     pub fn on(&mut self, event: Event<'_>, moment: u64) -> Reply
-        ensures reply { result ≡ (turn self.old (happening event.entry) moment).reply }
-        ensures session { self.new ≡ (turn self.old (happening event.entry) moment).session }
+        ensures reply { result ≡ (turn self.old (happening_of event.entry) moment).reply }
+        ensures session { self.new ≡ (turn self.old (happening_of event.entry) moment).session }
         ensures able { CanAsk result.next }
     {
         let row = self.row(event, moment);

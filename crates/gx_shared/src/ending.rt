@@ -25,7 +25,7 @@ fn counted(live: LiveOrders<'_>) -> Ended
 }
 
 /// What the command ends. Live orders are looked at for a Kill, those of its account, and for a Close Day alone.
-#[tactic(auto, using(crate::proofs::Commanding::few_live, crate::proofs::Commanding::few_of_account, crate::proofs::Commanding::close_ends_all, crate::proofs::Commanding::others_end_none))]
+#[tactic(auto, using(crate::proofs::Command_call::few_live, crate::proofs::Command_call::few_of_account, crate::proofs::Command_call::close_ends_all, crate::proofs::Command_call::others_end_none))]
 fn ended_by<G: ShowsState>(gate: &G, action: &Action) -> Ended
     ensures { result ≡ sums_of (ended_among
         (live (G.seen gate.now).policy (G.seen gate.now).records) action.now) }

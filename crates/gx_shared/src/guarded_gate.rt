@@ -353,7 +353,7 @@ impl<G: AccessGate, N: GateName> GuardedGate<G, N> {
     }
 
     /// Lets the gate go.
-    pub fn let_go(self) {
+    pub fn release(self) {
         let GuardedGate { gate, keeper: _ } = self;
         gate.close();
     }
@@ -400,7 +400,7 @@ impl<G: ShowsState, N: GateName> GuardedGate<G, N> {
 impl<G: ShowsRecords + ShowsState, N: GateName> GuardedGate<G, N> {
     /// Lets the summary follow at most so many records behind those that it has followed, which the pass had met, and once
     /// it has followed all, shows what the viewer is shown.
-    #[tactic(auto, using(crate::proofs::Following::behind_gate))]
+    #[tactic(auto, using(crate::proofs::Summary_next::behind_gate))]
     pub fn look(
         &mut self,
         alloc: Global,

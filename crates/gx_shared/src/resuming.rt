@@ -13,7 +13,7 @@ use gx_units::OutOfMemory;
 const PORTION: u64 = 256;
 
 /// Issues one more line, whose pass stays in the keeper's hand.
-#[tactic(auto, using(crate::proofs::Noted::one_more_line))]
+#[tactic(auto, using(crate::proofs::Lines_noted::one_more_line))]
 fn hold_one<N: GateName>(keeper: &mut Keeper<N>) -> Result<(), OutOfMemory>
     requires hand { keeper.old.hand ≡ lines_to keeper.old.issued }
     requires left { keeper.old.issued < 65535 }
@@ -45,7 +45,7 @@ fn hold_up_to<N: GateName>(keeper: &mut Keeper<N>, line: u16) -> Result<(), OutO
 }
 
 /// Notes a record that was there before.
-#[tactic(auto, using(crate::proofs::Noted::may_note, crate::proofs::Noted::highest_more))]
+#[tactic(auto, using(crate::proofs::Lines_noted::may_note, crate::proofs::Lines_noted::highest_more))]
 fn note_one<N: GateName>(keeper: &mut Keeper<N>, earlier: RecordData) -> Result<(), OutOfMemory>
     requires stands { IsResuming keeper.old }
     requires room { length keeper.old.list + 1 < 2 ^ 64 }
@@ -92,7 +92,7 @@ fn note_all<G: AccessGate, N: GateName>(keeper: &mut Keeper<N>, gate: &G) -> Res
 /// # Errors
 ///
 /// `OutOfMemory` where memory was refused.
-#[tactic(auto, using(crate::proofs::Noted::begins))]
+#[tactic(auto, using(crate::proofs::Lines_noted::begins))]
 pub fn resume<G: AccessGate, N: GateName>(gate: &G, blank: Blank) -> Result<Keeper<N>, OutOfMemory>
     requires { blank ≡ N.table }
     ensures keeper { IfOk result (λ k. k.list ≡ (G.seen gate.now).records) }

@@ -79,7 +79,7 @@ fn serve_shared<
             Ok((Served { gate, ended }, pass, total))
         }
         Err(unserved) => {
-            door.let_go();
+            door.release();
             Err(unserved.fault())
         }
     }

@@ -46,7 +46,7 @@ fn pause() {
 
 /// The gate under one lock. Each call takes the lock once, but for `length`, which takes none.
 ///
-/// It ends by `close`, `take_back` or `let_go`, and is never dropped.
+/// It ends by `close`, `take_back` or `release`, and is never dropped.
 pub struct SharedGate<G: AccessGate, N: GateName> {
     guarded: Mutex<GuardedGate<G, N>>,
 }
@@ -115,7 +115,7 @@ impl<G: AccessGate, N: GateName> SharedGate<G, N> {
                 Ok((shared, permits, pass))
             }
             Err(fault) => {
-                guarded.let_go();
+                guarded.release();
                 Err(fault)
             }
         }
@@ -184,9 +184,9 @@ impl<G: AccessGate, N: GateName> SharedGate<G, N> {
     }
 
     /// Lets the gate go, where nobody holds a pass or its records are of no use.
-    pub fn let_go(self) {
+    pub fn release(self) {
         let SharedGate { guarded } = self;
-        guarded.into_inner().let_go();
+        guarded.into_inner().release();
     }
 }
 

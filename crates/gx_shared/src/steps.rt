@@ -39,7 +39,7 @@ pub fn asked_on(line: u16, user: UserName, request: Request, handed: Moment) -> 
 /// Makes the request's step. The keeper, which has its line in hand, notes the record, and it is counted in the share.
 ///
 /// A granted Kill or Logout is never refused.
-#[tactic(auto, using(crate::proofs::Refusals::is_no_granted_end, crate::proofs::Refusals::is_told_full))]
+#[tactic(auto, using(crate::proofs::Refused_call::is_no_granted_end, crate::proofs::Refused_call::is_told_full))]
 pub fn step<G: AccessGate, N: GateName>(
     gate: &mut G,
     keeper: &mut CountingKeeper<N>,
@@ -71,7 +71,7 @@ pub fn step<G: AccessGate, N: GateName>(
 }
 
 /// Makes a matching step, if an order waits. The keeper notes the record, if there is one, and it is counted in the share.
-#[tactic(auto, using(crate::proofs::Idling::none_is_next))]
+#[tactic(auto, using(crate::proofs::Match_idle::none_is_next))]
 pub fn match_one<G: AccessGate, N: GateName>(
     gate: &mut G,
     keeper: &mut CountingKeeper<N>,
@@ -107,7 +107,7 @@ pub fn match_one<G: AccessGate, N: GateName>(
 
 /// Makes matching steps, until no order waits, one is refused, or so many were made. The keeper notes their records, which
 /// are of no line, and they are counted in the share.
-#[tactic(auto, using(crate::proofs::Matchings::none_made, crate::proofs::Matchings::one_more, crate::proofs::Matchings::no_more))]
+#[tactic(auto, using(crate::proofs::Match_next::none_made, crate::proofs::Match_next::one_more, crate::proofs::Match_next::no_more))]
 pub fn match_some<G: AccessGate, N: GateName>(
     gate: &mut G,
     keeper: &mut CountingKeeper<N>,
@@ -149,7 +149,7 @@ pub fn match_some<G: AccessGate, N: GateName>(
 /// Makes the request's step, and matching steps behind it, none where it is refused. The keeper, which has its line in hand,
 /// notes the records, and they are counted in the share. Tells what the request's own record ended, which is counted in front of
 /// it: behind it these orders are gone.
-#[tactic(auto, using(crate::proofs::Commanding::told_so))]
+#[tactic(auto, using(crate::proofs::Command_call::told_so))]
 pub fn turn<G: ShowsState, N: GateName>(
     gate: &mut G,
     keeper: &mut CountingKeeper<N>,

@@ -1,11 +1,12 @@
 -- What one more record adds to the chosen ones.
-use Rattle.std.proofs.{Common.{◌≡◌, ℕ, Bool, true, false, List, [], ◌∷◌, ◌++◌, refl, ◌∙◌, ap, sym, cond, ◌+◌, ◌<◌, length, get_or, take}, lemmas.List.{take_more, Elements.filter_map-append}}
+use Rattle.std.proofs.{Common.{◌≡◌, ℕ, Bool, true, false, List, [], ◌∷◌, ◌++◌, refl, ◌∙◌, ap, sym, cond, ◌+◌, ◌<◌, length, get_or, take}, lemmas.List.Elements.filter_map-append}
 use Rattle.std.specs.{Prelude.{Option, option_to_list}, List.{cons_option, filter_map}}
 use Rattle.gx_policy.specs.{declared.policy.PolicyData.PolicyData, Lists.{each_with_earlier, where_true}}
 use Rattle.gx_history.specs.declared.record.RecordData.{RecordData}
 use Rattle.gx_laws.proofs.Pushing.{each_after_next}
-use Rattle.gx_show.specs.{declared.{choice.Choice.Choice, known_order.KnownOrder.KnownOrder}, Choosing.{chosen, is_asked_for, is_chosen}, Known.{known_orders, made}}
+use Rattle.gx_show.specs.{declared.{choice.Choice.Choice, known_order.KnownOrder.KnownOrder}, Choosing.{chosen, is_asked_for, is_chosen}, Known.{known_orders, order_made}}
 use Rattle.gx_show.proofs.KnownNext.{known_next}
+use Rattle.gx_audit_bytes.proofs.Joined.{one_on}
 
 pub chosen_none : (policy : PolicyData) (choice : Choice) → chosen policy choice [] ≡ []
 unfolding chosen
@@ -26,16 +27,13 @@ chosen_next policy choice history r =
     by true = refl
     by false = refl
 
-taken_next : (records : List RecordData) (i : ℕ) (r other : RecordData) → i < length records → r ≡ get_or records i other → take (i + 1) records ≡ take i records ++ r ∷ []
-taken_next records i r other within at = take_more records i other within ∙ ap (λ (x : RecordData). take i records ++ x ∷ []) (sym at)
-
 pub known_more : (policy : PolicyData) (records : List RecordData) (i : ℕ) (r other : RecordData) (before after : List KnownOrder) → i < length records → r ≡ get_or records i other
-    → before ≡ known_orders policy (take i records) → after ≡ before ++ option_to_list (made policy before r) → after ≡ known_orders policy (take (i + 1) records)
+    → before ≡ known_orders policy (take i records) → after ≡ before ++ option_to_list (order_made policy before r) → after ≡ known_orders policy (take (i + 1) records)
 known_more policy records i r other before after within at was is =
     is
-    ∙ ap (λ (known : List KnownOrder). known ++ option_to_list (made policy known r)) was
+    ∙ ap (λ (known : List KnownOrder). known ++ option_to_list (order_made policy known r)) was
     ∙ sym (known_next policy (take i records) r)
-    ∙ ap (known_orders policy) (sym (taken_next records i r other within at))
+    ∙ ap (known_orders policy) (sym (one_on records i r other within at))
 
 pub chosen_more : (policy : PolicyData) (choice : Choice) (records : List RecordData) (i : ℕ) (r other : RecordData) (known : List KnownOrder) (wanted : Bool) (before after : List RecordData)
     → i < length records → r ≡ get_or records i other → known ≡ known_orders policy (take i records)
@@ -46,4 +44,4 @@ chosen_more policy choice records i r other known wanted before after within at 
     ∙ ap (λ (b : Bool). before ++ cond b (r ∷ []) []) (asked ∙ ap (λ (now : List KnownOrder). is_asked_for policy choice now r) are)
     ∙ ap (λ (rs : List RecordData). rs ++ cond (is_chosen policy choice (take i records) r) (r ∷ []) []) found
     ∙ sym (chosen_next policy choice (take i records) r)
-    ∙ ap (chosen policy choice) (sym (taken_next records i r other within at))
+    ∙ ap (chosen policy choice) (sym (one_on records i r other within at))

@@ -1,22 +1,12 @@
 -- What is found among orders once one more is there.
-use Rattle.std.proofs.{Common.{◌≡◌, ℕ, Bool, true, false, List, [], ◌∷◌, ◌++◌, refl, ◌∙◌, ap, sym, cond}, lemmas.List.{Elements.filter-append, Folds.find-append}}
-use Rattle.std.specs.{Prelude.{Option, Some, None}, Option.option_or, List.{filter, last_or}}
+use Rattle.std.proofs.{Common.{◌≡◌, ℕ, Bool, true, false, List, [], ◌∷◌, ◌++◌, refl, ◌∙◌, ap, sym, cond}, lemmas.List.Folds.find-append}
+use Rattle.std.specs.{Prelude.{Option, Some, None}, Option.option_or}
 use Rattle.gx_history.specs.declared.live_order.UserToken.{UserToken}
-use Rattle.gx_laws.proofs.Pushing.{last_or-append}
-use Rattle.gx_policy.specs.Lists.{last_such, where_true}
-use Rattle.gx_show.specs.{declared.known_order.KnownOrder.KnownOrder, Known.{has_number, is_under, numbered}, Tables.{AreFound, FindsNumber, FindsToken}}
+use Rattle.gx_laws.proofs.Pushing.{last_such_next}
+use Rattle.gx_policy.specs.Lists.{where_true}
+use Rattle.gx_show.specs.{declared.known_order.KnownOrder.KnownOrder, Known.{has_number, is_under, known_numbered}, Tables.{AreFound, FindsNumber, FindsToken}}
 
-pub last_such_next : {X : Type 0} (test : X → Bool) (xs : List X) (x : X) → last_such test (xs ++ x ∷ []) ≡ cond (test x) (Some x) (last_such test xs)
-last_such_next {X} test xs x =
-    ap (last_or None) (filter-append test xs (x ∷ []))
-    ∙ last_or-append None (filter test xs) (filter test (x ∷ []))
-    ∙ by (test x)
-  where
-    by : (b : Bool) → last_or (last_or None (filter test xs)) (cond b (x ∷ []) []) ≡ cond b (Some x) (last_or None (filter test xs))
-    by true = refl
-    by false = refl
-
-found_alone : (number : ℕ) (o : KnownOrder) → numbered (o ∷ []) number ≡ where_true (has_number number o) o
+found_alone : (number : ℕ) (o : KnownOrder) → known_numbered (o ∷ []) number ≡ where_true (has_number number o) o
 found_alone number o = by (has_number number o)
   where
     by : (b : Bool) → cond b (Some o) None ≡ where_true b o
@@ -30,7 +20,7 @@ found_next known o by_number after_number by_token after_token found numbers tok
   numbers = λ number.
       numbers number
       ∙ ap (λ (before : Option KnownOrder). option_or before (where_true (has_number number o) o)) (found.numbers number)
-      ∙ ap (option_or (numbered known number)) (sym (found_alone number o))
+      ∙ ap (option_or (known_numbered known number)) (sym (found_alone number o))
       ∙ sym (find-append (has_number number) known (o ∷ []));
   tokens = λ user token.
       tokens user token

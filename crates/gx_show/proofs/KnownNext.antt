@@ -3,9 +3,9 @@ use Rattle.std.proofs.{Common.{◌≡◌, Bool, true, false, List, [], ◌∷◌
 use Rattle.std.specs.{Prelude.{Option, Some, None, ◌&&◌, option_and_then, option_map, option_to_list}, List.{filter, last_or}, Option.option_map_or}
 use Rattle.gx_units.specs.{declared.names.{AccountName.AccountName, Token.Token, UserName.UserName}, Names.{same_user, same_token}}
 use Rattle.gx_policy.specs.{declared.policy.PolicyData.PolicyData, People.account_of}
-use Rattle.gx_history.specs.{declared.record.{Asked.Asked, RecordData.RecordData, Request.Request}, Orders.{Order, entered, order_under, orders, orders_added, orders_made, replacing}, Requests.granted}
+use Rattle.gx_history.specs.{declared.record.{Asked.Asked, RecordData.RecordData, Request.Request}, Orders.{Order, order_entered, order_under, orders, orders_added, orders_made, order_replacing}, Requests.granted_of}
 use Rattle.gx_laws.proofs.NextOrders.{orders_next, orders_none}
-use Rattle.gx_show.specs.{declared.known_order.KnownOrder.KnownOrder, Known.{is_under, known_of, known_orders, made, made_by, under}}
+use Rattle.gx_show.specs.{declared.known_order.KnownOrder.KnownOrder, Known.{is_under, known_of, known_orders, order_made, made_by, under}}
 
 pub known_none : (policy : PolicyData) → known_orders policy [] ≡ []
 unfolding known_orders
@@ -34,7 +34,7 @@ made_mapped : (policy : PolicyData) (known : List Order) (r : RecordData) (user 
 made_mapped policy known r user (Request.Enter m) = by (account_of policy user)
   where
     by : (account : Option AccountName)
-        → map known_of (option_map_or (λ account. entered policy r user account m ∷ []) account [])
+        → map known_of (option_map_or (λ account. order_entered policy r user account m ∷ []) account [])
         ≡ option_to_list (option_map (λ (account : AccountName). record { number = r.number; user = user; account = account; token = m.token; stock = m.stock }) account)
     by (Some account) = refl
     by None = refl
@@ -45,7 +45,7 @@ made_mapped policy known r user (Request.Replace m) =
     again : KnownOrder → KnownOrder
     again o = record { number = r.number; user = o.user; account = o.account; token = m.replacement_token; stock = o.stock }
 
-    by : (o : Option Order) → map known_of (option_map_or (λ o. replacing r m o ∷ []) o []) ≡ option_to_list (option_map again (option_map known_of o))
+    by : (o : Option Order) → map known_of (option_map_or (λ o. order_replacing r m o ∷ []) o []) ≡ option_to_list (option_map again (option_map known_of o))
     by (Some o) = refl
     by None = refl
 made_mapped policy known r user (Request.Login m) = refl
@@ -54,8 +54,8 @@ made_mapped policy known r user (Request.Unreadable m) = refl
 made_mapped policy known r user (Request.Cancel m) = refl
 made_mapped policy known r user (Request.Command m) = refl
 
-added_mapped : (policy : PolicyData) (known : List Order) (r : RecordData) → map known_of (orders_added policy known r) ≡ option_to_list (made policy (map known_of known) r)
-added_mapped policy known r = by (granted r)
+added_mapped : (policy : PolicyData) (known : List Order) (r : RecordData) → map known_of (orders_added policy known r) ≡ option_to_list (order_made policy (map known_of known) r)
+added_mapped policy known r = by (granted_of r)
   where
     by : (a : Option Asked)
         → map known_of (option_map_or (λ (a : Asked). orders_made policy known r a.user a.request) a [])
@@ -64,7 +64,7 @@ added_mapped policy known r = by (granted r)
     by None = refl
 
 pub known_next : (policy : PolicyData) (history : List RecordData) (r : RecordData)
-    → known_orders policy (history ++ r ∷ []) ≡ known_orders policy history ++ option_to_list (made policy (known_orders policy history) r)
+    → known_orders policy (history ++ r ∷ []) ≡ known_orders policy history ++ option_to_list (order_made policy (known_orders policy history) r)
 unfolding known_orders
 known_next policy history r =
     ap (map known_of) (orders_next policy history r)

@@ -3,31 +3,31 @@ use Rattle.std.specs.{Prelude.{ℕ, Bool, true, false, ◌&&◌, ◌||◌, ◌==
 use Rattle.gx_units.specs.{declared.names.{AccountName.AccountName, RuleId.RuleId, Symbol.Symbol, UserName.UserName}, Names.{same_account, same_rule, same_stock, same_user}}
 use Rattle.gx_desk.specs.declared.Action.{Action}
 use Rattle.gx_policy.specs.{declared.policy.{FileRule.FileRule, PolicyData.PolicyData}, Lists.{each_with_earlier, where_true}, People.{account_of, covers, rule_in}, RuleNames.rule_id}
-use Rattle.gx_history.specs.{declared.record.{Asked.Asked, RecordData.RecordData, Request.Request, Verdict.Verdict}, Requests.{action_of, asked, named_token}}
-use Rattle.gx_show.specs.{declared.{choice.{Choice.Choice, OrderLife.OrderLife}, known_order.KnownOrder.KnownOrder}, Known.{has_number, known_orders, made, numbered, under}}
+use Rattle.gx_history.specs.{declared.record.{Asked.Asked, RecordData.RecordData, Request.Request, Verdict.Verdict}, Requests.{action_of, asked_of, named_token}}
+use Rattle.gx_show.specs.{declared.{choice.{Choice.Choice, OrderLife.OrderLife}, known_order.KnownOrder.KnownOrder}, Known.{has_number, known_orders, order_made, known_numbered, under}}
 
 -- there is an order, and it passes the test
 abbrev pub is_such : (KnownOrder → Bool) → Option KnownOrder → Bool
 is_such test order = option_map_or test order false
 
 -- the order that a Replace or a Cancel names
-abbrev pub named : List KnownOrder → RecordData → Option KnownOrder
-named known r = option_and_then (λ (a : Asked). option_and_then (under known a.user) (named_token a.request)) (asked r.step)
+abbrev pub order_named : List KnownOrder → RecordData → Option KnownOrder
+order_named known r = option_and_then (λ (a : Asked). option_and_then (under known a.user) (named_token a.request)) (asked_of r.step)
 
 -- an order that was matched passes the test: of a fill either side
 abbrev pub is_matched : List KnownOrder → (KnownOrder → Bool) → Verdict → Bool
-is_matched known test (Verdict.Filled f) = is_such test (numbered known f.taker) || is_such test (numbered known f.maker)
-is_matched known test (Verdict.Rested number) = is_such test (numbered known number)
-is_matched known test (Verdict.Expired number) = is_such test (numbered known number)
+is_matched known test (Verdict.Filled f) = is_such test (known_numbered known f.taker) || is_such test (known_numbered known f.maker)
+is_matched known test (Verdict.Rested number) = is_such test (known_numbered known number)
+is_matched known test (Verdict.Expired number) = is_such test (known_numbered known number)
 is_matched known test other = false
 
 -- the record speaks of such an order: it makes one, or names one, or one was matched
 abbrev pub speaks_of : PolicyData → List KnownOrder → RecordData → (KnownOrder → Bool) → Bool
-speaks_of policy known r test = is_such test (made policy known r) || (is_such test (named known r) || is_matched known test r.verdict)
+speaks_of policy known r test = is_such test (order_made policy known r) || (is_such test (order_named known r) || is_matched known test r.verdict)
 
 -- the request passes the test, where the record is of a request
 abbrev pub is_asked : (Asked → Bool) → RecordData → Bool
-is_asked test r = option_map_or test (asked r.step) false
+is_asked test r = option_map_or test (asked_of r.step) false
 
 -- the request is a command that passes the test
 abbrev pub is_commanded : (Action → Bool) → Request → Bool
@@ -43,10 +43,10 @@ rule_covers policy account name = option_map_or (λ (rule : FileRule). covers ru
 
 -- the command names the account, is on a rule that covers it, or closes the day
 abbrev pub acts_on : PolicyData → AccountName → Action → Bool
-acts_on policy account (Action.Kill named) = same_account named account
-acts_on policy account (Action.Lift named) = same_account named account
-acts_on policy account (Action.Grant reader named) = same_account named account
-acts_on policy account (Action.Revoke reader named) = same_account named account
+acts_on policy account (Action.Kill order_named) = same_account order_named account
+acts_on policy account (Action.Lift order_named) = same_account order_named account
+acts_on policy account (Action.Grant reader order_named) = same_account order_named account
+acts_on policy account (Action.Revoke reader order_named) = same_account order_named account
 acts_on policy account (Action.SetLimit rule limit) = rule_covers policy account rule
 acts_on policy account (Action.Restrict rule stock) = rule_covers policy account rule
 acts_on policy account (Action.Unrestrict rule stock) = rule_covers policy account rule
@@ -66,8 +66,8 @@ concerns_user policy known r user = is_asked (λ (a : Asked). same_user a.user u
 
 -- the command puts the stock on a list, or takes it off
 abbrev pub lists : Symbol → Action → Bool
-lists stock (Action.Restrict rule named) = same_stock named stock
-lists stock (Action.Unrestrict rule named) = same_stock named stock
+lists stock (Action.Restrict rule order_named) = same_stock order_named stock
+lists stock (Action.Unrestrict rule order_named) = same_stock order_named stock
 lists stock other = false
 
 -- an Enter in the stock, or a command that names it
@@ -81,9 +81,9 @@ concerns_stock policy known r stock = is_asked (λ (a : Asked). is_in_stock stoc
 
 -- the command is on the rule
 abbrev pub is_on_rule : RuleId → Action → Bool
-is_on_rule rule (Action.SetLimit named limit) = same_rule named rule
-is_on_rule rule (Action.Restrict named stock) = same_rule named rule
-is_on_rule rule (Action.Unrestrict named stock) = same_rule named rule
+is_on_rule rule (Action.SetLimit order_named limit) = same_rule order_named rule
+is_on_rule rule (Action.Restrict order_named stock) = same_rule order_named rule
+is_on_rule rule (Action.Unrestrict order_named stock) = same_rule order_named rule
 is_on_rule rule other = false
 
 -- the verdict is a denial by the rule

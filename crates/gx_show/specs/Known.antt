@@ -2,7 +2,7 @@
 use Rattle.std.specs.{Prelude.{ℕ, Bool, ◌&&◌, ◌==◌, List, map, Option, None, option_map, option_and_then}, List.find}
 use Rattle.gx_units.specs.{declared.names.{Token.Token, UserName.UserName, AccountName.AccountName}, Names.{same_user, same_token}}
 use Rattle.gx_policy.specs.{declared.policy.PolicyData.PolicyData, Lists.last_such, People.account_of}
-use Rattle.gx_history.specs.{declared.record.{Asked.Asked, Request.Request, RecordData.RecordData}, Orders.{Order, orders}, Requests.granted}
+use Rattle.gx_history.specs.{declared.record.{Asked.Asked, Request.Request, RecordData.RecordData}, Orders.{Order, orders}, Requests.granted_of}
 use Rattle.gx_show.specs.declared.known_order.KnownOrder.{KnownOrder}
 
 -- what is kept of an order
@@ -22,8 +22,8 @@ abbrev pub is_under : UserName → Token → KnownOrder → Bool
 is_under user token o = same_user o.user user && same_token o.token token
 
 -- the order of this number
-abbrev pub numbered : List KnownOrder → ℕ → Option KnownOrder
-numbered known number = find (has_number number) known
+abbrev pub known_numbered : List KnownOrder → ℕ → Option KnownOrder
+known_numbered known number = find (has_number number) known
 
 -- the last order of the user under the token
 abbrev pub under : List KnownOrder → UserName → Token → Option KnownOrder
@@ -39,5 +39,5 @@ made_by policy known number user (Request.Replace m) =
 made_by policy known number user other = None
 
 -- the order that the record makes
-abbrev pub made : PolicyData → List KnownOrder → RecordData → Option KnownOrder
-made policy known r = option_and_then (λ (a : Asked). made_by policy known r.number a.user a.request) (granted r)
+abbrev pub order_made : PolicyData → List KnownOrder → RecordData → Option KnownOrder
+order_made policy known r = option_and_then (λ (a : Asked). made_by policy known r.number a.user a.request) (granted_of r)

@@ -1,11 +1,11 @@
 -- What a name stands for that is asked for.
 use Rattle.std.specs.Prelude.{ℕ, Bool, ◌||◌, List, Option, Some, None, nat_le, length, is_some, option_and_then, option_map, if◌then◌else◌}
-use Rattle.gx_units.specs.{declared.names.{AccountName.AccountName, RuleId.RuleId, Symbol.Symbol, UserName.UserName}, Spelling.{folded_user, padded}}
+use Rattle.gx_units.specs.{declared.names.{AccountName.AccountName, RuleId.RuleId, Symbol.Symbol, UserName.UserName}, Spelling.{folded_user, padded_to}}
 use Rattle.gx_policy.specs.{declared.policy.{PolicyData.PolicyData, User.User}, Lists.where_true, People.{account_named, rule_in, stock_named, user_in}, RuleNames.is_built_in}
 
 -- the text as a field of so many bytes, if it has room there
 abbrev pub field_of : ℕ → List ℕ → Option (List ℕ)
-field_of size text = if nat_le (length text) size then Some (padded size text) else None
+field_of size text = if nat_le (length text) size then Some (padded_to size text) else None
 
 -- the account of the policy that the text names
 abbrev pub account_in : PolicyData → List ℕ → Option AccountName

@@ -2,12 +2,12 @@
 use Rattle.std.specs.Prelude.{List, Option, Some, None, option_and_then}
 use Rattle.gx_units.specs.declared.names.AccountName.{AccountName}
 use Rattle.gx_policy.specs.{declared.{policy.PolicyData.PolicyData, rule_name.RuleName.RuleName}, People.account_of}
-use Rattle.gx_history.specs.{declared.record.{Asked.Asked, RecordData.RecordData, Verdict.Verdict}, Reasons.reject_reason, Requests.asked}
+use Rattle.gx_history.specs.{declared.record.{Asked.Asked, RecordData.RecordData, Verdict.Verdict}, Reasons.reject_reason, Requests.asked_of}
 use Rattle.gx_fields.specs.{declared.cell.{Beside.Beside, Cell.Cell, EndedOrders.EndedOrders}, Cells.cells_of, Reasons.reason_of, Rows.row_of}
 
 -- the account of the trader who asked
 abbrev pub account_asked : PolicyData → RecordData → Option AccountName
-account_asked policy r = option_and_then (λ (a : Asked). account_of policy a.user) (asked r.step)
+account_asked policy r = option_and_then (λ (a : Asked). account_of policy a.user) (asked_of r.step)
 
 -- the rule that denied the request
 abbrev pub denied_by : Verdict → Option RuleName

@@ -1,7 +1,7 @@
 //! The records of a day that are asked for.
 
 ghost use Rattle.std.specs.Prelude.{◌≡◌, IfOk, OnOk, [], ◌∷◌, ◌++◌, option_to_list, if◌then◌else◌};
-ghost use Rattle.gx_show.specs.{Known.made, Choosing.{chosen, concerns_account, concerns_order, concerns_rule, concerns_stock, concerns_user, denies_by, is_asked_for, is_in_span, is_in_stock, is_of_account, is_wanted, trades_for}};
+ghost use Rattle.gx_show.specs.{Known.order_made, Choosing.{chosen, concerns_account, concerns_order, concerns_rule, concerns_stock, concerns_user, denies_by, is_asked_for, is_in_span, is_in_stock, is_of_account, is_wanted, trades_for}};
 
 use crate::choice::{Choice, OrderLife};
 use crate::commands::{action_of, acts_on, is_on_rule, lists};
@@ -233,7 +233,7 @@ fn is_asked_for(policy: &Policy, choice: &Choice, known: &KnownOrders, shown: &R
 /// Puts the order that the record makes behind the others, if it makes one.
 fn note(policy: &Policy, known: &mut KnownOrders, shown: &RecordData) -> Result<(), OutOfMemory>
     ensures { OnOk result (known.new
-        ≡ known.old ++ option_to_list (made policy.now known.old shown.now)) }
+        ≡ known.old ++ option_to_list (order_made policy.now known.old shown.now)) }
 {
     match made(policy, known, shown) {
         Some(order) => known.push(order),

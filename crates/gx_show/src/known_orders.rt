@@ -2,7 +2,7 @@
 
 ghost use Rattle.std.specs.Prelude.{◌≡◌, ◌<◌, [], ◌∷◌, ◌++◌, IsOk, OnOk, OnErr};
 ghost use Rattle.indexmap.specs.IndexMap.{spare};
-ghost use Rattle.gx_show.specs.{Known.{numbered, under}, Tables.{FindsNumber, FindsToken}};
+ghost use Rattle.gx_show.specs.{Known.{known_numbered, under}, Tables.{FindsNumber, FindsToken}};
 
 use crate::known_order::KnownOrder;
 use gx_history::live_order::UserToken;
@@ -47,7 +47,7 @@ impl KnownOrders {
 
     /// The order of this number, the first where there are more.
     pub fn numbered(&self, number: u64) -> Option<KnownOrder>
-        ensures { result ≡ numbered self.now number }
+        ensures { result ≡ known_numbered self.now number }
     {
         self.by_number.get(&number).copied()
     }

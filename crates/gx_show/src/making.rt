@@ -1,8 +1,8 @@
 //! Which order a record makes, and which it speaks of.
 
 ghost use Rattle.std.specs.Prelude.{◌≡◌};
-ghost use Rattle.gx_show.specs.{Choosing.{is_matched, is_such, named, speaks_of}, Known.{made, made_by}, Testing.passes};
-ghost use Rattle.gx_history.specs.Requests.{asked, granted, named_token};
+ghost use Rattle.gx_show.specs.{Choosing.{is_matched, is_such, order_named, speaks_of}, Known.{order_made, made_by}, Testing.passes};
+ghost use Rattle.gx_history.specs.Requests.{asked_of, granted_of, named_token};
 
 use crate::known_order::{KnownOrder, OrderTest};
 use crate::known_orders::KnownOrders;
@@ -12,7 +12,7 @@ use gx_units::Token;
 
 /// What was asked, where the record is of a request.
 pub(crate) fn asked_in(shown: &RecordData) -> Option<Asked>
-    ensures { result ≡ asked shown.now.step }
+    ensures { result ≡ asked_of shown.now.step }
 {
     match shown.step {
         Step::Asked(asked) => Some(asked),
@@ -22,7 +22,7 @@ pub(crate) fn asked_in(shown: &RecordData) -> Option<Asked>
 
 /// What was granted, if anything was.
 pub(crate) fn granted_in(shown: &RecordData) -> Option<Asked>
-    ensures { result ≡ granted shown.now }
+    ensures { result ≡ granted_of shown.now }
 {
     match shown.verdict {
         Verdict::Granted => asked_in(shown),
@@ -32,7 +32,7 @@ pub(crate) fn granted_in(shown: &RecordData) -> Option<Asked>
 
 /// The order that the record makes.
 pub(crate) fn made(policy: &Policy, known: &KnownOrders, shown: &RecordData) -> Option<KnownOrder>
-    ensures { result ≡ made policy.now known.now shown.now }
+    ensures { result ≡ order_made policy.now known.now shown.now }
 {
     let asked = granted_in(shown)?;
     made_by(policy, known, shown.number, &asked)
@@ -78,7 +78,7 @@ fn named_token(request: &Request) -> Option<Token>
 
 /// The order that a Replace or a Cancel names.
 fn named(known: &KnownOrders, shown: &RecordData) -> Option<KnownOrder>
-    ensures { result ≡ named known.now shown.now }
+    ensures { result ≡ order_named known.now shown.now }
 {
     let asked = asked_in(shown)?;
     let token = named_token(&asked.request)?;

@@ -5,7 +5,7 @@ ghost use Rattle.std.specs.Prelude.{◌≡◌, ◌^◌, ◌-◌, ◌<◌, OnOk};
 use crate::style::{ShownForm, Style};
 use crate::table::{denied_by, record_csv, record_json};
 use gx_audit_bytes::{RECORD_SIZE, message_shown, write_record};
-use gx_devices::{Counted, WriteFault, write_flushing, write_whole};
+use gx_devices::{CallCounter, WriteFault, write_flushing, write_whole};
 use gx_endings::endings::Ending;
 use gx_fields::{EndedOrders, csv_names, reason_of, reject_of};
 use gx_history::record::{Asked, Login, Record, RecordData, Request, Step, Unreadable, Verdict};
@@ -290,7 +290,7 @@ fn line_of(
 fn write_head<W: Write>(
     alloc: Global,
     style: &Style,
-    writer: &mut Counted<W>,
+    writer: &mut CallCounter<W>,
 ) -> Result<(), WriteFault>
     requires writer { writer.old.failed < 2 ^ 64 - 1 }
     ensures same { OnOk result (writer.new.failed ≡ writer.old.failed) }
@@ -340,7 +340,7 @@ pub fn write_records<W: Write>(
     style: &Style,
     records: &[Record],
     endings: &[Ending],
-    writer: &mut Counted<W>,
+    writer: &mut CallCounter<W>,
 ) -> Result<(), WriteFault>
     requires writer { writer.old.failed < 2 ^ 64 - 1 }
 {

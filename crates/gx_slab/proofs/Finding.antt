@@ -1,21 +1,9 @@
 -- An order is found by its number among those that are live.
-use Rattle.std.proofs.{Common.{◌≡◌, ◌≤◌, ℕ, zero, suc, ◌+◌, Bool, true, false, not, cond, List, [], ◌∷◌, length, refl, ◌∙◌, sym, ap, arith, if◌then◌else◌}, lemmas.{Bool.{eqb-true, lt-ltb, le-ltb, ltb-false}, Option.{slice_get_within, slice_get_past}}}
+use Rattle.std.proofs.{Common.{◌≡◌, ◌≤◌, ℕ, zero, suc, ◌+◌, Bool, true, false, not, cond, List, [], ◌∷◌, length, refl, ◌∙◌, sym, ap, arith, if◌then◌else◌}, lemmas.{Bool.{eqb-true, lt-ltb, le-ltb, ltb-false, false_from_ne_true, and_parts}, Option.{slice_get_within, slice_get_past, same_Some}}}
 use Rattle.std.specs.{Prelude.{Option, Some, None, ◌&&◌, nat_lt, slice_get}, List.{find, position, position_or_len}}
 use Rattle.gx_units.specs.{Names.same_account, declared.names.AccountName.AccountName}
 use Rattle.gx_history.specs.declared.live_order.LiveOrder.{LiveOrder}
 use Rattle.gx_slab.specs.Slabs.{IsPlaced, has_number, is_open, open_ones, live_numbered, order_of, stands_for}
-
-pub some_is : {X : Type 0} {x y : X} → Some x ≡ Some y → x ≡ y
-some_is {X} {x} h = ap (λ (o : Option X). elim o [ None ↦ x | Some z ↦ z ]) h
-
-pub not_true : (b : Bool) → (b ≡ true → ⊥) → b ≡ false
-not_true true never = elim (never refl) [ ]
-not_true false never = refl
-
-pub both_true : (a b : Bool) → (a && b) ≡ true → (a ≡ true) × (b ≡ true)
-both_true true true h = (refl, refl)
-both_true true false h = let never : false ≡ true = h in cc
-both_true false b h = let never : false ≡ true = h in cc
 
 -- ---- what passes a test first
 
@@ -45,13 +33,13 @@ passes_nowhere p (x ∷ xs) never =
 
 passes_once : {X : Type 0} (p : X → Bool) (xs : List X) (i : ℕ) (x : X) → slice_get xs i ≡ Some x → p x ≡ true → ((k : ℕ) (y : X) → slice_get xs k ≡ Some y → p y ≡ true → k ≡ i) → position_or_len p xs ≡ i
 passes_once p [] i x at is alone = let never : None ≡ Some x = at in cc
-passes_once p (y ∷ xs) zero x at is alone = ap (λ (b : Bool). cond (not b) (1 + position_or_len p xs) 0) (ap p (some_is at) ∙ is)
+passes_once p (y ∷ xs) zero x at is alone = ap (λ (b : Bool). cond (not b) (1 + position_or_len p xs) 0) (ap p (same_Some _ _ at) ∙ is)
 passes_once p (y ∷ xs) (suc i) x at is alone =
-    ap (λ (b : Bool). cond (not b) (1 + position_or_len p xs) 0) (not_true (p y) (λ h. omega (arith, alone 0 y refl h)))
+    ap (λ (b : Bool). cond (not b) (1 + position_or_len p xs) 0) (false_from_ne_true (p y) (λ h. omega (arith, alone 0 y refl h)))
     ∙ omega (arith, passes_once p xs i x at is (λ k z e h. omega (arith, alone (suc k) z e h)))
 
 position_at : {X : Type 0} (p : X → Bool) (xs : List X) (i : ℕ) → (b : Bool) → nat_lt (position_or_len p xs) (length xs) ≡ b → cond b (Some (position_or_len p xs)) None ≡ Some i → position_or_len p xs ≡ i
-position_at p xs i true e h = some_is h
+position_at p xs i true e h = same_Some _ _ h
 position_at p xs i false e h = let never : None ≡ Some i = h in cc
 
 nowhere : {X : Type 0} (p : X → Bool) (xs : List X) (b : Bool) → nat_lt (position_or_len p xs) (length xs) ≡ b → cond b (Some (position_or_len p xs)) None ≡ None → length xs ≤ position_or_len p xs
@@ -76,13 +64,13 @@ found_nowhere rows n at =
 -- a live row of the number stands where the places say
 said : (places : List ℕ) (rows : List LiveOrder) (n : ℕ) → IsPlaced places rows → (k : ℕ) (p : LiveOrder) → slice_get rows k ≡ Some p → stands_for n p ≡ true → slice_get places n ≡ Some k
 said places rows n placed k p at is =
-    let parts = both_true (is_open p) (has_number n p) is in
+    let parts = and_parts (is_open p) (has_number n p) is in
     ap (slice_get places) (sym (eqb-true p.number n parts.1)) ∙ placed k p at parts.0
 
 -- no other row has it
 pub alone : (places : List ℕ) (rows : List LiveOrder) (n i : ℕ) (o : LiveOrder) → IsPlaced places rows → slice_get rows i ≡ Some o → stands_for n o ≡ true
     → (k : ℕ) (p : LiveOrder) → slice_get rows k ≡ Some p → stands_for n p ≡ true → k ≡ i
-alone places rows n i o placed at is k p e h = some_is (sym (said places rows n placed k p e h) ∙ said places rows n placed i o at is)
+alone places rows n i o placed at is k p e h = same_Some _ _ (sym (said places rows n placed k p e h) ∙ said places rows n placed i o at is)
 
 pub placed_at : (places : List ℕ) (rows : List LiveOrder) (n i : ℕ) (o : LiveOrder) → IsPlaced places rows → slice_get rows i ≡ Some o → stands_for n o ≡ true → position (stands_for n) rows ≡ Some i
 placed_at places rows n i o placed at is =
@@ -93,7 +81,7 @@ pub placed_nowhere : (places : List ℕ) (rows : List LiveOrder) (n : ℕ) → I
     → ((i : ℕ) (o : LiveOrder) → slice_get places n ≡ Some i → slice_get rows i ≡ Some o → stands_for n o ≡ false) → position (stands_for n) rows ≡ None
 placed_nowhere places rows n placed never =
     ap (λ (k : ℕ). cond (nat_lt k (length rows)) (Some k) None)
-    (passes_nowhere (stands_for n) rows (λ i o at. not_true (stands_for n o) (λ is. wrong i o at is (never i o (said places rows n placed i o at is) at))))
+    (passes_nowhere (stands_for n) rows (λ i o at. false_from_ne_true (stands_for n o) (λ is. wrong i o at is (never i o (said places rows n placed i o at is) at))))
     ∙ ap (λ (b : Bool). cond b (Some (length rows)) None) (le-ltb (length rows) (length rows) (omega arith))
   where
     wrong : (i : ℕ) (o : LiveOrder) → slice_get rows i ≡ Some o → stands_for n o ≡ true → stands_for n o ≡ false → ⊥
@@ -105,12 +93,12 @@ no_place places rows n placed none =
 
 pub no_row : (places : List ℕ) (rows : List LiveOrder) (n i : ℕ) → IsPlaced places rows → slice_get places n ≡ Some i → slice_get rows i ≡ None → None ≡ position (stands_for n) rows
 no_row places rows n i placed here none =
-    sym (placed_nowhere places rows n placed (λ k o at there. let never : None ≡ Some o = sym none ∙ ap (slice_get rows) (some_is (sym here ∙ at)) ∙ there in let wrong : ⊥ = cc in elim wrong [ ]))
+    sym (placed_nowhere places rows n placed (λ k o at there. let never : None ≡ Some o = sym none ∙ ap (slice_get rows) (same_Some _ _ (sym here ∙ at)) ∙ there in let wrong : ⊥ = cc in elim wrong [ ]))
 
 pub other_row : (places : List ℕ) (rows : List LiveOrder) (n i : ℕ) (o : LiveOrder) → IsPlaced places rows → slice_get places n ≡ Some i → slice_get rows i ≡ Some o → stands_for n o ≡ false → None ≡ position (stands_for n) rows
 other_row places rows n i o placed here it differs =
     sym (placed_nowhere places rows n placed (λ k p at there.
-    ap (stands_for n) (some_is (sym there ∙ ap (slice_get rows) (some_is (sym at ∙ here)) ∙ it)) ∙ differs))
+    ap (stands_for n) (same_Some _ _ (sym there ∙ ap (slice_get rows) (same_Some _ _ (sym at ∙ here)) ∙ it)) ∙ differs))
 
 pub this_row : (places : List ℕ) (rows : List LiveOrder) (n i : ℕ) (o : LiveOrder) → IsPlaced places rows → slice_get rows i ≡ Some o → stands_for n o ≡ true → Some i ≡ position (stands_for n) rows
 this_row places rows n i o placed it is = sym (placed_at places rows n i o placed it is)
@@ -128,7 +116,7 @@ none_of account (x ∷ rows) n never = by (is_open x) refl (none_of account rows
     by : (b : Bool) → is_open x ≡ b → order_of account (open_ones rows) n ≡ None → order_of account (cond b (x ∷ open_ones rows) (open_ones rows)) n ≡ None
     by true e later =
         ap (λ (b : Bool). cond (b && same_account account x.account) (Some x) (order_of account (open_ones rows) n))
-        (not_true (has_number n x) (λ h. never 0 x refl (ap (λ (b : Bool). b && has_number n x) e ∙ h)))
+        (false_from_ne_true (has_number n x) (λ h. never 0 x refl (ap (λ (b : Bool). b && has_number n x) e ∙ h)))
         ∙ later
     by false e later = later
 

@@ -1,5 +1,5 @@
 -- The rows that pass a test, one by one.
-use Rattle.std.proofs.{Common.{◌≡◌, ◌<◌, ◌≤◌, ◌-◌, take, ltb, ℕ, zero, suc, ◌+◌, Bool, true, false, cond, List, [], ◌∷◌, length, refl, ◌∙◌, sym, ap, drop, get_or, position, add-one, arith}, Math.ListN.drop_of_length-le, lemmas.{Bool.ltb-false, List.{Sums.fails_before_first, Quantifiers.position-Some, drop_more}, Grind.common_steps}}
+use Rattle.std.proofs.{Common.{◌≡◌, ◌<◌, ◌≤◌, ◌-◌, take, ltb, ℕ, zero, suc, ◌+◌, Bool, true, false, cond, List, [], ◌∷◌, length, refl, ◌∙◌, sym, ap, drop, get_or, position, add-one, arith}, lemmas.{Bool.ltb-false, List.{Sums.fails_before_first, Quantifiers.position-Some, drop_more, take_rest}}}
 use Rattle.std.specs.{Prelude.{Option, Some, None}, List.{cons_option, filter, filter_map, position_or_len}}
 
 -- where the first row that passes stands at i, those before it are not shown
@@ -33,13 +33,9 @@ none_open p (x ∷ rows) none =
     let past : length (x ∷ rows) ≤ position_or_len p (x ∷ rows) = is_past (position_or_len p (x ∷ rows)) (length (x ∷ rows)) (ltb (position_or_len p (x ∷ rows)) (length (x ∷ rows))) refl none in
     none_shown p (x ∷ rows) x (λ k less. fails_before_first p (x ∷ rows) k x (omega (arith, past, less)))
 
--- all that stands behind
-whole_rest : {X : Type 0} (rows : List X) (n : ℕ) → take (length rows - n) (drop n rows) ≡ drop n rows
-whole_rest rows n = grind (arith, common_steps)
-
 -- the first row that passes and those behind it, as a slice to the end is read
 pub skipped_to : {X : Type 0} (p : X → Bool) (rows : List X) (i : ℕ) (d : X) → position p rows ≡ Some i → filter p rows ≡ get_or rows i d ∷ filter p (take (length rows - (i + 1)) (drop (i + 1) rows))
-skipped_to {X} p rows i d at = skipped p rows i d at ∙ ap (λ (behind : List X). get_or rows i d ∷ filter p behind) (sym (whole_rest rows (i + 1)))
+skipped_to {X} p rows i d at = skipped p rows i d at ∙ ap (λ (behind : List X). get_or rows i d ∷ filter p behind) (sym (take_rest rows (i + 1)))
 
 -- ---- by number
 
@@ -48,18 +44,3 @@ one_more : {X Y : Type 0} (h : X → Option Y) (xs : List X) (i : ℕ) (d : X) (
     → filter_map h (drop i xs) ≡ cons_option found (filter_map h (drop (i + 1) xs))
 one_more h xs i d found within gives =
     ap (filter_map h) (drop_more xs i d within) ∙ ap (λ o. cons_option o (filter_map h (drop (i + 1) xs))) gives
-
--- where the number gives none, those behind it give all
-pub passed_over : {X Y : Type 0} (h : X → Option Y) (xs : List X) (i : ℕ) (d : X) → i < length xs → filter_map h (drop i xs) ≡ filter_map h xs → h (get_or xs i d) ≡ None
-    → filter_map h (drop (i + 1) xs) ≡ filter_map h xs
-passed_over h xs i d within before none = sym (one_more h xs i d None within none) ∙ before
-
--- where it gives one, that comes first
-pub comes_first : {X Y : Type 0} (h : X → Option Y) (xs : List X) (i : ℕ) (d : X) (y : Y) → i < length xs → filter_map h (drop i xs) ≡ filter_map h xs → h (get_or xs i d) ≡ Some y
-    → filter_map h xs ≡ y ∷ filter_map h (take (length xs - (i + 1)) (drop (i + 1) xs))
-comes_first h xs i d y within before gives =
-    sym before ∙ one_more h xs i d (Some y) within gives ∙ ap (λ behind. y ∷ filter_map h behind) (sym (whole_rest xs (i + 1)))
-
--- behind the last nothing is left
-pub none_left : {X Y : Type 0} (h : X → Option Y) (xs : List X) (i : ℕ) → length xs ≤ i → filter_map h (drop i xs) ≡ filter_map h xs → filter_map h xs ≡ []
-none_left h xs i past before = sym before ∙ ap (filter_map h) (drop_of_length-le xs past)

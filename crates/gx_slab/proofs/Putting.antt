@@ -1,13 +1,12 @@
 -- An order is put last.
-use Rattle.std.proofs.{Common.{◌≡◌, ◌<◌, ℕ, zero, suc, ◌+◌, Bool, true, false, cond, List, [], ◌∷◌, ◌++◌, length, set, refl, ◌∙◌, sym, ap, subst, arith, ◌⊎◌, inl, inr}, lemmas.{Bool.eq-eqb, List.{length-append, Elements.filter-append}}}
+use Rattle.std.proofs.{Common.{◌≡◌, ◌<◌, ℕ, zero, suc, ◌+◌, Bool, true, false, cond, List, [], ◌∷◌, ◌++◌, length, set, refl, ◌∙◌, sym, ap, subst, arith, ◌⊎◌, inl, inr}, lemmas.{Bool.eq-eqb, List.{Elements.filter-append, length-append}, Option.same_Some}}
 use Rattle.std.specs.Prelude.{Some, None, slice_get}
 use Rattle.gx_history.specs.declared.live_order.LiveOrder.{LiveOrder}
-use Rattle.gx_slab.proofs.Finding.{some_is}
 use Rattle.gx_slab.specs.Slabs.{HasRoom, IsPlaced, IsTable, first_place, has_number, is_open, open_ones, live_numbered}
 
 -- what stands in a list with one more: what stood there, or the last
 stood : {X : Type 0} (xs : List X) (x p : X) (i : ℕ) → slice_get (xs ++ x ∷ []) i ≡ Some p → (slice_get xs i ≡ Some p) ⊎ ((i ≡ length xs) × (p ≡ x))
-stood [] x p zero at = inr (refl, sym (some_is at))
+stood [] x p zero at = inr (refl, sym (same_Some _ _ at))
 stood [] x p (suc i) at = let never : None ≡ Some p = at in inl (cc)
 stood (y ∷ xs) x p zero at = inl at
 stood (y ∷ xs) x p (suc i) at = elim (stood xs x p i at) [ inl h ↦ inl h | inr h ↦ inr (omega (arith, h.0), h.1) ]
@@ -51,9 +50,9 @@ fresh_apart (x ∷ rows) n none i o at lives is = by (is_open x) refl none (λ l
 
     by : (b : Bool) → is_open x ≡ b → live_numbered (cond b (x ∷ open_ones rows) (open_ones rows)) n ≡ None
         → (live_numbered (open_ones rows) n ≡ None → (k : ℕ) (p : LiveOrder) → slice_get rows k ≡ Some p → is_open p ≡ true → p.number ≡ n → ⊥) → (k : ℕ) → slice_get (x ∷ rows) k ≡ Some o → ⊥
-    by true e h later zero here = it (ap (has_number n) (some_is here) ∙ eq-eqb o.number n is) h
+    by true e h later zero here = it (ap (has_number n) (same_Some _ _ here) ∙ eq-eqb o.number n is) h
     by true e h later (suc k) here = later (passed (has_number n x) h) k o here lives is
-    by false e h later zero here = let never : true ≡ false = sym lives ∙ ap is_open (sym (some_is here)) ∙ e in cc
+    by false e h later zero here = let never : true ≡ false = sym lives ∙ ap is_open (sym (same_Some _ _ here)) ∙ e in cc
     by false e h later (suc k) here = later h k o here lives is
 
 -- the table with one more

@@ -1,6 +1,6 @@
 -- Where the first order that waits stands.
-use Rattle.std.proofs.{Common.{◌≡◌, ◌<◌, ◌≤◌, ℕ, zero, suc, ◌+◌, Bool, true, false, not, cond, List, [], ◌∷◌, ◌++◌, length, get_or, set, refl, sym, ap, arith, if◌then◌else◌}, lemmas.List.Sums.prefix_len-le-length}
-use Rattle.std.specs.{Prelude.{min, ◌&&◌}, List.position_or_len}
+use Rattle.std.proofs.{Common.{◌≡◌, ◌<◌, ◌≤◌, ℕ, zero, suc, ◌+◌, Bool, true, false, not, cond, List, [], ◌∷◌, length, get_or, set, refl, sym, ap, arith, if◌then◌else◌}, lemmas.{List.Sums.prefix_len-le-length, Bool.and_right}}
+use Rattle.std.specs.{Prelude.min, List.position_or_len}
 use Rattle.gx_history.specs.declared.live_order.LiveOrder.{LiveOrder}
 use Rattle.gx_slab.specs.Slabs.{first_place, is_open, is_waiting}
 
@@ -32,15 +32,6 @@ none_is p xs before = omega (arith, before, prefix_len-le-length (λ x. not (p x
 
 -- ---- after a change
 
--- one more
-pub still_before : {X : Type 0} (p : X → Bool) (xs ys : List X) → position_or_len p xs ≤ position_or_len p (xs ++ ys)
-still_before p [] ys = omega arith
-still_before p (x ∷ xs) ys = by (p x) (still_before p xs ys)
-  where
-    by : (b : Bool) → position_or_len p xs ≤ position_or_len p (xs ++ ys) → cond (not b) (1 + position_or_len p xs) 0 ≤ cond (not b) (1 + position_or_len p (xs ++ ys)) 0
-    by true later = omega arith
-    by false later = omega (arith, later)
-
 -- one that does not pass, in any place
 written_past : {X : Type 0} (p : X → Bool) (xs : List X) (i : ℕ) (y : X) → p y ≡ false → position_or_len p xs ≤ position_or_len p (set xs i y)
 written_past p [] i y fails = omega arith
@@ -67,14 +58,10 @@ written_behind p (x ∷ xs) (suc i) (suc k) y at before = by (p x) before (λ h.
     by true h later = h
     by false h later = omega (arith, later (omega (arith, h)))
 
-waits_not : (a b : Bool) → b ≡ false → (a && b) ≡ false
-waits_not true b h = h
-waits_not false b h = refl
-
 -- an order written at its place
 pub first_written : (rows : List LiveOrder) (i : ℕ) (o : LiveOrder) → (if o.waits then min i (first_place rows) else first_place rows) ≤ first_place (set rows i o)
 first_written rows i o = by o.waits refl
   where
     by : (b : Bool) → o.waits ≡ b → (if b then min i (first_place rows) else first_place rows) ≤ first_place (set rows i o)
     by true e = written_behind is_waiting rows i (min i (first_place rows)) o (omega arith) (omega arith)
-    by false e = written_past is_waiting rows i o (waits_not (is_open o) o.waits e)
+    by false e = written_past is_waiting rows i o (and_right (is_open o) o.waits e)

@@ -1,8 +1,8 @@
 -- An order is written in the place of the one of its number.
-use Rattle.std.proofs.{Common.{◌≡◌, ◌<◌, ◌-◌, ℕ, zero, suc, ◌+◌, Bool, true, false, cond, List, [], ◌∷◌, map, length, set, refl, ◌∙◌, sym, ap, arith, ◌==◌, if◌then◌else◌}, lemmas.{Bool.{eqb-true, eqb-false}, List.Quantifiers.position-Some, Option.{slice_get_within, slice_get-get_or}}}
-use Rattle.std.specs.{Prelude.{Option, Some, None, slice_get, ◌&&◌, get_or}, List.position, Option.option_map_or}
+use Rattle.std.proofs.{Common.{◌≡◌, ◌<◌, ◌-◌, ℕ, zero, suc, ◌+◌, Bool, true, false, cond, List, [], ◌∷◌, map, length, set, refl, ◌∙◌, sym, ap, arith, ◌==◌, if◌then◌else◌}, lemmas.{Bool.{eqb-true, eqb-false, false_from_ne_true, and_parts, and_from}, List.Quantifiers.position-Some, Option.{slice_get_within, slice_get-get_or, same_Some}}}
+use Rattle.std.specs.{Prelude.{Option, Some, None, slice_get, get_or}, List.position, Option.option_map_or}
 use Rattle.gx_history.specs.declared.live_order.LiveOrder.{LiveOrder}
-use Rattle.gx_slab.proofs.{Finding.{alone, both_true, found_at, found_nowhere, not_true, some_is}, Putting.{fresh_apart, is_set, others_stay}}
+use Rattle.gx_slab.proofs.{Finding.{alone, found_at, found_nowhere}, Putting.{fresh_apart, is_set, others_stay}}
 use Rattle.gx_slab.specs.Slabs.{IsPlaced, at_rest, has_number, is_open, live_numbered, open_ones, stands_for, written}
 
 -- the order in the place of the one of its number
@@ -29,7 +29,7 @@ none_written o (x ∷ rows) apart = by (none_written o rows (λ i p at lives. ap
 
 pub nothing_written : (rows : List LiveOrder) (o : LiveOrder) → position (stands_for o.number) rows ≡ None → open_ones rows ≡ written o (open_ones rows)
 nothing_written rows o none =
-    sym (ap open_ones (none_written o rows (λ i p at lives. not_true (has_number o.number p) (λ h.
+    sym (ap open_ones (none_written o rows (λ i p at lives. false_from_ne_true (has_number o.number p) (λ h.
     fresh_apart rows o.number (found_nowhere rows o.number none) i p at lives (eqb-true p.number o.number h)))) ∙ open_twice rows)
 
 -- the live rows, with another order in the place of the one of its number
@@ -38,8 +38,8 @@ shown_written : (rows : List LiveOrder) (o p : LiveOrder) (i : ℕ) → slice_ge
     → open_ones (set rows i o) ≡ written o (open_ones rows)
 shown_written [] o p i at lives is apart = let never : None ≡ Some p = at in cc
 shown_written (x ∷ rows) o p zero at lives is apart =
-    let same : x ≡ p = some_is at in
-    let kept = none_written o rows (λ k q e l. not_true (has_number o.number q) (λ h. omega (arith, apart (suc k) q e l h))) in
+    let same : x ≡ p = same_Some _ _ at in
+    let kept = none_written o rows (λ k q e l. false_from_ne_true (has_number o.number q) (λ h. omega (arith, apart (suc k) q e l h))) in
     sym (ap (λ (b : Bool). open_ones (map (in_place o) (cond b (x ∷ open_ones rows) (open_ones rows)))) (ap is_open same ∙ lives)
     ∙ ap (λ (b : Bool). open_ones ((if b then o else x) ∷ map (in_place o) (open_ones rows))) (ap (has_number o.number) same ∙ is)
     ∙ ap (λ (xs : List LiveOrder). open_ones (o ∷ xs)) kept
@@ -50,7 +50,7 @@ shown_written (x ∷ rows) o p (suc i) at lives is apart =
     by : open_ones (set rows i o) ≡ written o (open_ones rows) → (b : Bool) → is_open x ≡ b
         → cond b (x ∷ open_ones (set rows i o)) (open_ones (set rows i o)) ≡ written o (cond b (x ∷ open_ones rows) (open_ones rows))
     by later true e =
-        let other : has_number o.number x ≡ false = not_true (has_number o.number x) (λ h. omega (arith, apart 0 x refl e h)) in
+        let other : has_number o.number x ≡ false = false_from_ne_true (has_number o.number x) (λ h. omega (arith, apart 0 x refl e h)) in
         sym (ap (λ (b : Bool). open_ones ((if b then o else x) ∷ map (in_place o) (open_ones rows))) other
         ∙ ap (λ (b : Bool). cond b (x ∷ written o (open_ones rows)) (written o (open_ones rows))) e
         ∙ ap (λ (xs : List LiveOrder). x ∷ xs) (sym later))
@@ -60,7 +60,7 @@ shown_written (x ∷ rows) o p (suc i) at lives is apart =
 count_written : (rows : List LiveOrder) (o p : LiveOrder) (i : ℕ) → slice_get rows i ≡ Some p → is_open p ≡ true → length (open_ones (set rows i o)) + 1 ≡ length (open_ones rows) + (if is_open o then 1 else 0)
 count_written [] o p i at lives = let never : None ≡ Some p = at in cc
 count_written (x ∷ rows) o p zero at lives =
-    by (is_open o) (ap (λ (b : Bool). length (cond b (x ∷ open_ones rows) (open_ones rows))) (ap is_open (some_is at) ∙ lives))
+    by (is_open o) (ap (λ (b : Bool). length (cond b (x ∷ open_ones rows) (open_ones rows))) (ap is_open (same_Some _ _ at) ∙ lives))
   where
     by : (b : Bool) → length (open_ones (x ∷ rows)) ≡ length (x ∷ open_ones rows) → length (cond b (o ∷ open_ones rows) (open_ones rows)) + 1 ≡ length (open_ones (x ∷ rows)) + (if b then 1 else 0)
     by true is = omega (arith, is)
@@ -83,7 +83,7 @@ placed_set places rows o p i placed at lives is j q e live = by (j == i) refl
     by : (b : Bool) → (j == i) ≡ b → slice_get places q.number ≡ Some j
     by true same =
         let here : j ≡ i = eqb-true j i same in
-        let it : q ≡ o = some_is (sym e ∙ ap (slice_get (set rows i o)) here ∙ is_set rows i o (slice_get_within rows i p at)) in
+        let it : q ≡ o = same_Some _ _ (sym e ∙ ap (slice_get (set rows i o)) here ∙ is_set rows i o (slice_get_within rows i p at)) in
         ap (λ (y : LiveOrder). slice_get places y.number) it ∙ ap (slice_get places) (sym is) ∙ placed i p at lives ∙ ap (λ (k : ℕ). Some k) (sym here)
     by false other = placed j q (sym (others_stay rows i j o (eqb-false j i other)) ∙ e) live
 
@@ -103,16 +103,13 @@ is_written places rows o i placed found =
     counts true n m h = omega (arith, h)
     counts false n m h = omega (arith, h)
 
-    joined : (a b : Bool) → a ≡ true → b ≡ true → (a && b) ≡ true
-    joined a b x y = ap (λ (c : Bool). c && b) x ∙ y
-
     at_row : (p : LiveOrder) → slice_get rows i ≡ Some p → stands_for o.number p ≡ true → IsWritten places rows o i
     at_row p at is =
-        let parts = both_true (is_open p) (has_number o.number p) is in
+        let parts = and_parts (is_open p) (has_number o.number p) is in
         record {
           within = slice_get_within rows i p at;
           placed = placed_set places rows o p i placed at parts.0 (eqb-true p.number o.number parts.1);
-          shown = shown_written rows o p i at parts.0 parts.1 (λ k q e l h. alone places rows o.number i p placed at is k q e (joined (is_open q) (has_number o.number q) l h));
+          shown = shown_written rows o p i at parts.0 parts.1 (λ k q e l h. alone places rows o.number i p placed at is k q e (and_from (is_open q) (has_number o.number q) l h));
           counted = counts (is_open o) (length (open_ones rows)) (length (open_ones (set rows i o))) (count_written rows o p i at parts.0);
         }
 
@@ -126,7 +123,7 @@ pub is_rested : (places : List ℕ) (rows : List LiveOrder) (number : ℕ) (r : 
     → IsRested places rows number r i
 is_rested places rows number r i placed found at =
     let there = position-Some (stands_for number) rows i r found in
-    let parts = both_true (is_open r) (has_number number r) (ap (stands_for number) at ∙ there.1) in
+    let parts = and_parts (is_open r) (has_number number r) (ap (stands_for number) at ∙ there.1) in
     let w = is_written places rows (at_rest r) i placed (ap (λ (n : ℕ). position (stands_for n) rows) (eqb-true r.number number parts.1) ∙ found) in
     record {
       placed = w.placed;

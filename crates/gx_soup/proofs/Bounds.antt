@@ -1,5 +1,5 @@
 -- How much is left over.
-use Rattle.std.proofs.{Common.{◌≡◌, ℕ, zero, suc, ◌+◌, ◌-◌, ◌*◌, ◌<◌, ◌≤◌, ◌⊎◌, inl, inr, Bool, true, false, cond, not, ◌&&◌, ◌==◌, nat_lt, List, [], ◌∷◌, length, take, drop, get_or, Option, Some, None, refl, ap, arith}, lemmas.{Bool.Decides.nat_tests, List.{nil_from_length, get_or-drop, length-drop}}}
+use Rattle.std.proofs.{Common.{◌≡◌, ℕ, zero, suc, ◌+◌, ◌-◌, ◌*◌, ◌<◌, ◌≤◌, ◌⊎◌, inl, inr, Bool, true, false, cond, not, ◌&&◌, ◌==◌, nat_lt, List, [], ◌∷◌, length, take, drop, get_or, Option, Some, None, refl, ap, arith}, lemmas.{Bool.ltb-true, List.{nil_from_length, get_or-drop, length-drop}}}
 use Rattle.gx_soup.specs.{declared.{packet.{ClientPacket.ClientPacket, SoupFault.SoupFault}}, Standard.{login_request, login_length, longest_packet}, Packets.{Front, Short, Faulty, Whole, front, typed_front, whole_front, login_front, is_client_type, Soup, packets_of}}
 use Rattle.gx_soup.proofs.Soup.{packets_short, packets_faulty, packets_whole, packets_nil, front_takes}
 
@@ -20,14 +20,11 @@ whole_told : (b : Bool) (w : Front) (p : ClientPacket) (n : ℕ) → ¬ (w ≡ S
 whole_told true w p n h e = h e
 whole_told false w p n h e = cc
 
-lt_is : (m n : ℕ) → nat_lt m n ≡ true → m < n
-lt_is m n h = grind (arith, nat_tests)
-
 typed_short : (count : ℕ) (body : List ℕ) → typed_front count body ≡ Short → (length body ≡ 0) ⊎ (length body < count)
 typed_short count [] e = inl refl
 typed_short count (kind ∷ body) e =
     let s = told_short (not (is_client_type kind)) ((kind == login_request) && not (count == login_length)) (nat_lt (length body) (count - 1)) _ _ (whole_front kind (take (count - 1) body)) (whole_told (kind == login_request) _ _ _ (login_told (take (count - 1) body) _)) e in
-    let l = lt_is (length body) (count - 1) s in
+    let l = ltb-true (length body) (count - 1) s in
     inr (omega (arith, l))
 
 counted_short : (b : Bool) (x : SoupFault) (w : Front) → cond b (Faulty x) w ≡ Short → w ≡ Short

@@ -1,14 +1,14 @@
 -- A number that was written with spaces in front is read back.
 use Rattle.std.proofs.{Common.{◌≡◌, ℕ, zero, suc, ◌-◌, ◌^◌, ◌<◌, min, true, false, cond, ◌&&◌, List, [], ◌∷◌, ◌++◌, length, replicate, fold, Some, None, refl, ap, ◌∙◌, arith, rules, decimal}, lemmas.{Bool.Decides.nat_tests, Str.Parse.{IsNumeralModel, numerals_by_fold}, Fmt.{digits_value-decimal, decimal_is_IsNumeral}}}
 use Rattle.std.specs.{Int.IsInRange, List.list_all, Char.is_ascii_digit}
-use Rattle.gx_units.specs.Spelling.{is_space, is_blank, without_left_spaces, without_right_spaces, trimmed}
-use Rattle.gx_soup.specs.{Login.{greatest, with_digit, spelled, number_of}, Writing.number_field}
+use Rattle.gx_units.specs.Spelling.{is_space, is_blank, without_left_spaces, without_right_spaces, trimmed_text}
+use Rattle.gx_soup.specs.{Login.{greatest, with_digit, spelled_number, number_of}, Writing.number_field}
 
 abbrev AreDigits : List ℕ → Type 0
 AreDigits [] = Unit {0}
 AreDigits (c ∷ cs) = IsInRange 48 57 c × AreDigits cs
 
-own : IsNumeralModel AreDigits spelled
+own : IsNumeralModel AreDigits spelled_number
 own = numerals_by_fold _ (search rules) (fold with_digit) (search rules)
 
 digit_is : (c : ℕ) → IsInRange 48 57 c → is_ascii_digit c ≡ true
@@ -17,7 +17,7 @@ digit_is c h = grind (arith, nat_tests, h)
 no_space : (c : ℕ) → IsInRange 48 57 c → is_space c ≡ false
 no_space c h = grind (arith, nat_tests, h)
 
-digits_are : (ds : List ℕ) → AreDigits ds → list_all is_ascii_digit ds ≡ true
+pub digits_are : (ds : List ℕ) → AreDigits ds → list_all is_ascii_digit ds ≡ true
 digits_are [] d = refl
 digits_are (c ∷ cs) d = ap (λ b. b && list_all is_ascii_digit cs) (digit_is c d.0) ∙ digits_are cs d.1
 
@@ -30,20 +30,20 @@ left_kept : (ds : List ℕ) → AreDigits ds → without_left_spaces ds ≡ ds
 left_kept [] d = refl
 left_kept (c ∷ cs) d = ap (λ b. cond b (without_left_spaces cs) (c ∷ cs)) (no_space c d.0)
 
-spaces_dropped : (k : ℕ) (ds : List ℕ) → without_left_spaces (replicate k 32 ++ ds) ≡ without_left_spaces ds
+pub spaces_dropped : (k : ℕ) (ds : List ℕ) → without_left_spaces (replicate k 32 ++ ds) ≡ without_left_spaces ds
 spaces_dropped zero ds = refl
 spaces_dropped (suc k) ds = spaces_dropped k ds
 
-trimmed_is : (k : ℕ) (ds : List ℕ) → AreDigits ds → trimmed (replicate k 32 ++ ds) ≡ ds
+trimmed_is : (k : ℕ) (ds : List ℕ) → AreDigits ds → trimmed_text (replicate k 32 ++ ds) ≡ ds
 trimmed_is k ds d = ap without_right_spaces (spaces_dropped k ds ∙ left_kept ds d) ∙ right_kept ds d
 
 below_greatest : (n : ℕ) → n < 2 ^ 64 → min n greatest ≡ n
 below_greatest n h = omega (arith, h)
 
-number_read_as : (field ds : List ℕ) (n : ℕ) → trimmed field ≡ ds → AreDigits ds → spelled ds ≡ n → n < 2 ^ 64 → number_of field ≡ Some n
+number_read_as : (field ds : List ℕ) (n : ℕ) → trimmed_text field ≡ ds → AreDigits ds → spelled_number ds ≡ n → n < 2 ^ 64 → number_of field ≡ Some n
 number_read_as field ds n t d e h =
-    ap (λ text. cond (list_all is_ascii_digit text) (Some (min (spelled text) greatest)) None) t
-    ∙ (ap (λ b. cond b (Some (min (spelled ds) greatest)) None) (digits_are ds d)
+    ap (λ text. cond (list_all is_ascii_digit text) (Some (min (spelled_number text) greatest)) None) t
+    ∙ (ap (λ b. cond b (Some (min (spelled_number ds) greatest)) None) (digits_are ds d)
     ∙ (ap (λ m. Some (min m greatest)) e ∙ ap Some (below_greatest n h)))
 
 pub number_read : (n : ℕ) → n < 2 ^ 64 → number_of (number_field n) ≡ Some n

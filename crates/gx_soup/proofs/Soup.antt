@@ -1,5 +1,5 @@
 -- The laws of `front` and of `packets_of`: a text that goes on, and one packet after another.
-use Rattle.std.proofs.{Common.{◌≡◌, ℕ, zero, suc, ◌+◌, ◌-◌, ◌*◌, ◌<◌, ◌≤◌, ◌⊎◌, inl, inr, Bool, true, false, cond, not, ◌&&◌, nat_lt, ◌==◌, List, [], ◌∷◌, ◌++◌, length, take, drop, Option, Some, None, refl, sym, ap, ◌∙◌, arith}, lemmas.{Bool.Decides.nat_tests, List.{nil_from_length, drop-append-le, take-append-le, length-take-le, length-drop, length-append}}}
+use Rattle.std.proofs.{Common.{◌≡◌, ℕ, zero, suc, ◌+◌, ◌-◌, ◌*◌, ◌<◌, ◌≤◌, ◌⊎◌, inl, inr, Bool, true, false, cond, not, ◌&&◌, nat_lt, ◌==◌, List, [], ◌∷◌, ◌++◌, length, take, drop, Option, Some, None, refl, sym, ap, ◌∙◌, arith}, lemmas.{Bool.{Decides.nat_tests, ltb-false, le-ltb}, List.{nil_from_length, drop-append-le, take-append-le, length-take-le, length-drop, length-append}}}
 use Rattle.gx_soup.specs.{declared.{packet.{ClientPacket.ClientPacket, SoupFault.SoupFault}}, Standard.{login_request, login_length}, Packets.{Front, Short, Faulty, Whole, front, typed_front, whole_front, login_front, is_client_type, Soup, with_packet, soup_from, soup_within, packets_of}}
 
 -- packets that stand before those of a text
@@ -17,16 +17,10 @@ chosen_grows false true s s' x y w w' k h = refl
 chosen_grows false false true s' x y w w' k h = absurd (h refl)
 chosen_grows false false false s' x y w w' k h = rw ((k refl).0, (k refl).1) refl
 
-at_least : (m n : ℕ) → nat_lt m n ≡ false → n ≤ m
-at_least m n h = grind (arith, nat_tests)
-
-below : (m n : ℕ) → n ≤ m → nat_lt m n ≡ false
-below m n h = grind (arith, nat_tests)
-
-body_grows : (n : ℕ) (a b : List ℕ) → nat_lt (length a) n ≡ false → (nat_lt (length (a ++ b)) n ≡ false) × (take n (a ++ b) ≡ take n a)
+pub body_grows : (n : ℕ) (a b : List ℕ) → nat_lt (length a) n ≡ false → (nat_lt (length (a ++ b)) n ≡ false) × (take n (a ++ b) ≡ take n a)
 body_grows n a b h =
-    let enough : n ≤ length a = at_least (length a) n h in
-    (below (length (a ++ b)) n (simp length-append (omega arith)), take-append-le n a b enough)
+    let enough : n ≤ length a = ltb-false (length a) n h in
+    (le-ltb (length (a ++ b)) n (simp length-append (omega arith)), take-append-le n a b enough)
 
 typed_grows : (count : ℕ) (a b : List ℕ) → ¬ (typed_front count a ≡ Short) → typed_front count (a ++ b) ≡ typed_front count a
 typed_grows count [] b h = absurd (h refl)
@@ -69,7 +63,7 @@ typed_takes : (count : ℕ) (body : List ℕ) (p : ClientPacket) (t : ℕ) → 0
 typed_takes count [] p t pos e = cc
 typed_takes count (kind ∷ body) p t pos e =
     let k = picked (not (is_client_type kind)) ((kind == login_request) && not (count == login_length)) (nat_lt (length body) (count - 1)) _ _ (whole_front kind (take (count - 1) body)) p t e in
-    let enough : count - 1 ≤ length body = at_least _ _ k.1 in
+    let enough : count - 1 ≤ length body = ltb-false _ _ k.1 in
     let len : length (take (count - 1) body) ≡ count - 1 = length-take-le (count - 1) body enough in
     elim (whole_cases (kind == login_request) _ _ (length (take (count - 1) body) + 3) p t k.2) [
       | inl w ↦ (let n : t ≡ 49 = login_takes _ _ p t w.1 in let c : count ≡ login_length = is_login (kind == login_request) count w.0 k.0 in (omega arith, omega arith))

@@ -30,35 +30,35 @@ module _ (bytes : List ℕ) (used : ℕ) (ps : List ClientPacket) (told : behind
   abbrev first_left : Front
   first_left = front (take (length bytes - used) (drop used bytes))
 
-  pub cut_at_short : (now : List ClientPacket) → First.Short ≡ fronts.told first_left → now ≡ with_front ps first_left → packets_of bytes ≡ record { packets = now; fault = None; rest = drop used bytes }
+  pub cut_at_short : (now : List ClientPacket) → First.Short ≡ fronts.first_of_front first_left → now ≡ with_front ps first_left → packets_of bytes ≡ record { packets = now; fault = None; rest = drop used bytes }
   cut_at_short now short put = by first_left refl short put
     where
-      by : (r : Front) → r ≡ first_left → First.Short ≡ fronts.told r → now ≡ with_front ps r → packets_of bytes ≡ record { packets = now; fault = None; rest = drop used bytes }
+      by : (r : Front) → r ≡ first_left → First.Short ≡ fronts.first_of_front r → now ≡ with_front ps r → packets_of bytes ≡ record { packets = now; fault = None; rest = drop used bytes }
       by Short is e put = rw put (cut_short is)
       by (Faulty f) is e put = cc
       by (Whole p t) is e put = cc
 
-  pub cut_at_fault : (f : SoupFault) (now : List ClientPacket) → First.Faulty f ≡ fronts.told first_left → now ≡ with_front ps first_left
+  pub cut_at_fault : (f : SoupFault) (now : List ClientPacket) → First.Faulty f ≡ fronts.first_of_front first_left → now ≡ with_front ps first_left
       → packets_of bytes ≡ record { packets = now; fault = Some f; rest = drop (length bytes) bytes }
   cut_at_fault f now faulty put = by first_left refl faulty put
     where
-      by : (r : Front) → r ≡ first_left → First.Faulty f ≡ fronts.told r → now ≡ with_front ps r → packets_of bytes ≡ record { packets = now; fault = Some f; rest = drop (length bytes) bytes }
+      by : (r : Front) → r ≡ first_left → First.Faulty f ≡ fronts.first_of_front r → now ≡ with_front ps r → packets_of bytes ≡ record { packets = now; fault = Some f; rest = drop (length bytes) bytes }
       by Short is e put = cc
       by (Faulty g) is e put = let same : f ≡ g = cc in rw (put, same) (cut_faulty g is)
       by (Whole p t) is e put = cc
 
-  pub cut_behind : (t : ℕ) (now : List ClientPacket) → First.Whole t ≡ fronts.told first_left → now ≡ with_front ps first_left → behind now (packets_of (drop (used + t) bytes)) ≡ packets_of bytes
+  pub cut_behind : (t : ℕ) (now : List ClientPacket) → First.Whole t ≡ fronts.first_of_front first_left → now ≡ with_front ps first_left → behind now (packets_of (drop (used + t) bytes)) ≡ packets_of bytes
   cut_behind t now whole put = by first_left refl whole put
     where
-      by : (r : Front) → r ≡ first_left → First.Whole t ≡ fronts.told r → now ≡ with_front ps r → behind now (packets_of (drop (used + t) bytes)) ≡ packets_of bytes
+      by : (r : Front) → r ≡ first_left → First.Whole t ≡ fronts.first_of_front r → now ≡ with_front ps r → behind now (packets_of (drop (used + t) bytes)) ≡ packets_of bytes
       by Short is e put = cc
       by (Faulty f) is e put = cc
       by (Whole p s) is e put = let same : t ≡ s = cc in rw (put, same) (cut_whole p s is)
 
-  pub cut_within : (t : ℕ) → First.Whole t ≡ fronts.told first_left → (3 ≤ t) × (t ≤ length bytes - used)
+  pub cut_within : (t : ℕ) → First.Whole t ≡ fronts.first_of_front first_left → (3 ≤ t) × (t ≤ length bytes - used)
   cut_within t whole = by first_left refl whole
     where
-      by : (r : Front) → r ≡ first_left → First.Whole t ≡ fronts.told r → (3 ≤ t) × (t ≤ length bytes - used)
+      by : (r : Front) → r ≡ first_left → First.Whole t ≡ fronts.first_of_front r → (3 ≤ t) × (t ≤ length bytes - used)
       by Short is e = cc
       by (Faulty f) is e = cc
       by (Whole p s) is e = let same : t ≡ s = cc in rw same (cut_takes p s is)

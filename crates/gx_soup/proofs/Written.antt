@@ -1,6 +1,6 @@
 -- A client's packet is read back as itself.
 use Rattle.std.proofs.{Common.{◌≡◌, ℕ, ◌+◌, ◌-◌, ◌*◌, ◌/◌, ◌%◌, ◌^◌, ◌<◌, Bool, true, false, cond, not, ◌&&◌, ◌==◌, nat_lt, List, [], ◌∷◌, ◌++◌, length, take, drop, Some, refl, sym, ap, ◌∙◌, append_assoc, arith, decimal, replicate}, lemmas.{Bool.Decides.nat_tests, List.{take_at, take_all, drop_at, length-append, length-replicate}, Fmt.length-decimal-le}}
-use Rattle.gx_soup.specs.{declared.{packet.{ClientPacket.ClientPacket, LoginRequest.LoginRequest, SoupFault.{SoupFault, TheVariants.ZeroLength}}}, Standard.{login_request, login_length, unsequenced_data, client_heartbeat, logout_request, debug}, Login.number_of, Packets.{Front, Short, Faulty, Whole, front, counted_front, typed_front, whole_front, login_front, is_client_type, with_packet, packets_of}, Writing.{framed, number_field, login_payload, FitsFields, client_bytes, IsPacket}}
+use Rattle.gx_soup.specs.{declared.{packet.{ClientPacket.ClientPacket, LoginRequest.LoginRequest, SoupFault.{SoupFault, TheVariants.ZeroLength}}}, Standard.{login_request, login_length, unsequenced_data, client_heartbeat, logout_request, debug}, Login.number_of, Packets.{Front, Short, Faulty, Whole, front, counted_front, typed_front, whole_front, login_front, is_client_type, with_packet, packets_of}, Writing.{framed_packet, number_field, login_payload, FitsFields, client_bytes, IsPacket}}
 use Rattle.gx_soup.proofs.{Soup.packets_whole, Numbers.number_read}
 
 told : (u l s : Bool) (x y : SoupFault) (w : Front) → u ≡ true → l ≡ false → s ≡ false → cond (not u) (Faulty x) (cond l (Faulty y) (cond s Short w)) ≡ w
@@ -13,35 +13,35 @@ at_login : (b : Bool) (n : ℕ) → (b ≡ true → n ≡ login_length) → (b &
 at_login true n h = rw (h refl) refl
 at_login false n h = refl
 
-not_zero : (n : ℕ) → ((n + 1) == 0) ≡ false
+pub not_zero : (n : ℕ) → ((n + 1) == 0) ≡ false
 not_zero n = grind (arith, nat_tests)
 
-enough : (payload rest : List ℕ) → nat_lt (length (payload ++ rest)) (length payload + 1 - 1) ≡ false
+pub enough : (payload rest : List ℕ) → nat_lt (length (payload ++ rest)) (length payload + 1 - 1) ≡ false
 enough payload rest = let e = length-append payload rest in grind (arith, nat_tests)
 
-cut_at : (payload rest : List ℕ) → take (length payload + 1 - 1) (payload ++ rest) ≡ payload
+pub cut_at : (payload rest : List ℕ) → take (length payload + 1 - 1) (payload ++ rest) ≡ payload
 cut_at payload rest = take_at payload rest (length payload + 1 - 1) (omega arith)
 
-count_is : (n : ℕ) → 256 * (n / 256) + n % 256 ≡ n
+pub count_is : (n : ℕ) → 256 * (n / 256) + n % 256 ≡ n
 count_is n = omega arith
 
 typed_is : (kind : ℕ) (payload rest : List ℕ) → is_client_type kind ≡ true → ((kind == login_request) ≡ true → length payload ≡ 46) → typed_front (length payload + 1) (kind ∷ (payload ++ rest)) ≡ whole_front kind payload
 typed_is kind payload rest known login =
     told (is_client_type kind) ((kind == login_request) && not (length payload + 1 == login_length)) (nat_lt (length (payload ++ rest)) (length payload + 1 - 1)) _ _ (whole_front kind (take (length payload + 1 - 1) (payload ++ rest))) known (at_login (kind == login_request) (length payload + 1) (λ b. let l = login b in omega arith)) (enough payload rest) ∙ ap (whole_front kind) (cut_at payload rest)
 
-framed_front : (kind : ℕ) (payload rest : List ℕ) → is_client_type kind ≡ true → ((kind == login_request) ≡ true → length payload ≡ 46) → front (framed kind payload ++ rest) ≡ whole_front kind payload
+framed_front : (kind : ℕ) (payload rest : List ℕ) → is_client_type kind ≡ true → ((kind == login_request) ≡ true → length payload ≡ 46) → front (framed_packet kind payload ++ rest) ≡ whole_front kind payload
 unfolding front
 framed_front kind payload rest known login =
     ap (λ n. counted_front n (kind ∷ (payload ++ rest))) (count_is (length payload + 1)) ∙ (ap (λ b. cond b (Faulty ZeroLength) (typed_front (length payload + 1) (kind ∷ (payload ++ rest)))) (not_zero (length payload)) ∙ typed_is kind payload rest known login)
 
-past : (kind : ℕ) (payload rest : List ℕ) → drop (length payload + 3) (framed kind payload ++ rest) ≡ rest
-past kind payload rest = drop_at (framed kind payload) rest (length payload + 3) (omega arith)
+pub past : (kind : ℕ) (payload rest : List ℕ) → drop (length payload + 3) (framed_packet kind payload ++ rest) ≡ rest
+past kind payload rest = drop_at (framed_packet kind payload) rest (length payload + 3) (omega arith)
 
-framed_read : (kind : ℕ) (payload rest : List ℕ) (p : ClientPacket) → is_client_type kind ≡ true → ((kind == login_request) ≡ true → length payload ≡ 46) → whole_front kind payload ≡ Whole p (length payload + 3) → packets_of (framed kind payload ++ rest) ≡ with_packet p (packets_of rest)
+framed_read : (kind : ℕ) (payload rest : List ℕ) (p : ClientPacket) → is_client_type kind ≡ true → ((kind == login_request) ≡ true → length payload ≡ 46) → whole_front kind payload ≡ Whole p (length payload + 3) → packets_of (framed_packet kind payload ++ rest) ≡ with_packet p (packets_of rest)
 framed_read kind payload rest p known login e =
-    packets_whole (framed kind payload ++ rest) p (length payload + 3) (framed_front kind payload rest known login ∙ e) ∙ ap (λ r. with_packet p (packets_of r)) (past kind payload rest)
+    packets_whole (framed_packet kind payload ++ rest) p (length payload + 3) (framed_front kind payload rest known login ∙ e) ∙ ap (λ r. with_packet p (packets_of r)) (past kind payload rest)
 
-padded_len : (n : ℕ) → n < 2 ^ 64 → length (number_field n) ≡ 20
+pub padded_len : (n : ℕ) → n < 2 ^ 64 → length (number_field n) ≡ 20
 padded_len n h = omega (arith, length-append (replicate (20 - length (decimal n)) 32) (decimal n), length-replicate {A = ℕ} (20 - length (decimal n)) 32, length-decimal-le 20 n (omega arith) (omega arith) h)
 
 abbrev login_with : List ℕ → List ℕ → List ℕ → ℕ → LoginRequest
@@ -82,7 +82,7 @@ module _ (user password session number : List ℕ) (u : length user ≡ 6) (p : 
       ∙ (ap (λ x. Whole (ClientPacket.Login (login_with user password x wanted)) 49) at_session
       ∙ ap (λ m. Whole (ClientPacket.Login (login_with user password session wanted)) (m + 3)) (sym payload_len))))
 
-login_read : (login : LoginRequest) (rest : List ℕ) → FitsFields login → packets_of (framed login_request (login_payload login) ++ rest) ≡ with_packet (ClientPacket.Login login) (packets_of rest)
+login_read : (login : LoginRequest) (rest : List ℕ) → FitsFields login → packets_of (framed_packet login_request (login_payload login) ++ rest) ≡ with_packet (ClientPacket.Login login) (packets_of rest)
 login_read login rest h =
     let n = padded_len login.wanted h.3 in
     framed_read login_request (login_payload login) rest (ClientPacket.Login login) refl

@@ -3,10 +3,10 @@ use Rattle.std.specs.Prelude.{List, [], ◌∷◌, ◌++◌}
 use Rattle.gx_soup.specs.{declared.{packet.ClientPacket.ClientPacket, front.First.First}, Packets.{Front, Short, Faulty, Whole}}
 
 -- all but the packet
-abbrev pub told : Front → First
-told Short = First.Short
-told (Faulty fault) = First.Faulty fault
-told (Whole packet taken) = First.Whole taken
+abbrev pub first_of_front : Front → First
+first_of_front Short = First.Short
+first_of_front (Faulty fault) = First.Faulty fault
+first_of_front (Whole packet taken) = First.Whole taken
 
 -- the packet, if it is one, behind these
 abbrev pub with_front : List ClientPacket → Front → List ClientPacket

@@ -1,11 +1,11 @@
 -- The bytes of a packet.
 use Rattle.std.specs.Prelude.{◌≡◌, ℕ, ◌+◌, ◌≤◌, ◌<◌, ◌^◌, ◌/◌, ◌%◌, List, [], ◌∷◌, ◌++◌, length, decimal}
-use Rattle.gx_units.specs.{declared.names.{LoginRejection.{LoginRejection, TheVariants.{NotAuthorized, SessionNotAvailable}}, SessionName.SessionName}, Spelling.{padded_left, trimmed}}
+use Rattle.gx_units.specs.{declared.names.{LoginRejection.{LoginRejection, TheVariants.{NotAuthorized, SessionNotAvailable}}, SessionName.SessionName}, Spelling.{padded_left, trimmed_text}}
 use Rattle.gx_soup.specs.{declared.packet.{LoginRequest.LoginRequest, ClientPacket.ClientPacket, ServerPacket.{ServerPacket, TheVariants.{Accepted, Rejected, Sequenced, Heartbeat, EndOfSession}}}, Standard.{login_request, unsequenced_data, client_heartbeat, logout_request, debug, login_accepted, login_rejected, sequenced_data, server_heartbeat, end_of_session, not_authorized, session_not_available, longest_payload}}
 
 -- the length, of the type and all behind it, in two bytes; the type; what the packet carries
-abbrev pub framed : ℕ → List ℕ → List ℕ
-framed kind payload = ((length payload + 1) / 256) ∷ ((length payload + 1) % 256) ∷ kind ∷ payload
+abbrev pub framed_packet : ℕ → List ℕ → List ℕ
+framed_packet kind payload = ((length payload + 1) / 256) ∷ ((length payload + 1) % 256) ∷ kind ∷ payload
 
 -- a number on the right of 20 bytes
 abbrev pub number_field : ℕ → List ℕ
@@ -13,7 +13,7 @@ number_field number = padded_left 20 (decimal number)
 
 -- a session on the right of 10 bytes
 abbrev pub session_field : SessionName → List ℕ
-session_field session = padded_left 10 (trimmed session.bytes)
+session_field session = padded_left 10 (trimmed_text session.bytes)
 
 -- the reject reason code
 abbrev pub reason_code : LoginRejection → ℕ
@@ -22,11 +22,11 @@ reason_code SessionNotAvailable = session_not_available
 
 -- a server's packet: Login Accepted gives the session and the number of the next report
 unfoldable pub server_bytes : ServerPacket → List ℕ
-server_bytes (Accepted session next) = framed login_accepted (session_field session ++ number_field next)
-server_bytes (Rejected why) = framed login_rejected (reason_code why ∷ [])
-server_bytes (Sequenced payload) = framed sequenced_data payload
-server_bytes Heartbeat = framed server_heartbeat []
-server_bytes EndOfSession = framed end_of_session []
+server_bytes (Accepted session next) = framed_packet login_accepted (session_field session ++ number_field next)
+server_bytes (Rejected why) = framed_packet login_rejected (reason_code why ∷ [])
+server_bytes (Sequenced payload) = framed_packet sequenced_data payload
+server_bytes Heartbeat = framed_packet server_heartbeat []
+server_bytes EndOfSession = framed_packet end_of_session []
 
 -- the length can count what the server's packet carries
 abbrev pub HasRoom : ServerPacket → Type 0
@@ -42,11 +42,11 @@ login_payload login = login.user.bytes ++ (login.password.bytes ++ (login.sessio
 
 -- a client's packet; the others carry nothing
 unfoldable pub client_bytes : ClientPacket → List ℕ
-client_bytes (ClientPacket.Login login) = framed login_request (login_payload login)
-client_bytes (ClientPacket.Data payload) = framed unsequenced_data payload
-client_bytes ClientPacket.Heartbeat = framed client_heartbeat []
-client_bytes ClientPacket.Logout = framed logout_request []
-client_bytes ClientPacket.Debug = framed debug []
+client_bytes (ClientPacket.Login login) = framed_packet login_request (login_payload login)
+client_bytes (ClientPacket.Data payload) = framed_packet unsequenced_data payload
+client_bytes ClientPacket.Heartbeat = framed_packet client_heartbeat []
+client_bytes ClientPacket.Logout = framed_packet logout_request []
+client_bytes ClientPacket.Debug = framed_packet debug []
 
 -- the length can count what the client's packet carries
 abbrev pub ClientHasRoom : ClientPacket → Type 0

@@ -2,7 +2,7 @@
 
 ghost use Rattle.std.specs.{Prelude.{◌≡◌, ◌≤◌, length, None, IfNone, IfOk, IfSome}, Char.is_ascii_digit, List.list_all};
 ghost use Rattle.gx_units.specs.Spelling.{padded_left};
-ghost use Rattle.gx_soup.specs.Login.{in_64_bits, number_of, spelled, with_digit};
+ghost use Rattle.gx_soup.specs.Login.{in_64_bits, number_of, spelled_number, with_digit};
 
 use gx_units::{OutOfMemory, trimmed};
 use std::alloc::Global;
@@ -47,7 +47,7 @@ fn are_digits(text: &[u8]) -> bool
 
 /// The number that ASCII digits spell; `None` where 64 bits do not hold it.
 pub fn spelled_value(digits: &[u8]) -> Option<u64>
-    ensures { result ≡ in_64_bits (spelled digits.now) }
+    ensures { result ≡ in_64_bits (spelled_number digits.now) }
 {
     let mut number = Some(0);
     for digit in digits {

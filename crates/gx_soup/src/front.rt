@@ -1,7 +1,7 @@
 //! What stands first in a text.
 
 ghost use Rattle.std.specs.Prelude.{◌≡◌, ◌<◌, ◌++◌, ◌∷◌, [], length, slice_range, IfOk, OnOk};
-ghost use Rattle.gx_soup.specs.{Fronts.{told, with_front}, Login.number_of, Packets.{front, login_front, plain_packet, is_client_type, typed_front}};
+ghost use Rattle.gx_soup.specs.{Fronts.{first_of_front, with_front}, Login.number_of, Packets.{front, login_front, plain_packet, is_client_type, typed_front}};
 
 use crate::fields::{fixed, number_of};
 use crate::packet::{ClientPacket, LoginRequest, SoupFault};
@@ -30,7 +30,7 @@ pub(crate) fn put_front(
     bytes: &[u8],
     packets: &mut Vec<ClientPacket>,
 ) -> Result<First, OutOfMemory>
-    ensures told { IfOk result (λ f. f ≡ told (front bytes.now)) }
+    ensures told { IfOk result (λ f. f ≡ first_of_front (front bytes.now)) }
     ensures put { OnOk result
         (packets.new.items ≡ with_front packets.old.items (front bytes.now)) }
 {
@@ -52,7 +52,7 @@ fn put_typed(
 ) -> Result<First, OutOfMemory>
     requires above { 0 < count }
     requires below { count < 65536 }
-    ensures told { IfOk result (λ f. f ≡ told (typed_front count body.now)) }
+    ensures told { IfOk result (λ f. f ≡ first_of_front (typed_front count body.now)) }
     ensures put { OnOk result
         (packets.new.items ≡ with_front packets.old.items (typed_front count body.now)) }
 {
@@ -109,7 +109,7 @@ fn put_plain(
 fn put_login(payload: &[u8], packets: &mut Vec<ClientPacket>) -> Result<First, OutOfMemory>
     requires { length payload.now ≡ 46 }
     ensures told { IfOk result (λ f. f
-        ≡ told (login_front payload.now (number_of (slice_range payload.now 26 46)))) }
+        ≡ first_of_front (login_front payload.now (number_of (slice_range payload.now 26 46)))) }
     ensures put { OnOk result (packets.new.items ≡ with_front packets.old.items
         (login_front payload.now (number_of (slice_range payload.now 26 46)))) }
 {

@@ -1,7 +1,7 @@
 //! Packets as bytes.
 
 ghost use Rattle.std.specs.Prelude.{◌≡◌, ◌≤◌, ◌++◌, length, IfOk, OnOk};
-ghost use Rattle.gx_soup.specs.{declared.packet.ServerPacket.TheVariants.Sequenced, Standard.longest_payload, Writing.{framed, server_bytes, HasRoom, client_bytes, ClientHasRoom, number_field, session_field, login_payload, reason_code}};
+ghost use Rattle.gx_soup.specs.{declared.packet.ServerPacket.TheVariants.Sequenced, Standard.longest_payload, Writing.{framed_packet, server_bytes, HasRoom, client_bytes, ClientHasRoom, number_field, session_field, login_payload, reason_code}};
 
 use crate::fields::padded_left;
 use crate::packet::{ClientPacket, LoginRequest, ServerPacket};
@@ -61,7 +61,7 @@ pub fn encode_client(alloc: Global, packet: &ClientPacket) -> Result<Vec<u8>, Ou
 /// A length, a type, and what the packet carries.
 fn framed(alloc: Global, kind: u8, payload: &[u8]) -> Result<Vec<u8>, OutOfMemory>
     requires { length payload.now ≤ longest_payload }
-    ensures { IfOk result (λ bytes. bytes.items ≡ framed kind payload.now) }
+    ensures { IfOk result (λ bytes. bytes.items ≡ framed_packet kind payload.now) }
 {
     let mut bytes = Vec::with_capacity(alloc, payload.len() + 3)?;
     append_framed(&mut bytes, kind, payload)?;
@@ -71,7 +71,7 @@ fn framed(alloc: Global, kind: u8, payload: &[u8]) -> Result<Vec<u8>, OutOfMemor
 /// Puts a length, a type, and what the packet carries at the end of the text.
 fn append_framed(text: &mut Vec<u8>, kind: u8, payload: &[u8]) -> Result<(), OutOfMemory>
     requires { length payload.now ≤ longest_payload }
-    ensures { OnOk result (text.new.items ≡ text.old.items ++ framed kind payload.now) }
+    ensures { OnOk result (text.new.items ≡ text.old.items ++ framed_packet kind payload.now) }
 {
     let count = payload.len() + 1;
     text.extend_from_slice(&[(count / 256) as u8, (count % 256) as u8, kind])?;

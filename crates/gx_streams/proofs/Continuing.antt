@@ -3,7 +3,7 @@ use Rattle.std.proofs.Common.{◌≡◌, ℕ, Bool, true, false, cond, List, [],
 use Rattle.std.specs.{Prelude.{Option, Some, Result, Ok, Err, OnErr, OnOk, option_map}, List.find}
 use Rattle.gx_units.specs.{Names.same_user, declared.names.UserName.UserName}
 use Rattle.gx_laws.proofs.Order.{some_same}
-use Rattle.gx_streams.specs.{declared.{entry.Entry.Entry, fill.ToldFill.ToldFill}, Kept.{UserList, at_first}, Spans.{ReaderSpans, is_named}, Streams.{AllStreams, ReaderMask, entitled, mask_in, with_mask}, Table.streams_of}
+use Rattle.gx_streams.specs.{declared.{stored_report.StoredReport.StoredReport, fill.ReportedFill.ReportedFill}, Kept.{UserList, at_first}, Spans.{ReaderSpans, is_named}, Streams.{AllStreams, ReaderMask, with_reader_entitled, mask_in, with_mask}, Table.streams_of}
 use Rattle.gx_streams.proofs.Shown.{mask_found}
 
 -- the mask that he has, given again
@@ -25,9 +25,9 @@ same_masks user mask (r ∷ rs) has = by (same_user user r.user) refl (same_mask
         ap changed is ∙ ap (λ (m : ℕ). (record { user = r.user; mask = m }) ∷ rs) (sym (some_same (sym (ap found is) ∙ has)))
     by false is rest = ap changed is ∙ ap (λ (l : List ReaderMask). r ∷ l) (rest (sym (ap found is) ∙ has))
 
-pub same_again : (fills : List ToldFill) (told : List (UserList Entry)) (readers : List ReaderSpans) (self now : AllStreams) (user : UserName) (mask : ℕ)
+pub same_again : (fills : List ReportedFill) (told : List (UserList StoredReport)) (readers : List ReaderSpans) (self now : AllStreams) (user : UserName) (mask : ℕ)
     → option_map (λ (r : ReaderSpans). r.current.mask) (find (is_named user) readers) ≡ Some mask → streams_of fills told readers ≡ self
-    → now ≡ entitled user mask self → now ≡ self
+    → now ≡ with_reader_entitled user mask self → now ≡ self
 same_again fills told readers self now user mask found view is =
     is
     ∙ ap (λ (rs : List ReaderMask). record { told = self.told; readers = rs })

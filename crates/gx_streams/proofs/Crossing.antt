@@ -4,14 +4,14 @@ use denote.Param.SendFields.{as_row_send, declared_send, variants_send}
 use Rattle.std.proofs.Crossing.{crosses}
 use Rattle.gx_history.specs.contracts.report.Report as report
 use Rattle.gx_streams.specs.contracts.details.Details as details
-use Rattle.gx_streams.specs.contracts.fill.ToldFill as fill
+use Rattle.gx_streams.specs.contracts.fill.ReportedFill as fill
 use Rattle.gx_streams.specs.contracts.readers.Readers as readers
 use Rattle.gx_streams.specs.contracts.slot.AcceptedAt as accepted
 use Rattle.gx_streams.specs.contracts.slot.CanceledAt as canceled
 use Rattle.gx_streams.specs.contracts.slot.Slot as slot
 use Rattle.gx_streams.specs.contracts.stream.Stream as stream
 use Rattle.gx_streams.specs.contracts.streams.Streams as streams
-use Rattle.gx_streams.specs.contracts.told.Told as told
+use Rattle.gx_streams.specs.contracts.report_lists.ReportLists as told
 
 report_send : IsSend report.the_row
 report_send = search (declared_send, as_row_send, variants_send, sendable, crosses) depth 40 fits 20000

@@ -1,5 +1,5 @@
 -- Readers under their names.
-use Rattle.std.proofs.{Common.{◌≡◌, ℕ, zero, suc, ◌+◌, ◌<◌, Bool, true, false, cond, List, [], ◌∷◌, ◌++◌, map, take, drop, length, get_or, set, refl, ◌∙◌, sym, ap, subst, if◌then◌else◌}, lemmas.{List.{map-append, take_more}, Grind.flat_map-append, Map.Entries.length-values_of, Option.get_or_from_slice_get}}
+use Rattle.std.proofs.{Common.{◌≡◌, ℕ, zero, suc, ◌+◌, ◌<◌, Bool, true, false, cond, List, [], ◌∷◌, ◌++◌, map, take, drop, length, get_or, set, refl, ◌∙◌, sym, ap, subst, if◌then◌else◌}, lemmas.{List.{map-append, take_more}, Grind.flat_map-append, Option.get_or_from_slice_get}}
 use Rattle.std.specs.{Prelude.{Some, None, slice_get}, List.{AllByRecursion, find, flat_map}, Map.{keys_of, lookup, set_value, values_of}}
 use Rattle.indexmap.specs.IndexMap.{insert_entry, set_value_at}
 use Rattle.indexmap.proofs.MapLemmas.{insert_entry-absent}
@@ -75,16 +75,6 @@ pub stays_named_at : (es : List (UserName × ReaderSpans)) (i : ℕ) (before now
 stays_named_at [] i before now named at same = tt
 stays_named_at (e ∷ es) zero before now named at same = (same ∙ ap (λ (r : ReaderSpans). r.user) (sym (some_same at)) ∙ named.0, named.1)
 stays_named_at (e ∷ es) (suc i) before now named at same = (named.0, stays_named_at es i before now named.1 at same)
-
--- as many as before some of them were changed
-pub as_many : (change : ReaderSpans → ReaderSpans) (es : List (UserName × ReaderSpans)) (rs : List ReaderSpans) (i : ℕ) → values_of es ≡ map change (take i rs) ++ drop i rs → length es ≡ length rs
-as_many change es rs i are = sym (length-values_of es) ∙ ap length are ∙ count rs i
-  where
-    count : (l : List ReaderSpans) (n : ℕ) → length (map change (take n l) ++ drop n l) ≡ length l
-    count [] zero = refl
-    count [] (suc n) = refl
-    count (r ∷ l) zero = refl
-    count (r ∷ l) (suc n) = ap suc (count l n)
 
 -- the reader at the next place is as he was
 pub next_is : (change : ReaderSpans → ReaderSpans) (es : List (UserName × ReaderSpans)) (rs : List ReaderSpans) (i : ℕ) (next : ReaderSpans) → values_of es ≡ map change (take i rs) ++ drop i rs

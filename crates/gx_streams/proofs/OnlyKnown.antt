@@ -1,13 +1,13 @@
 -- A legal history tells a user who neither trades nor gives commands of drop copies alone, and nothing to one whom the policy does not know.
 use Rattle.std.proofs.{Common.{◌≡◌, ℕ, Bool, true, false, cond, List, [], ◌∷◌, ◌++◌, append_assoc, length, map, take, drop, not, refl, ◌∙◌, ap, sym, subst, inl, inr, ◌⊎◌}, lemmas.List.append-nil}
-use Rattle.std.specs.{Prelude.{Option, Some, None, filter, flat_map, find, option_and_then, option_map, option_to_list, ◌&&◌, ◌==◌, nat_lt}, Option.option_map_or, List.{AllByRecursion, cons_option, filter_map}}
-use Rattle.gx_units.specs.{Names.same_user, declared.names.{UserName.UserName, AccountName.AccountName}}
+use Rattle.std.specs.{Prelude.{Option, Some, None, filter, flat_map, find, option_and_then, option_map, option_to_list, ◌&&◌, ◌==◌, nat_lt}, List.{AllByRecursion, cons_option, filter_map}}
+use Rattle.gx_units.specs.{Names.same_user, declared.names.UserName.UserName}
 use Rattle.gx_ouch.specs.declared.{letters.{CancelReason.CancelReason, EventCode.EventCode, Liquidity.Liquidity}, outbound.Outbound.Outbound}
 use Rattle.gx_desk.specs.declared.Action.{Action}
-use Rattle.gx_history.specs.{declared.{facts.{Facts.Facts, RuleFigures.RuleFigures}, «record».{Asked.Asked, Fill.Fill, RecordData.RecordData, Request.Request, Step.Step, Verdict.Verdict}, report.{Message.Message, Report.Report}, live_order.LiveOrder.LiveOrder}, Asking.{facts, fits_role}, Executions.{Execution, done, executions, side_of, sides}, Live.{has_come, live, live_numbered, open_now, open_order}, Book.rested, LiveOrders.shares_open, InForce.{grant_or_revoke_of, in_role, is_entitled, last_mark}, Orders.{Order, ends_account, is_dead, order_numbered, orders, total}, Requests.is_login, Rules.{BuiltIn, OfFile, applies, first_forbidding, name_of, written_order}, Streams.{answer, canceled_of, copies, copies_of, copy_of, day_end, ended_of, executed_message, expired_of, granted_code, reported, reports_of, reports_of_denial, reports_of_execution, reports_of_grant, reports_of_verdict, stream, to_user}, Verdicts.{Follows, IsLegal, facts_now, next, rules_now, verdict_by}}
+use Rattle.gx_history.specs.{declared.{facts.{Facts.Facts, RuleFigures.RuleFigures}, «record».{Asked.Asked, Fill.Fill, RecordData.RecordData, Request.Request, Step.Step, Verdict.Verdict}, report.{Message.Message, Report.Report}, live_order.LiveOrder.LiveOrder}, Asking.{facts, fits_role}, Executions.{Execution, done, executions, side_of, sides}, Live.{has_come, live, live_numbered, open_now, open_order}, Book.rest_numbers, LiveOrders.shares_open, InForce.is_entitled, Orders.{Order, ends_account, is_dead, order_numbered, orders, total}, Requests.is_login, Rules.{BuiltIn, OfFile, applies, first_forbidding, name_of, written_order}, Streams.{answer, canceled_of, copies, copies_of, copy_of, day_end, ended_of, executed_message, expired_of, granted_code, report_of, reports_of, reports_of_denial, reports_of_execution, reports_of_grant, reports_of_verdict, stream, to_user}, Verdicts.{Follows, IsLegal, facts_now, next, rules_now, verdict_by}}
 use Rattle.gx_policy.specs.{declared.{policy.{FileRule.FileRule, PolicyData.PolicyData, Role.Role, User.User}, rule_name.RuleName.RuleName}, People.{account_of, account_of_role, is_officer, is_reader, is_trader, role_in, user_in}, RuleNames.{rules_before, rules_behind}}
 use Rattle.gx_streams.specs.Sending.{is_fill}
-use Rattle.gx_laws.proofs.{Adding.user_is, Granting.{legal_keeps, verdict_left}, NextReports.{copies_next, copies_none, stream_next, stream_none}, Numbers.all_weaker, Owners.{IsHisAccounts, all_both, orders_are_their_users}}
+use Rattle.gx_laws.proofs.{Adding.user_is, Granting.{legal_keeps, verdict_left}, NextReports.{copies_next, copies_none, stream_next, stream_none}, Numbers.all_weaker, Owners.{IsHisAccounts, all_both, orders_are_their_users}, Entered.all_mapped, Keeping.others_not}
 
 -- the user neither trades nor gives commands
 pub record IsNoParty (policy : PolicyData) (user : UserName) : Type 0 where
@@ -49,11 +49,6 @@ all_apart : (policy : PolicyData) (history : List RecordData) (user : UserName) 
 all_apart policy history user h =
     all_weaker (IsHisAccounts policy) (IsApart user) (apart policy user h) (orders policy history) (orders_are_their_users policy history)
 
--- lists of which nothing is left
-pub all_mapped : {X Y : Type 0} (P : Y → Type 0) (f : X → Y) (xs : List X) → AllByRecursion (λ (x : X). P (f x)) xs → AllByRecursion P (map f xs)
-all_mapped P f [] h = tt
-all_mapped P f (x ∷ xs) h = (h.0, all_mapped P f xs h.1)
-
 pub all_found : {X : Type 0} (P : X → Type 0) (p : X → Bool) (xs : List X) → AllByRecursion P xs → AllByRecursion P (option_to_list (find p xs))
 all_found P p [] h = tt
 all_found {X} P p (x ∷ xs) h = by (p x) (all_found P p xs h.1)
@@ -90,7 +85,7 @@ live_apart policy history user h = by (orders policy history) (all_apart policy 
 
     by : (os : List Order) → AllByRecursion (IsApart user) os → AllByRecursion (IsNotHis user) (filter_map now os)
     by [] his = tt
-    by (o ∷ os) his = one o (not (is_dead history o) && nat_lt (done (executions policy history) o) (total history o)) (open_order o (total history o) (done (executions policy history) o) (not (has_come (rested history) o.number)))
+    by (o ∷ os) his = one o (not (is_dead history o) && nat_lt (done (executions policy history) o) (total history o)) (open_order o (total history o) (done (executions policy history) o) (not (has_come (rest_numbers history) o.number)))
         (filter_map now os) his.0 (by os his.1)
 
 -- no order of his ends by a command
@@ -204,7 +199,7 @@ grant_owes policy history r user c a (Request.Command m) asks e granted =
     ∙ ap (λ (ms : List Message). ms ++ to_user a.user user told) (no_day_end policy m.action user c.is_no_party)
     ∙ not_to a.user user told (not_his policy history r user c a (Request.Command m) asks e granted refl refl)
 
-nothing_to : (b : Bool) → cond {A = List Message} b [] [] ≡ []
+pub nothing_to : (b : Bool) → cond {A = List Message} b [] [] ≡ []
 nothing_to true = refl
 nothing_to false = refl
 
@@ -276,7 +271,7 @@ verdict_owes policy history r user c (Verdict.Expired number) step is asks = exp
 pub copies_alone : (policy : PolicyData) (history : List RecordData) (r : RecordData) (user : UserName) → IsNoParty policy user → Follows policy (history, r)
     → reports_of policy user (history, r) ≡ copies_of policy user (history, r)
 copies_alone policy history r user h follows =
-    ap (λ (ms : List Message). map (reported r) ms ++ copies_of policy user (history, r)) (verdict_owes policy history r user (record { is_no_party = h; follows = follows }) r.verdict r.step refl refl)
+    ap (λ (ms : List Message). map (report_of r) ms ++ copies_of policy user (history, r)) (verdict_owes policy history r user (record { is_no_party = h; follows = follows }) r.verdict r.step refl refl)
 
 pub streams_are_copies : (policy : PolicyData) (history : List RecordData) (user : UserName) → IsLegal policy history → IsNoParty policy user → stream policy history user ≡ copies policy history user
 streams_are_copies policy history user legal h =
@@ -307,11 +302,6 @@ no_role policy user h = ap (option_map (λ (u : User). u.role)) h
 unknown_are : (policy : PolicyData) (user : UserName) → user_in policy.users user ≡ None → IsNoParty policy user
 unknown_are policy user h = record { trades_not = ap is_trader (no_role policy user h); commands_not = ap is_officer (no_role policy user h) }
 
-pub not_entitled : (policy : PolicyData) (history : List RecordData) (user : UserName) (account : AccountName) → is_reader (role_in policy.users user) ≡ false → is_entitled policy history user account ≡ false
-unfolding is_entitled
-not_entitled policy history user account h =
-    ap (λ b. b && last_mark (grant_or_revoke_of user account) history (option_map_or (λ x. in_role x account) (role_in policy.users user) false)) h
-
 none_of_each : {X Y : Type 0} (f : X → List Y) → ((x : X) → f x ≡ []) → (xs : List X) → flat_map f xs ≡ []
 none_of_each f h [] = refl
 none_of_each {X} {Y} f h (x ∷ xs) = ap (λ (ys : List Y). ys ++ flat_map f xs) (h x) ∙ none_of_each f h xs
@@ -319,9 +309,9 @@ none_of_each {X} {Y} f h (x ∷ xs) = ap (λ (ys : List Y). ys ++ flat_map f xs)
 -- who is no reader is sent no copies
 pub no_copies : (policy : PolicyData) (history : List RecordData) (r : RecordData) (user : UserName) → is_reader (role_in policy.users user) ≡ false → copies_of policy user (history, r) ≡ []
 no_copies policy history r user h =
-    ap (map (reported r))
+    ap (map (report_of r))
     (none_of_each (copy_of (is_entitled policy history) r user)
-    (λ e. ap (λ b. cond b (Message.DropCopy (record { executed = executed_message r e; account = e.order.account; side = e.order.terms.side }) ∷ []) []) (not_entitled policy history user e.order.account h))
+    (λ e. ap (λ b. cond b (Message.DropCopy (record { executed = executed_message r e; account = e.order.account; side = e.order.terms.side }) ∷ []) []) (others_not policy history user e.order.account h))
     (sides policy history r.verdict))
 
 pub only_known : (policy : PolicyData) (history : List RecordData) (user : UserName) → IsLegal policy history → user_in policy.users user ≡ None → stream policy history user ≡ []
@@ -343,7 +333,7 @@ no_sides policy history (Verdict.Rested number) h = refl
 no_sides policy history (Verdict.Expired number) h = refl
 
 pub none_sent : (policy : PolicyData) (history : List RecordData) (r : RecordData) (user : UserName) → is_fill r.verdict ≡ false → copies_of policy user (history, r) ≡ []
-none_sent policy history r user h = ap (λ (es : List Execution). map (reported r) (flat_map (copy_of (is_entitled policy history) r user) es)) (no_sides policy history r.verdict h)
+none_sent policy history r user h = ap (λ (es : List Execution). map (report_of r) (flat_map (copy_of (is_entitled policy history) r user) es)) (no_sides policy history r.verdict h)
 
 pub fills_alone : (policy : PolicyData) (history : List RecordData) (r : RecordData) (reader : UserName) → is_fill r.verdict ≡ false → copies policy (history ++ r ∷ []) reader ≡ copies policy history reader
 fills_alone policy history r reader h =

@@ -6,32 +6,32 @@ use Rattle.indexmap.proofs.MapLemmas.{insert_entry-absent}
 use Rattle.gx_units.specs.{Names.same_user, declared.names.UserName.UserName}
 use Rattle.gx_policy.specs.{declared.policy.User.User, Lists.are_distinct}
 use Rattle.gx_laws.proofs.{Names.same_user_flip, Tables.new_next}
-use Rattle.gx_streams.specs.{declared.entry.Entry.Entry, Kept.{Kept, UserList, nothing_kept, told_nothing}, Table.{lists_of, user_list}}
+use Rattle.gx_streams.specs.{declared.stored_report.StoredReport.StoredReport, Kept.{ReservedList, UserList, empty_list, empty_user_list}, Table.{lists_of, user_list}}
 
-abbrev opened : List User → List (UserList Entry)
-opened users = map (told_nothing {X = Entry}) users
+abbrev opened : List User → List (UserList StoredReport)
+opened users = map (empty_user_list {X = StoredReport}) users
 
 -- the names of the entries are those of the users
-names_are : (es : List (UserName × Kept Entry)) (users : List User) (i : ℕ) → lists_of es ≡ take i (opened users) → map (λ (u : User). u.name) (take i users) ≡ keys_of es
+names_are : (es : List (UserName × ReservedList StoredReport)) (users : List User) (i : ℕ) → lists_of es ≡ take i (opened users) → map (λ (u : User). u.name) (take i users) ≡ keys_of es
 names_are es users i are =
-    let named : UserList Entry → UserName = λ (l : UserList Entry). l.user in
-    sym (map-map named (told_nothing {X = Entry}) (take i users))
-    ∙ ap (map named) (sym (take-map (told_nothing {X = Entry}) i users) ∙ sym are)
+    let named : UserList StoredReport → UserName = λ (l : UserList StoredReport). l.user in
+    sym (map-map named (empty_user_list {X = StoredReport}) (take i users))
+    ∙ ap (map named) (sym (take-map (empty_user_list {X = StoredReport}) i users) ∙ sym are)
     ∙ map-map named user_list es
 
 -- one more of the policy's users
-pub known_next : (es : List (UserName × Kept Entry)) (kept : Kept Entry) (users : List User) (i : ℕ) (u : User)
-    → are_distinct (λ (a b : User). same_user a.name b.name) users ≡ true → lists_of es ≡ take i (map (told_nothing {X = Entry}) users) → i < length users → u ≡ get_or users i u
-    → kept ≡ nothing_kept
-    → lists_of (insert_entry same_user es u.name kept) ≡ take (i + 1) (map (told_nothing {X = Entry}) users)
+pub known_next : (es : List (UserName × ReservedList StoredReport)) (kept : ReservedList StoredReport) (users : List User) (i : ℕ) (u : User)
+    → are_distinct (λ (a b : User). same_user a.name b.name) users ≡ true → lists_of es ≡ take i (map (empty_user_list {X = StoredReport}) users) → i < length users → u ≡ get_or users i u
+    → kept ≡ empty_list
+    → lists_of (insert_entry same_user es u.name kept) ≡ take (i + 1) (map (empty_user_list {X = StoredReport}) users)
 known_next es kept users i u differ are within at none =
     let new : AllByRecursion (λ k. same_user u.name k ≡ false) (keys_of es) =
     subst (AllByRecursion (λ k. same_user u.name k ≡ false)) (names_are es users i are) (new_next same_user same_user_flip (λ (v : User). v.name) users i u u differ within at)
     in
     ap lists_of (insert_entry-absent same_user u.name kept es new)
     ∙ map-append user_list es ((u.name, kept) ∷ [])
-    ∙ ap (λ (k : Kept Entry). lists_of es ++ user_list (u.name, k) ∷ []) none
-    ∙ ap (λ ls. ls ++ told_nothing u ∷ []) (are ∙ take-map (told_nothing {X = Entry}) i users)
-    ∙ sym (map-append (told_nothing {X = Entry}) (take i users) (u ∷ []))
+    ∙ ap (λ (k : ReservedList StoredReport). lists_of es ++ user_list (u.name, k) ∷ []) none
+    ∙ ap (λ ls. ls ++ empty_user_list u ∷ []) (are ∙ take-map (empty_user_list {X = StoredReport}) i users)
+    ∙ sym (map-append (empty_user_list {X = StoredReport}) (take i users) (u ∷ []))
     ∙ ap opened (ap (λ (v : User). take i users ++ v ∷ []) at ∙ sym (take_more users i u within))
-    ∙ sym (take-map (told_nothing {X = Entry}) (i + 1) users)
+    ∙ sym (take-map (empty_user_list {X = StoredReport}) (i + 1) users)

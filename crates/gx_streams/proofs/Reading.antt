@@ -1,22 +1,22 @@
 -- What is read of a stream.
-use Rattle.std.proofs.Common.{◌≡◌, ℕ, zero, suc, ◌+◌, ◌-◌, ◌<◌, ◌≤◌, Bool, true, false, cond, List, [], ◌∷◌, ◌++◌, length, map, take, drop, get_or, true≢false, refl, ◌∙◌, sym, ap, arith}
-use Rattle.std.specs.{Prelude.{Option, Some, None, is_some, Result, Ok, Err, IfOk}, Option.option_map_or, List.find}
+use Rattle.std.proofs.Common.{◌≡◌, ℕ, zero, suc, ◌+◌, ◌-◌, ◌<◌, Bool, true, false, cond, List, [], ◌∷◌, ◌++◌, length, map, take, drop, get_or, true≢false, refl, ◌∙◌, sym, ap, arith}
+use Rattle.std.specs.{Prelude.{Option, Some, None, is_some}, Option.option_map_or, List.find}
 use Rattle.gx_units.specs.{Names.same_user, declared.names.UserName.UserName}
 use Rattle.gx_policy.specs.Lists.{slice}
 use Rattle.gx_laws.proofs.{Adding.user_is, Order.some_same}
 use Rattle.gx_history.specs.declared.report.Report.{Report}
-use Rattle.gx_streams.specs.{declared.{fill.ToldFill.ToldFill, span.Span.Span, entry.Entry.Entry}, Fills.{copies_of, copies_of_all}, Kept.{Kept, UserList, is_known, items_in, list_of, places_in}, Spans.{AreNumbered, IsSound, ReaderSpans, between, copies_before, copies_in, is_named, next_of}, Streams.{AllStreams, reports_in}, Table.{IsSoundTable, kept_copies, kept_reports, report_of, streams_of}, Windows.{Taken, after, is_full, window}}
+use Rattle.gx_streams.specs.{declared.{fill.ReportedFill.ReportedFill, span.Span.Span, stored_report.StoredReport.StoredReport}, Fills.{copies_of, copies_of_all}, Kept.{ReservedList, UserList, is_known, items_in, list_of, reserved_in}, Spans.{AreNumbered, IsSound, ReaderSpans, between, copies_before, copies_in, is_named, next_of}, Streams.{AllStreams, reports_in}, Table.{IsSoundTable, kept_copies, kept_reports, report_of, streams_of}, Windows.{Taken, after, window}}
 use Rattle.gx_history.proofs.Slicing.{slice_is}
-use Rattle.gx_streams.proofs.{Slotting.mapped_slice, Shown.{found_reader, found_shown}, Windows.{after_both, after_full}}
+use Rattle.gx_streams.proofs.{Slotting.mapped_slice, Shown.{found_reader, found_shown}, Windows.after_both}
 
 -- a reader reads his copies
-pub read_copies : (fills : List ToldFill) (told : List (UserList Entry)) (readers : List ReaderSpans) (self : AllStreams) (user : UserName) (r : ReaderSpans)
+pub read_copies : (fills : List ReportedFill) (told : List (UserList StoredReport)) (readers : List ReaderSpans) (self : AllStreams) (user : UserName) (r : ReaderSpans)
     → Some r ≡ find (is_named user) readers → IsSoundTable fills told readers → streams_of fills told readers ≡ self → copies_in fills r.earlier r.current ≡ reports_in self user
 read_copies fills told readers self user r found sound view =
     sym (
     sym (ap (λ (s : AllStreams). reports_in s user) view)
-    ∙ found_shown (λ (k : Kept Report). k.items) [] fills readers told user
-    ∙ ap (λ (o : Option ReaderSpans). option_map_or (λ (l : UserList Entry). (option_map_or (kept_copies fills) o (kept_reports fills l.kept)).items) (list_of told user) []) (sym found)
+    ∙ found_shown (λ (k : ReservedList Report). k.items) [] fills readers told user
+    ∙ ap (λ (o : Option ReaderSpans). option_map_or (λ (l : UserList StoredReport). (option_map_or (kept_copies fills) o (kept_reports fills l.kept)).items) (list_of told user) []) (sym found)
     ∙ by (list_of told user) (ap (is_known told) (found_name readers (sym found)) ∙ found_reader (λ (x : ReaderSpans). is_known told x.user ≡ true) readers user r (sym found) sound.known)
     )
   where
@@ -28,48 +28,48 @@ read_copies fills told readers self user r found sound view =
         at true is e later = user_is user x.user is ∙ ap (λ (q : ReaderSpans). q.user) (some_same e)
         at false is e later = later e
 
-    by : (o : Option (UserList Entry)) → is_some o ≡ true → option_map_or (λ (l : UserList Entry). copies_in fills r.earlier r.current) o [] ≡ copies_in fills r.earlier r.current
+    by : (o : Option (UserList StoredReport)) → is_some o ≡ true → option_map_or (λ (l : UserList StoredReport). copies_in fills r.earlier r.current) o [] ≡ copies_in fills r.earlier r.current
     by None h = absurd (true≢false (sym h))
     by (Some l) h = refl
 
 -- anyone else reads his entries' reports
-pub read_told : (fills : List ToldFill) (told : List (UserList Entry)) (readers : List ReaderSpans) (self : AllStreams) (user : UserName)
+pub read_told : (fills : List ReportedFill) (told : List (UserList StoredReport)) (readers : List ReaderSpans) (self : AllStreams) (user : UserName)
     → None ≡ find (is_named user) readers → streams_of fills told readers ≡ self → map (report_of fills) (items_in told user) ≡ reports_in self user
 read_told fills told readers self user none view =
     sym (
     sym (ap (λ (s : AllStreams). reports_in s user) view)
-    ∙ found_shown (λ (k : Kept Report). k.items) [] fills readers told user
-    ∙ ap (λ (o : Option ReaderSpans). option_map_or (λ (l : UserList Entry). (option_map_or (kept_copies fills) o (kept_reports fills l.kept)).items) (list_of told user) []) (sym none)
+    ∙ found_shown (λ (k : ReservedList Report). k.items) [] fills readers told user
+    ∙ ap (λ (o : Option ReaderSpans). option_map_or (λ (l : UserList StoredReport). (option_map_or (kept_copies fills) o (kept_reports fills l.kept)).items) (list_of told user) []) (sym none)
     ∙ by (list_of told user)
     )
   where
-    by : (o : Option (UserList Entry)) → option_map_or (λ (l : UserList Entry). map (report_of fills) l.kept.items) o [] ≡ map (report_of fills) (option_map_or (λ (l : UserList Entry). l.kept.items) o [])
+    by : (o : Option (UserList StoredReport)) → option_map_or (λ (l : UserList StoredReport). map (report_of fills) l.kept.items) o [] ≡ map (report_of fills) (option_map_or (λ (l : UserList StoredReport). l.kept.items) o [])
     by None = refl
     by (Some l) = refl
 
 -- the places of a reader, and of anyone else
-pub read_spare : (fills : List ToldFill) (told : List (UserList Entry)) (readers : List ReaderSpans) (self : AllStreams) (user : UserName)
-    → streams_of fills told readers ≡ self → option_map_or (λ (r : ReaderSpans). 0) (find (is_named user) readers) (places_in told user) ≡ places_in self.told user
+pub read_spare : (fills : List ReportedFill) (told : List (UserList StoredReport)) (readers : List ReaderSpans) (self : AllStreams) (user : UserName)
+    → streams_of fills told readers ≡ self → option_map_or (λ (r : ReaderSpans). 0) (find (is_named user) readers) (reserved_in told user) ≡ reserved_in self.told user
 read_spare fills told readers self user view =
     sym (
-    sym (ap (λ (s : AllStreams). places_in s.told user) view)
-    ∙ found_shown (λ (k : Kept Report). k.spare) 0 fills readers told user
+    sym (ap (λ (s : AllStreams). reserved_in s.told user) view)
+    ∙ found_shown (λ (k : ReservedList Report). k.spare) 0 fills readers told user
     ∙ by (find (is_named user) readers) (list_of told user)
     )
   where
-    by : (found : Option ReaderSpans) (o : Option (UserList Entry))
-        → option_map_or (λ (l : UserList Entry). (option_map_or (kept_copies fills) found (kept_reports fills l.kept)).spare) o 0
-        ≡ option_map_or (λ (r : ReaderSpans). 0) found (option_map_or (λ (l : UserList Entry). l.kept.spare) o 0)
+    by : (found : Option ReaderSpans) (o : Option (UserList StoredReport))
+        → option_map_or (λ (l : UserList StoredReport). (option_map_or (kept_copies fills) found (kept_reports fills l.kept)).spare) o 0
+        ≡ option_map_or (λ (r : ReaderSpans). 0) found (option_map_or (λ (l : UserList StoredReport). l.kept.spare) o 0)
     by None None = refl
     by None (Some l) = refl
     by (Some r) None = refl
     by (Some r) (Some l) = refl
 
 -- the reader who is found is sound
-pub sound_reader : (fills : List ToldFill) (told : List (UserList Entry)) (readers : List ReaderSpans) (user : UserName) (r : ReaderSpans) → Some r ≡ find (is_named user) readers → IsSoundTable fills told readers → IsSound fills r
+pub sound_reader : (fills : List ReportedFill) (told : List (UserList StoredReport)) (readers : List ReaderSpans) (user : UserName) (r : ReaderSpans) → Some r ≡ find (is_named user) readers → IsSoundTable fills told readers → IsSound fills r
 sound_reader fills told readers user r found sound = found_reader (IsSound fills) readers user r (sym found) sound.sound
 
-pub count_read : (fills : List ToldFill) (told : List (UserList Entry)) (readers : List ReaderSpans) (self : AllStreams) (user : UserName) (r : ReaderSpans)
+pub count_read : (fills : List ReportedFill) (told : List (UserList StoredReport)) (readers : List ReaderSpans) (self : AllStreams) (user : UserName) (r : ReaderSpans)
     → Some r ≡ find (is_named user) readers → IsSoundTable fills told readers → streams_of fills told readers ≡ self → r.count ≡ length (reports_in self user)
 count_read fills told readers self user r found sound view = (sound_reader fills told readers user r found sound).count_is ∙ ap length (read_copies fills told readers self user r found sound view)
 
@@ -77,11 +77,11 @@ length_map : {X Y : Type 0} (f : X → Y) (xs : List X) → length xs ≡ length
 length_map f [] = refl
 length_map f (x ∷ xs) = ap suc (length_map f xs)
 
-pub told_count : (fills : List ToldFill) (told : List (UserList Entry)) (readers : List ReaderSpans) (self : AllStreams) (user : UserName)
+pub told_count : (fills : List ReportedFill) (told : List (UserList StoredReport)) (readers : List ReaderSpans) (self : AllStreams) (user : UserName)
     → None ≡ find (is_named user) readers → streams_of fills told readers ≡ self → length (items_in told user) ≡ length (reports_in self user)
 told_count fills told readers self user none view = length_map (report_of fills) (items_in told user) ∙ ap length (read_told fills told readers self user none view)
 
-pub told_slice : (fills : List ToldFill) (told : List (UserList Entry)) (readers : List ReaderSpans) (self : AllStreams) (user : UserName) (from most : ℕ)
+pub told_slice : (fills : List ReportedFill) (told : List (UserList StoredReport)) (readers : List ReaderSpans) (self : AllStreams) (user : UserName) (from most : ℕ)
     → None ≡ find (is_named user) readers → streams_of fills told readers ≡ self → map (report_of fills) (slice (items_in told user) from most) ≡ slice (reports_in self user) from most
 told_slice fills told readers self user from most none view =
     mapped_slice (report_of fills) (items_in told user) from most
@@ -91,7 +91,7 @@ pub taken_is : (reports : List Report) (from most : ℕ) → (after reports (win
 taken_is reports from most = ap (λ n. take n (drop (from - 1) reports)) (let e : most - 0 ≡ most = omega arith in e) ∙ slice_is reports from most
 
 -- one more span
-copies_step : (fills : List ToldFill) (spans : List Span) (current : Span) (i : ℕ) (d : Span) → i < length spans
+copies_step : (fills : List ReportedFill) (spans : List Span) (current : Span) (i : ℕ) (d : Span) → i < length spans
     → copies_before fills (get_or spans i d) (drop (i + 1) spans) current ++ copies_in fills (drop (i + 1) spans) current ≡ copies_in fills (drop i spans) current
 copies_step fills [] current i d within = absurd (omega (arith, within))
 copies_step fills (s ∷ later) current zero d within = refl
@@ -100,7 +100,7 @@ copies_step fills (s ∷ later) current (suc i) d within =
     ∙ copies_step fills later current i d (omega (arith, within))
 
 -- the next span's number tells how many reports a span has
-numbers_step : (fills : List ToldFill) (number : ℕ) (spans : List Span) (current : Span) (i : ℕ) (d : Span) → i < length spans → AreNumbered fills number spans current
+numbers_step : (fills : List ReportedFill) (number : ℕ) (spans : List Span) (current : Span) (i : ℕ) (d : Span) → i < length spans → AreNumbered fills number spans current
     → (next_of (drop (i + 1) spans) current).first_report ≡ (get_or spans i d).first_report + length (copies_before fills (get_or spans i d) (drop (i + 1) spans) current)
 numbers_step fills number [] current i d within h = absurd (omega (arith, within))
 numbers_step fills number (s ∷ later) current zero d within h = first_number later h.1 ∙ ap (λ n. n + length (copies_before fills s later current)) (sym h.0)
@@ -114,7 +114,7 @@ numbers_step fills number (s ∷ later) current (suc i) d within h =
     ∙ ap (λ n. (get_or later i d).first_report + length (copies_before fills (get_or later i d) (drop n (s ∷ later)) current)) (let e : suc (i + 1) ≡ suc i + 1 = omega arith in e)
 
 -- the fills of a span, as they are looked up
-part_is : (fills : List ToldFill) (spans : List Span) (current : Span) (i : ℕ) (d : Span) (part : List ToldFill) (size : ℕ) (next : Span) (later : List Span)
+part_is : (fills : List ReportedFill) (spans : List Span) (current : Span) (i : ℕ) (d : Span) (part : List ReportedFill) (size : ℕ) (next : Span) (later : List Span)
     → later ≡ drop (i + 1) spans → next ≡ next_of later current → size ≡ next.first_fill - (get_or spans i d).first_fill → part ≡ take size (drop (get_or spans i d).first_fill fills)
     → part ≡ between (get_or spans i d).first_fill (next_of (drop (i + 1) spans) current).first_fill fills
 part_is fills spans current i d part size next later rest ends sizes is =
@@ -122,7 +122,7 @@ part_is fills spans current i d part size next later rest ends sizes is =
     (sizes ∙ ap (λ (x : Span). x.first_fill - (get_or spans i d).first_fill) (ends ∙ ap (λ l. next_of l current) rest))
 
 -- and how many copies they have
-pub count_is : (fills : List ToldFill) (spans : List Span) (current : Span) (i : ℕ) (d : Span) (part : List ToldFill) (size count : ℕ) (next : Span) (later : List Span)
+pub count_is : (fills : List ReportedFill) (spans : List Span) (current : Span) (i : ℕ) (d : Span) (part : List ReportedFill) (size count : ℕ) (next : Span) (later : List Span)
     → i < length spans → AreNumbered fills 1 spans current
     → later ≡ drop (i + 1) spans → next ≡ next_of later current → size ≡ next.first_fill - (get_or spans i d).first_fill → count ≡ next.first_report - (get_or spans i d).first_report
     → part ≡ take size (drop (get_or spans i d).first_fill fills)
@@ -135,7 +135,7 @@ count_is fills spans current i d part size count next later within numbered rest
     so_many ∙ ap (λ l. length (copies_of_all s.mask l)) (sym (part_is fills spans current i d part size next later rest ends sizes is))
 
 -- a window that one more span passed by
-pub spans_step : (fills : List ToldFill) (spans : List Span) (current : Span) (i : ℕ) (d : Span) (w now start : Taken) (part : List ToldFill) (size : ℕ) (next : Span) (later : List Span)
+pub spans_step : (fills : List ReportedFill) (spans : List Span) (current : Span) (i : ℕ) (d : Span) (w now start : Taken) (part : List ReportedFill) (size : ℕ) (next : Span) (later : List Span)
     → i < length spans → later ≡ drop (i + 1) spans → next ≡ next_of later current → size ≡ next.first_fill - (get_or spans i d).first_fill → part ≡ take size (drop (get_or spans i d).first_fill fills)
     → now ≡ after (copies_of_all (get_or spans i d).mask part) w
     → after (copies_in fills (drop i spans) current) w ≡ start
@@ -147,58 +147,17 @@ spans_step fills spans current i d w now start part size next later within rest 
     ∙ ap (λ l. after l w) (copies_step fills spans current i d within)
     ∙ before
 
-pub spans_done : (fills : List ToldFill) (spans : List Span) (current : Span) (i : ℕ) (w start : Taken) → length spans ≤ i → after (copies_in fills (drop i spans) current) w ≡ start
-    → after (copies_of_all current.mask (drop current.first_fill fills)) w ≡ start
-spans_done fills [] current zero w start h before = before
-spans_done fills [] current (suc i) w start h before = before
-spans_done fills (s ∷ spans) current zero w start h before = absurd (omega (arith, h))
-spans_done fills (s ∷ spans) current (suc i) w start h before = spans_done fills spans current i w start (omega (arith, h)) before
-
-after_none : (w : Taken) → after [] w ≡ w
-after_none w =
-    let state : ℕ → List Report → Taken = λ n l. record { skip = n; most = w.most; taken = l } in
-    ap (λ n. state n (w.taken ++ take (w.most - length w.taken) (drop w.skip []))) (let e : w.skip - 0 ≡ w.skip = omega arith in e)
-    ∙ ap (λ l. state w.skip (w.taken ++ l)) (ap (take (w.most - length w.taken)) (drop_none w.skip) ∙ take_none (w.most - length w.taken))
-    ∙ ap (state w.skip) (nothing_more w.taken)
-  where
-    drop_none : (n : ℕ) → drop {A = Report} n [] ≡ []
-    drop_none zero = refl
-    drop_none (suc n) = refl
-
-    take_none : (n : ℕ) → take {A = Report} n [] ≡ []
-    take_none zero = refl
-    take_none (suc n) = refl
-
-    nothing_more : (l : List Report) → l ++ [] ≡ l
-    nothing_more [] = refl
-    nothing_more (x ∷ l) = ap (λ rest. x ∷ rest) (nothing_more l)
-
-fills_left : (mask : ℕ) (fills : List ToldFill) (i : ℕ) (d : ToldFill) → i < length fills → copies_of mask (get_or fills i d) ++ copies_of_all mask (drop (i + 1) fills) ≡ copies_of_all mask (drop i fills)
+fills_left : (mask : ℕ) (fills : List ReportedFill) (i : ℕ) (d : ReportedFill) → i < length fills → copies_of mask (get_or fills i d) ++ copies_of_all mask (drop (i + 1) fills) ≡ copies_of_all mask (drop i fills)
 fills_left mask [] i d within = absurd (omega (arith, within))
 fills_left mask (f ∷ fills) zero d within = refl
 fills_left mask (f ∷ fills) (suc i) d within =
     ap (λ n. copies_of mask (get_or fills i d) ++ copies_of_all mask (drop n (f ∷ fills))) (let e : suc i + 1 ≡ suc (i + 1) = omega arith in e)
     ∙ fills_left mask fills i d (omega (arith, within))
 
-pub fills_step : (mask : ℕ) (fills : List ToldFill) (i : ℕ) (d : ToldFill) (w now start : Taken) → i < length fills → now ≡ after (copies_of mask (get_or fills i d)) w
+pub fills_step : (mask : ℕ) (fills : List ReportedFill) (i : ℕ) (d : ReportedFill) (w now start : Taken) → i < length fills → now ≡ after (copies_of mask (get_or fills i d)) w
     → after (copies_of_all mask (drop i fills)) w ≡ start → after (copies_of_all mask (drop (i + 1) fills)) now ≡ start
 fills_step mask fills i d w now start within passed before =
     ap (after (copies_of_all mask (drop (i + 1) fills))) passed
     ∙ after_both (copies_of mask (get_or fills i d)) (copies_of_all mask (drop (i + 1) fills)) w
     ∙ ap (λ l. after l w) (fills_left mask fills i d within)
     ∙ before
-
-pub fills_done : (mask : ℕ) (fills : List ToldFill) (i : ℕ) (w start : Taken) → length fills ≤ i → after (copies_of_all mask (drop i fills)) w ≡ start → w ≡ start
-fills_done mask [] zero w start h before = sym (after_none w) ∙ before
-fills_done mask [] (suc i) w start h before = sym (after_none w) ∙ before
-fills_done mask (f ∷ fills) zero w start h before = absurd (omega (arith, h))
-fills_done mask (f ∷ fills) (suc i) w start h before = fills_done mask fills i w start (omega (arith, h)) before
-
--- once the window is full, the rest of the fills changes nothing
-pub fills_full : (mask : ℕ) (fills : List ToldFill) (i : ℕ) (w start : Taken) → is_full w ≡ true → after (copies_of_all mask (drop i fills)) w ≡ start → w ≡ start
-fills_full mask fills i w start full before = sym (after_full (copies_of_all mask (drop i fills)) w full) ∙ before
-
--- a list that was read is the one that is wanted
-pub read_as : {V E : Type 0} (r : Result V E) (items : V → List Report) (xs ys : List Report) → xs ≡ ys → IfOk r (λ v. items v ≡ xs) → IfOk r (λ v. items v ≡ ys)
-read_as (Ok v) items xs ys same is = is ∙ same
-read_as (Err e) items xs ys same is = tt

@@ -5,11 +5,10 @@ use Rattle.gx_units.specs.{Names.same_user, declared.names.{AccountName.AccountN
 use Rattle.gx_ouch.specs.declared.{inbound.EnterOrder.EnterOrder, letters.{CancelReason.CancelReason, EventCode.EventCode, RejectReason.RejectReason}, outbound.Outbound.Outbound}
 use Rattle.gx_desk.specs.declared.{Action.Action}
 use Rattle.gx_policy.specs.{declared.{policy.{Account.Account, PolicyData.PolicyData}, rule_name.RuleName.RuleName}, People.{account_named, account_of, is_trader, role_in}, Lists.slice}
-use Rattle.gx_history.specs.{declared.{live_order.LiveOrder.LiveOrder, «record».{Asked.Asked, RecordData.RecordData, Request.Request, Step.Step, Verdict.Verdict}, report.{Message.Message, Report.Report}}, Executions.{sides}, InForce.is_entitled, Live.{live, live_numbered, live_under}, LiveOrders.{replacement_order, shares_open}, Orders.{Order, ends_account, entered, firm_of, orders, orders_made}, Reasons.{denial_code, reject_reason}, Requests.{asked, new_token}, Streams.{accepted, answer, canceled_of, copies_of, copy_of, day_end, ended_of, executed_message, granted_code, rejected, replaced_of, reported, reports_of, reports_of_denial, reports_of_execution, reports_of_grant, reports_of_verdict, stream, to_user}, Verdicts.{IsLegal, next}}
+use Rattle.gx_history.specs.{declared.{live_order.LiveOrder.LiveOrder, «record».{Asked.Asked, RecordData.RecordData, Request.Request, Step.Step, Verdict.Verdict}, report.{Message.Message, Report.Report}}, Executions.{sides}, InForce.is_entitled, Live.{live, live_numbered, live_under}, LiveOrders.{replacement_order, shares_open}, Orders.{Order, ends_account, order_entered, firm_of, orders, orders_made}, Reasons.{denial_code, reject_reason}, Requests.{asked_of, new_token}, Streams.{accepted_of_order, answer, canceled_of, copies_of, copy_of, day_end, ended_of, executed_message, granted_code, rejected_of, replaced_of, report_of, reports_of, reports_of_denial, reports_of_execution, reports_of_grant, reports_of_verdict, stream, to_user}, Verdicts.{IsLegal, next}}
 use Rattle.gx_history.proofs.{Slicing.slice_is, Unpacking.get_last}
-use Rattle.gx_laws.proofs.{Adding.user_is, Granting.legal_keeps, NextReports.{stream_next, stream_none}, Numbers.{all_weaker, number_left}, Order.some_same, Owners.all_both}
+use Rattle.gx_laws.proofs.{Adding.user_is, Granting.legal_keeps, NextReports.{stream_next, stream_none}, Numbers.{all_weaker, number_left}, Order.some_same, Owners.all_both, Entered.all_mapped}
 use Rattle.gx_streams.specs.Recorded.{IsRecorded, accepted_at, accepted_from, enter_in, enter_of, house_of, reference_of}
-use Rattle.gx_streams.proofs.OnlyKnown.{all_mapped}
 
 -- ---- all items of lists
 
@@ -20,10 +19,6 @@ all_flat P f each (x ∷ xs) = all_both P (f x) (flat_map f xs) (each x) (all_fl
 all_if : {X : Type 0} (P : X → Type 0) (b : Bool) (xs : List X) → (b ≡ true → AllByRecursion P xs) → AllByRecursion P (cond b xs [])
 all_if P true xs h = h refl
 all_if P false xs h = tt
-
-all_of_option : {X : Type 0} (P : X → Type 0) (o : Option X) → ((x : X) → P x) → AllByRecursion P (option_to_list o)
-all_of_option P None h = tt
-all_of_option P (Some x) h = (h x, tt)
 
 -- ---- what the records tell goes on
 
@@ -48,14 +43,14 @@ told_still house history r report is number refers = by (slice_get history (numb
 abbrev IsOther : Message → Type 0
 IsOther m = reference_of m ≡ None
 
-others_recorded : (house : Option Firm) (records : List RecordData) (r : RecordData) (ms : List Message) → AllByRecursion IsOther ms → AllByRecursion (λ (m : Message). IsRecorded house records (reported r m)) ms
+others_recorded : (house : Option Firm) (records : List RecordData) (r : RecordData) (ms : List Message) → AllByRecursion IsOther ms → AllByRecursion (λ (m : Message). IsRecorded house records (report_of r m)) ms
 others_recorded house records r ms h =
-    all_weaker IsOther (λ (m : Message). IsRecorded house records (reported r m)) (λ m other number refers. let no : None ≡ Some number = sym other ∙ refers in cc) ms h
+    all_weaker IsOther (λ (m : Message). IsRecorded house records (report_of r m)) (λ m other number refers. let no : None ≡ Some number = sym other ∙ refers in cc) ms h
 
 module _ (policy : PolicyData) (history : List RecordData) (r : RecordData) (user : UserName) where
   -- the records tell it of their last
   abbrev IsTold : Message → Type 0
-  IsTold m = IsRecorded (house_of policy user) (history ++ r ∷ []) (reported r m)
+  IsTold m = IsRecorded (house_of policy user) (history ++ r ∷ []) (report_of r m)
 
   told_others : (ms : List Message) → AllByRecursion IsOther ms → AllByRecursion IsTold ms
   told_others ms h = others_recorded (house_of policy user) (history ++ r ∷ []) r ms h
@@ -74,19 +69,19 @@ module _ (policy : PolicyData) (history : List RecordData) (r : RecordData) (use
 
   -- an Enter that is granted is the last record
   accepted_told : (a : Asked) (m : EnterOrder) (account : AccountName) → r.number ≡ length history + 1 → r.step ≡ Step.Asked a → a.request ≡ Request.Enter m → account_of policy user ≡ Some account
-      → AllByRecursion IsTold (accepted (entered policy r a.user account m))
+      → AllByRecursion IsTold (accepted_of_order (order_entered policy r a.user account m))
   accepted_told a m account counts asks enters trades = (told, tt)
     where
       message : Message
-      message = Message.Order (Outbound.Accepted (record { token = m.token; terms = (entered policy r a.user account m).terms; order_reference = r.number }))
+      message = Message.Order (Outbound.Accepted (record { token = m.token; terms = (order_entered policy r a.user account m).terms; order_reference = r.number }))
 
       there : slice_get (history ++ r ∷ []) (r.number - 1) ≡ Some r
       there = ap (λ n. slice_get (history ++ r ∷ []) n) (let e : r.number - 1 ≡ length history = omega (arith, counts) in e) ∙ get_last history r
 
       entry : enter_of r ≡ Some m
-      entry = ap (λ s. option_and_then (λ (x : Asked). enter_in x.request) (asked s)) asks ∙ ap enter_in enters
+      entry = ap (λ s. option_and_then (λ (x : Asked). enter_in x.request) (asked_of s)) asks ∙ ap enter_in enters
 
-      is : accepted_from (house_of policy user) r.number r.moment m ≡ reported r message
+      is : accepted_from (house_of policy user) r.number r.moment m ≡ report_of r message
       is = ap (λ (firm : Firm). accepted_from (Some firm) r.number r.moment m) (firm_is account m.firm trades)
 
       told : IsTold message
@@ -98,15 +93,15 @@ module _ (policy : PolicyData) (history : List RecordData) (r : RecordData) (use
           ∙ ap (λ (x : Report). Some x) is
 
   enter_told : (a : Asked) (m : EnterOrder) → r.number ≡ length history + 1 → r.step ≡ Step.Asked a → a.request ≡ Request.Enter m → (known : List Order)
-      → AllByRecursion IsTold (to_user a.user user (flat_map accepted (orders_made policy known r a.user (Request.Enter m))))
-  enter_told a m counts asks enters known = all_if IsTold (same_user a.user user) (flat_map accepted (orders_made policy known r a.user (Request.Enter m))) (λ is. by (account_of policy a.user) (ap (account_of policy) (sym (user_is a.user user is))))
+      → AllByRecursion IsTold (to_user a.user user (flat_map accepted_of_order (orders_made policy known r a.user (Request.Enter m))))
+  enter_told a m counts asks enters known = all_if IsTold (same_user a.user user) (flat_map accepted_of_order (orders_made policy known r a.user (Request.Enter m))) (λ is. by (account_of policy a.user) (ap (account_of policy) (sym (user_is a.user user is))))
     where
       made : Option AccountName → List Order
-      made found = option_map_or (λ (account : AccountName). entered policy r a.user account m ∷ []) found []
+      made found = option_map_or (λ (account : AccountName). order_entered policy r a.user account m ∷ []) found []
 
-      by : (found : Option AccountName) → account_of policy user ≡ found → AllByRecursion IsTold (flat_map accepted (made found))
+      by : (found : Option AccountName) → account_of policy user ≡ found → AllByRecursion IsTold (flat_map accepted_of_order (made found))
       by None is = tt
-      by (Some account) is = all_both IsTold (accepted (entered policy r a.user account m)) [] (accepted_told a m account counts asks enters is) tt
+      by (Some account) is = all_both IsTold (accepted_of_order (order_entered policy r a.user account m)) [] (accepted_told a m account counts asks enters is) tt
 
   ends_others : (action : Action) → AllByRecursion IsOther (ended_of (live policy history) action user)
   ends_others action =
@@ -141,7 +136,7 @@ module _ (policy : PolicyData) (history : List RecordData) (r : RecordData) (use
       (all_both IsTold (ended_of (live policy history) c.action user) (day_end policy c.action user) (told_others _ (ends_others c.action)) (told_others _ (day_others c.action)))
       (to_others a.user answered (refl, tt))
 
-  rejected_others : (rule : RuleName) (q : Request) → AllByRecursion IsOther (rejected policy q rule)
+  rejected_others : (rule : RuleName) (q : Request) → AllByRecursion IsOther (rejected_of policy q rule)
   rejected_others rule q = by (new_token q) (reject_reason policy rule)
     where
       by : (token : Option _) (reason : Option RejectReason)
@@ -180,9 +175,9 @@ module _ (policy : PolicyData) (history : List RecordData) (r : RecordData) (use
   next_told : next policy history r.step ≡ Some r → AllByRecursion (IsRecorded (house_of policy user) (history ++ r ∷ [])) (reports_of policy user (history, r))
   next_told left =
       let all : Report → Type 0 = IsRecorded (house_of policy user) (history ++ r ∷ []) in
-      all_both all (map (reported r) (reports_of_verdict policy history r r.verdict r.step user)) (copies_of policy user (history, r))
-      (all_mapped all (reported r) (reports_of_verdict policy history r r.verdict r.step user) (verdict_told r.verdict r.step (number_left policy history r.step r left) refl))
-      (all_mapped all (reported r) (flat_map (copy_of (is_entitled policy history) r user) (sides policy history r.verdict)) copies_told)
+      all_both all (map (report_of r) (reports_of_verdict policy history r r.verdict r.step user)) (copies_of policy user (history, r))
+      (all_mapped all (report_of r) (reports_of_verdict policy history r r.verdict r.step user) (verdict_told r.verdict r.step (number_left policy history r.step r left) refl))
+      (all_mapped all (report_of r) (flat_map (copy_of (is_entitled policy history) r user) (sides policy history r.verdict)) copies_told)
 
 -- each that a user is told
 pub accepted_are_recorded : (policy : PolicyData) (history : List RecordData) (user : UserName) → IsLegal policy history → AllByRecursion (IsRecorded (house_of policy user) history) (stream policy history user)

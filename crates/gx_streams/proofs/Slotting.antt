@@ -4,7 +4,7 @@ use Rattle.std.specs.{List.AllByRecursion}
 use Rattle.gx_history.specs.declared.report.{Report.Report}
 use Rattle.gx_policy.specs.Lists.{slice}
 use Rattle.gx_history.proofs.{Slicing.slice_is}
-use Rattle.gx_streams.specs.{declared.{entry.Entry.Entry, slot.{Slot.Slot}}, Kept.{Kept, with_kept_last, without_last}, Slots.{AllThere, AreKept, IsThere, KeptDetails, DetailLists, Widens, entries_in, entry_in}}
+use Rattle.gx_streams.specs.{declared.{stored_report.StoredReport.StoredReport, slot.{Slot.Slot}}, Kept.{ReservedList, with_reserved_last, without_last}, Slots.{AllThere, AreKept, IsThere, KeptDetails, DetailLists, Widens, entries_in, entry_in}}
 
 -- what slots stand for stays
 same_entries : (before after : DetailLists) (slots : List Slot) → Widens before after → AllThere before slots → entries_in after slots ≡ entries_in before slots
@@ -20,7 +20,7 @@ there_last lists [] s all last = (last, tt)
 there_last lists (x ∷ slots) s all last = (all.0, there_last lists slots s all.1 last)
 
 -- one more entry, what is long in it put last, has one more slot
-module _ (k later : KeptDetails) (slots more : List Slot) (e : Entry) (s : Slot) where
+module _ (k later : KeptDetails) (slots more : List Slot) (e : StoredReport) (s : Slot) where
   pub record AddsOne : Type 0 where
     pub there : AllThere k.lists slots
     pub kept : Widens k.lists later.lists
@@ -35,8 +35,8 @@ module _ (k later : KeptDetails) (slots more : List Slot) (e : Entry) (s : Slot)
       ∙ (λ i. same_entries k.lists later.lists slots adds.kept adds.there i ++ adds.entry i ∷ [])
 
   pub put_last : AddsOne → later.spare + 1 ≡ k.spare
-      → (let now : Kept Entry = record { items = entries_in later.lists more; spare = later.spare } in let before : Kept Entry = record { items = entries_in k.lists slots; spare = k.spare } in now ≡ with_kept_last e before)
-  put_last adds spare = λ i. let state : Kept Entry = record { items = added adds i; spare = fewer i } in state
+      → (let now : ReservedList StoredReport = record { items = entries_in later.lists more; spare = later.spare } in let before : ReservedList StoredReport = record { items = entries_in k.lists slots; spare = k.spare } in now ≡ with_reserved_last e before)
+  put_last adds spare = λ i. let state : ReservedList StoredReport = record { items = added adds i; spare = fewer i } in state
     where
       fewer : later.spare ≡ k.spare - 1
       fewer = omega (arith, spare)
@@ -51,10 +51,10 @@ module _ (k later : KeptDetails) (slots more : List Slot) (e : Entry) (s : Slot)
 
 -- the first slots stand for the first entries
 pub taken_back : (k : KeptDetails) (slots fewer : List Slot) (count : ℕ) → count ≡ length slots → fewer ≡ take (count - 1) slots
-    → (let now : Kept Entry = record { items = entries_in k.lists fewer; spare = k.spare } in let before : Kept Entry = record { items = entries_in k.lists slots; spare = k.spare } in now ≡ without_last before)
+    → (let now : ReservedList StoredReport = record { items = entries_in k.lists fewer; spare = k.spare } in let before : ReservedList StoredReport = record { items = entries_in k.lists slots; spare = k.spare } in now ≡ without_last before)
 taken_back k slots fewer count counts is = ap state items
   where
-    state : List Entry → Kept Entry
+    state : List StoredReport → ReservedList StoredReport
     state items = record { items = items; spare = k.spare }
 
     items : entries_in k.lists fewer ≡ take (length (entries_in k.lists slots) - 1) (entries_in k.lists slots)
@@ -71,11 +71,7 @@ mapped_slice f xs from most =
     ∙ ap (take most) (sym (drop-map f (from - 1) xs))
     ∙ slice_is (map f xs) from most
 
-pub mapped_twice : {X Y Z : Type 0} (f : X → Y) (g : Y → Z) (xs : List X) → map g (map f xs) ≡ map (λ (x : X). g (f x)) xs
-mapped_twice f g [] = refl
-mapped_twice f g (x ∷ xs) = ap (λ rest. g (f x) ∷ rest) (mapped_twice f g xs)
-
 -- what is so of each report is so of each slot's
-pub of_slots : (P : Report → Type 0) (f : Slot → Entry) (g : Entry → Report) (slots : List Slot) → AllByRecursion P (map g (map f slots)) → AllByRecursion (λ (s : Slot). P (g (f s))) slots
+pub of_slots : (P : Report → Type 0) (f : Slot → StoredReport) (g : StoredReport → Report) (slots : List Slot) → AllByRecursion P (map g (map f slots)) → AllByRecursion (λ (s : Slot). P (g (f s))) slots
 of_slots P f g [] all = tt
 of_slots P f g (s ∷ slots) all = (all.0, of_slots P f g slots all.1)

@@ -1,7 +1,7 @@
 -- Reports that pass by a window.
-use Rattle.std.proofs.{Common.{◌≡◌, ℕ, true, zero, suc, ◌+◌, ◌-◌, ◌≤◌, min, List, [], ◌∷◌, ◌++◌, length, take, drop, refl, ◌∙◌, sym, ap, arith, append_assoc}, lemmas.List.{append-nil, length-append, length-take}}
+use Rattle.std.proofs.{Common.{◌≡◌, ℕ, zero, suc, ◌+◌, ◌-◌, min, List, [], ◌∷◌, ◌++◌, length, take, drop, refl, ◌∙◌, sym, ap, arith, append_assoc}, lemmas.List.{length-append, length-take}}
 use Rattle.gx_history.specs.declared.report.Report.{Report}
-use Rattle.gx_streams.specs.Windows.{Taken, after, is_full}
+use Rattle.gx_streams.specs.Windows.{Taken, after}
 
 drop_split : {X : Type 0} (s : ℕ) (xs ys : List X) → drop s (xs ++ ys) ≡ drop s xs ++ drop (s - length xs) ys
 drop_split zero xs ys = ap (λ n. xs ++ drop n ys) (let e : 0 ≡ 0 - length xs = omega arith in e)
@@ -32,39 +32,4 @@ after_both xs ys w =
     ap (λ n. state n w.most (w.taken ++ take free (drop w.skip (xs ++ ys)))) counts
     ∙ ap (λ l. state (w.skip - length xs - length ys) w.most (w.taken ++ l)) (ap (take free) (drop_split w.skip xs ys) ∙ take_split free front back ∙ ap (λ n. take free front ++ take n back) fits)
     ∙ ap (state (w.skip - length xs - length ys) w.most) (sym (append_assoc w.taken (take free front) (take (w.most - length (w.taken ++ take free front)) back)))
-    )
-
-full_skip : (w : Taken) → is_full w ≡ true → w.skip ≡ 0
-full_skip w h = grind arith
-
-full_taken : (w : Taken) → is_full w ≡ true → w.most - length w.taken ≡ 0
-full_taken w h = grind arith
-
--- nothing changes once it is full
-pub after_full : (xs : List Report) (w : Taken) → is_full w ≡ true → after xs w ≡ w
-after_full xs w full =
-    let none : w.skip ≡ 0 = full_skip w full in
-    let kept : w.skip - length xs ≡ w.skip = omega (arith, none) in
-    ap (λ n. state n w.most (w.taken ++ take (w.most - length w.taken) (drop w.skip xs))) kept
-    ∙ ap (λ n. state w.skip w.most (w.taken ++ take n (drop w.skip xs))) (full_taken w full)
-    ∙ ap (state w.skip w.most) (append-nil w.taken)
-
-drop_all : {X : Type 0} (n : ℕ) (xs : List X) → length xs ≤ n → drop n xs ≡ []
-drop_all zero [] h = refl
-drop_all (suc n) [] h = refl
-drop_all zero (x ∷ xs) h = absurd (omega (arith, h))
-drop_all (suc n) (x ∷ xs) h = drop_all n xs (omega (arith, h))
-
-take_none : {X : Type 0} (n : ℕ) → take {A = X} n [] ≡ []
-take_none zero = refl
-take_none (suc n) = refl
-
--- all are passed over
-pub passed_over : (xs : List Report) (w : Taken) (count : ℕ) → count ≡ length xs → count ≤ w.skip → state (w.skip - count) w.most w.taken ≡ after xs w
-passed_over xs w count is few =
-    ap (λ n. state (w.skip - n) w.most w.taken) is
-    ∙ sym (
-    ap (λ l. state (w.skip - length xs) w.most (w.taken ++ take (w.most - length w.taken) l)) (drop_all w.skip xs (omega (arith, is, few)))
-    ∙ ap (λ l. state (w.skip - length xs) w.most (w.taken ++ l)) (take_none (w.most - length w.taken))
-    ∙ ap (state (w.skip - length xs) w.most) (append-nil w.taken)
     )

@@ -1,12 +1,12 @@
 -- The accounts that some reader is told of.
-use Rattle.std.proofs.{Common.{◌≡◌, ℕ, zero, suc, ◌+◌, ◌/◌, ◌%◌, ◌^◌, ◌==◌, ◌<◌, ◌⊎◌, inl, inr, nat_lt, max, Bool, true, false, cond, List, [], ◌∷◌, ◌++◌, map, length, length-append, refl, ◌∙◌, sym, ap, subst, bit_or, if◌then◌else◌, arith, eqb-true, eq-eqb}, lemmas.{Bool.and_from, Nat.Bits.bit_at_or}}
+use Rattle.std.proofs.{Common.{◌≡◌, ℕ, zero, suc, ◌+◌, ◌/◌, ◌%◌, ◌^◌, ◌==◌, ◌<◌, ◌⊎◌, inl, inr, nat_lt, max, Bool, true, false, cond, List, [], ◌∷◌, ◌++◌, map, length, length-append, refl, ◌∙◌, sym, ap, subst, bit_or, if◌then◌else◌, arith, eqb-true, eq-eqb}, lemmas.{Bool.{and_from, and_parts}, Nat.Bits.bit_at_or}}
 use Rattle.std.specs.{Prelude.{None, Some, slice_get}, List.{flat_map}, Map.{lookup, set_value, values_of}}
 use Rattle.indexmap.specs.IndexMap.{set_value_at}
 use Rattle.gx_units.specs.{Names.same_user, declared.names.UserName.UserName}
 use Rattle.gx_policy.specs.{People.is_reader, declared.policy.User.User}
 use Rattle.gx_history.specs.{Masks.has_account}
-use Rattle.gx_laws.proofs.{Judging.both, Order.some_same}
-use Rattle.gx_streams.specs.{declared.{fill.{Party.Party, ToldFill.ToldFill}, span.Span.Span}, Fills.{copies_of, copy_of, copy_report, side_of}, Spans.{AreWithin, IsWithin, ReaderSpans, counted, no_spans, spans_for}}
+use Rattle.gx_laws.proofs.Order.{some_same}
+use Rattle.gx_streams.specs.{declared.{fill.{FillRole.FillRole, ReportedFill.ReportedFill}, span.Span.Span}, Fills.{copies_of, copy_of, copy_report, side_of}, Spans.{AreWithin, IsWithin, ReaderSpans, with_copies_counted, no_spans, spans_for}}
 
 -- no reader is told of an account at first
 pub within_first : (users : List User) → AreWithin 0 (flat_map spans_for users)
@@ -24,13 +24,13 @@ one_of_right x y z is one small = omega arith
 -- the accounts of two masks together are those of the first, and of the other
 pub within_left : (a b : ℕ) → IsWithin (bit_or a b) a
 within_left a b place has =
-    let parts = both (nat_lt place 64) (a / 2 ^ place % 2 == 1) has in
+    let parts = and_parts (nat_lt place 64) (a / 2 ^ place % 2 == 1) has in
     and_from (nat_lt place 64) (bit_or a b / 2 ^ place % 2 == 1) parts.0
     (eq-eqb _ _ (one_of_left (a / 2 ^ place % 2) (b / 2 ^ place % 2) _ (bit_at_or a b place) (eqb-true _ _ parts.1) (omega arith)))
 
 pub within_right : (a b : ℕ) → IsWithin (bit_or a b) b
 within_right a b place has =
-    let parts = both (nat_lt place 64) (b / 2 ^ place % 2 == 1) has in
+    let parts = and_parts (nat_lt place 64) (b / 2 ^ place % 2 == 1) has in
     and_from (nat_lt place 64) (bit_or a b / 2 ^ place % 2 == 1) parts.0
     (eq-eqb _ _ (one_of_right (a / 2 ^ place % 2) (b / 2 ^ place % 2) _ (bit_at_or a b place) (eqb-true _ _ parts.1) (omega arith)))
 
@@ -65,7 +65,7 @@ within_found read (e ∷ es) user r all is = by (same_user user e.0) is (within_
     by false found later = later found
 
 -- whom none of a fill's accounts is told of has no copy of it
-none_of_party : (read mask : ℕ) (f : ToldFill) (party : Party) → IsWithin read mask → length (copy_of read f party) ≡ 0 → length (copy_of mask f party) ≡ 0
+none_of_party : (read mask : ℕ) (f : ReportedFill) (party : FillRole) → IsWithin read mask → length (copy_of read f party) ≡ 0 → length (copy_of mask f party) ≡ 0
 none_of_party read mask f party within none = by (has_account mask (side_of f party).account_place) refl
   where
     copies : Bool → ℕ
@@ -75,19 +75,19 @@ none_of_party read mask f party within none = by (has_account mask (side_of f pa
     by false is = ap copies is
     by true is = let clash : 1 ≡ 0 = ap copies (sym (within (side_of f party).account_place is)) ∙ none in omega (arith, clash)
 
-none_of : (read mask : ℕ) (f : ToldFill) → IsWithin read mask → length (copies_of read f) ≡ 0 → length (copies_of mask f) ≡ 0
+none_of : (read mask : ℕ) (f : ReportedFill) → IsWithin read mask → length (copies_of read f) ≡ 0 → length (copies_of mask f) ≡ 0
 none_of read mask f within none =
-    let parts = length-append (copy_of read f Party.Taker) (copy_of read f Party.Maker) in
-    length-append (copy_of mask f Party.Taker) (copy_of mask f Party.Maker)
-    ∙ omega (arith, parts, none, none_of_party read mask f Party.Taker within (omega (arith, parts, none)), none_of_party read mask f Party.Maker within (omega (arith, parts, none)))
+    let parts = length-append (copy_of read f FillRole.Taker) (copy_of read f FillRole.Maker) in
+    length-append (copy_of mask f FillRole.Taker) (copy_of mask f FillRole.Maker)
+    ∙ omega (arith, parts, none, none_of_party read mask f FillRole.Taker within (omega (arith, parts, none)), none_of_party read mask f FillRole.Maker within (omega (arith, parts, none)))
 
 -- a fill of accounts that no reader is told of is counted for none
-pub none_counted : (read : ℕ) (f : ToldFill) (rs : List ReaderSpans) → AreWithin read rs → length (copies_of read f) ≡ 0 → map (counted f) rs ≡ rs
+pub none_counted : (read : ℕ) (f : ReportedFill) (rs : List ReaderSpans) → AreWithin read rs → length (copies_of read f) ≡ 0 → map (with_copies_counted f) rs ≡ rs
 none_counted read f [] all none = refl
 none_counted read f (r ∷ rs) all none =
     let with_count : ℕ → ReaderSpans = λ n. record { user = r.user; earlier = r.earlier; current = r.current; count = n } in
     let same : r.count + length (copies_of r.current.mask f) ≡ r.count = omega (arith, none_of read r.current.mask f all.0 none) in
-    ap (λ (s : ReaderSpans). s ∷ map (counted f) rs) (ap with_count same)
+    ap (λ (s : ReaderSpans). s ∷ map (with_copies_counted f) rs) (ap with_count same)
     ∙ ap (λ l. r ∷ l) (none_counted read f rs all.1 none)
 
 -- a reader who is written with another mask, or as he was, under his name

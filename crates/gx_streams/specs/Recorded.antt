@@ -3,7 +3,7 @@ use Rattle.std.specs.Prelude.{◌≡◌, ℕ, ◌-◌, List, Option, Some, None,
 use Rattle.gx_units.specs.declared.names.{Firm.Firm, UserName.UserName}
 use Rattle.gx_ouch.specs.declared.{inbound.EnterOrder.EnterOrder, outbound.Outbound.Outbound}
 use Rattle.gx_policy.specs.{declared.policy.{Account.Account, PolicyData.PolicyData}, People.{account_named, account_of}}
-use Rattle.gx_history.specs.{declared.{«record».{Asked.Asked, RecordData.RecordData, Request.Request}, report.{Message.Message, Report.Report}}, Requests.asked}
+use Rattle.gx_history.specs.{declared.{«record».{Asked.Asked, RecordData.RecordData, Request.Request}, report.{Message.Message, Report.Report}}, Requests.asked_of}
 
 -- the firm of the account that the user trades for
 abbrev pub house_of : PolicyData → UserName → Option Firm
@@ -16,7 +16,7 @@ enter_in other = None
 
 -- the Enter that the record asks for
 abbrev pub enter_of : RecordData → Option EnterOrder
-enter_of r = option_and_then (λ (a : Asked). enter_in a.request) (asked r.step)
+enter_of r = option_and_then (λ (a : Asked). enter_in a.request) (asked_of r.step)
 
 -- Accepted, to a user of this firm, of the order of this number that was entered so
 abbrev pub accepted_from : Option Firm → (number moment : ℕ) → EnterOrder → Report

@@ -3,7 +3,7 @@ use Rattle.std.specs.{Prelude.{◌≡◌, ℕ, Bool, true, false, IsFalse, List,
 use Rattle.gx_units.specs.declared.names.UserName.{UserName}
 use Rattle.gx_policy.specs.{declared.policy.{Account.Account, PolicyData.PolicyData}, People.{is_reader, role_in}}
 use Rattle.gx_history.specs.{declared.record.{Fill.Fill, RecordData.RecordData, Verdict.Verdict}, Executions.{Execution, sides}, InForce.is_entitled, Masks.mask_by, Streams.executed_message}
-use Rattle.gx_streams.specs.{declared.fill.{Party.Party, ToldFill.ToldFill}, Fills.{executed, side_of}, Streams.{AllStreams, mask_of}}
+use Rattle.gx_streams.specs.{declared.fill.{FillRole.FillRole, ReportedFill.ReportedFill}, Fills.{executed_of_fill, side_of}, Streams.{AllStreams, mask_of}}
 
 -- the accounts that are the user's by these records, if he is a reader
 abbrev pub mask_in_force : PolicyData → List RecordData → UserName → Option ℕ
@@ -24,21 +24,21 @@ is_fill (Verdict.Filled f) = true
 is_fill other = false
 
 -- a party's side of the told fill is this side of the record's, for an order of one who is no reader
-pub record IsSide (policy : PolicyData) (r : RecordData) (e : Execution) (f : ToldFill) (party : Party) : Type 0 where
+pub record IsSide (policy : PolicyData) (r : RecordData) (e : Execution) (f : ReportedFill) (party : FillRole) : Type 0 where
   pub user : (side_of f party).user ≡ e.order.user
   pub account : (side_of f party).account ≡ e.order.account
   pub side : (side_of f party).side ≡ e.order.terms.side
-  pub executed : executed f party ≡ executed_message r e
+  pub executed : executed_of_fill f party ≡ executed_message r e
   pub place : option_map (λ (a : Account). a.name) (slice_get policy.accounts (side_of f party).account_place) ≡ Some e.order.account
   pub reads_not : IsFalse (is_reader (role_in policy.users e.order.user))
 
 -- the told fill is the one that the record makes, after these
-pub record IsMadeBy (policy : PolicyData) (history : List RecordData) (r : RecordData) (f : ToldFill) : Type 0 where
+pub record IsMadeBy (policy : PolicyData) (history : List RecordData) (r : RecordData) (f : ReportedFill) : Type 0 where
   pub made : Fill
   pub taker : Execution
   pub maker : Execution
   pub fills : r.verdict ≡ Verdict.Filled made
   pub sides_are : sides policy history r.verdict ≡ taker ∷ maker ∷ []
-  pub takers : IsSide policy r taker f Party.Taker
-  pub makers : IsSide policy r maker f Party.Maker
+  pub takers : IsSide policy r taker f FillRole.Taker
+  pub makers : IsSide policy r maker f FillRole.Maker
   pub moment : f.moment ≡ r.moment

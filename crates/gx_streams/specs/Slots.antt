@@ -2,7 +2,7 @@
 use Rattle.std.specs.{Prelude.{◌≡◌, ℕ, ◌+◌, ◌<◌, ◌≤◌, ⊤, List, [], length, map, slice_get}, Option.option_map_or, List.AllByRecursion}
 use Rattle.gx_ouch.specs.declared.outbound.{Outbound.Outbound}
 use Rattle.gx_history.specs.declared.report.{Message.Message, Report.Report}
-use Rattle.gx_streams.specs.{declared.{entries.Lists.Lists, entry.Entry.Entry, fill.{Party.Party, ToldFill.ToldFill}, slot.{AcceptedAt.AcceptedAt, CanceledAt.CanceledAt, Slot.Slot}}, Table.{no_report, report_of}}
+use Rattle.gx_streams.specs.{declared.{entries.Lists.Lists, stored_report.StoredReport.StoredReport, fill.{FillRole.FillRole, ReportedFill.ReportedFill}, slot.{AcceptedAt.AcceptedAt, CanceledAt.CanceledAt, Slot.Slot}}, Table.{no_report, report_of}}
 
 -- what is long in a user's entries, each kind in their order
 pub record DetailLists : Type 0 where
@@ -31,20 +31,20 @@ abbrev pub canceled_report : CanceledAt → Report
 canceled_report c = record { timestamp = c.moment; message = Message.Order (Outbound.Canceled c.canceled) }
 
 -- the entry of a slot
-abbrev pub entry_in : DetailLists → Slot → Entry
-entry_in lists (Slot.Accepted a) = Entry.Typed (accepted_report a)
-entry_in lists (Slot.Canceled place) = Entry.Typed (option_map_or canceled_report (slice_get lists.canceled place) no_report)
-entry_in lists (Slot.Other place) = Entry.Typed (option_map_or (λ (r : Report). r) (slice_get lists.others place) no_report)
-entry_in lists (Slot.Taker place) = Entry.Filled place Party.Taker
-entry_in lists (Slot.Maker place) = Entry.Filled place Party.Maker
+abbrev pub entry_in : DetailLists → Slot → StoredReport
+entry_in lists (Slot.Accepted a) = StoredReport.Typed (accepted_report a)
+entry_in lists (Slot.Canceled place) = StoredReport.Typed (option_map_or canceled_report (slice_get lists.canceled place) no_report)
+entry_in lists (Slot.Other place) = StoredReport.Typed (option_map_or (λ (r : Report). r) (slice_get lists.others place) no_report)
+entry_in lists (Slot.Taker place) = StoredReport.Filled place FillRole.Taker
+entry_in lists (Slot.Maker place) = StoredReport.Filled place FillRole.Maker
 
 -- the entries of slots
-abbrev pub entries_in : DetailLists → List Slot → List Entry
+abbrev pub entries_in : DetailLists → List Slot → List StoredReport
 entries_in lists slots = map (entry_in lists) slots
 
 -- the report of a slot's entry
-abbrev pub reported : List ToldFill → DetailLists → Slot → Report
-reported fills lists slot = report_of fills (entry_in lists slot)
+abbrev pub report_in_slot : List ReportedFill → DetailLists → Slot → Report
+report_in_slot fills lists slot = report_of fills (entry_in lists slot)
 
 -- what the slot names is there
 abbrev pub IsThere : DetailLists → Slot → Type 0

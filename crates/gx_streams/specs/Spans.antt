@@ -3,7 +3,7 @@ use Rattle.std.specs.{Map.values_of, Prelude.{IsTrue, ◌≡◌, ◌≤◌, ℕ,
 use Rattle.gx_units.specs.{Names.same_user, declared.names.UserName.UserName}
 use Rattle.gx_policy.specs.{declared.policy.{User.User, PolicyData.PolicyData}, People.is_reader}
 use Rattle.gx_history.specs.{Masks.has_account, declared.report.Report.{Report}}
-use Rattle.gx_streams.specs.{declared.{fill.ToldFill.ToldFill, span.Span.Span}, Fills.{copies_of, copies_of_all}}
+use Rattle.gx_streams.specs.{declared.{fill.ReportedFill.ReportedFill, span.Span.Span}, Fills.{copies_of, copies_of_all}}
 
 -- a reader's spans, and how many reports he has
 pub record ReaderSpans : Type 0 where
@@ -22,30 +22,30 @@ abbrev pub between : {X : Type 0} → ℕ → ℕ → List X → List X
 between from until items = take (until - from) (drop from items)
 
 -- the drop copies of a span, which ends where the next begins
-abbrev pub copies_before : List ToldFill → Span → List Span → Span → List Report
+abbrev pub copies_before : List ReportedFill → Span → List Span → Span → List Report
 copies_before fills s later current = copies_of_all s.mask (between s.first_fill (next_of later current).first_fill fills)
 
 -- the drop copies of the earlier spans, and those of the current one
-abbrev pub copies_in : List ToldFill → List Span → Span → List Report
+abbrev pub copies_in : List ReportedFill → List Span → Span → List Report
 copies_in fills [] current = copies_of_all current.mask (drop current.first_fill fills)
 copies_in fills (s ∷ later) current = copies_before fills s later current ++ copies_in fills later current
 
 -- each span says the number that its first report has, by those of the spans before it
-abbrev pub AreNumbered : List ToldFill → ℕ → List Span → Span → Type 0
+abbrev pub AreNumbered : List ReportedFill → ℕ → List Span → Span → Type 0
 AreNumbered fills number [] current = current.first_report ≡ number
 AreNumbered fills number (s ∷ later) current =
     (s.first_report ≡ number) × AreNumbered fills (number + length (copies_before fills s later current)) later current
 
 -- the reader has the copies of one more fill
-abbrev pub counted : ToldFill → ReaderSpans → ReaderSpans
-counted f r = record { user = r.user; earlier = r.earlier; current = r.current; count = r.count + length (copies_of r.current.mask f) }
+abbrev pub with_copies_counted : ReportedFill → ReaderSpans → ReaderSpans
+with_copies_counted f r = record { user = r.user; earlier = r.earlier; current = r.current; count = r.count + length (copies_of r.current.mask f) }
 
 -- another mask is in force from this fill on
 abbrev pub entitled_from : ℕ → ℕ → ReaderSpans → ReaderSpans
 entitled_from mask fill r = record { user = r.user; earlier = r.earlier ++ r.current ∷ []; current = record { first_fill = fill; mask = mask; first_report = r.count + 1 }; count = r.count }
 
 -- no span begins past the fills, and the reports are counted and numbered
-pub record IsSound (fills : List ToldFill) (r : ReaderSpans) : Type 0 where
+pub record IsSound (fills : List ReportedFill) (r : ReaderSpans) : Type 0 where
   pub begun : AllByRecursion (λ (s : Span). s.first_fill ≤ length fills) r.earlier
   pub now_begun : r.current.first_fill ≤ length fills
   pub count_is : r.count ≡ length (copies_in fills r.earlier r.current)

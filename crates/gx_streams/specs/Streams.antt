@@ -3,7 +3,7 @@ use Rattle.std.specs.{Prelude.{ℕ, Bool, ◌&&◌, not, is_some, List, [], ◌�
 use Rattle.gx_units.specs.{Names.same_user, declared.names.UserName.UserName}
 use Rattle.gx_policy.specs.{declared.policy.{PolicyData.PolicyData, User.User}, People.is_reader}
 use Rattle.gx_history.specs.declared.report.Report.{Report}
-use Rattle.gx_streams.specs.{declared.fill.ToldFill.ToldFill, Fills.{copies_of, executed_of}, Kept.{Kept, UserList, at_first, is_known, items_in, nothing_told, on_user}}
+use Rattle.gx_streams.specs.{declared.fill.ReportedFill.ReportedFill, Fills.{copies_of, executed_of}, Kept.{ReservedList, UserList, at_first, is_known, items_in, empty_lists, on_user}}
 
 -- a reader, and the accounts whose later fills he gets, in the file's order, the first in the lowest bit
 pub record ReaderMask : Type 0 where
@@ -28,32 +28,32 @@ abbrev pub mask_of : AllStreams → UserName → Option ℕ
 mask_of streams user = mask_in streams.readers user
 
 -- the user is known and no reader: reports are put into his stream one by one
-abbrev pub is_told : AllStreams → UserName → Bool
-is_told streams user = is_known streams.told user && not (is_some (mask_of streams user))
+abbrev pub has_own_stream : AllStreams → UserName → Bool
+has_own_stream streams user = is_known streams.told user && not (is_some (mask_of streams user))
 
 -- one user's list changed, and all else as it was
-abbrev pub on_told : UserName → (Kept Report → Kept Report) → AllStreams → AllStreams
-on_told user change streams = record { told = on_user user change streams.told; readers = streams.readers }
+abbrev pub on_list_of : UserName → (ReservedList Report → ReservedList Report) → AllStreams → AllStreams
+on_list_of user change streams = record { told = on_user user change streams.told; readers = streams.readers }
 
 -- what a fill tells a user: a reader the drop copies by his mask, any other the reports of his sides
-abbrev pub told_by_fill : List ReaderMask → ToldFill → UserName → List Report
-told_by_fill readers f user = option_map_or (λ (mask : ℕ). copies_of mask f) (mask_in readers user) (executed_of f user)
+abbrev pub fill_reports : List ReaderMask → ReportedFill → UserName → List Report
+fill_reports readers f user = option_map_or (λ (mask : ℕ). copies_of mask f) (mask_in readers user) (executed_of f user)
 
 -- a user's list with what the fill tells him last
-abbrev pub with_fill_told : List ReaderMask → ToldFill → UserList Report → UserList Report
-with_fill_told readers f l = record { user = l.user; kept = record { items = l.kept.items ++ told_by_fill readers f l.user; spare = l.kept.spare } }
+abbrev pub with_fill_reports : List ReaderMask → ReportedFill → UserList Report → UserList Report
+with_fill_reports readers f l = record { user = l.user; kept = record { items = l.kept.items ++ fill_reports readers f l.user; spare = l.kept.spare } }
 
 -- the fill told to each user
-abbrev pub with_fill : ToldFill → AllStreams → AllStreams
-with_fill f streams = record { told = map (with_fill_told streams.readers f) streams.told; readers = streams.readers }
+abbrev pub with_fill : ReportedFill → AllStreams → AllStreams
+with_fill f streams = record { told = map (with_fill_reports streams.readers f) streams.told; readers = streams.readers }
 
 -- the reader gets the later fills of these accounts
 abbrev pub with_mask : ℕ → ReaderMask → ReaderMask
 with_mask mask r = record { user = r.user; mask = mask }
 
 -- one reader gets the later fills of these accounts; no list changes
-abbrev pub entitled : UserName → ℕ → AllStreams → AllStreams
-entitled user mask streams = record {
+abbrev pub with_reader_entitled : UserName → ℕ → AllStreams → AllStreams
+with_reader_entitled user mask streams = record {
   told = streams.told;
   readers = at_first (λ (r : ReaderMask). same_user user r.user) (with_mask mask) streams.readers;
 }
@@ -64,4 +64,4 @@ no_mask u = if is_reader (Some u.role) then (record { user = u.name; mask = 0 })
 
 -- the policy's users, whom nothing was told, and its readers, who get nothing yet
 abbrev pub empty_streams : PolicyData → AllStreams
-empty_streams policy = record { told = nothing_told policy; readers = flat_map no_mask policy.users }
+empty_streams policy = record { told = empty_lists policy; readers = flat_map no_mask policy.users }

@@ -3,14 +3,14 @@ use Rattle.std.specs.{Prelude.{◌≡◌, ◌<◌, ℕ, IsTrue, List, [], length
 use Rattle.gx_units.specs.declared.names.UserName.{UserName}
 use Rattle.gx_ouch.specs.declared.{outbound.Outbound.Outbound, letters.EventCode.EventCode}
 use Rattle.gx_history.specs.declared.report.{Message.Message, Report.Report}
-use Rattle.gx_streams.specs.{declared.{fill.ToldFill.ToldFill, entry.Entry.Entry}, Fills.executed_report, Kept.{Kept, UserList, is_known, items_in}, Spans.{ReaderSpans, IsSound, copies_in, is_named}, Streams.{AllStreams, ReaderMask}}
+use Rattle.gx_streams.specs.{declared.{fill.ReportedFill.ReportedFill, stored_report.StoredReport.StoredReport}, Fills.executed_report, Kept.{ReservedList, UserList, is_known, items_in}, Spans.{ReaderSpans, IsSound, copies_in, is_named}, Streams.{AllStreams, ReaderMask}}
 
 -- the user of an entry
-abbrev pub user_list : UserName × Kept Entry → UserList Entry
+abbrev pub user_list : UserName × ReservedList StoredReport → UserList StoredReport
 user_list e = record { user = e.0; kept = e.1 }
 
 -- the users of the entries
-abbrev pub lists_of : List (UserName × Kept Entry) → List (UserList Entry)
+abbrev pub lists_of : List (UserName × ReservedList StoredReport) → List (UserList StoredReport)
 lists_of es = map user_list es
 
 -- stands for a fill that is not there, which no entry names
@@ -18,25 +18,25 @@ abbrev pub no_report : Report
 no_report = record { timestamp = 0; message = Message.Order (Outbound.SystemEvent EventCode.EndOfDay) }
 
 -- the report that an entry stands for
-abbrev pub report_of : List ToldFill → Entry → Report
-report_of fills (Entry.Typed report) = report
-report_of fills (Entry.Filled place party) = option_map_or (λ (f : ToldFill). executed_report f party) (slice_get fills place) no_report
+abbrev pub report_of : List ReportedFill → StoredReport → Report
+report_of fills (StoredReport.Typed report) = report
+report_of fills (StoredReport.Filled place party) = option_map_or (λ (f : ReportedFill). executed_report f party) (slice_get fills place) no_report
 
 -- the fill of the entry, if it has one, is there
-abbrev pub IsThere : ℕ → Entry → Type 0
-IsThere count (Entry.Typed report) = Unit {0}
-IsThere count (Entry.Filled place party) = place < count
+abbrev pub IsThere : ℕ → StoredReport → Type 0
+IsThere count (StoredReport.Typed report) = Unit {0}
+IsThere count (StoredReport.Filled place party) = place < count
 
 -- the reports that entries stand for
-abbrev pub kept_reports : List ToldFill → Kept Entry → Kept Report
+abbrev pub kept_reports : List ReportedFill → ReservedList StoredReport → ReservedList Report
 kept_reports fills kept = record { items = map (report_of fills) kept.items; spare = kept.spare }
 
 -- the drop copies that a reader's spans stand for; no place is kept for him
-abbrev pub kept_copies : List ToldFill → ReaderSpans → Kept Report
+abbrev pub kept_copies : List ReportedFill → ReaderSpans → ReservedList Report
 kept_copies fills r = record { items = copies_in fills r.earlier r.current; spare = 0 }
 
 -- what a user was told: a reader his drop copies, any other what his entries stand for
-abbrev pub list_shown : List ToldFill → List ReaderSpans → UserList Entry → UserList Report
+abbrev pub list_shown : List ReportedFill → List ReaderSpans → UserList StoredReport → UserList Report
 list_shown fills readers l = record { user = l.user; kept = option_map_or (kept_copies fills) (find (is_named l.user) readers) (kept_reports fills l.kept) }
 
 -- the mask in force of a reader
@@ -44,12 +44,12 @@ abbrev pub reader_mask : ReaderSpans → ReaderMask
 reader_mask r = record { user = r.user; mask = r.current.mask }
 
 -- the streams that fills, entries and spans stand for
-abbrev pub streams_of : List ToldFill → List (UserList Entry) → List ReaderSpans → AllStreams
+abbrev pub streams_of : List ReportedFill → List (UserList StoredReport) → List ReaderSpans → AllStreams
 streams_of fills told readers = record { told = map (list_shown fills readers) told; readers = map reader_mask readers }
 
 -- each entry's fill is there; each reader's spans are sound, and he is one of the users, and has no entry
-pub record IsSoundTable (fills : List ToldFill) (told : List (UserList Entry)) (readers : List ReaderSpans) : Type 0 where
-  pub there : AllByRecursion (λ (l : UserList Entry). AllByRecursion (IsThere (length fills)) l.kept.items) told
+pub record IsSoundTable (fills : List ReportedFill) (told : List (UserList StoredReport)) (readers : List ReaderSpans) : Type 0 where
+  pub there : AllByRecursion (λ (l : UserList StoredReport). AllByRecursion (IsThere (length fills)) l.kept.items) told
   pub sound : AllByRecursion (IsSound fills) readers
   pub known : AllByRecursion (λ (r : ReaderSpans). IsTrue (is_known told r.user)) readers
   pub silent : AllByRecursion (λ (r : ReaderSpans). items_in told r.user ≡ []) readers

@@ -1,12 +1,12 @@
 //! What is long in a user's entries.
 
 ghost use Rattle.std.specs.Prelude.{◌≡◌, ◌+◌, ◌<◌, ◌≤◌, Some, IfOk, IsOk, OnErr, OnOk, vec_capacity, vec_len};
-ghost use Rattle.gx_streams.specs.{declared.entry.Entry.{Entry}, Recorded.reference_in, Slots.{IsThere, Widens, canceled_report, entries_in, entry_in, no_details}};
+ghost use Rattle.gx_streams.specs.{declared.stored_report.StoredReport.{StoredReport}, Recorded.reference_in, Slots.{IsThere, Widens, canceled_report, entries_in, entry_in, no_details}};
 
 use crate::entries::{Entries, Lists};
-use crate::entry::Entry;
-use crate::fill::Party;
+use crate::fill::FillRole;
 use crate::slot::{AcceptedAt, CanceledAt, Slot};
+use crate::stored_report::StoredReport;
 use gx_history::report::{Message, Report};
 use gx_ouch::Outbound;
 use gx_units::OutOfMemory;
@@ -107,7 +107,7 @@ impl Details {
         requires accepted { reference_in report.now ≡ Some number }
         ensures kept { Widens self.old.lists self.new.lists }
         ensures spare { self.new.spare + 1 ≡ self.old.spare }
-        ensures entry { entry_in self.new.lists result ≡ Entry.Typed report.now }
+        ensures entry { entry_in self.new.lists result ≡ StoredReport.Typed report.now }
         ensures there { IsThere self.new.lists result }
     {
         self.spare -= 1;
@@ -120,7 +120,8 @@ impl Details {
         requires room { 0 < self.old.spare }
         ensures kept { Widens self.old.lists self.new.lists }
         ensures spare { self.new.spare + 1 ≡ self.old.spare }
-        ensures entry { entry_in self.new.lists result ≡ Entry.Typed (canceled_report canceled) }
+        ensures entry { entry_in self.new.lists result
+            ≡ StoredReport.Typed (canceled_report canceled) }
         ensures there { IsThere self.new.lists result }
     {
         self.spare -= 1;
@@ -135,7 +136,7 @@ impl Details {
         requires room { 0 < self.old.spare }
         ensures kept { Widens self.old.lists self.new.lists }
         ensures spare { self.new.spare + 1 ≡ self.old.spare }
-        ensures entry { entry_in self.new.lists result ≡ Entry.Typed report }
+        ensures entry { entry_in self.new.lists result ≡ StoredReport.Typed report }
         ensures there { IsThere self.new.lists result }
     {
         self.spare -= 1;
@@ -146,17 +147,17 @@ impl Details {
 
     /// Names the side of a fill, which lies elsewhere.
     #[inline(always)]
-    fn put_side(&mut self, place: usize, party: Party) -> Slot
+    fn put_side(&mut self, place: usize, party: FillRole) -> Slot
         requires room { 0 < self.old.spare }
         ensures kept { Widens self.old.lists self.new.lists }
         ensures spare { self.new.spare + 1 ≡ self.old.spare }
-        ensures entry { entry_in self.new.lists result ≡ Entry.Filled place party }
+        ensures entry { entry_in self.new.lists result ≡ StoredReport.Filled place party }
         ensures there { IsThere self.new.lists result }
     {
         self.spare -= 1;
         match party {
-            Party::Taker => Slot::Taker(place),
-            Party::Maker => Slot::Maker(place),
+            FillRole::Taker => Slot::Taker(place),
+            FillRole::Maker => Slot::Maker(place),
         }
     }
 
@@ -166,7 +167,7 @@ impl Details {
         requires room { 0 < self.old.spare }
         ensures kept { Widens self.old.lists self.new.lists }
         ensures spare { self.new.spare + 1 ≡ self.old.spare }
-        ensures entry { entry_in self.new.lists result ≡ Entry.Typed report }
+        ensures entry { entry_in self.new.lists result ≡ StoredReport.Typed report }
         ensures there { IsThere self.new.lists result }
     {
         match &report.message {
@@ -183,7 +184,7 @@ impl Details {
 
     /// Puts what is long in the entry last, and names it by its place. What was there is named as before.
     #[inline(always)]
-    pub(crate) fn put(&mut self, entry: Entry) -> Slot
+    pub(crate) fn put(&mut self, entry: StoredReport) -> Slot
         requires room { 0 < self.old.spare }
         ensures kept { Widens self.old.lists self.new.lists }
         ensures spare { self.new.spare + 1 ≡ self.old.spare }
@@ -191,8 +192,8 @@ impl Details {
         ensures there { IsThere self.new.lists result }
     {
         match entry {
-            Entry::Typed(report) => self.put_report(report),
-            Entry::Filled(place, party) => self.put_side(place, party),
+            StoredReport::Typed(report) => self.put_report(report),
+            StoredReport::Filled(place, party) => self.put_side(place, party),
         }
     }
 

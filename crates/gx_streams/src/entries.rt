@@ -2,9 +2,9 @@
 
 ghost use Rattle.std.specs.{Prelude.{◌≡◌, [], length, map, OnOk}, List.AllByRecursion};
 ghost use Rattle.gx_policy.specs.Lists.{slice};
-ghost use Rattle.gx_streams.specs.{declared.entry.Entry.{Entry}, Recorded.IsRecorded, Slots.{lists_of, reported}, Table.{no_report, report_of}};
+ghost use Rattle.gx_streams.specs.{declared.stored_report.StoredReport.{StoredReport}, Recorded.IsRecorded, Slots.{lists_of, report_in_slot}, Table.{no_report, report_of}};
 
-use crate::fill::{Party, ToldFill};
+use crate::fill::{FillRole, ReportedFill};
 use crate::recorded::Source;
 use crate::slot::{CanceledAt, Slot};
 use gx_history::report::{Message, Report};
@@ -29,9 +29,9 @@ pub(crate) struct Entries<'a> {
 
 impl<'a> Model for Entries<'a> {
     ghost use Rattle.std.specs.Prelude.{List};
-    ghost use Rattle.gx_streams.specs.{Slots.{entries_in, lists_of}, declared.entry.Entry.{Entry}};
+    ghost use Rattle.gx_streams.specs.{Slots.{entries_in, lists_of}, declared.stored_report.StoredReport.{StoredReport}};
 
-    ghost Value = { List Entry };
+    ghost Value = { List StoredReport };
 
     ghost view = { λ e. entries_in (lists_of e.lists) e.slots.now };
 }
@@ -48,8 +48,8 @@ pub(crate) fn no_report() -> Report
 
 /// Executed, to the user of this side of the fill at this place.
 #[inline(always)]
-fn executed(fills: &[ToldFill], place: usize, party: Party) -> Report
-    ensures { result ≡ report_of fills.now (Entry.Filled place party) }
+fn executed(fills: &[ReportedFill], place: usize, party: FillRole) -> Report
+    ensures { result ≡ report_of fills.now (StoredReport.Filled place party) }
 {
     match fills.get(place) {
         Some(fill) => fill.report(party),
@@ -59,10 +59,10 @@ fn executed(fills: &[ToldFill], place: usize, party: Party) -> Report
 
 /// The report of the slot's entry, which lies in one of these lists, is of one of these fills, or is told by the records.
 #[inline(always)]
-fn report_at(lists: &Lists<'_>, fills: &[ToldFill], source: &Source<'_>, slot: &Slot) -> Report
+fn report_at(lists: &Lists<'_>, fills: &[ReportedFill], source: &Source<'_>, slot: &Slot) -> Report
     requires recorded { IsRecorded source.now.house source.now.records.now
-        (reported fills.now (lists_of lists.now) slot.now) }
-    ensures { result ≡ reported fills.now (lists_of lists.now) slot.now }
+        (report_in_slot fills.now (lists_of lists.now) slot.now) }
+    ensures { result ≡ report_in_slot fills.now (lists_of lists.now) slot.now }
 {
     match slot {
         Slot::Accepted(accepted) => accepted.report(source),
@@ -74,23 +74,23 @@ fn report_at(lists: &Lists<'_>, fills: &[ToldFill], source: &Source<'_>, slot: &
             Some(found) => *found,
             None => no_report(),
         },
-        Slot::Taker(place) => executed(fills, *place, Party::Taker),
-        Slot::Maker(place) => executed(fills, *place, Party::Maker),
+        Slot::Taker(place) => executed(fills, *place, FillRole::Taker),
+        Slot::Maker(place) => executed(fills, *place, FillRole::Maker),
     }
 }
 
 /// Puts the reports of these slots' entries into the list, in place of those there. Its room is kept.
 fn put_each(
     lists: &Lists<'_>,
-    fills: &[ToldFill],
+    fills: &[ReportedFill],
     source: &Source<'_>,
     slots: &[Slot],
     reports: &mut Vec<Report>,
 ) -> Result<(), OutOfMemory>
     requires recorded { AllByRecursion (λ slot. IsRecorded source.now.house source.now.records.now
-        (reported fills.now (lists_of lists.now) slot)) slots.now }
+        (report_in_slot fills.now (lists_of lists.now) slot)) slots.now }
     ensures { OnOk result (reports.new.items
-        ≡ map (reported fills.now (lists_of lists.now)) slots.now) }
+        ≡ map (report_in_slot fills.now (lists_of lists.now)) slots.now) }
 {
     reports.clear();
     reports.reserve(slots.len())?;
@@ -132,7 +132,7 @@ impl<'a> Entries<'a> {
     /// Puts their reports into the list, in place of those there. Its room is kept. Each Accepted is one that the records tell.
     pub(crate) fn put_reports(
         &self,
-        fills: &[ToldFill],
+        fills: &[ReportedFill],
         source: &Source<'_>,
         reports: &mut Vec<Report>,
     ) -> Result<(), OutOfMemory>

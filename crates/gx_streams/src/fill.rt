@@ -2,7 +2,7 @@
 
 ghost use Rattle.std.specs.Prelude.{◌≡◌, ◌≤◌, length};
 ghost use Rattle.gx_history.specs.Masks.{has_account};
-ghost use Rattle.gx_streams.specs.Fills.{copies_of, copy_report, executed, executed_report, liquidity_of, side_of};
+ghost use Rattle.gx_streams.specs.Fills.{copies_of, copy_report, executed_of_fill, executed_report, liquidity_of, side_of};
 
 use gx_desk::DropCopy;
 use gx_history::report::{Message, Report};
@@ -26,7 +26,7 @@ pub struct FillSide {
 
 /// Two orders met.
 #[derive(Clone, Copy)]
-pub struct ToldFill {
+pub struct ReportedFill {
     /// The number of its record.
     pub match_number: u64,
     /// The moment of its record.
@@ -43,7 +43,7 @@ pub struct ToldFill {
 
 /// Whose side of a fill.
 #[derive(Clone, Copy)]
-pub enum Party {
+pub enum FillRole {
     /// That of the order that came in.
     Taker,
     /// That of the order that rested.
@@ -57,29 +57,29 @@ fn has_account(mask: u64, place: usize) -> bool
     place < 64 && (mask >> place) % 2 == 1
 }
 
-impl Party {
+impl FillRole {
     fn liquidity(self) -> Liquidity
         ensures { result ≡ liquidity_of self }
     {
         match self {
-            Party::Taker => Liquidity::Removed,
-            Party::Maker => Liquidity::Added,
+            FillRole::Taker => Liquidity::Removed,
+            FillRole::Maker => Liquidity::Added,
         }
     }
 }
 
-impl ToldFill {
-    fn side(&self, party: Party) -> &FillSide
+impl ReportedFill {
+    fn side(&self, party: FillRole) -> &FillSide
         ensures { result.now ≡ side_of self.now party }
     {
         match party {
-            Party::Taker => &self.taker,
-            Party::Maker => &self.maker,
+            FillRole::Taker => &self.taker,
+            FillRole::Maker => &self.maker,
         }
     }
 
-    fn executed(&self, party: Party) -> Executed
-        ensures { result ≡ executed self.now party }
+    fn executed(&self, party: FillRole) -> Executed
+        ensures { result ≡ executed_of_fill self.now party }
     {
         Executed {
             token: self.side(party).token,
@@ -91,7 +91,7 @@ impl ToldFill {
     }
 
     /// What the user of the party's order is told.
-    pub(crate) fn report(&self, party: Party) -> Report
+    pub(crate) fn report(&self, party: FillRole) -> Report
         ensures { result ≡ executed_report self.now party }
     {
         Report {
@@ -101,7 +101,7 @@ impl ToldFill {
     }
 
     /// What a reader of the party's account is told.
-    pub(crate) fn copy(&self, party: Party) -> Report
+    pub(crate) fn copy(&self, party: FillRole) -> Report
         ensures { result ≡ copy_report self.now party }
     {
         let side = self.side(party);
@@ -116,7 +116,7 @@ impl ToldFill {
     }
 
     /// Whether a reader with this mask is told of the party's side.
-    pub(crate) fn concerns(&self, mask: u64, party: Party) -> bool
+    pub(crate) fn concerns(&self, mask: u64, party: FillRole) -> bool
         ensures { result ≡ has_account mask (side_of self.now party).account_place }
     {
         has_account(mask, self.side(party).account_place)
@@ -127,12 +127,12 @@ impl ToldFill {
         ensures count { result ≡ length (copies_of mask self.now) }
         ensures few { result ≤ 2 }
     {
-        let taker = if self.concerns(mask, Party::Taker) {
+        let taker = if self.concerns(mask, FillRole::Taker) {
             1
         } else {
             0
         };
-        let maker = if self.concerns(mask, Party::Maker) {
+        let maker = if self.concerns(mask, FillRole::Maker) {
             1
         } else {
             0

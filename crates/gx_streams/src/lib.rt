@@ -4,15 +4,17 @@
 
 mod details;
 mod entries;
-mod entry;
 pub mod fill;
 pub mod laws;
 mod reader;
 mod readers;
 mod recorded;
+mod report_lists;
 mod slot;
 mod span;
+mod stored_report;
 mod stream;
-pub mod streams;
-mod told;
+mod streams;
 mod window;
+
+pub use streams::Streams;

@@ -1,9 +1,9 @@
 //! One reader's spans.
 
 ghost use Rattle.std.specs.Prelude.{◌≡◌, ◌<◌, ◌+◌, ◌^◌, [], OnOk, OnErr};
-ghost use Rattle.gx_streams.specs.Spans.{counted, entitled_from, no_spans};
+ghost use Rattle.gx_streams.specs.Spans.{with_copies_counted, entitled_from, no_spans};
 
-use crate::fill::ToldFill;
+use crate::fill::ReportedFill;
 use crate::span::Span;
 use gx_units::{OutOfMemory, UserName};
 use std::alloc::Global;
@@ -65,9 +65,9 @@ impl Reader {
     }
 
     /// Counts the copies of one more fill.
-    pub(crate) fn note(&mut self, fill: &ToldFill)
+    pub(crate) fn note(&mut self, fill: &ReportedFill)
         requires { self.old.count + 2 < 2 ^ 64 }
-        ensures { self.new ≡ counted fill.now self.old }
+        ensures { self.new ≡ with_copies_counted fill.now self.old }
     {
         self.count += fill.count(self.current.mask);
     }

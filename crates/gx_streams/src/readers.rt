@@ -2,9 +2,9 @@
 
 ghost use Rattle.std.specs.{Prelude.{◌≡◌, ◌<◌, ◌+◌, ◌^◌, IfOk, IfSome, OnOk, OnErr, Some, length, map, option_map}, List.{AllByRecursion, find}};
 ghost use Rattle.gx_policy.specs.People.{is_reader};
-ghost use Rattle.gx_streams.specs.{Kept.at_first, Spans.{counted, entitled_from, first_spans, is_named}};
+ghost use Rattle.gx_streams.specs.{Kept.at_first, Spans.{with_copies_counted, entitled_from, first_spans, is_named}};
 
-use crate::fill::ToldFill;
+use crate::fill::ReportedFill;
 use crate::reader::Reader;
 use gx_policy::{Policy, Role, User};
 use gx_units::{OutOfMemory, UserName};
@@ -79,9 +79,9 @@ impl Readers {
     }
 
     /// Counts the copies of one more fill for each reader. It looks at none where no reader has an account of it.
-    pub(crate) fn note(&mut self, fill: &ToldFill)
+    pub(crate) fn note(&mut self, fill: &ReportedFill)
         requires { AllByRecursion (λ r. r.count + 2 < 2 ^ 64) self.old }
-        ensures { self.new ≡ map (counted fill.now) self.old }
+        ensures { self.new ≡ map (with_copies_counted fill.now) self.old }
     {
         if fill.count(self.read) == 0 {
             return;

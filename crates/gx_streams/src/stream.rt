@@ -1,12 +1,12 @@
 //! What is kept of one user's reports.
 
 ghost use Rattle.std.specs.Prelude.{◌≡◌, ◌≤◌, ◌<◌, IfOk, IsOk, OnOk, OnErr};
-ghost use Rattle.gx_streams.specs.Kept.{nothing_kept, with_kept_last, with_last, with_places, without_last};
+ghost use Rattle.gx_streams.specs.Kept.{empty_list, with_reserved_last, with_last, with_reserved, without_last};
 
 use crate::details::{Details, make_room};
 use crate::entries::Entries;
-use crate::entry::Entry;
 use crate::slot::Slot;
+use crate::stored_report::StoredReport;
 use gx_units::OutOfMemory;
 use std::alloc::Global;
 use std::marker::Model;
@@ -20,9 +20,9 @@ pub(crate) struct Stream {
 
 impl Model for Stream {
     ghost use Rattle.std.specs.Prelude.{vec_len, vec_capacity};
-    ghost use Rattle.gx_streams.specs.{Kept.{Kept}, Slots.{AreKept, entries_in}, declared.entry.Entry.{Entry}};
+    ghost use Rattle.gx_streams.specs.{Kept.{ReservedList}, Slots.{AreKept, entries_in}, declared.stored_report.StoredReport.{StoredReport}};
 
-    ghost Value = { Kept Entry };
+    ghost Value = { ReservedList StoredReport };
 
     ghost view = { λ s. record { items = entries_in s.details.lists s.slots.items; spare = s.details.spare } };
 
@@ -32,7 +32,7 @@ impl Model for Stream {
 impl Stream {
     /// Nothing, and no place kept, with room for so many entries.
     pub(crate) fn new(alloc: Global, room: usize) -> Result<Stream, OutOfMemory>
-        ensures { IfOk result (λ stream. stream ≡ nothing_kept) }
+        ensures { IfOk result (λ stream. stream ≡ empty_list) }
     {
         Ok(Stream {
             slots: Vec::with_capacity(alloc, room)?,
@@ -52,7 +52,7 @@ impl Stream {
 
     /// Puts the entry last, in a place of its own: those that are kept stay kept.
     #[inline(always)]
-    pub(crate) fn push(&mut self, entry: Entry) -> Result<(), OutOfMemory>
+    pub(crate) fn push(&mut self, entry: StoredReport) -> Result<(), OutOfMemory>
         ensures ok { OnOk result (self.new ≡ with_last entry self.old) }
         ensures err { OnErr result (self.new ≡ self.old) }
     {
@@ -65,7 +65,7 @@ impl Stream {
     /// Keeps at least so many places for `push_reserved`.
     #[inline(always)]
     pub(crate) fn reserve(&mut self, places: usize) -> Result<(), OutOfMemory>
-        ensures ok { OnOk result (self.new ≡ with_places places self.old) }
+        ensures ok { OnOk result (self.new ≡ with_reserved places self.old) }
         ensures enough { places ≤ self.old.spare → IsOk result }
         ensures err { OnErr result (self.new ≡ self.old) }
     {
@@ -77,9 +77,9 @@ impl Stream {
 
     /// Puts the entry last, in a place that is kept. Takes no memory.
     #[inline(always)]
-    pub(crate) fn push_reserved(&mut self, entry: Entry)
+    pub(crate) fn push_reserved(&mut self, entry: StoredReport)
         requires { 0 < self.old.spare }
-        ensures { self.new ≡ with_kept_last entry self.old }
+        ensures { self.new ≡ with_reserved_last entry self.old }
     {
         let slot = self.details.put(entry);
         self.slots.push_reserved(slot);

@@ -2,15 +2,15 @@
 
 ghost use Rattle.std.specs.{Prelude.{◌≡◌, ◌<◌, ◌^◌, ◌≤◌, [], ◌∷◌, ◌++◌, is_some, length, map, option_map, IsTrue, IfOk, IsOk, OnOk, OnErr}, List.{AllByRecursion, find}};
 ghost use Rattle.gx_policy.specs.Lists.{slice};
-ghost use Rattle.gx_streams.specs.{Kept.{places_in, with_kept_last, with_last, with_places}, Recorded.IsRecorded, Spans.{copies_in, is_named, AreNumbered}, Streams.{empty_streams, entitled, is_told, on_told, reports_in, with_fill}};
+ghost use Rattle.gx_streams.specs.{Kept.{reserved_in, with_reserved_last, with_last, with_reserved}, Recorded.IsRecorded, Spans.{copies_in, is_named, AreNumbered}, Streams.{empty_streams, with_reader_entitled, has_own_stream, on_list_of, reports_in, with_fill}};
 
 use crate::entries::Entries;
-use crate::entry::Entry;
-use crate::fill::{Party, ToldFill};
+use crate::fill::{FillRole, ReportedFill};
 use crate::reader::Reader;
 use crate::readers::Readers;
 use crate::recorded::Source;
-use crate::told::{Found, Told};
+use crate::report_lists::{Found, ReportLists};
+use crate::stored_report::StoredReport;
 use crate::window::Window;
 use gx_history::records::Records;
 use gx_history::report::Report;
@@ -41,8 +41,8 @@ pub struct Owed {
 #[derive(Drop)]
 pub struct Streams {
     alloc: Global,
-    fills: Vec<ToldFill>,
-    told: Told,
+    fills: Vec<ReportedFill>,
+    told: ReportLists,
     readers: Readers,
 }
 
@@ -74,7 +74,7 @@ fn reader_of<'a>(readers: &'a Readers, user: UserName, entries: &Entries<'_>) ->
 #[tactic(auto, using(crate::proofs::Reading::taken_is))]
 fn copies(
     alloc: Global,
-    fills: &[ToldFill],
+    fills: &[ReportedFill],
     reader: &Reader,
     from: u64,
     most: u64,
@@ -99,7 +99,7 @@ impl Streams {
         ensures { IfOk result (λ streams. streams ≡ empty_streams policy.now) }
     {
         let fills = Vec::with_capacity(alloc, FIRST_FILLS)?;
-        let told = Told::new(alloc, policy)?;
+        let told = ReportLists::new(alloc, policy)?;
         let readers = Readers::new(alloc, policy)?;
         Ok(Streams {
             alloc,
@@ -111,7 +111,7 @@ impl Streams {
 
     /// Whether the user is one of the policy, and no reader. Takes no memory.
     pub fn is_told(&self, user: UserName) -> bool
-        ensures { result ≡ is_told self.now user }
+        ensures { result ≡ has_own_stream self.now user }
     {
         self.told.knows(user) && self.readers.find(user).is_none()
     }
@@ -122,11 +122,11 @@ impl Streams {
     ///
     /// `OutOfMemory`: the stream could not grow, and nothing has changed.
     pub fn append(&mut self, user: UserName, report: Report) -> Result<(), OutOfMemory>
-        requires told { IsTrue (is_told self.old user) }
-        ensures ok { OnOk result (self.new ≡ on_told user (with_last report) self.old) }
+        requires told { IsTrue (has_own_stream self.old user) }
+        ensures ok { OnOk result (self.new ≡ on_list_of user (with_last report) self.old) }
         ensures err { OnErr result (self.new ≡ self.old) }
     {
-        self.told.append(user, 0, Entry::Typed(report))
+        self.told.append(user, 0, StoredReport::Typed(report))
     }
 
     /// Keeps at least so many places for the user, who is looked for at this place of the policy's users first. Places
@@ -135,9 +135,9 @@ impl Streams {
     /// `OutOfMemory`: the stream could not grow, and nothing has changed.
     #[inline(always)]
     pub fn reserve(&mut self, user: UserName, near: usize, places: usize) -> Result<(), OutOfMemory>
-        requires told { IsTrue (is_told self.old user) }
-        ensures ok { OnOk result (self.new ≡ on_told user (with_places places) self.old) }
-        ensures enough { places ≤ places_in self.old.told user → IsOk result }
+        requires told { IsTrue (has_own_stream self.old user) }
+        ensures ok { OnOk result (self.new ≡ on_list_of user (with_reserved places) self.old) }
+        ensures enough { places ≤ reserved_in self.old.told user → IsOk result }
         ensures err { OnErr result (self.new ≡ self.old) }
     {
         self.told.reserve(user, near, places)
@@ -147,10 +147,11 @@ impl Streams {
     /// users first. Takes no memory.
     #[inline(always)]
     pub fn append_reserved(&mut self, user: UserName, near: usize, report: Report)
-        requires { 0 < places_in self.old.told user }
-        ensures { self.new ≡ on_told user (with_kept_last report) self.old }
+        requires { 0 < reserved_in self.old.told user }
+        ensures { self.new ≡ on_list_of user (with_reserved_last report) self.old }
     {
-        self.told.append_reserved(user, near, Entry::Typed(report));
+        self.told
+            .append_reserved(user, near, StoredReport::Typed(report));
     }
 
     /// Begins a span for the reader at this place, with the mask that he has.
@@ -179,19 +180,19 @@ impl Streams {
     /// Puts the fill last, and counts it for each reader in the span that goes on.
     fn put_fill(
         &mut self,
-        fill: ToldFill,
+        fill: ReportedFill,
         near_taker: usize,
         near_maker: usize,
     ) -> Result<(), OutOfMemory>
-        requires taker { IsTrue (is_told self.old fill.taker.user) }
-        requires maker { IsTrue (is_told self.old fill.maker.user) }
+        requires taker { IsTrue (has_own_stream self.old fill.taker.user) }
+        requires maker { IsTrue (has_own_stream self.old fill.maker.user) }
         ensures ok { OnOk result (self.new ≡ with_fill fill self.old) }
         ensures err { OnErr result (self.new ≡ self.old) }
     {
         let place = self.fills.as_slice().len();
         self.fills.reserve(1)?;
-        let taker = Entry::Filled(place, Party::Taker);
-        let maker = Entry::Filled(place, Party::Maker);
+        let taker = StoredReport::Filled(place, FillRole::Taker);
+        let maker = StoredReport::Filled(place, FillRole::Maker);
         self.told.append_both(
             fill.taker.user,
             near_taker,
@@ -216,12 +217,12 @@ impl Streams {
     /// `OutOfMemory`: something could not grow, and nothing has changed.
     pub fn append_fill(
         &mut self,
-        fill: ToldFill,
+        fill: ReportedFill,
         near_taker: usize,
         near_maker: usize,
     ) -> Result<(), OutOfMemory>
-        requires taker { IsTrue (is_told self.old fill.taker.user) }
-        requires maker { IsTrue (is_told self.old fill.maker.user) }
+        requires taker { IsTrue (has_own_stream self.old fill.taker.user) }
+        requires maker { IsTrue (has_own_stream self.old fill.maker.user) }
         ensures ok { OnOk result (self.new ≡ with_fill fill self.old) }
         ensures err { OnErr result (self.new ≡ self.old) }
     {
@@ -234,7 +235,7 @@ impl Streams {
     ///
     /// `OutOfMemory`: there was no memory for one more span, and nothing has changed.
     pub fn entitle(&mut self, reader: UserName, mask: u64) -> Result<(), OutOfMemory>
-        ensures ok { OnOk result (self.new ≡ entitled reader mask self.old) }
+        ensures ok { OnOk result (self.new ≡ with_reader_entitled reader mask self.old) }
         ensures err { OnErr result (self.new ≡ self.old) }
     {
         let fill = self.fills.as_slice().len();
@@ -327,5 +328,5 @@ impl Streams {
     }
 
     /// Lets it go. Its drop is proved here once, and not in each crate that owns one.
-    pub fn let_go(self) {}
+    pub fn release(self) {}
 }

@@ -3,7 +3,7 @@
 ghost use Rattle.std.specs.Prelude.{◌≡◌, [], ◌∷◌, ◌&&◌, ◌==◌, nat_le, length, OnOk};
 ghost use Rattle.gx_streams.specs.{Fills.{copies_of, copies_of_all, copy_of}, Spans.{copies_in, next_of, AreNumbered}, Windows.{after, is_full, window}};
 
-use crate::fill::{Party, ToldFill};
+use crate::fill::{FillRole, ReportedFill};
 use crate::span::Span;
 use gx_history::report::Report;
 use gx_history::slices::{at_most, past};
@@ -67,7 +67,12 @@ impl Window {
         Ok(())
     }
 
-    fn see_side(&mut self, mask: u64, fill: &ToldFill, party: Party) -> Result<(), OutOfMemory>
+    fn see_side(
+        &mut self,
+        mask: u64,
+        fill: &ReportedFill,
+        party: FillRole,
+    ) -> Result<(), OutOfMemory>
         ensures { OnOk result (self.new ≡ after (copy_of mask fill.now party) self.old) }
     {
         if fill.concerns(mask, party) {
@@ -78,15 +83,15 @@ impl Window {
     }
 
     #[tactic(auto, using(crate::proofs::Windows::after_both))]
-    fn see_fill(&mut self, mask: u64, fill: &ToldFill) -> Result<(), OutOfMemory>
+    fn see_fill(&mut self, mask: u64, fill: &ReportedFill) -> Result<(), OutOfMemory>
         ensures { OnOk result (self.new ≡ after (copies_of mask fill.now) self.old) }
     {
-        self.see_side(mask, fill, Party::Taker)?;
-        self.see_side(mask, fill, Party::Maker)
+        self.see_side(mask, fill, FillRole::Taker)?;
+        self.see_side(mask, fill, FillRole::Maker)
     }
 
     /// The drop copies of fills pass by. None is looked at any more once the window is full.
-    fn see_fills(&mut self, mask: u64, fills: &[ToldFill]) -> Result<(), OutOfMemory>
+    fn see_fills(&mut self, mask: u64, fills: &[ReportedFill]) -> Result<(), OutOfMemory>
         ensures { OnOk result (self.new ≡ after (copies_of_all mask fills.now) self.old) }
     {
         for fill in fills {
@@ -99,7 +104,12 @@ impl Window {
     }
 
     /// The drop copies of a span pass by, so many: at once, where none of them is taken.
-    fn see_span(&mut self, mask: u64, count: usize, fills: &[ToldFill]) -> Result<(), OutOfMemory>
+    fn see_span(
+        &mut self,
+        mask: u64,
+        count: usize,
+        fills: &[ReportedFill],
+    ) -> Result<(), OutOfMemory>
         requires { count ≡ length (copies_of_all mask fills.now) }
         ensures { OnOk result (self.new ≡ after (copies_of_all mask fills.now) self.old) }
     {
@@ -114,7 +124,7 @@ impl Window {
     /// current one.
     pub(crate) fn see_spans(
         &mut self,
-        fills: &[ToldFill],
+        fills: &[ReportedFill],
         spans: &[Span],
         current: Span,
     ) -> Result<(), OutOfMemory>

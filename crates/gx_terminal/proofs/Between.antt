@@ -1,5 +1,5 @@
 -- How a line is cut into the words between its spaces.
-use Rattle.std.proofs.{Common.{◌≡◌, ℕ, suc, ◌+◌, ◌-◌, ◌<◌, Bool, true, false, not, cond, List, [], ◌∷◌, length, take, drop, Some, None, refl, sym, ap, ◌∙◌, arith, ltb}, lemmas.{Option.cond_some, Bool.Decides.nat_tests}}
+use Rattle.std.proofs.{Common.{◌≡◌, ℕ, suc, ◌+◌, ◌-◌, ◌<◌, Bool, true, false, not, cond, List, [], ◌∷◌, length, take, drop, Some, None, sym, ap, ◌∙◌, arith, ltb}, lemmas.{Option.cond_some, Bool.Decides.nat_tests}}
 use Rattle.std.specs.{Prelude.{position, slice_index, filter}, List.position_or_len}
 use Rattle.gx_units.specs.Spelling.{is_space}
 use Rattle.gx_script.specs.Words.{words_of, is_empty}
@@ -38,8 +38,3 @@ word_found (c ∷ cs) i e h =
 -- or it is the last of the line
 pub word_last : (text : List ℕ) → None ≡ position is_space text → is_empty text ≡ false → words_between text ≡ text ∷ []
 word_last text e h = ap filled (cut_missed text e) ∙ kept text [] h
-
--- a space in front of a line changes no word
-pub space_dropped : (text : List ℕ) → slice_index text 0 ≡ 32 → words_between (drop 1 text) ≡ words_between text
-space_dropped [] h = cc
-space_dropped (c ∷ cs) h = rw h refl

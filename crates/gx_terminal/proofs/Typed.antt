@@ -1,23 +1,24 @@
 -- A price that is typed as it is shown is the same price.
-use Rattle.std.proofs.{Common.{◌≡◌, ℕ, zero, suc, ◌+◌, ◌*◌, ◌-◌, ◌/◌, ◌%◌, ◌^◌, ◌<◌, ◌≤◌, Bool, true, false, not, cond, ◌&&◌, List, [], ◌∷◌, ◌++◌, length, drop, replicate, fold, Some, None, refl, ap, ◌∙◌, arith, rules, decimal, nat_le, nat_lt, length-append, append_assoc}, lemmas.{Bool.{Decides.nat_tests, eqb-true}, List.length-replicate, Str.Parse.{IsNumeralModel, numerals_by_fold}, Fmt.{digits_value-decimal, decimal_is_IsNumeral, decimal_nonempty, length-decimal-le}}, Math.Seq.{take-append_seam, drop-append-add}}
+use Rattle.std.proofs.{Common.{◌≡◌, ℕ, zero, suc, ◌+◌, ◌*◌, ◌-◌, ◌/◌, ◌%◌, ◌^◌, ◌<◌, ◌≤◌, Bool, true, false, not, cond, ◌&&◌, List, [], ◌∷◌, ◌++◌, length, drop, replicate, fold, Some, None, refl, ap, ◌∙◌, arith, rules, decimal, nat_le, nat_lt, length-append, append_assoc}, lemmas.{Bool.{Decides.nat_tests, eqb-true, lt-ltb, le-leb}, List.length-replicate, Str.Parse.{IsNumeralModel, numerals_by_fold}, Fmt.{digits_value-decimal, decimal_is_IsNumeral, decimal_nonempty, length-decimal-le}}, Math.Seq.{take-append_seam, drop-append-add}}
 use Rattle.std.specs.{Int.IsInRange, Prelude.{◌==◌, position, option_map}, List.{list_all, position_or_len}, Char.is_ascii_digit}
-use Rattle.gx_soup.specs.Login.{with_digit, spelled}
+use Rattle.gx_soup.specs.Login.{with_digit, spelled_number}
 use Rattle.gx_script.specs.Words.{is_empty, number_of}
 use Rattle.gx_lines.specs.Showing.{decimals_text, price_text}
 use Rattle.gx_text.specs.Moments.{with_zeros}
 use Rattle.gx_terminal.specs.{Prices.{is_point, in_32_bits, decimals_of, pointed_price, price_at, price_of}, PriceLaws.PricesAreReadBack}
+use Rattle.gx_soup.proofs.Numbers.{digits_are}
 
 abbrev AreDigits : List ℕ → Type 0
 AreDigits [] = Unit {0}
 AreDigits (c ∷ cs) = IsInRange 48 57 c × AreDigits cs
 
-own : IsNumeralModel AreDigits spelled
+own : IsNumeralModel AreDigits spelled_number
 own = numerals_by_fold _ (search rules) (fold with_digit) (search rules)
 
 -- what is known of the digits of a number
 record Spells (ds : List ℕ) (n : ℕ) : Type 0 where
   digits : AreDigits ds
-  value : spelled ds ≡ n
+  value : spelled_number ds ≡ n
   some : 0 < length ds
 
 spells_decimal : (n : ℕ) → n < 2 ^ 64 → Spells (decimal n) n
@@ -27,18 +28,8 @@ spells_decimal n h = record {
   some = decimal_nonempty n h;
 }
 
-digit_is : (c : ℕ) → IsInRange 48 57 c → is_ascii_digit c ≡ true
-digit_is c h = grind (arith, nat_tests, h)
-
-digits_are : (ds : List ℕ) → AreDigits ds → list_all is_ascii_digit ds ≡ true
-digits_are [] d = refl
-digits_are (c ∷ cs) d = ap (λ b. b && list_all is_ascii_digit cs) (digit_is c d.0) ∙ digits_are cs d.1
-
 not_empty : (ds : List ℕ) → 0 < length ds → is_empty ds ≡ false
 not_empty ds h = grind (arith, nat_tests)
-
-fits : (n k : ℕ) → n < k → nat_lt n k ≡ true
-fits n k h = grind (arith, nat_tests)
 
 -- such digits are read as their number
 read_by : (empty digits small : Bool) (n : ℕ) → empty ≡ false → digits ≡ true → small ≡ true
@@ -47,8 +38,8 @@ read_by empty digits small n e d s = rw (e, d, s) refl
 
 read : (ds : List ℕ) (n : ℕ) → Spells ds n → n < 2 ^ 32 → number_of 32 ds ≡ Some n
 read ds n k h =
-    read_by (is_empty ds) (list_all is_ascii_digit ds) (nat_lt (spelled ds) (2 ^ 32)) (spelled ds) (not_empty ds k.some) (digits_are ds k.digits)
-    (rw k.value (fits n (2 ^ 32) h))
+    read_by (is_empty ds) (list_all is_ascii_digit ds) (nat_lt (spelled_number ds) (2 ^ 32)) (spelled_number ds) (not_empty ds k.some) (digits_are ds k.digits)
+    (rw k.value (lt-ltb n (2 ^ 32) h))
     ∙ ap Some k.value
 
 -- zeros in front change no number
@@ -56,7 +47,7 @@ zeros_are_digits : (m : ℕ) (ds : List ℕ) → AreDigits ds → AreDigits (rep
 zeros_are_digits zero ds d = d
 zeros_are_digits (suc m) ds d = (search rules, zeros_are_digits m ds d)
 
-zeros_spell : (m : ℕ) (ds : List ℕ) → spelled (replicate m 48 ++ ds) ≡ spelled ds
+zeros_spell : (m : ℕ) (ds : List ℕ) → spelled_number (replicate m 48 ++ ds) ≡ spelled_number ds
 zeros_spell zero ds = refl
 zeros_spell (suc m) ds = zeros_spell m ds
 
@@ -74,9 +65,6 @@ length_with_zeros n k some below h =
     let short = length-decimal-le n k some below h in
     omega (arith, length-append (replicate (n - length (decimal k)) 48) (decimal k), length-replicate {A = ℕ} (n - length (decimal k)) 48)
 
-few_enough : (n k : ℕ) → n ≤ k → nat_le n k ≡ true
-few_enough n k h = grind (arith, nat_tests)
-
 decimals_by : (ds : List ℕ) (n k : ℕ) → length ds ≡ n → nat_le n 4 ≡ true → number_of 32 ds ≡ Some k → decimals_of ds ≡ Some (k * 10 ^ (4 - n))
 decimals_by ds n k len few r =
     ap (λ m. cond (nat_le m 4) (option_map (λ number. number * 10 ^ (4 - m)) (number_of 32 ds)) None) len
@@ -87,7 +75,7 @@ decimals_by ds n k len few r =
 decimals_are : (n k : ℕ) → 0 < n → n ≤ 4 → k < 10 ^ n → k < 2 ^ 32 → decimals_of (with_zeros n k) ≡ Some (k * 10 ^ (4 - n))
 decimals_are n k some few below h =
     let wide : k < 2 ^ 64 = omega (arith, h) in
-    decimals_by (with_zeros n k) n k (length_with_zeros n k some below wide) (few_enough n 4 few) (read (with_zeros n k) k (spells_with_zeros n k wide) h)
+    decimals_by (with_zeros n k) n k (length_with_zeros n k some below wide) (le-leb n 4 few) (read (with_zeros n k) k (spells_with_zeros n k wide) h)
 
 part_by : (f : ℕ) (two three : Bool) → f < 10000 → (f % 100 == 0) ≡ two → (f % 10 == 0) ≡ three
     → decimals_of (cond two (with_zeros 2 (f / 100)) (cond three (with_zeros 3 (f / 10)) (with_zeros 4 f))) ≡ Some f
@@ -112,10 +100,10 @@ point_behind (c ∷ cs) t d =
 point_found : (ds t : List ℕ) → AreDigits ds → position is_point (ds ++ 46 ∷ t) ≡ Some (length ds)
 point_found ds t d =
     ap (λ n. cond (nat_lt n (length (ds ++ 46 ∷ t))) (Some n) None) (point_behind ds t d)
-    ∙ ap (λ b. cond b (Some (length ds)) None) (fits (length ds) (length (ds ++ 46 ∷ t)) (omega (arith, length-append ds (46 ∷ t))))
+    ∙ ap (λ b. cond b (Some (length ds)) None) (lt-ltb (length ds) (length (ds ++ 46 ∷ t)) (omega (arith, length-append ds (46 ∷ t))))
 
 small_enough : (n p : ℕ) → n ≡ p → p < 2 ^ 32 → in_32_bits n ≡ Some p
-small_enough n p e h = rw (e, fits p (2 ^ 32) h) refl
+small_enough n p e h = rw (e, lt-ltb p (2 ^ 32) h) refl
 
 -- dollars, a point, and what stands behind it
 pointed : (ds t : List ℕ) (d f p : ℕ) → Spells ds d → d < 2 ^ 32 → decimals_of t ≡ Some f → d * 10000 + f ≡ p → p < 2 ^ 32

@@ -5,7 +5,7 @@ use Rattle.gx_desk.specs.declared.{Action.Action, Command.Command, Tag.Tag, Writ
 use Rattle.gx_ouch.specs.declared.inbound.{EnterOrder.EnterOrder, ReplaceOrder.ReplaceOrder, Inbound.Inbound}
 use Rattle.gx_history.specs.OuchValues.{side_buy, side_sell, immediate_or_cancel, system_hours}
 use Rattle.gx_script.specs.{Words.{name_of, number_of}, ScriptLines.{without_cr, plain_order, plain_replace}}
-use Rattle.gx_terminal.specs.{declared.{wrong.{Wanted.Wanted, Wrong.Wrong}, wish.{Side.Side, Lifetime.Lifetime, NewOrder.NewOrder, NewTerms.NewTerms, Wish.Wish}}, Cursor.{Left, left_of, words_between, wrong_at, ◌>>=◌, next, next_or, ended}, Prices.price_of}
+use Rattle.gx_terminal.specs.{declared.{wrong.{ExpectedInput.ExpectedInput, Wrong.Wrong}, wish.{Side.Side, Lifetime.Lifetime, NewOrder.NewOrder, NewTerms.NewTerms, Wish.Wish}}, Cursor.{Left, left_of, words_between, wrong_at, ◌>>=◌, next, next_or, value_at_end}, Prices.price_of}
 
 -- `--all`, or an account
 abbrev pub killed_of : List ℕ → Option Wish
@@ -16,35 +16,35 @@ killed_of word =
 -- `ACCOUNT`, or `--all`
 unfoldable pub kill_form : Left → Result Wish Wrong
 kill_form left = do
-  kill ← next Wanted.AccountOrAll killed_of left
-  ended kill.0 kill.1
+  kill ← next ExpectedInput.AccountOrAll killed_of left
+  value_at_end kill.0 kill.1
 
 -- `ACCOUNT`
 unfoldable pub lift_form : Left → Result Wish Wrong
 lift_form left = do
-  account ← next Wanted.Account (name_of 8) left
-  ended (Wish.Ask (Action.Lift (record { bytes = account.0 }))) account.1
+  account ← next ExpectedInput.Account (name_of 8) left
+  value_at_end (Wish.Ask (Action.Lift (record { bytes = account.0 }))) account.1
 
 -- `RULE VALUE`
 unfoldable pub limit_form : Left → Result Wish Wrong
 limit_form left = do
-  rule ← next Wanted.Rule (name_of 8) left
-  limit ← next Wanted.Value (number_of 64) rule.1
-  ended (Wish.Ask (Action.SetLimit (record { bytes = rule.0 }) limit.0)) limit.1
+  rule ← next ExpectedInput.Rule (name_of 8) left
+  limit ← next ExpectedInput.Value (number_of 64) rule.1
+  value_at_end (Wish.Ask (Action.SetLimit (record { bytes = rule.0 }) limit.0)) limit.1
 
 -- `RULE STOCK`
 unfoldable pub stock_form : Left → Result (RuleId × Symbol) Wrong
 stock_form left = do
-  rule ← next Wanted.Rule (name_of 8) left
-  stock ← next Wanted.Stock (name_of 8) rule.1
-  ended (record { bytes = rule.0 }, record { bytes = stock.0 }) stock.1
+  rule ← next ExpectedInput.Rule (name_of 8) left
+  stock ← next ExpectedInput.Stock (name_of 8) rule.1
+  value_at_end (record { bytes = rule.0 }, record { bytes = stock.0 }) stock.1
 
 -- `READER ACCOUNT`: the reader as he is written, in either case of letters
 unfoldable pub reader_form : Left → Result (WrittenName × AccountName) Wrong
 reader_form left = do
-  reader ← next Wanted.Reader (name_of 6) left
-  account ← next Wanted.Account (name_of 8) reader.1
-  ended (record { bytes = reader.0 }, record { bytes = account.0 }) account.1
+  reader ← next ExpectedInput.Reader (name_of 6) left
+  account ← next ExpectedInput.Account (name_of 8) reader.1
+  value_at_end (record { bytes = reader.0 }, record { bytes = account.0 }) account.1
 
 -- `--yes`
 unfoldable pub close_of : List ℕ → Option Wish
@@ -53,8 +53,8 @@ close_of word = if bytes_eq word (codes "--yes") then Some (Wish.Ask Action.Clos
 -- `--yes`: without it the day is not closed
 unfoldable pub close_form : Left → Result Wish Wrong
 close_form left = do
-  close ← next Wanted.Yes close_of left
-  ended close.0 close.1
+  close ← next ExpectedInput.Yes close_of left
+  value_at_end close.0 close.1
 
 -- the command of an officer that the word names, of the words behind it
 unfoldable pub command_form : List ℕ → Left → Result Wish Wrong
@@ -67,7 +67,7 @@ command_form name left =
     else (if bytes_eq name (codes "grant") then (reader_form left >>= λ named. Ok (Wish.Ask (Action.Grant named.0 named.1)))
     else (if bytes_eq name (codes "revoke") then (reader_form left >>= λ named. Ok (Wish.Ask (Action.Revoke named.0 named.1)))
     else (if bytes_eq name (codes "close") then close_form left
-    else Err (wrong_at left.taken Wanted.Form))))))))
+    else Err (wrong_at left.taken ExpectedInput.Form))))))))
 
 -- `day`: the order rests until the day is closed; `ioc`: what is not executed at once is canceled
 abbrev pub lifetime_of : List ℕ → Option Lifetime
@@ -79,27 +79,27 @@ lifetime_of word =
 -- `SHARES STOCK PRICE`, and `day` or `ioc`; without either it is `day`
 unfoldable pub enter_form : Side → Left → Result Wish Wrong
 enter_form side left = do
-  shares ← next Wanted.Shares (number_of 32) left
-  stock ← next Wanted.Stock (name_of 8) shares.1
-  price ← next Wanted.Price price_of stock.1
-  lifetime ← next_or Lifetime.Day Wanted.Lifetime lifetime_of price.1
-  ended (Wish.Enter (record { side = side; shares = shares.0; stock = record { bytes = stock.0 }; price = price.0; lifetime = lifetime.0 })) lifetime.1
+  shares ← next ExpectedInput.Shares (number_of 32) left
+  stock ← next ExpectedInput.Stock (name_of 8) shares.1
+  price ← next ExpectedInput.Price price_of stock.1
+  lifetime ← next_or Lifetime.Day ExpectedInput.Lifetime lifetime_of price.1
+  value_at_end (Wish.Enter (record { side = side; shares = shares.0; stock = record { bytes = stock.0 }; price = price.0; lifetime = lifetime.0 })) lifetime.1
 
 -- `TOKEN SHARES PRICE`, and `day` or `ioc`; without either it is `day`
 unfoldable pub replace_form : Left → Result Wish Wrong
 replace_form left = do
-  token ← next Wanted.Token (name_of 14) left
-  shares ← next Wanted.Shares (number_of 32) token.1
-  price ← next Wanted.Price price_of shares.1
-  lifetime ← next_or Lifetime.Day Wanted.Lifetime lifetime_of price.1
-  ended (Wish.Replace (record { token = record { bytes = token.0 }; shares = shares.0; price = price.0; lifetime = lifetime.0 })) lifetime.1
+  token ← next ExpectedInput.Token (name_of 14) left
+  shares ← next ExpectedInput.Shares (number_of 32) token.1
+  price ← next ExpectedInput.Price price_of shares.1
+  lifetime ← next_or Lifetime.Day ExpectedInput.Lifetime lifetime_of price.1
+  value_at_end (Wish.Replace (record { token = record { bytes = token.0 }; shares = shares.0; price = price.0; lifetime = lifetime.0 })) lifetime.1
 
 -- `TOKEN`, and the new size of the order; without it nothing stays open
 unfoldable pub cancel_form : Left → Result Wish Wrong
 cancel_form left = do
-  token ← next Wanted.Token (name_of 14) left
-  shares ← next_or 0 Wanted.Shares (number_of 32) token.1
-  ended (Wish.Cancel (record { token = record { bytes = token.0 }; shares = shares.0 })) shares.1
+  token ← next ExpectedInput.Token (name_of 14) left
+  shares ← next_or 0 ExpectedInput.Shares (number_of 32) token.1
+  value_at_end (Wish.Cancel (record { token = record { bytes = token.0 }; shares = shares.0 })) shares.1
 
 -- what a trader asks for, or else the command of an officer
 unfoldable pub order_form : List ℕ → Left → Result Wish Wrong
@@ -113,9 +113,9 @@ order_form name left =
 -- what the word names, of the words behind it
 unfoldable pub wish_form : List ℕ → Left → Result Wish Wrong
 wish_form name left =
-    if bytes_eq name (codes "watch") then ended Wish.Watch left
-    else (if bytes_eq name (codes "help") then ended Wish.Help left
-    else (if bytes_eq name (codes "quit") then ended Wish.Quit left
+    if bytes_eq name (codes "watch") then value_at_end Wish.Watch left
+    else (if bytes_eq name (codes "help") then value_at_end Wish.Help left
+    else (if bytes_eq name (codes "quit") then value_at_end Wish.Quit left
     else order_form name left))
 
 -- a first word that makes its line a comment begins with `#`
@@ -154,19 +154,19 @@ time_in_force_of Lifetime.Day = system_hours
 time_in_force_of Lifetime.ImmediateOrCancel = immediate_or_cancel
 
 -- the new order under this token
-abbrev pub entered : Token → NewOrder → EnterOrder
-entered token order =
+abbrev pub enter_order : Token → NewOrder → EnterOrder
+enter_order token order =
     plain_order token.bytes (indicator_of order.side) order.shares order.stock.bytes order.price (time_in_force_of order.lifetime)
 
 -- the order of these terms under this token, in the place of another
-abbrev pub replacing : Token → NewTerms → ReplaceOrder
-replacing token terms =
+abbrev pub replace_order : Token → NewTerms → ReplaceOrder
+replace_order token terms =
     plain_replace terms.token.bytes token.bytes terms.shares terms.price (time_in_force_of terms.lifetime)
 
 -- the message of a trader that is wished, a new order under this token
 abbrev pub order_of : Token → Wish → Option Inbound
-order_of token (Wish.Enter order) = Some (Inbound.Enter (entered token order))
-order_of token (Wish.Replace terms) = Some (Inbound.Replace (replacing token terms))
+order_of token (Wish.Enter order) = Some (Inbound.Enter (enter_order token order))
+order_of token (Wish.Replace terms) = Some (Inbound.Replace (replace_order token terms))
 order_of token (Wish.Cancel order) = Some (Inbound.Cancel order)
 order_of token (Wish.Ask action) = None
 order_of token Wish.Nothing = None

@@ -2,20 +2,20 @@
 
 ghost use Rattle.std.specs.Prelude.{◌≡◌, ◌+◌, [], bytes_eq, MatchResult};
 ghost use Rattle.gx_script.specs.{ScriptLines.without_cr, Words.{name_of, number_of, itself}};
-ghost use Rattle.gx_terminal.specs.{Cursor.{Reads, next, next_or, ended, wrong_at, standing}, Prices.price_of, Wishes.{killed_of, kill_form, lift_form, limit_form, stock_form, reader_form, close_of, close_form, command_form, lifetime_of, enter_form, replace_form, cancel_form, order_form, wish_form, is_comment, wish_of}, declared.wish.Lifetime.TheVariants.Day};
-ghost use Rattle.gx_terminal.specs.declared.wrong.Wanted.TheVariants as places;
+ghost use Rattle.gx_terminal.specs.{Cursor.{Reads, next, next_or, value_at_end, wrong_at, word_meaning}, Prices.price_of, Wishes.{killed_of, kill_form, lift_form, limit_form, stock_form, reader_form, close_of, close_form, command_form, lifetime_of, enter_form, replace_form, cancel_form, order_form, wish_form, is_comment, wish_of}, declared.wish.Lifetime.TheVariants.Day};
+ghost use Rattle.gx_terminal.specs.declared.wrong.ExpectedInput.TheVariants as places;
 
 use crate::price::price;
 use crate::wish::{Lifetime, NewOrder, NewTerms, Side, Wish};
 use crate::words::{Words, name, number32, number64};
-use crate::wrong::{Wanted, Wrong};
+use crate::wrong::{ExpectedInput, Wrong};
 use gx_desk::{Action, WrittenName};
 use gx_ouch::CancelOrder;
 use gx_units::{AccountName, RuleId, Symbol, Token};
 
 /// What the last word taken stands for, or that it is wrong.
-fn standing<T: Drop>(words: &Words, found: Option<T>, wanted: Wanted) -> Result<T, Wrong>
-    ensures { Reads (standing wanted found words.now) words.now result }
+fn standing<T: Drop>(words: &Words, found: Option<T>, wanted: ExpectedInput) -> Result<T, Wrong>
+    ensures { Reads (word_meaning wanted found words.now) words.now result }
 {
     found.ok_or(Wrong {
         word: words.taken(),
@@ -23,7 +23,7 @@ fn standing<T: Drop>(words: &Words, found: Option<T>, wanted: Wanted) -> Result<
     })
 }
 
-fn take_word<'a>(words: &mut Words<'a>, wanted: Wanted) -> Result<&'a [u8], Wrong>
+fn take_word<'a>(words: &mut Words<'a>, wanted: ExpectedInput) -> Result<&'a [u8], Wrong>
     ensures { MatchResult result
         (λ word. next wanted itself words.old ≡ Ok (word.now, words.new))
         (λ wrong. (words.old.words ≡ []) × (wrong ≡ wrong_at (words.old.taken + 1) wanted)) }
@@ -37,21 +37,21 @@ fn take_word<'a>(words: &mut Words<'a>, wanted: Wanted) -> Result<&'a [u8], Wron
     }
 }
 
-fn take_name<const N: usize>(words: &mut Words, wanted: Wanted) -> Result<[u8; N], Wrong>
+fn take_name<const N: usize>(words: &mut Words, wanted: ExpectedInput) -> Result<[u8; N], Wrong>
     ensures { Reads (next wanted (name_of N) words.old) words.new result }
 {
     let word = take_word(words, wanted)?;
     standing(words, name(word), wanted)
 }
 
-fn take_number64(words: &mut Words, wanted: Wanted) -> Result<u64, Wrong>
+fn take_number64(words: &mut Words, wanted: ExpectedInput) -> Result<u64, Wrong>
     ensures { Reads (next wanted (number_of 64) words.old) words.new result }
 {
     let word = take_word(words, wanted)?;
     standing(words, number64(word), wanted)
 }
 
-fn take_number32(words: &mut Words, wanted: Wanted) -> Result<u32, Wrong>
+fn take_number32(words: &mut Words, wanted: ExpectedInput) -> Result<u32, Wrong>
     ensures { Reads (next wanted (number_of 32) words.old) words.new result }
 {
     let word = take_word(words, wanted)?;
@@ -61,19 +61,19 @@ fn take_number32(words: &mut Words, wanted: Wanted) -> Result<u32, Wrong>
 fn take_price(words: &mut Words) -> Result<u32, Wrong>
     ensures { Reads (next places.Price price_of words.old) words.new result }
 {
-    let word = take_word(words, Wanted::Price)?;
-    standing(words, price(word), Wanted::Price)
+    let word = take_word(words, ExpectedInput::Price)?;
+    standing(words, price(word), ExpectedInput::Price)
 }
 
 /// The value, where no word is left.
 fn ended<T: Drop>(words: &mut Words, value: T) -> Result<T, Wrong>
-    ensures { result ≡ ended value words.old }
+    ensures { result ≡ value_at_end value words.old }
 {
     match words.next() {
         None => Ok(value),
         Some(_) => Err(Wrong {
             word: words.taken(),
-            wanted: Wanted::End,
+            wanted: ExpectedInput::End,
         }),
     }
 }
@@ -99,8 +99,8 @@ fn killed(word: &[u8]) -> Option<Wish>
 fn kill_form(words: &mut Words) -> Result<Wish, Wrong>
     ensures { result ≡ kill_form words.old }
 {
-    let word = take_word(words, Wanted::AccountOrAll)?;
-    let kill = standing(words, killed(word), Wanted::AccountOrAll)?;
+    let word = take_word(words, ExpectedInput::AccountOrAll)?;
+    let kill = standing(words, killed(word), ExpectedInput::AccountOrAll)?;
     ended(words, kill)
 }
 
@@ -108,7 +108,7 @@ fn kill_form(words: &mut Words) -> Result<Wish, Wrong>
 fn lift_form(words: &mut Words) -> Result<Wish, Wrong>
     ensures { result ≡ lift_form words.old }
 {
-    let bytes = take_name(words, Wanted::Account)?;
+    let bytes = take_name(words, ExpectedInput::Account)?;
     ended(words, Wish::Ask(Action::Lift(AccountName { bytes })))
 }
 
@@ -116,8 +116,8 @@ fn lift_form(words: &mut Words) -> Result<Wish, Wrong>
 fn limit_form(words: &mut Words) -> Result<Wish, Wrong>
     ensures { result ≡ limit_form words.old }
 {
-    let bytes = take_name(words, Wanted::Rule)?;
-    let limit = take_number64(words, Wanted::Value)?;
+    let bytes = take_name(words, ExpectedInput::Rule)?;
+    let limit = take_number64(words, ExpectedInput::Value)?;
     ended(words, Wish::Ask(Action::SetLimit(RuleId { bytes }, limit)))
 }
 
@@ -126,8 +126,8 @@ fn limit_form(words: &mut Words) -> Result<Wish, Wrong>
 fn stock_form(words: &mut Words) -> Result<(RuleId, Symbol), Wrong>
     ensures { result ≡ stock_form words.old }
 {
-    let rule = take_name(words, Wanted::Rule)?;
-    let stock = take_name(words, Wanted::Stock)?;
+    let rule = take_name(words, ExpectedInput::Rule)?;
+    let stock = take_name(words, ExpectedInput::Stock)?;
     ended(words, (RuleId { bytes: rule }, Symbol { bytes: stock }))
 }
 
@@ -136,8 +136,8 @@ fn stock_form(words: &mut Words) -> Result<(RuleId, Symbol), Wrong>
 fn reader_form(words: &mut Words) -> Result<(WrittenName, AccountName), Wrong>
     ensures { result ≡ reader_form words.old }
 {
-    let reader = take_name(words, Wanted::Reader)?;
-    let account = take_name(words, Wanted::Account)?;
+    let reader = take_name(words, ExpectedInput::Reader)?;
+    let account = take_name(words, ExpectedInput::Account)?;
     let named = (
         WrittenName { bytes: reader },
         AccountName { bytes: account },
@@ -160,8 +160,8 @@ fn closing(word: &[u8]) -> Option<Wish>
 fn close_form(words: &mut Words) -> Result<Wish, Wrong>
     ensures { result ≡ close_form words.old }
 {
-    let word = take_word(words, Wanted::Yes)?;
-    let close = standing(words, closing(word), Wanted::Yes)?;
+    let word = take_word(words, ExpectedInput::Yes)?;
+    let close = standing(words, closing(word), ExpectedInput::Yes)?;
     ended(words, close)
 }
 
@@ -200,7 +200,7 @@ fn command_form(form: &[u8], words: &mut Words) -> Result<Wish, Wrong>
     }
     Err(Wrong {
         word: words.taken(),
-        wanted: Wanted::Form,
+        wanted: ExpectedInput::Form,
     })
 }
 
@@ -222,7 +222,7 @@ fn take_lifetime(words: &mut Words) -> Result<Lifetime, Wrong>
 {
     match words.next() {
         None => Ok(Lifetime::Day),
-        Some(word) => standing(words, lifetime(word), Wanted::Lifetime),
+        Some(word) => standing(words, lifetime(word), ExpectedInput::Lifetime),
     }
 }
 
@@ -230,8 +230,8 @@ fn take_lifetime(words: &mut Words) -> Result<Lifetime, Wrong>
 fn enter_form(side: Side, words: &mut Words) -> Result<Wish, Wrong>
     ensures { result ≡ enter_form side words.old }
 {
-    let shares = take_number32(words, Wanted::Shares)?;
-    let stock = take_name(words, Wanted::Stock)?;
+    let shares = take_number32(words, ExpectedInput::Shares)?;
+    let stock = take_name(words, ExpectedInput::Stock)?;
     let price = take_price(words)?;
     let lifetime = take_lifetime(words)?;
     let order = NewOrder {
@@ -248,8 +248,8 @@ fn enter_form(side: Side, words: &mut Words) -> Result<Wish, Wrong>
 fn replace_form(words: &mut Words) -> Result<Wish, Wrong>
     ensures { result ≡ replace_form words.old }
 {
-    let token = take_name(words, Wanted::Token)?;
-    let shares = take_number32(words, Wanted::Shares)?;
+    let token = take_name(words, ExpectedInput::Token)?;
+    let shares = take_number32(words, ExpectedInput::Shares)?;
     let price = take_price(words)?;
     let lifetime = take_lifetime(words)?;
     let terms = NewTerms {
@@ -267,7 +267,7 @@ fn take_size(words: &mut Words) -> Result<u32, Wrong>
 {
     match words.next() {
         None => Ok(0),
-        Some(word) => standing(words, number32(word), Wanted::Shares),
+        Some(word) => standing(words, number32(word), ExpectedInput::Shares),
     }
 }
 
@@ -275,7 +275,7 @@ fn take_size(words: &mut Words) -> Result<u32, Wrong>
 fn cancel_form(words: &mut Words) -> Result<Wish, Wrong>
     ensures { result ≡ cancel_form words.old }
 {
-    let bytes = take_name(words, Wanted::Token)?;
+    let bytes = take_name(words, ExpectedInput::Token)?;
     let shares = take_size(words)?;
     let cancel = CancelOrder {
         token: Token { bytes },

@@ -4,7 +4,7 @@ use std::fmt;
 
 /// What a place in a line wants.
 #[derive(Clone, Copy, PartialEq, Eq)]
-pub enum Wanted {
+pub enum ExpectedInput {
     /// The word that names the form of a line.
     Form,
     /// The name of an account.
@@ -33,26 +33,27 @@ pub enum Wanted {
     End,
 }
 
-impl Wanted {
+impl ExpectedInput {
     fn text(self) -> &'static str {
         match self {
-            Wanted::Form => {
+            ExpectedInput::Form => {
                 "kill, lift, limit, restrict, unrestrict, grant, revoke, close, buy, sell, replace, cancel, watch, help or quit"
             }
-            Wanted::Account => "ACCOUNT, 1 to 8 of the characters ! to ~",
-            Wanted::AccountOrAll => "ACCOUNT, 1 to 8 of the characters ! to ~, or --all",
-            Wanted::Rule => "RULE, 1 to 8 of the characters ! to ~",
-            Wanted::Value => "VALUE, a number below 2^64",
-            Wanted::Stock => "STOCK, 1 to 8 of the characters ! to ~",
-            Wanted::Reader => "READER, 1 to 6 of the characters ! to ~",
-            Wanted::Yes => "--yes: closing ends the day for everybody, and nobody can undo it",
-            Wanted::Shares => "SHARES, a number below 2^32",
-            Wanted::Price => {
+            ExpectedInput::Account => "ACCOUNT, 1 to 8 of the characters ! to ~",
+            ExpectedInput::AccountOrAll => "ACCOUNT, 1 to 8 of the characters ! to ~, or --all",
+            ExpectedInput::Rule => "RULE, 1 to 8 of the characters ! to ~",
+            ExpectedInput::Value => "VALUE, a number below 2^64",
+            ExpectedInput::Stock => "STOCK, 1 to 8 of the characters ! to ~",
+            ExpectedInput::Reader => "READER, 1 to 6 of the characters ! to ~",
+            ExpectedInput::Yes =>
+                "--yes: closing ends the day for everybody, and nobody can undo it",
+            ExpectedInput::Shares => "SHARES, a number below 2^32",
+            ExpectedInput::Price => {
                 "PRICE, dollars with at most four decimals, as 10, 10.5 or 10.0001, below 429496.7296"
             }
-            Wanted::Lifetime => "day, ioc or the end of the line",
-            Wanted::Token => "TOKEN, 1 to 14 of the characters ! to ~",
-            Wanted::End => "the end of the line",
+            ExpectedInput::Lifetime => "day, ioc or the end of the line",
+            ExpectedInput::Token => "TOKEN, 1 to 14 of the characters ! to ~",
+            ExpectedInput::End => "the end of the line",
         }
     }
 }
@@ -64,7 +65,7 @@ pub struct Wrong {
     /// Which word it is.
     pub word: usize,
     /// What was wanted there.
-    pub wanted: Wanted,
+    pub wanted: ExpectedInput,
 }
 
 impl fmt::Display for Wrong {

@@ -7,7 +7,7 @@ use gx_ouch::{
     Accepted, CancelReason, Canceled, EventCode, Executed, Inbound, Liquidity, OrderTerms,
     Outbound, RejectReason, Rejected, Replaced,
 };
-use gx_terminal::{HELP, Lifetime, NewOrder, NewTerms, Side, Status, Wanted, Wish, Wrong};
+use gx_terminal::{ExpectedInput, HELP, Lifetime, NewOrder, NewTerms, Side, Status, Wish, Wrong};
 use gx_text::Form;
 use gx_units::{AccountName, Firm, OutOfMemory, RuleId, Symbol, Token};
 
@@ -32,7 +32,7 @@ fn is_read(line: &[u8], wish: Wish) -> bool {
     }
 }
 
-fn is_wrong(line: &[u8], word: usize, wanted: Wanted) -> bool {
+fn is_wrong(line: &[u8], word: usize, wanted: ExpectedInput) -> bool {
     match Wish::read(line) {
         Ok(_) => false,
         Err(wrong) => wrong == Wrong { word, wanted },
@@ -114,16 +114,17 @@ fn orders_are_read(rt: HostRuntime) {
 
 #[test]
 fn wrong_words_are_told(rt: HostRuntime) {
-    let form = is_wrong(b"slay ALFA", 1, Wanted::Form)
-        && is_wrong(b"kill", 2, Wanted::AccountOrAll);
-    let account = is_wrong(b"lift ALFALFALF", 2, Wanted::Account);
-    let close = is_wrong(b"close", 2, Wanted::Yes) && is_wrong(b"close --no", 2, Wanted::Yes);
-    let decimals = is_wrong(b"buy 1 TEST 10.00001", 4, Wanted::Price);
-    let digits = is_wrong(b"buy 1 TEST .5", 4, Wanted::Price)
-        && is_wrong(b"buy 1 TEST 5.", 4, Wanted::Price);
-    let large = is_wrong(b"buy 1 TEST 429496.7296", 4, Wanted::Price);
-    let lifetime = is_wrong(b"buy 1 TEST 1 gtc", 5, Wanted::Lifetime);
-    let end = is_wrong(b"cancel  D1 1 2", 4, Wanted::End);
+    let form = is_wrong(b"slay ALFA", 1, ExpectedInput::Form)
+        && is_wrong(b"kill", 2, ExpectedInput::AccountOrAll);
+    let account = is_wrong(b"lift ALFALFALF", 2, ExpectedInput::Account);
+    let close = is_wrong(b"close", 2, ExpectedInput::Yes)
+        && is_wrong(b"close --no", 2, ExpectedInput::Yes);
+    let decimals = is_wrong(b"buy 1 TEST 10.00001", 4, ExpectedInput::Price);
+    let digits = is_wrong(b"buy 1 TEST .5", 4, ExpectedInput::Price)
+        && is_wrong(b"buy 1 TEST 5.", 4, ExpectedInput::Price);
+    let large = is_wrong(b"buy 1 TEST 429496.7296", 4, ExpectedInput::Price);
+    let lifetime = is_wrong(b"buy 1 TEST 1 gtc", 5, ExpectedInput::Lifetime);
+    let end = is_wrong(b"cancel  D1 1 2", 4, ExpectedInput::End);
     assert!(rt; form && account && close && decimals && digits && large && lifetime && end);
 }
 

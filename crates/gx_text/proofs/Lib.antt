@@ -1,2 +1,2 @@
-mod Visible
+pub mod Visible
 mod Ending

@@ -1,5 +1,5 @@
 -- Only characters that are seen are shown.
-use Rattle.std.proofs.{Common.{◌≡◌, ℕ, ◌/◌, ◌%◌, ◌<◌, Bool, true, false, not, cond, List, [], ◌∷◌, ◌++◌, codes, refl, ◌∙◌, ap, arith}, lemmas.{Bool.Decides.nat_tests, List.Folds.list_all-append}}
+use Rattle.std.proofs.{Common.{◌≡◌, ℕ, ◌/◌, ◌%◌, ◌<◌, Bool, true, false, not, cond, List, [], ◌∷◌, ◌++◌, codes, refl, ◌∙◌, ap, arith}, lemmas.{Bool.{Decides.nat_tests, and_parts}, List.Folds.list_all-append}}
 use Rattle.std.specs.{Prelude.{◌==◌, ◌&&◌, ◌||◌, nat_lt, flat_map}, List.list_all}
 use Rattle.gx_text.specs.{Laws.{JsonIsPrinted, ShownIsVisible, are_bytes}, Shown.{hex_digit, hex_pair, is_printed, is_visible, json_byte, shown_byte}}
 
@@ -21,7 +21,7 @@ byte_visible byte small = by_kind (is_visible byte) (byte == 92) refl
     by_kind true true is = pair_visible byte small
     by_kind false escape is = pair_visible byte small
 
-visible_printed : (byte : ℕ) → is_visible byte ≡ true → is_printed byte ≡ true
+pub visible_printed : (byte : ℕ) → is_visible byte ≡ true → is_printed byte ≡ true
 visible_printed byte seen = ap (λ b. b || byte == 32) seen
 
 pair_printed : (byte : ℕ) → byte < 256 → list_all is_printed (hex_pair byte) ≡ true
@@ -42,23 +42,15 @@ json_printed byte small = by_kind (byte == 34 || byte == 92) (is_printed byte) r
     by_kind false true special is = ap (λ b. b && true) is
     by_kind false false special is = pair_printed byte small
 
-first_true : (p q : Bool) → (p && q) ≡ true → p ≡ true
-first_true true q both = refl
-first_true false q both = both
-
-second_true : (p q : Bool) → (p && q) ≡ true → q ≡ true
-second_true true q both = both
-second_true false q both = cc
-
 all_seen : (seen : ℕ → Bool) (shows : ℕ → List ℕ) → ((byte : ℕ) → byte < 256 → list_all seen (shows byte) ≡ true)
     → (bytes : List ℕ) → are_bytes bytes ≡ true → list_all seen (flat_map shows bytes) ≡ true
 all_seen seen shows each [] all = refl
 all_seen seen shows each (byte ∷ bytes) all =
-    let one : nat_lt byte 256 ≡ true = first_true (nat_lt byte 256) (are_bytes bytes) all in
+    let one : nat_lt byte 256 ≡ true = (and_parts (nat_lt byte 256) (are_bytes bytes) all).0 in
     let small : byte < 256 = grind (arith, nat_tests) in
     list_all-append seen (shows byte) (flat_map shows bytes)
     ∙ ap (λ b. b && list_all seen (flat_map shows bytes)) (each byte small)
-    ∙ all_seen seen shows each bytes (second_true (nat_lt byte 256) (are_bytes bytes) all)
+    ∙ all_seen seen shows each bytes (and_parts (nat_lt byte 256) (are_bytes bytes) all).1
 
 pub shown_is_visible : ShownIsVisible
 shown_is_visible bytes all = all_seen is_visible shown_byte byte_visible bytes all

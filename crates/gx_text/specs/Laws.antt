@@ -1,13 +1,13 @@
 -- What the definitions say of all bytes that a peer may choose.
 use Rattle.std.specs.{Prelude.{ℕ, ◌≡◌, ◌==◌, nat_lt, Bool, true, false, IsTrue, List, [], ◌∷◌, ◌++◌, drop, Option, Some, None, if◌then◌else◌}, List.list_all}
-use Rattle.gx_text.specs.Shown.{is_printed, is_visible, json_string, shown}
+use Rattle.gx_text.specs.Shown.{is_printed, is_visible, json_string, shown_text}
 
 abbrev pub are_bytes : List ℕ → Bool
 are_bytes bytes = list_all (λ byte. nat_lt byte 256) bytes
 
 -- only characters that are seen are shown: no space, no end of a line, no control character
 abbrev pub ShownIsVisible : Type 0
-ShownIsVisible = (bytes : List ℕ) → IsTrue (are_bytes bytes) → IsTrue (list_all is_visible (shown bytes))
+ShownIsVisible = (bytes : List ℕ) → IsTrue (are_bytes bytes) → IsTrue (list_all is_visible (shown_text bytes))
 
 -- in JSON spaces too
 abbrev pub JsonIsPrinted : Type 0

@@ -21,8 +21,8 @@ hex_pair byte = hex_digit (byte / 16) ∷ hex_digit (byte % 16) ∷ []
 abbrev pub shown_byte : ℕ → List ℕ
 shown_byte byte = if is_visible byte && not (byte == 92) then byte ∷ [] else codes "\\x" ++ hex_pair byte
 
-abbrev pub shown : List ℕ → List ℕ
-shown bytes = flat_map shown_byte bytes
+abbrev pub shown_text : List ℕ → List ℕ
+shown_text bytes = flat_map shown_byte bytes
 
 -- `"` and `\` behind a `\`, any other visible byte and a space as they are, all others as \u00NN
 abbrev pub json_byte : ℕ → List ℕ
@@ -34,7 +34,7 @@ json_string bytes = codes "\"" ++ flat_map json_byte bytes ++ codes "\""
 
 -- a name, without the spaces that fill it up
 abbrev pub shown_name : List ℕ → List ℕ
-shown_name name = shown (without_right_spaces name)
+shown_name name = shown_text (without_right_spaces name)
 
 abbrev pub json_name : List ℕ → List ℕ
 json_name name = json_string (without_right_spaces name)

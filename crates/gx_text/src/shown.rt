@@ -1,7 +1,7 @@
 //! Bytes that a peer chose, shown in a text and in JSON.
 
 ghost use Rattle.std.specs.Prelude.{◌≡◌, ◌<◌, ◌++◌, flat_map, OnOk};
-ghost use Rattle.gx_text.specs.Shown.{is_printed, is_visible, hex_digit, hex_pair, shown_byte, shown, json_byte, json_string, shown_name, json_name};
+ghost use Rattle.gx_text.specs.Shown.{is_printed, is_visible, hex_digit, hex_pair, shown_byte, shown_text, json_byte, json_string, shown_name, json_name};
 
 use crate::appending::append;
 use gx_units::{OutOfMemory, unpadded};
@@ -54,7 +54,7 @@ fn append_shown_byte(text: &mut Vec<u8>, byte: u8) -> Result<(), OutOfMemory>
 ///
 /// `OutOfMemory` where memory was refused; then a part of it may stand at the end of the text.
 pub fn append_shown(text: &mut Vec<u8>, bytes: &[u8]) -> Result<(), OutOfMemory>
-    ensures { OnOk result (text.new.items ≡ text.old.items ++ shown bytes.now) }
+    ensures { OnOk result (text.new.items ≡ text.old.items ++ shown_text bytes.now) }
 {
     for byte in bytes {
         append_shown_byte(text, *byte)?;

@@ -1,3 +1,4 @@
+pub mod Tests
 pub mod Trimming
 pub mod Folding
 mod Words

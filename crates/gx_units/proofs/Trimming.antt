@@ -1,14 +1,7 @@
 -- What a last byte changes of a text without the spaces on its right.
-use Rattle.std.proofs.{Common.{◌≡◌, ℕ, ◌+◌, ◌<◌, Bool, true, false, ◌&&◌, cond, List, [], ◌∷◌, ◌++◌, length, take, get_or, refl, sym, ap, ◌∙◌}, lemmas.List.{take_more, Folds.list_all-append}}
+use Rattle.std.proofs.{Common.{◌≡◌, ℕ, ◌+◌, ◌<◌, true, false, ◌&&◌, cond, List, [], ◌∷◌, ◌++◌, length, take, get_or, refl, sym, ap, ◌∙◌}, lemmas.List.{Folds.list_all-append, take_more}}
 use Rattle.gx_units.specs.Spelling.{is_space, is_blank, without_right_spaces}
-
-and_true : (b : Bool) → (b && true) ≡ b
-and_true true = refl
-and_true false = refl
-
-and_false : (b : Bool) → (b && false) ≡ false
-and_false true = refl
-and_false false = refl
+use Rattle.gx_units.proofs.Tests.{and_true, and_false}
 
 blank_more : (xs : List ℕ) (c : ℕ) → is_blank (xs ++ c ∷ []) ≡ (is_blank xs && (is_space c && true))
 blank_more xs c = list_all-append is_space xs (c ∷ [])

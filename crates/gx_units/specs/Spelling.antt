@@ -10,8 +10,8 @@ abbrev pub is_blank : List ℕ → Bool
 is_blank bytes = list_all is_space bytes
 
 -- spaces behind the text, up to n bytes: an alpha field, left-justified
-abbrev pub padded : ℕ → List ℕ → List ℕ
-padded n text = text ++ replicate (n - length text) 32
+abbrev pub padded_to : ℕ → List ℕ → List ℕ
+padded_to n text = text ++ replicate (n - length text) 32
 
 -- spaces in front of the text, up to n bytes: a SoupBinTCP session or number, right-justified
 abbrev pub padded_left : ℕ → List ℕ → List ℕ
@@ -28,8 +28,8 @@ without_right_spaces [] = []
 without_right_spaces (c ∷ cs) = if is_blank (c ∷ cs) then [] else c ∷ without_right_spaces cs
 
 -- the text without the spaces around it
-abbrev pub trimmed : List ℕ → List ℕ
-trimmed text = without_right_spaces (without_left_spaces text)
+abbrev pub trimmed_text : List ℕ → List ℕ
+trimmed_text text = without_right_spaces (without_left_spaces text)
 
 -- User names and passwords are compared in upper case.
 abbrev pub folded_user : UserName → UserName
@@ -40,4 +40,4 @@ folded_password given = record { bytes = str_to_ascii_uppercase given.bytes }
 
 -- Session names are compared without the spaces around them.
 abbrev pub folded_session : SessionName → SessionName
-folded_session name = record { bytes = padded 10 (trimmed name.bytes) }
+folded_session name = record { bytes = padded_to 10 (trimmed_text name.bytes) }

@@ -1,11 +1,12 @@
 //! How a name fills its field.
 
 ghost use Rattle.std.specs.Prelude.{◌≡◌, ◌≤◌, length, Some, None, nat_le, if◌then◌else◌};
-ghost use Rattle.gx_units.specs.Spelling.{is_blank, padded, trimmed, without_left_spaces, without_right_spaces};
+ghost use Rattle.gx_units.specs.Spelling.{is_blank, padded_to, trimmed_text, without_left_spaces, without_right_spaces};
 
 /// The text with spaces behind it, or None where the field is too short for it.
 pub fn padded<const N: usize>(text: &[u8]) -> Option<[u8; N]>
-    ensures { result ≡ (if nat_le (length text.now) N then Some (padded N text.now) else None) }
+    ensures { result
+        ≡ (if nat_le (length text.now) N then Some (padded_to N text.now) else None) }
 {
     if text.len() > N {
         return None;
@@ -32,7 +33,7 @@ pub fn unpadded(field: &[u8]) -> &[u8]
 
 /// The text of a field whose spaces may stand on either side: all but the spaces around it.
 pub fn trimmed(field: &[u8]) -> &[u8]
-    ensures text { result.now ≡ trimmed field.now }
+    ensures text { result.now ≡ trimmed_text field.now }
     ensures within { length result.now ≤ length field.now }
 {
     unpadded(without_left_spaces(field))
@@ -50,7 +51,7 @@ fn without_left_spaces(field: &[u8]) -> &[u8]
 
 /// The field's text without the spaces around it, on its left.
 pub(crate) fn rejustified(field: [u8; 10]) -> [u8; 10]
-    ensures { result ≡ padded 10 (trimmed field) }
+    ensures { result ≡ padded_to 10 (trimmed_text field) }
 {
     match padded(trimmed(&field)) {
         Some(justified) => justified,

@@ -38,6 +38,6 @@ figures_of_setting None entries = []
 figures_of_setting (Some rule) entries = figures_under rule entries
 
 -- all that this record, the last one, can have moved to a share of their limits
-abbrev pub moved : PolicyData → List RecordData → RecordData → Option AccountName → List (Mark × Warning) → List Figure
-moved policy records r seller entries =
+abbrev pub warnings_after : PolicyData → List RecordData → RecordData → Option AccountName → List (Mark × Warning) → List Figure
+warnings_after policy records r seller entries =
     (figures_of_order policy (live_numbered (live policy records) r.number) ++ figures_of_gain policy seller) ++ figures_of_setting (set_in r) entries

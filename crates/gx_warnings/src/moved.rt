@@ -2,7 +2,7 @@
 
 ghost use Rattle.std.specs.{Prelude.{◌≡◌, ◌++◌, [], OnOk, slice_get}, Option.option_map_or};
 ghost use Rattle.gx_history.specs.Live.{live, live_numbered};
-ghost use Rattle.gx_warnings.specs.Moving.{figures_among, figures_of_gain, figures_of_order, figures_of_setting, figures_under, moved, set_figure};
+ghost use Rattle.gx_warnings.specs.Moving.{figures_among, figures_of_gain, figures_of_order, figures_of_setting, figures_under, warnings_after, set_figure};
 
 use crate::table::WarningTable;
 use gx_history::facts::StockSide;
@@ -126,7 +126,7 @@ impl WarningTable {
         left: &RecordData,
         seller: Option<AccountName>,
     ) -> Result<(), OutOfMemory>
-        ensures { OnOk result (list.new.items ≡ moved (G.seen gate.now).policy
+        ensures { OnOk result (list.new.items ≡ warnings_after (G.seen gate.now).policy
             (G.seen gate.now).records left.now seller self.now.entries.entries) }
     {
         list.clear();

@@ -7,7 +7,7 @@ ghost use Rattle.gx_warnings.specs.Warnings.{passes};
 const PLENTY: u128 = 1 << 72;
 
 /// Whether so much is no less than so many hundredths of the limit.
-#[tactic(auto, using(crate::proofs::Plenty::plenty_is_enough))]
+#[tactic(auto, using(crate::proofs::Share_bounds::plenty_is_enough))]
 fn is_at(share: u8, used: u128, limit: u64) -> bool
     ensures { result ≡ nat_le (share * limit) (used * 100) }
 {

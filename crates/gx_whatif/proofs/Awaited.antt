@@ -1,22 +1,14 @@
 -- The numbers of all orders that wait, once one more record stands behind.
-use Rattle.std.proofs.{Common.{◌≡◌, ℕ, suc, Bool, true, false, not, cond, ◌==◌, List, [], ◌∷◌, ◌++◌, length, refl, ap, sym, ◌∙◌, subst}, lemmas.{Bool.{eq-eqb, eqb-true, ne_eqb}}}
+use Rattle.std.proofs.{Common.{◌≡◌, ℕ, suc, Bool, true, false, not, cond, ◌==◌, List, [], ◌∷◌, ◌++◌, length, refl, ap, sym, ◌∙◌, subst}, lemmas.Bool.{eq-eqb, eqb-true, ne_eqb, or_left, or_right}}
 use Rattle.std.specs.{Prelude.{Option, Some, None, ◌||◌}, Option.option_map_or, List.{AllByRecursion, cons_option, filter, filter_map, find, list_any}}
 use Rattle.gx_policy.specs.declared.policy.PolicyData.{PolicyData}
-use Rattle.gx_history.specs.{declared.{live_order.LiveOrder.LiveOrder, «record».RecordData.RecordData}, Live.{live, live_numbered, waiting}, Turns.{Turn, Keeps, Adds, Sizes, Replaces, EndsAll, Fills, Rests, Ends, becomes, new_in, turned, waiting_turned}, Verdicts.{IsLegal, Follows}, World.{turn_of, world}}
+use Rattle.gx_history.specs.{declared.{live_order.LiveOrder.LiveOrder, «record».RecordData.RecordData}, Live.{live, live_numbered, waiting}, Turns.{Turn, Keeps, Adds, Sizes, Replaces, EndsAll, Fills, Rests, Ends, becomes, new_in, live_after, waiting_after}, Verdicts.{IsLegal, Follows}, World.{turn_of, world}}
 use Rattle.gx_laws.proofs.{NextReports.legal_before, Numbers.all_weaker, Owners.all_both, Known.live_are_found, Sides.{becomes_same, new_by, waiting_next}}
 use Rattle.gx_whatif.specs.{Following.{AreAllOf, waits_numbered}, Redone.{is_at_rest, is_none}}
 
 -- the order has one of these numbers
 abbrev IsOneOf : List ℕ → LiveOrder → Type 0
 IsOneOf numbers o = list_any (λ n. n == o.number) numbers ≡ true
-
-or_left : (a b : Bool) → a ≡ true → (a || b) ≡ true
-or_left true b h = refl
-or_left false b h = cc
-
-or_right : (a b : Bool) → b ≡ true → (a || b) ≡ true
-or_right true b h = refl
-or_right false b h = h
 
 still_one : (numbers : List ℕ) (n k : ℕ) → list_any (λ m. m == k) numbers ≡ true → list_any (λ m. m == k) (numbers ++ n ∷ []) ≡ true
 still_one [] n k h = cc
@@ -48,11 +40,11 @@ all_become turn numbers (o ∷ os) h = at (all_become turn numbers os h.1) (beco
     at later (Some x) e = (subst (λ (k : ℕ). list_any (λ n. n == k) numbers ≡ true) (sym (becomes_same turn o x e).0) h.0, later)
 
 all_turned : (turn : Turn) (numbers : List ℕ) (os : List LiveOrder) → AllByRecursion (IsOneOf numbers) os → AllByRecursion (IsOneOf numbers) (new_in turn)
-    → AllByRecursion (IsOneOf numbers) (turned turn os)
+    → AllByRecursion (IsOneOf numbers) (live_after turn os)
 all_turned turn numbers os h new = all_both (IsOneOf numbers) (filter_map (becomes turn) os) (new_in turn) (all_become turn numbers os h) new
 
 all_wait : (turn : Turn) (numbers : List ℕ) (os : List LiveOrder) → AllByRecursion (IsOneOf numbers) os → AllByRecursion (IsOneOf numbers) (new_in turn)
-    → AllByRecursion (IsOneOf numbers) (waiting_turned turn os)
+    → AllByRecursion (IsOneOf numbers) (waiting_after turn os)
 all_wait (Rests number) numbers os h new = all_kept (IsOneOf numbers) (λ (o : LiveOrder). not (number == o.number)) os h
 all_wait Keeps numbers os h new = all_turned Keeps numbers os h new
 all_wait (Adds o) numbers os h new = all_turned (Adds o) numbers os h new

@@ -1,19 +1,15 @@
 -- What one more change makes of the counts.
-use Rattle.std.proofs.{Common.{◌≡◌, ℕ, ◌+◌, ◌<◌, ◌≤◌, ◌^◌, ◌==◌, arith, subst, Bool, true, false, cond, List, [], ◌∷◌, ◌++◌, map, length, take, get_or, refl, ap, sym, ◌∙◌}, lemmas.{Grind.flat_map-append, Bool.eq-eqb, Slice.Eq.bytes_eq-Decides, List.{append-nil, take_more, map-id, Sums.{sum_by-append, sum_by_push}}}}
+use Rattle.std.proofs.{Common.{◌≡◌, ℕ, ◌+◌, ◌<◌, ◌≤◌, ◌^◌, ◌==◌, arith, subst, Bool, true, false, cond, List, [], ◌∷◌, ◌++◌, map, length, take, get_or, refl, ap, sym, ◌∙◌}, lemmas.{Grind.flat_map-append, Bool.eq-eqb, Slice.Eq.bytes_eq-Decides, List.{Sums.{sum_by-append, sum_by_push}, append-nil, take_more, map-id}, Simd.map-map}}
 use Rattle.std.specs.Prelude.{Option, Some, None, count_by, option_and_then}
-use Rattle.gx_units.specs.{Names.{same_rule}, declared.names.{AccountName.AccountName, RuleId.RuleId}}
+use Rattle.gx_units.specs.declared.names.{AccountName.AccountName, RuleId.RuleId}
 use Rattle.gx_policy.specs.{declared.{policy.PolicyData.PolicyData, rule_name.RuleName.RuleName}, Lists.once, People.account_of, RuleNames.rule_id}
 use Rattle.gx_endings.specs.Commands.{denied_by}
-use Rattle.gx_laws.proofs.Names.{account_is, account_is_itself}
+use Rattle.gx_laws.proofs.{Names.{account_is, account_is_itself, rule_is}, Keeping.map_same}
 use Rattle.gx_overview.specs.Accounts.{capped_count}
-use Rattle.gx_overview.proofs.Passing.{map_same, map_twice}
 use Rattle.gx_activity.proofs.{Counting.one_more_is, Standing.fits, Tables.table_from}
 use Rattle.gx_whatif.specs.{contracts.heading.HeadingPartialEq.TheImpl.{eq-value}, declared.{change.Change.Change, heading.{Heading.Heading, HeadingRow.HeadingRow}}, Counting.{counted_each, never, once_more, so_often, table_of}, Headings.{all_headings, denied_no_more, denied_now, heading_row, heading_rows, headings, of_account, same_heading}}
 
 -- ---- headings are the same where they are equal
-
-rule_is : (a b : RuleId) → same_rule a b ≡ true → a ≡ b
-rule_is a b h = let name : List ℕ → RuleId = λ (bytes : List ℕ). record { bytes = bytes } in ap name ((bytes_eq-Decides a.bytes b.bytes).0 h)
 
 same_itself : (h : Heading) → same_heading h h ≡ true
 same_itself (Heading.DeniedNow rule) = (bytes_eq-Decides rule.bytes rule.bytes).1 refl
@@ -168,6 +164,6 @@ rows_are policy found entries rows n is listed many few =
     let came : List Heading = all_headings policy found in
     listed
     ∙ ap (map (λ (e : Heading × HeadingRow). e.1)) is
-    ∙ map_twice {Y = Heading × HeadingRow} (λ (h : Heading). (h, so_often came h)) (λ (e : Heading × HeadingRow). e.1) (once same_heading (map (λ (h : Heading). h) came))
+    ∙ map-map {B = Heading × HeadingRow} (λ (e : Heading × HeadingRow). e.1) (λ (h : Heading). (h, so_often came h)) (once same_heading (map (λ (h : Heading). h) came))
     ∙ map_same (so_often came) (heading_row came) (all_fit policy found n many few) (once same_heading (map (λ (h : Heading). h) came))
     ∙ ap (λ (hs : List Heading). map (heading_row came) (once same_heading hs)) (map-id came)

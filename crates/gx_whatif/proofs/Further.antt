@@ -1,9 +1,9 @@
 -- What one more record makes of the day under the other policy, and of its changes.
 use Rattle.std.proofs.{Common.{◌≡◌, ℕ, ◌≤◌, Bool, true, false, List, [], ◌∷◌, ◌++◌, length, length-append, refl, ap, sym, ◌∙◌, subst, arith}, lemmas.List.{Elements.filter_map-append, Sums.fold-append}}
-use Rattle.std.specs.{Prelude.{Option, Some, None, filter_map, fold, option_to_list}, Option.option_map_or, List.cons_option}
+use Rattle.std.specs.{Prelude.{Option, Some, None, filter_map, fold, option_to_list}, Option.option_map_or}
 use Rattle.gx_policy.specs.{declared.policy.PolicyData.PolicyData, Lists.each_with_earlier}
 use Rattle.gx_history.specs.{declared.record.{RecordData.RecordData, Step.Step}, Settling.settled, Verdicts.{after_step, day_limit, next}}
-use Rattle.gx_laws.proofs.{Pushing.each_after_next, Settling.{settled_adds, settled_idle}}
+use Rattle.gx_laws.proofs.{Pushing.each_after_next, Settling.{settled_adds, settled_idle}, Order.one_found}
 use Rattle.gx_answers.specs.{Gates.GateData, Matches.settled_gate, Steps.IsFull}
 use Rattle.gx_whatif.specs.{declared.change.Change.Change, Redone.{Redone, redo, settled_where, under, unmade}, Differing.{change_of, changes}}
 
@@ -13,10 +13,6 @@ unfolding under
 under_next old new records r =
     ap (fold (redo old new) unmade) (each_after_next [] records r)
     ∙ fold-append (redo old new) unmade (each_with_earlier records) ((records, r) ∷ [])
-
-one_found : {Y : Type 0} (found : Option Y) → cons_option found [] ≡ option_to_list found
-one_found None = refl
-one_found (Some y) = refl
 
 -- and the change of the record stands last, if it is one
 pub changes_next : (old new : PolicyData) (records : List RecordData) (r : RecordData) → changes old new (records ++ r ∷ []) ≡ changes old new records ++ option_to_list (change_of old new records r)

@@ -11,12 +11,12 @@ pub record Told : Type 0 where
   pub recorded : Verdict
   pub told : Option Verdict
 
-abbrev pub told : ℕ → Verdict → Option Verdict → Told
-told number recorded now = record { number = number; recorded = recorded; told = now }
+abbrev pub told_row : ℕ → Verdict → Option Verdict → Told
+told_row number recorded now = record { number = number; recorded = recorded; told = now }
 
 -- what changes of the day of these steps
 abbrev pub changes_of : PolicyData → PolicyData → List Step → List Told
-changes_of old new steps = map (λ (c : Change). told c.number c.recorded c.told) (changes old new (run old steps))
+changes_of old new steps = map (λ (c : Change). told_row c.number c.recorded c.told) (changes old new (run old steps))
 
 -- the sample policy without a rule
 abbrev pub ruleless : PolicyData
@@ -37,7 +37,7 @@ a_rule_comes_steps =
 -- a rule that comes denies her order, and its matching steps find none waiting
 abbrev pub ARuleComes : Type 0
 ARuleComes = changes_of ruleless sample a_rule_comes_steps
-    ≡ told 5 granted (Some (denied_by (codes "GROSS"))) ∷ told 6 (filled 5 3 100 10000) None ∷ told 7 (Verdict.Rested 5) None ∷ []
+    ≡ told_row 5 granted (Some (denied_by (codes "GROSS"))) ∷ told_row 6 (filled 5 3 100 10000) None ∷ told_row 7 (Verdict.Rested 5) None ∷ []
 
 -- GROSS denies what ALICE buys, and BOB's sell finds nobody
 abbrev pub a_rule_goes_steps : List Step
@@ -53,4 +53,4 @@ a_rule_goes_steps =
 -- day
 abbrev pub ARuleGoes : Type 0
 ARuleGoes = changes_of sample ruleless a_rule_goes_steps
-    ≡ told 3 (denied_by (codes "GROSS")) (Some granted) ∷ told 5 (Verdict.Rested 4) (Some (filled 4 3 100 10000)) ∷ []
+    ≡ told_row 3 (denied_by (codes "GROSS")) (Some granted) ∷ told_row 5 (Verdict.Rested 4) (Some (filled 4 3 100 10000)) ∷ []

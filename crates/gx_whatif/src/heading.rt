@@ -7,7 +7,7 @@ ghost use Rattle.gx_policy.specs.People.{account_of_role, role_in};
 
 use crate::change::Change;
 use gx_history::record::Verdict;
-use gx_people::people::People;
+use gx_people::People;
 use gx_policy::{Policy, RuleName};
 use gx_units::{AccountName, OutOfMemory, RuleId, UserName};
 use indexmap::IndexMap;

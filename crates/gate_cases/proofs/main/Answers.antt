@@ -1,5 +1,5 @@
 use denote.Param.Send.{sendable}
-use Rattle.gx_core.proofs.Crossing.{gate_send}
+use Rattle.gx_core.proofs.Gate_send.{gate_send}
 use Rattle.gate_cases.proofs.main.Goals as goal
 
 -- src/main.rt:91:5

@@ -5,7 +5,7 @@ ghost use Rattle.gx_units.specs.Spelling.{folded_user};
 ghost use Rattle.gx_history.specs.InForce.{line_of};
 ghost use Rattle.gx_pass.specs.Views.{retold};
 ghost use Rattle.gx_door.specs.declared.fault.PullFault.TheVariants as pull_faults;
-ghost use Rattle.gx_door.specs.Acts.{IsLater, met};
+ghost use Rattle.gx_door.specs.Acts.{IsLater, history_met};
 ghost use Rattle.gx_session.specs.{Events.is_over, Outboxes.left_after, Table.turn};
 ghost use Rattle.gx_session.specs.Happenings as happens;
 ghost use Rattle.gx_serve.specs.{Marks.{mark_sent, cursor_sent}, States.{HasLooked, WasTold}, Seeking.{due_of, cursor_after, IsQuiet, Seeks, WasGreeted, WasPulled, WasSought, WasWatched}, Speech.{is_ending, Begins, IsDue, IsShown}, Tellings.sent_of};
@@ -64,11 +64,11 @@ pub struct Answered {
 }
 
 impl Model for Answered {
-    ghost use Rattle.gx_serve.specs.Marks.{given, Given};
+    ghost use Rattle.gx_serve.specs.Marks.{given_login, Given};
 
     ghost Value = { Given };
 
-    ghost view = { λ a. given a.user a.login a.answer };
+    ghost view = { λ a. given_login a.user a.login a.answer };
 }
 
 impl Answered {
@@ -136,11 +136,11 @@ pub struct Fetched {
 }
 
 impl Model for Fetched {
-    ghost use Rattle.gx_serve.specs.Marks.{fetched, FetchedData};
+    ghost use Rattle.gx_serve.specs.Marks.{fetched_data, FetchedData};
 
     ghost Value = { FetchedData };
 
-    ghost view = { λ f. fetched f.pulled f.count };
+    ghost view = { λ f. fetched_data f.pulled f.count };
 }
 
 impl Fetched {
@@ -196,7 +196,7 @@ fn due_of(fetched: Fetched, cursor: &mut PullCursor) -> NextWrite
 
 impl<T: Drop> ConnectionState<T> {
     /// Tells the session of the time. It asks for no answer to a login.
-    #[tactic(auto, using(crate::proofs::Sitting::ticks_answer_nothing))]
+    #[tactic(auto, using(crate::proofs::Session_call::ticks_answer_nothing))]
     fn tick<D: Door<Ticket = T>, R: Wait + Dial>(
         &mut self,
         rt: &R,
@@ -206,8 +206,8 @@ impl<T: Drop> ConnectionState<T> {
         requires clock { R.shown moment }
         ensures quiet { IsQuiet (is_over self.new.session.phase) result }
         ensures told { WasTold D.policy self.old.user happens.Tick moment
-            self.old.session (met D.held self.old.pass)
-            self.new.session (met D.held self.new.pass) }
+            self.old.session (history_met D.held self.old.pass)
+            self.new.session (history_met D.held self.new.pass) }
         ensures user { self.new.user ≡ self.old.user }
         ensures answer { self.new.outbox.answer ≡ self.old.outbox.answer }
     {
@@ -232,8 +232,8 @@ impl<T: Drop> ConnectionState<T> {
         requires clock { R.shown moment }
         ensures greeted { WasGreeted self.old.outbox.answer
             D.policy self.old.user self.old.login moment
-            self.old.session (met D.held self.old.pass)
-            self.new.session (met D.held self.new.pass) result }
+            self.old.session (history_met D.held self.old.pass)
+            self.new.session (history_met D.held self.new.pass) result }
         ensures taken { self.new.outbox.answer ≡ None }
         ensures user { self.new.user ≡ self.old.user }
     {
@@ -255,7 +255,8 @@ impl<T: Drop> ConnectionState<T> {
 
     /// How many records there are.
     pub(super) fn length<D: Door<Ticket = T>>(&mut self, door: &D) -> u64
-        ensures told { met D.held self.new.pass ≡ retold (met D.held self.old.pass) result }
+        ensures told { history_met D.held self.new.pass
+            ≡ retold (history_met D.held self.old.pass) result }
         ensures user { self.new.user ≡ self.old.user }
         ensures session { self.new.session ≡ self.old.session }
         ensures outbox { self.new.outbox ≡ self.old.outbox }
@@ -278,11 +279,12 @@ impl<T: Drop> ConnectionState<T> {
     ) -> Result<Pulled, PullFault>
         ensures shown { IfOk result (IsShown D.policy bookmark.now.user bookmark.now.next) }
         ensures not_on { IfErr result (λ e. e ≡ pull_faults.NotOn
-            ↔ line_of (met D.held self.new.pass).front (folded_user bookmark.now.user)
-            ≢ Some (met D.held self.old.pass).line) }
+            ↔ line_of (history_met D.held self.new.pass).front (folded_user bookmark.now.user)
+            ≢ Some (history_met D.held self.old.pass).line) }
         ensures later { IsLater D.policy
-            (met D.held self.old.pass) (met D.held self.new.pass) }
-        ensures looked { HasLooked (met D.held self.old.pass) (met D.held self.new.pass) }
+            (history_met D.held self.old.pass) (history_met D.held self.new.pass) }
+        ensures looked { HasLooked (history_met D.held self.old.pass)
+            (history_met D.held self.new.pass) }
         ensures user { self.new.user ≡ self.old.user }
         ensures session { self.new.session ≡ self.old.session }
         ensures outbox { self.new.outbox ≡ self.old.outbox }
@@ -297,7 +299,7 @@ impl<T: Drop> ConnectionState<T> {
     }
 
     /// The user's reports from the bookmark on, where there are more records than were seen.
-    #[tactic(auto, using(crate::proofs::Sitting::was_idle, crate::proofs::Sitting::was_fetched, crate::proofs::Sitting::was_refused, crate::proofs::Sitting::was_not_on))]
+    #[tactic(auto, using(crate::proofs::Session_call::was_idle, crate::proofs::Session_call::was_fetched, crate::proofs::Session_call::was_refused, crate::proofs::Session_call::was_not_on))]
     fn pull<D: Door<Ticket = T>, R: Wait + Dial>(
         &mut self,
         rt: &R,
@@ -307,8 +309,8 @@ impl<T: Drop> ConnectionState<T> {
     ) -> NextWrite
         requires clock { R.shown moment }
         ensures pulled { WasPulled D.policy self.old.user bookmark.now moment
-            self.old.session (met D.held self.old.pass) self.old.cursor
-            self.new.session (met D.held self.new.pass) self.new.cursor result }
+            self.old.session (history_met D.held self.old.pass) self.old.cursor
+            self.new.session (history_met D.held self.new.pass) self.new.cursor result }
         ensures user { self.new.user ≡ self.old.user }
     {
         let count = self.length(door);
@@ -342,8 +344,8 @@ impl<T: Drop> ConnectionState<T> {
     ) -> NextWrite
         requires clock { R.shown moment }
         ensures sought { Seeks None self.new.outbox D.policy self.old.user bookmark.now moment
-            self.old.session (met D.held self.old.pass) self.old.cursor
-            self.new.session (met D.held self.new.pass) self.new.cursor result }
+            self.old.session (history_met D.held self.old.pass) self.old.cursor
+            self.new.session (history_met D.held self.new.pass) self.new.cursor result }
         ensures user { self.new.user ≡ self.old.user }
     {
         if self.session.is_over() {
@@ -357,7 +359,7 @@ impl<T: Drop> ConnectionState<T> {
     }
 
     /// What the writer does as time passes: what the session then asks to send, or else new reports.
-    #[tactic(auto, using(crate::proofs::Sitting::was_watched))]
+    #[tactic(auto, using(crate::proofs::Session_call::was_watched))]
     fn watch_on<D: Door<Ticket = T>, R: Wait + Dial>(
         &mut self,
         rt: &R,
@@ -368,8 +370,8 @@ impl<T: Drop> ConnectionState<T> {
         requires clock { R.shown moment }
         ensures watched { WasWatched self.old.outbox self.new.outbox
             D.policy self.old.user bookmark.now moment
-            self.old.session (met D.held self.old.pass) self.old.cursor
-            self.new.session (met D.held self.new.pass) self.new.cursor result }
+            self.old.session (history_met D.held self.old.pass) self.old.cursor
+            self.new.session (history_met D.held self.new.pass) self.new.cursor result }
         ensures user { self.new.user ≡ self.old.user }
     {
         self.tell(rt, door, Event::Tick, moment);
@@ -393,8 +395,8 @@ impl<T: Drop> ConnectionState<T> {
         requires clock { R.shown moment }
         ensures sought { WasSought self.old.outbox self.new.outbox
             D.policy self.old.user bookmark.now moment
-            self.old.session (met D.held self.old.pass) self.old.cursor
-            self.new.session (met D.held self.new.pass) self.new.cursor result }
+            self.old.session (history_met D.held self.old.pass) self.old.cursor
+            self.new.session (history_met D.held self.new.pass) self.new.cursor result }
         ensures user { self.new.user ≡ self.old.user }
     {
         match self.outbox.sign.take() {
@@ -421,8 +423,8 @@ impl<T: Drop> ConnectionState<T> {
         requires clock { R.shown moment }
         ensures mark { bookmark.new ≡ mark_sent bookmark.old fetched }
         ensures told { WasTold D.policy self.old.user (sent_of fetched.pulled) moment
-            self.old.session (met D.held self.old.pass)
-            self.new.session (met D.held self.new.pass) }
+            self.old.session (history_met D.held self.old.pass)
+            self.new.session (history_met D.held self.new.pass) }
         ensures user { self.new.user ≡ self.old.user }
         ensures outbox { self.new.outbox ≡ left_after self.old.outbox
             (turn self.old.session (sent_of fetched.pulled) moment).reply.send }

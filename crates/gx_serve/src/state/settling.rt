@@ -3,7 +3,7 @@
 ghost use Rattle.std.specs.Prelude.{◌≡◌, None, IsFalse, IsTrue};
 ghost use Rattle.gx_answers.specs.Matches.{matching_of};
 ghost use Rattle.gx_pass.specs.Views.{mine};
-ghost use Rattle.gx_door.specs.Acts.{gate_met, met};
+ghost use Rattle.gx_door.specs.Acts.{gate_met, history_met};
 ghost use Rattle.gx_serve.specs.States.{WasMatched};
 
 use crate::state::{ConnectionState, STEPS};
@@ -25,10 +25,11 @@ impl<T: Drop> ConnectionState<T> {
         ensures stays { IsTrue self.old.is_settled → IsTrue result }
         ensures same { IsTrue self.old.is_settled → self.new.pass ≡ self.old.pass }
         ensures idle { IsFalse self.old.is_settled → IsTrue result
-            → matching_of (gate_met D.policy (met D.held self.new.pass)) ≡ None }
+            → matching_of (gate_met D.policy (history_met D.held self.new.pass)) ≡ None }
         ensures matched { IsFalse self.old.is_settled → WasMatched D.policy moment
-            (met D.held self.old.pass) (met D.held self.new.pass) }
-        ensures own { mine (met D.held self.new.pass) ≡ mine (met D.held self.old.pass) }
+            (history_met D.held self.old.pass) (history_met D.held self.new.pass) }
+        ensures own { mine (history_met D.held self.new.pass)
+            ≡ mine (history_met D.held self.old.pass) }
         ensures user { self.new.user ≡ self.old.user }
         ensures session { self.new.session ≡ self.old.session }
         ensures outbox { self.new.outbox ≡ self.old.outbox }

@@ -1,7 +1,7 @@
 use Rattle.std.proofs.Common.{arith, List, ◌∙◌, ap, sym, subst, refl, length}
 use Rattle.gx_policy.specs.declared.policy.PolicyData.{PolicyData}
 use Rattle.gx_history.specs.declared.record.RecordData.{RecordData}
-use Rattle.gx_audit.proofs.Walking.{begins, none_shown, bytes_further, shown_further, fault_told}
+use Rattle.gx_audit.proofs.Audit_walk.{begins, none_shown, bytes_further, shown_further, fault_told}
 use Rattle.gx_audit.proofs.beginning.follow_first.Goals as goal
 
 pub loop-at-init : goal.loop-at-init

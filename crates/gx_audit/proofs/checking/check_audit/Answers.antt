@@ -1,5 +1,5 @@
 use Rattle.std.specs.Prelude.{Err}
-use Rattle.gx_audit.proofs.Only.{is_only}
+use Rattle.gx_audit.proofs.Bytes_only.{is_only}
 use Rattle.gx_audit.proofs.checking.check_audit.Goals as goal
 
 pub returns-in-Err-clause-only : goal.returns-in-Err-clause-only

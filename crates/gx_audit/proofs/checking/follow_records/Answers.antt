@@ -1,5 +1,5 @@
 use Rattle.std.proofs.Common.{arith, ◌∙◌, refl}
-use Rattle.gx_audit.proofs.Walking.{begins, none_shown, bytes_further, shown_further, fault_told}
+use Rattle.gx_audit.proofs.Audit_walk.{begins, none_shown, bytes_further, shown_further, fault_told}
 use Rattle.gx_audit.proofs.checking.follow_records.Goals as goal
 
 pub loop-at-init : goal.loop-at-init

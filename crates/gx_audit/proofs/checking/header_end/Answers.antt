@@ -1,5 +1,5 @@
 use Rattle.std.proofs.Common.{drop, refl}
-use Rattle.gx_audit.proofs.Fronts.{begins_with, behind_header, is_headed}
+use Rattle.gx_audit.proofs.Header_call.{begins_with, behind_header, is_headed}
 use Rattle.gx_audit.proofs.checking.header_end.Goals as goal
 
 pub returns-then-same_bytes-clause-headed : goal.returns-then-same_bytes-clause-headed

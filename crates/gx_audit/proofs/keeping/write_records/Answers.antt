@@ -1,6 +1,6 @@
 use Rattle.std.proofs.Common.{◌∙◌, refl, arith}
 use Rattle.gx_devices.proofs.Known.{on_err}
-use Rattle.gx_audit.proofs.Pieces.{none_written, piece_cut, piece_written}
+use Rattle.gx_audit.proofs.Audit_next.{none_written, piece_cut, piece_written}
 use Rattle.gx_audit.proofs.keeping.write_records.Goals as goal
 
 pub loop-done-init : goal.loop-done-init

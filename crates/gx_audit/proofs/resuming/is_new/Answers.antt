@@ -1,6 +1,6 @@
 use Rattle.std.proofs.Common.{◌∙◌, ap}
 use Rattle.gx_audit_bytes.specs.{declared.version.AuditVersion.AuditVersion, Headers.header_in}
-use Rattle.gx_audit.proofs.Days.{begins_header}
+use Rattle.gx_audit.proofs.File_call.{begins_header}
 use Rattle.gx_audit.proofs.resuming.is_new.Goals as goal
 
 pub returns-then-file-lt-RECORD_SIZE : goal.returns-then-file-lt-RECORD_SIZE

@@ -1,5 +1,5 @@
 use Rattle.std.proofs.Common.{arith}
-use Rattle.gx_audit.proofs.Days.{is_day}
+use Rattle.gx_audit.proofs.File_call.{is_day}
 use Rattle.gx_audit.proofs.resuming.resume.Goals as goal
 
 pub size_of-kept-requires : goal.size_of-kept-requires

@@ -3,7 +3,7 @@ use Rattle.gx_policy.specs.{declared.policy.{PolicyData.PolicyData, User.User}, 
 use Rattle.gx_history.specs.Live.{live}
 use Rattle.gx_overview.specs.Accounts.{capped_count}
 use Rattle.gx_board.specs.Accounts.{orders_of_trader}
-use Rattle.gx_board.proofs.Trading.{traders_orders}
+use Rattle.gx_board.proofs.LiveOrders_call.{traders_orders}
 use Rattle.gx_board.proofs.accounts.live_orders.Goals as goal
 
 -- all users are counted, and their orders are the account's

@@ -1,6 +1,6 @@
 use Rattle.std.proofs.Common.{◌∙◌, ap, refl, set}
 use Rattle.gx_board.specs.Counting.{row_counted}
-use Rattle.gx_overview.proofs.Passing.{map_more}
+use Rattle.gx_overview.proofs.Pass_next.{map_more}
 use Rattle.gx_board.proofs.denied.note_in_all.Goals as goal
 
 pub loop-row-preserved : goal.loop-row-preserved

@@ -1,4 +1,4 @@
-use Rattle.gx_board.proofs.Belonging as belonging
+use Rattle.gx_board.proofs.View_owner as belonging
 use Rattle.gx_board.proofs.laws.views_are_his.Goals as goal
 
 pub returns : goal.returns

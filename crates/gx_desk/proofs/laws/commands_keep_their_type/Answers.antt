@@ -1,5 +1,5 @@
-use Rattle.std.proofs.{Common.{◌≡◌, ℕ, Bool, true, false, List, refl, ◌∙◌, sym, ap}, lemmas.Bool.eqb-true}
-use Rattle.std.specs.Prelude.{◌&&◌, ◌==◌, Option, Some, None, length, slice_index, if◌then◌else◌}
+use Rattle.std.proofs.{Common.{◌≡◌, ℕ, Bool, true, false, List, refl, ◌∙◌, sym, ap}, lemmas.Bool.{eqb-true, and_parts}}
+use Rattle.std.specs.Prelude.{◌==◌, Option, Some, None, length, slice_index, if◌then◌else◌}
 use Rattle.gx_ouch.specs.Layout.{Layout, is_of}
 use Rattle.gx_desk.specs.{declared.Command.Command, Messages.{kill, lift, set_limit, restrict, unrestrict, grant, revoke, close_day}, Names.command_type, Reading.{KeepTheirType, command_of}}
 use Rattle.gx_desk.proofs.laws.commands_keep_their_type.Goals as goal
@@ -7,10 +7,6 @@ use Rattle.gx_desk.proofs.laws.commands_keep_their_type.Goals as goal
 -- a command, if there is one, has the type that these bytes begin with
 abbrev Keeps : List ℕ → Option Command → Type 0
 Keeps bytes found = (c : Command) → found ≡ Some c → command_type c.action ≡ slice_index bytes 0
-
-left_true : (a b : Bool) → (a && b) ≡ true → a ≡ true
-left_true true b h = refl
-left_true false b h = cc
 
 -- a command of the layout's type
 told : (k : ℕ) (bytes : List ℕ) (x : Command) → k ≡ slice_index bytes 0 → command_type x.action ≡ k → Keeps bytes (Some x)
@@ -24,7 +20,7 @@ told k bytes x begins typed c h = ap (λ (found : Option Command). kind_of k fou
 chosen : (bytes : List ℕ) (layout : Layout) (b : Bool) (this rest : Option Command) → is_of layout bytes ≡ b
     → (layout.kind ≡ slice_index bytes 0 → Keeps bytes this) → Keeps bytes rest → Keeps bytes (if b then this else rest)
 chosen bytes layout true this rest h here there =
-    here (sym (eqb-true (slice_index bytes 0) layout.kind (left_true (slice_index bytes 0 == layout.kind) (length bytes == layout.size) h)))
+    here (sym (eqb-true (slice_index bytes 0) layout.kind (and_parts (slice_index bytes 0 == layout.kind) (length bytes == layout.size) h).0))
 chosen bytes layout false this rest h here there = there
 
 either : (bytes : List ℕ) (layout : Layout) (this rest : Option Command)

@@ -1,7 +1,7 @@
 use Rattle.std.proofs.Common.{◌∙◌}
 use Rattle.std.specs.Prelude.{fold, map}
 use Rattle.gx_overview.specs.Accounts.{entries_with, row_of}
-use Rattle.gx_overview.proofs.Counting.{rows_stand}
+use Rattle.gx_overview.proofs.LiveOrders_call.{rows_stand}
 use Rattle.gx_overview.proofs.accounts.account_rows.Goals as goal
 
 pub returns : goal.returns

@@ -1,7 +1,7 @@
 use Rattle.std.proofs.Common.{◌++◌, ◌∙◌, sym}
 use Rattle.std.specs.Prelude.{option_to_list}
 use Rattle.gx_overview.specs.Commands.{granted_command}
-use Rattle.gx_overview.proofs.Granting.{one_more_found}
+use Rattle.gx_overview.proofs.Commands_call.{one_more_found}
 use Rattle.gx_overview.proofs.commands.granted_commands.Goals as goal
 
 pub loop-place-preserved : goal.loop-place-preserved

@@ -1,6 +1,6 @@
 use Rattle.std.proofs.Common.{refl}
 use Rattle.gx_overview.specs.{Commands.is_about, declared.commands.GrantedCommand.GrantedCommand}
-use Rattle.gx_overview.proofs.Passing.{last_such_more}
+use Rattle.gx_overview.proofs.Pass_next.{last_such_more}
 use Rattle.gx_overview.proofs.commands.last_about.Goals as goal
 
 pub loop-command-preserved : goal.loop-command-preserved

@@ -1,7 +1,7 @@
 use Rattle.std.proofs.Common.{rules, ◌≡◌, ◌∙◌, ◌+◌, ℕ, ap, fold, map, max, take, nat_cmp, arith}
 use Rattle.std.specs.Ordering.{ord_max}
 use Rattle.gx_pass.specs.Views.{line_in}
-use Rattle.gx_overview.proofs.Passing.{most_of_one_more}
+use Rattle.gx_overview.proofs.Pass_next.{most_of_one_more}
 use Rattle.gx_overview.proofs.day.highest_line.Goals as goal
 
 ord_is_max : (a b : ℕ) → ord_max nat_cmp a b ≡ max a b

@@ -3,7 +3,7 @@ use Rattle.std.specs.Prelude.{fold, map}
 use Rattle.gx_policy.specs.declared.policy.PolicyData.{PolicyData}
 use Rattle.gx_history.specs.Executions.{executions}
 use Rattle.gx_overview.specs.Executed.{no_executions, rows_after}
-use Rattle.gx_overview.proofs.Executing.{rows_stand}
+use Rattle.gx_overview.proofs.Fills_call.{rows_stand}
 use Rattle.gx_overview.proofs.executed.executed_rows.Goals as goal
 
 pub returns : goal.returns

@@ -1,6 +1,6 @@
 use Rattle.std.proofs.Common.{arith}
 use Rattle.gx_history.proofs.Unpacking.{item_at}
-use Rattle.gx_overview.proofs.Executing.{known_further, noted_further, nothing_known, nothing_noted}
+use Rattle.gx_overview.proofs.Fills_call.{known_further, noted_further, nothing_known, nothing_noted}
 use Rattle.gx_overview.proofs.executed.note_records.Goals as goal
 
 pub loop-place-init : goal.loop-place-init

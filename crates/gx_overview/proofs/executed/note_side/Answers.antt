@@ -1,6 +1,6 @@
 use Rattle.std.proofs.Common.{◌∙◌, ap, refl, set}
 use Rattle.gx_overview.specs.Executed.{row_filled}
-use Rattle.gx_overview.proofs.Passing.{map_more}
+use Rattle.gx_overview.proofs.Pass_next.{map_more}
 use Rattle.gx_overview.proofs.executed.note_side.Goals as goal
 
 pub loop-row-preserved : goal.loop-row-preserved

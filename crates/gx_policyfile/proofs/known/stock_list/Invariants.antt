@@ -1,6 +1,7 @@
 use Rattle.std.proofs.Common.{◌≡◌, true, [], drop}
 use Rattle.toml.specs.View.{items_view}
-use Rattle.gx_policyfile.specs.{Field.each_item, Known.{stock_name, with_known_stock}}
+use Rattle.gx_policyvalues.specs.Field.{each_item}
+use Rattle.gx_policyfile.specs.Known.{stock_name, with_known_stock}
 use Rattle.gx_policyfile.proofs.known.stock_list.Given as goal
 
 -- the names so far, and then those of what is left, are those of all

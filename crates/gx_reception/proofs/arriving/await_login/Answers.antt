@@ -1,4 +1,4 @@
-use Rattle.gx_reception.proofs.Idling.{knocks_then, waits_first}
+use Rattle.gx_reception.proofs.Packets_idle.{knocks_then, waits_first}
 use Rattle.gx_reception.proofs.arriving.await_login.Goals as goal
 
 pub loop-init : goal.loop-init

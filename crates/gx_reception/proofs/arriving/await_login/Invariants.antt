@@ -1,4 +1,4 @@
-use Rattle.gx_reception.proofs.Idling.{Waits}
+use Rattle.gx_reception.proofs.Packets_idle.{Waits}
 use Rattle.gx_reception.proofs.arriving.await_login.Given as goal
 
 abbrev pub invariant-loop : goal.invariant-loop

@@ -1,7 +1,7 @@
 use Rattle.std.proofs.{Common.{◌≡◌, List, [], ◌∷◌, drop, length, ◌+◌, refl, sym, ap, ◌∙◌, arith}, lemmas.List.drop_more, Math.Seq.drop-length}
 use Rattle.gx_soup.specs.declared.packet.ClientPacket.{ClientPacket}
 use Rattle.gx_reception.specs.Openings.{from_first}
-use Rattle.gx_reception.proofs.Idling.{first_here, first_later}
+use Rattle.gx_reception.proofs.Packets_idle.{first_here, first_later}
 use Rattle.gx_reception.proofs.arriving.first_place.Goals as goal
 
 pub loop-at-init : goal.loop-at-init

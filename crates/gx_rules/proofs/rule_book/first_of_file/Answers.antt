@@ -1,5 +1,5 @@
 use Rattle.std.proofs.Common.{◌∙◌, ap, sym, option_copied}
-use Rattle.gx_rules.specs.{Books.rules_of, Places.covering}
+use Rattle.gx_rules.specs.{Books.rules_of, Places.places_covering}
 use Rattle.gx_rules.proofs.Covering.{first_of_his, no_account, no_order, placed}
 use Rattle.gx_rules.proofs.rule_book.first_of_file.Goals as goal
 
@@ -15,5 +15,5 @@ returns-in-Some-places_under g c =
     ∙ first_of_his (g.F.TellsFigures.told c.args.figures.now) c.args.rules.now.entries c.args.facts.now c.args.request.now c.in-Some.account c.in-Some-proposed.w c.in-Some.is (sym c.in-Some-proposed.ensures)
     c.as_slice.result.now
     (c.as_slice.ensures
-    ∙ placed (covering (rules_of c.args.rules.now.entries)) c.in-Some.account c.in-Some-places_under.places.now c.args.by_account.now.entries c.requires.tied.places
+    ∙ placed (places_covering (rules_of c.args.rules.now.entries)) c.in-Some.account c.in-Some-places_under.places.now c.args.by_account.now.entries c.requires.tied.places
     (sym (ap option_copied (sym c.in-Some-places_under.is) ∙ c.places_under.ensures)))

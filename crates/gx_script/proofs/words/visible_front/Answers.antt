@@ -1,6 +1,6 @@
 use Rattle.std.proofs.{Common.{◌≡◌, ◌<◌, IsTrue, length, take, slice_set, replicate, refl, sym, ap, ◌∙◌, subst, arith}, lemmas.List.length-take}
 use Rattle.std.specs.List.{list_all}
-use Rattle.gx_units.specs.Spelling.{padded}
+use Rattle.gx_units.specs.Spelling.{padded_to}
 use Rattle.gx_script.specs.Words.{is_visible}
 use Rattle.gx_script.proofs.Fronts.{ends_here, ends_past, front_item, put_next, visible_more}
 use Rattle.gx_script.proofs.words.visible_front.Goals as goal
@@ -40,7 +40,7 @@ returns-clause-visible g c =
 pub returns-clause-front : goal.returns-clause-front
 returns-clause-front g c =
     let all : c.loop-end.end ≡ c.min-most.result = omega (arith, c.loop-end-test.false, c.loop-end.auto.end-end, c.min-most.ensures, length-take c.min-most.result c.args.text.now) in
-    subst (λ k. c.loop-end.front ≡ padded g.row.N (take k c.args.text.now)) all c.loop-end.invariant.front
+    subst (λ k. c.loop-end.front ≡ padded_to g.row.N (take k c.args.text.now)) all c.loop-end.invariant.front
 
 pub returns-clause-ends : goal.returns-clause-ends
 returns-clause-ends g c = ends_past (c.min-most.result < g.row.N) c.min-most.result c.args.text.now (λ room. omega (arith, room, c.min-most.ensures))

@@ -1,4 +1,4 @@
-use Rattle.gx_scripting.proofs.Fronts.{text_is_front, records_are_first}
+use Rattle.gx_scripting.proofs.Script_prefix.{text_is_front, records_are_first}
 use Rattle.gx_scripting.proofs.laws.faults_leave_a_front.Goals as goal
 
 pub returns-clause-text : goal.returns-clause-text

@@ -1,4 +1,4 @@
-use Rattle.gx_scripting.proofs.Texts.{lines_join, lines_have_no_end}
+use Rattle.gx_scripting.proofs.Lines_text.{lines_join, lines_have_no_end}
 use Rattle.gx_scripting.proofs.laws.lines_make_the_text.Goals as goal
 
 pub returns-clause-text : goal.returns-clause-text

@@ -1,4 +1,4 @@
-use Rattle.gx_scripting.proofs.ScriptCuts.{nothing_follows}
+use Rattle.gx_scripting.proofs.Lines_cut.{nothing_follows}
 use Rattle.gx_scripting.proofs.laws.nothing_follows_a_bad_line.Goals as goal
 
 pub returns : goal.returns

@@ -1,6 +1,6 @@
 use Rattle.std.proofs.Common.{◌++◌, ◌∙◌, ap, ℕ, List, sym}
 use Rattle.gx_scripting.specs.Scripting.{Printed}
-use Rattle.gx_scripting.proofs.Settling.{refused_is}
+use Rattle.gx_scripting.proofs.Settle_call.{refused_is}
 use Rattle.gx_scripting.proofs.running.add_match.Goals as goal
 
 -- an order waits, and the day is full

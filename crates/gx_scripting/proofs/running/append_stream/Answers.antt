@@ -1,6 +1,6 @@
 use Rattle.std.proofs.{Common.{◌++◌, ap, ◌∙◌}, lemmas.Result.on_ok_weaker}
 use Rattle.gx_script.specs.Printing.{report_lines}
-use Rattle.gx_scripting.proofs.Doing.{all_came}
+use Rattle.gx_scripting.proofs.Line_call.{all_came}
 use Rattle.gx_scripting.proofs.running.append_stream.Goals as goal
 
 pub returns : goal.returns

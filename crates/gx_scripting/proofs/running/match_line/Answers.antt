@@ -1,5 +1,5 @@
 use Rattle.gx_devices.proofs.Known.{on_err}
-use Rattle.gx_scripting.proofs.Settling.{match_half}
+use Rattle.gx_scripting.proofs.Settle_call.{match_half}
 use Rattle.gx_scripting.proofs.running.match_line.Goals as goal
 
 pub returns-in_err-add_match-clause-err : goal.returns-in_err-add_match-clause-err

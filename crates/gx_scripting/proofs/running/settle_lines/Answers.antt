@@ -1,6 +1,6 @@
 use Rattle.std.proofs.Common.{◌∙◌, sym}
 use Rattle.gx_devices.proofs.Known.{on_err}
-use Rattle.gx_scripting.proofs.Settling.{settles_first, settles_half, settles_last, settles_more}
+use Rattle.gx_scripting.proofs.Settle_call.{settles_first, settles_half, settles_last, settles_more}
 use Rattle.gx_scripting.proofs.running.settle_lines.Goals as goal
 
 pub returns-in_err-add_match-clause-err : goal.returns-in_err-add_match-clause-err

@@ -1,5 +1,5 @@
 use Rattle.gx_answers.specs.Matches.{matches_left}
-use Rattle.gx_scripting.proofs.Settling.{Settles}
+use Rattle.gx_scripting.proofs.Settle_call.{Settles}
 use Rattle.gx_scripting.proofs.running.settle_lines.Given as goal
 
 abbrev pub invariant-loop : goal.invariant-loop

@@ -2,7 +2,7 @@ use Rattle.std.proofs.Common.{ℕ, List, ◌++◌, refl, ◌∙◌, ap, sym}
 use Rattle.gx_answers.specs.Gates.{GateData}
 use Rattle.gx_script.specs.Printing.{outcome_line, refused_line}
 use Rattle.gx_devices.proofs.Known.{on_err, on_ok}
-use Rattle.gx_scripting.proofs.Doing.{made, refused, step_half}
+use Rattle.gx_scripting.proofs.Line_call.{made, refused, step_half}
 use Rattle.gx_scripting.proofs.running.step.Goals as goal
 
 pub returns-in-Ok-clause-ok : goal.returns-in-Ok-clause-ok

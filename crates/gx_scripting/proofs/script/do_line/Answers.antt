@@ -1,7 +1,7 @@
 use Rattle.std.proofs.{Common.{subst, refl}, lemmas.Result.err_from_is_err_and}
 use Rattle.gx_devices.proofs.Known.{on_fault}
 use Rattle.gx_scripting.specs.{Leaving.Leaves, Scripting.line_effect}
-use Rattle.gx_scripting.proofs.ScriptRuns.{ends_bad, ends_good, half_done, half_written}
+use Rattle.gx_scripting.proofs.Script_next.{ends_bad, ends_good, half_done, half_written}
 use Rattle.gx_scripting.proofs.script.do_line.Goals as goal
 
 pub returns-in_ok-write_flushing-in-Ok-clause-ok : goal.returns-in_ok-write_flushing-in-Ok-clause-ok

@@ -1,4 +1,4 @@
-use Rattle.gx_scripting.proofs.Texts.{line_at_end, no_end_found, parts_at_end, where_none}
+use Rattle.gx_scripting.proofs.Lines_text.{line_at_end, no_end_found, parts_at_end, where_none}
 use Rattle.gx_scripting.proofs.script.first_line.Goals as goal
 
 pub returns-in_err-end-clause-none : goal.returns-in_err-end-clause-none

@@ -1,7 +1,7 @@
 use Rattle.std.proofs.{Common.{true, false, append-nil, refl, arith, ◌∙◌}, KnownBytes.Keeps-refl, lemmas.Result.err_from_is_err_and}
 use Rattle.gx_devices.proofs.{Known.{counted_next, on_fault}, Pieces.{stands_next, stands_still}}
 use Rattle.gx_scripting.specs.declared.script_fault.ScriptFault.{ScriptFault}
-use Rattle.gx_scripting.proofs.ScriptEnds.{breaks, ends, finds, starts, stops, stops_reading, takes, unless_bad}
+use Rattle.gx_scripting.proofs.Script_end.{breaks, ends, finds, starts, stops, stops_reading, takes, unless_bad}
 use Rattle.gx_scripting.proofs.script.follow.Goals as goal
 
 pub loop-init : goal.loop-init

@@ -1,4 +1,4 @@
-use Rattle.gx_scripting.proofs.ScriptEnds.{all_of_script, all_with_bad}
+use Rattle.gx_scripting.proofs.Script_end.{all_of_script, all_with_bad}
 use Rattle.gx_scripting.proofs.script.run_script.Goals as goal
 
 pub returns-in-Ok-clause-all : goal.returns-in-Ok-clause-all

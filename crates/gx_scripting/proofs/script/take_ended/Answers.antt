@@ -1,6 +1,6 @@
 use Rattle.std.proofs.{Common.{◌++◌, refl, inl}, lemmas.Result.err_from_is_err_and}
 use Rattle.gx_devices.proofs.Known.{on_fault}
-use Rattle.gx_scripting.proofs.{ScriptCuts.long_is_bad, ScriptRuns.{ends_bad, half_done}}
+use Rattle.gx_scripting.proofs.{Lines_cut.long_is_bad, Script_next.{ends_bad, half_done}}
 use Rattle.gx_scripting.proofs.script.take_ended.Goals as goal
 
 pub returns-then-branch-clause-ok : goal.returns-then-branch-clause-ok

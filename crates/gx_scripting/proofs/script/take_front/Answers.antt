@@ -1,5 +1,5 @@
 use Rattle.std.proofs.Common.{◌++◌, arith, length-append}
-use Rattle.gx_scripting.proofs.ScriptCuts.{long_is_too_long}
+use Rattle.gx_scripting.proofs.Lines_cut.{long_is_too_long}
 use Rattle.gx_scripting.proofs.script.take_front.Goals as goal
 
 pub returns-then-len-front-gt-LONGEST-clause-long : goal.returns-then-len-front-gt-LONGEST-clause-long

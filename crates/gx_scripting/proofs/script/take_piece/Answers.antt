@@ -1,7 +1,7 @@
 use Rattle.std.proofs.{Common.{◌∷◌, [], ◌++◌, length, length-append, append_assoc, refl, sym, ap, ◌∙◌, arith}, lemmas.Result.err_from_is_err_and}
 use Rattle.gx_devices.proofs.Known.{on_fault}
-use Rattle.gx_scripting.specs.ScriptTexts.{ended}
-use Rattle.gx_scripting.proofs.ScriptRuns.{finds_line, finds_long, pauses_here, stops_line, takes_front, takes_line, takes_none}
+use Rattle.gx_scripting.specs.ScriptTexts.{with_line_end}
+use Rattle.gx_scripting.proofs.Script_next.{finds_line, finds_long, pauses_here, stops_line, takes_front, takes_line, takes_none}
 use Rattle.gx_scripting.proofs.script.take_piece.Goals as goal
 
 pub loop-line-init : goal.loop-line-init
@@ -10,7 +10,7 @@ loop-line-init g c = record { done = []; split = refl; takes = takes_none _ _ _ 
 pub loop-line-preserved : goal.loop-line-preserved
 loop-line-preserved g c =
     let i = c.loop-line.invariant in
-    let line = ended c.in-Some.line.now in
+    let line = with_line_end c.in-Some.line.now in
     let behind = c.in-Some.behind.now in
     record {
       done = i.done ++ line;

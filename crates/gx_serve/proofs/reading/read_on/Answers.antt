@@ -1,4 +1,4 @@
-use Rattle.gx_serve.proofs.Hearing.{hears_first, heard}
+use Rattle.gx_serve.proofs.Reader_next.{hears_first, heard}
 use Rattle.gx_serve.proofs.reading.read_on.Goals as goal
 
 pub loop-init : goal.loop-init

@@ -1,6 +1,6 @@
 use Rattle.std.proofs.Common.{ℕ, List}
 use Rattle.gx_reception.specs.Openings.{IsOpening}
-use Rattle.gx_serve.proofs.Hearing.{Hears}
+use Rattle.gx_serve.proofs.Reader_next.{Hears}
 use Rattle.gx_serve.proofs.reading.read_on.Given as goal
 
 abbrev pub invariant-loop : goal.invariant-loop

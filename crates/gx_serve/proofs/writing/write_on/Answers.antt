@@ -1,4 +1,4 @@
-use Rattle.gx_serve.proofs.Speaking.{answer_cut, rest_said}
+use Rattle.gx_serve.proofs.Writer_next.{answer_cut, rest_said}
 use Rattle.gx_serve.proofs.writing.write_on.Goals as goal
 
 pub returns-in-On : goal.returns-in-On

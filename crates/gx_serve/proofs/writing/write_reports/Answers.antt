@@ -1,5 +1,5 @@
 use Rattle.std.proofs.Common.{◌∙◌, refl}
-use Rattle.gx_serve.proofs.Speaking.{due_still, ends_there, goes_further, is_cut_off}
+use Rattle.gx_serve.proofs.Writer_next.{due_still, ends_there, goes_further, is_cut_off}
 use Rattle.gx_serve.proofs.writing.write_reports.Goals as goal
 
 pub returns-in-Err : goal.returns-in-Err

@@ -1,5 +1,5 @@
 use Rattle.std.proofs.Common.{◌≡◌}
-use Rattle.gx_serve.proofs.Speaking.{Says}
+use Rattle.gx_serve.proofs.Writer_next.{Says}
 use Rattle.gx_serve.proofs.writing.write_reports.Given as goal
 
 abbrev pub invariant-loop : goal.invariant-loop

@@ -4,7 +4,7 @@ use mathlib.Core.List.{IsPrefix}
 use Rattle.gx_pass.specs.declared.view.Holds.{Holds}
 use Rattle.gx_audit_bytes.specs.declared.version.AuditVersion.{AuditVersion}
 use Rattle.gx_journal.specs.Journals.{journal_bytes, IsGrown, JournalWriterData}
-use Rattle.gx_shared.proofs.Resting.{all_kept, earlier_kept}
+use Rattle.gx_shared.proofs.Resumed_day.{all_kept, earlier_kept}
 use Rattle.gx_shared.proofs.keeping.close_kept.Goals as goal
 
 pub returns-clause-front : goal.returns-clause-front

@@ -1,5 +1,5 @@
 use Rattle.std.proofs.lemmas.Result.{IfOk-weaker}
-use Rattle.gx_shared.proofs.Resting.{day_goes_on}
+use Rattle.gx_shared.proofs.Resumed_day.{day_goes_on}
 use Rattle.gx_shared.proofs.keeping.serve_journaled.Goals as goal
 
 pub returns-clause-goes_on : goal.returns-clause-goes_on

@@ -2,8 +2,8 @@ use Rattle.std.proofs.Common.{arith, refl, subst, take, drop, ◌∙◌}
 use Rattle.std.specs.Io.KnownBytes.{Appends}
 use Rattle.gx_audit_bytes.specs.declared.version.AuditVersion.{AuditVersion}
 use Rattle.gx_journal.specs.Journals.{journal_bytes}
-use Rattle.gx_journal.proofs.Rolling.{none_appended}
-use Rattle.gx_shared.proofs.Resting.{rest_put, sound_at}
+use Rattle.gx_journal.proofs.Journal_next.{none_appended}
+use Rattle.gx_shared.proofs.Resumed_day.{rest_put, sound_at}
 use Rattle.gx_shared.proofs.rest.put_rest.Goals as goal
 
 pub loop-writer-init : goal.loop-writer-init

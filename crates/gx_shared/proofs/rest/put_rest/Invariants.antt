@@ -1,6 +1,6 @@
 use Rattle.std.proofs.Common.{◌≡◌, ◌≤◌, ◌-◌, None, length}
 use Rattle.std.specs.Io.KnownBytes.{Appends}
-use Rattle.gx_journal.specs.Journals.{added, journal_bytes}
+use Rattle.gx_journal.specs.Journals.{records_between, journal_bytes}
 use Rattle.gx_shared.proofs.rest.put_rest.Given as goal
 
 abbrev pub invariant-loop-writer : goal.invariant-loop-writer
@@ -10,7 +10,7 @@ invariant-loop-writer g l = record {
   sound : l.writer.fault ≡ None;
   begun : l.fn.writer.fault ≡ None;
   version : l.writer.version ≡ l.fn.writer.version;
-  bytes : Appends l.fn.writer.contents l.writer.contents (journal_bytes l.fn.writer.version (added l.fn.writer.done l.writer.done (g.G.AccessGate.seen l.gate).records));
+  bytes : Appends l.fn.writer.contents l.writer.contents (journal_bytes l.fn.writer.version (records_between l.fn.writer.done l.writer.done (g.G.AccessGate.seen l.gate).records));
 }
 
 abbrev pub decreases-loop-writer : goal.decreases-loop-writer

@@ -1,5 +1,5 @@
 use Rattle.std.proofs.Common.{◌∙◌}
-use Rattle.gx_shared.proofs.Noted.{portion_noted}
+use Rattle.gx_shared.proofs.Lines_noted.{portion_noted}
 use Rattle.gx_shared.proofs.resuming.note_all.Goals as goal
 
 pub loop-done-preserved : goal.loop-done-preserved

@@ -1,7 +1,7 @@
 use Rattle.std.proofs.Common.{◌≡◌, ◌+◌, ℕ, Option, Some, IfSome, ◌∙◌, ap, subst, arith}
 use Rattle.gx_answers.specs.{declared.outcome.Outcome.Outcome, Matches.with_match}
 use Rattle.gx_pass.specs.{declared.view.Keeps.Keeps, Views.keeps}
-use Rattle.gx_shared.proofs.Matchings.{one_more}
+use Rattle.gx_shared.proofs.Match_next.{one_more}
 use Rattle.gx_shared.proofs.steps.match_some.Goals as goal
 
 pub loop-made-preserved : goal.loop-made-preserved

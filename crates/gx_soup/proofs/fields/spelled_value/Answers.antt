@@ -1,5 +1,5 @@
 use Rattle.std.proofs.{Common.{◌≡◌, ℕ, ◌^◌, Bool, true, false, cond, ltb, take, get_or, Option, Some, None, IfNone, IfSome, refl, ap, sym, ◌∙◌, arith}, lemmas.{Bool.{ltb-false, le-ltb}, List.Sums.fold_more}}
-use Rattle.gx_soup.specs.Login.{in_64_bits, spelled, with_digit}
+use Rattle.gx_soup.specs.Login.{in_64_bits, spelled_number, with_digit}
 use Rattle.gx_soup.proofs.fields.spelled_value.Goals as goal
 
 -- what 64 bits do not hold, they do not hold with one digit more
@@ -13,7 +13,7 @@ stays n c false e next s z =
 pub loop-digit-preserved : goal.loop-digit-preserved
 loop-digit-preserved c =
     let digits = c.args.digits.now in
-    let before = spelled (take c.loop-digit.digit-index digits) in
+    let before = spelled_number (take c.loop-digit.digit-index digits) in
     let digit = get_or digits c.loop-digit.digit-index 0 in
     stays before digit (ltb before (2 ^ 64)) refl _
     (rw (sym c.loop-digit.invariant) c.next_value-number.ensures.some)

@@ -1,7 +1,7 @@
 use Rattle.std.proofs.{Common.{List, length, take, drop, ap, ◌∙◌, subst, arith}, lemmas.Bool.{eqb-true, eqb-false}}
 use Rattle.gx_history.specs.declared.record.RecordData.{RecordData}
 use Rattle.gx_board.specs.Summaries.{Follows}
-use Rattle.gx_board.proofs.Catching.{all_there, behind_more, behind_still, counts_more}
+use Rattle.gx_board.proofs.Summary_call.{all_there, behind_more, behind_still, counts_more}
 use Rattle.gx_board.proofs.summary.Summary.catch_up.Goals as goal
 
 pub returns-in_err-follow-clause-behind : goal.returns-in_err-follow-clause-behind

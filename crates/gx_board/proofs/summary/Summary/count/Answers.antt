@@ -1,7 +1,7 @@
 use Rattle.std.proofs.{Common.{◌≡◌, ℕ, ◌∙◌, ap, length, take, List, subst, arith}, Math.Seq.take-length}
 use Rattle.gx_history.specs.declared.record.RecordData.{RecordData}
 use Rattle.gx_board.specs.Summaries.{Counted}
-use Rattle.gx_board.proofs.Following.{next_noted}
+use Rattle.gx_board.proofs.Summary_next.{next_noted}
 use Rattle.gx_board.proofs.summary.Summary.count.Goals as goal
 
 pub loop-place-preserved : goal.loop-place-preserved

@@ -1,6 +1,6 @@
 use Rattle.std.proofs.Common.{◌∙◌, ◌++◌, List, ap}
 use Rattle.gx_overview.specs.declared.commands.GrantedCommand.{GrantedCommand}
-use Rattle.gx_board.proofs.Following.{all_followed}
+use Rattle.gx_board.proofs.Summary_next.{all_followed}
 use Rattle.gx_board.proofs.summary.Summary.follow.Goals as goal
 
 pub returns-clause-followed : goal.returns-clause-followed

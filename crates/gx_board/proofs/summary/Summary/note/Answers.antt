@@ -1,6 +1,6 @@
 use Rattle.std.proofs.Common.{◌∙◌, refl, sym}
 use Rattle.std.specs.Prelude.{option_copied, slice_get}
-use Rattle.gx_board.proofs.Noting.{numbers_noted}
+use Rattle.gx_board.proofs.Record_call.{numbers_noted}
 use Rattle.gx_board.proofs.summary.Summary.note.Goals as goal
 
 pub returns-else-is_kept : goal.returns-else-is_kept

@@ -1,7 +1,7 @@
 use Rattle.std.proofs.Common.{Some, ◌∙◌, ap, sym}
 use Rattle.std.specs.{Option.option_map, List.find, Map.values_of}
 use Rattle.gx_history.specs.Book.{is_buy}
-use Rattle.gx_book.specs.{Keys.{are_keyed, held, orders_at, price_at}, Queue.{is_same, without_order}, Resting.{resting_of}}
+use Rattle.gx_book.specs.{Keys.{are_keyed, resting_of_kept, orders_at, price_at}, Queue.{is_same, without_order}, Resting.{resting_of}}
 use Rattle.gx_book.proofs.Keyed.{found_at, go_keyed, is_held, taken_at}
 use Rattle.gx_book.proofs.side.Side.remove.Goals as goal
 
@@ -12,7 +12,7 @@ invariant_of-self-2 g c =
 pub returns-in_err-kept-clause-given : goal.returns-in_err-kept-clause-given
 returns-in_err-kept-clause-given g c =
     c.from_residual.ensures
-    ∙ ap (option_map (held c.key_of.result.1 (price_at (is_buy g.row.SIDE) c.key_of.result.0))) (sym c.in_err-kept.was ∙ c.remove.ensures.value)
+    ∙ ap (option_map (resting_of_kept c.key_of.result.1 (price_at (is_buy g.row.SIDE) c.key_of.result.0))) (sym c.in_err-kept.was ∙ c.remove.ensures.value)
     ∙ sym (found_at _ c.key_of.result (resting_of c.args.order.now) c.self.inside.orders.entries c.key_of.ensures.keyed c.self.invariant)
     ∙ ap (find (is_same (resting_of c.args.order.now))) c.self.view_is
 
@@ -25,7 +25,7 @@ returns-in_err-kept-clause-removed g c =
 pub returns-clause-given : goal.returns-clause-given
 returns-clause-given g c =
     ap Some (c.of.ensures ∙ is_held (is_buy g.row.SIDE) c.key_of.result c.args.order.now c.in_ok-kept.kept c.key_of.ensures.meant c.key_of.ensures.numbered)
-    ∙ ap (option_map (held c.key_of.result.1 (price_at (is_buy g.row.SIDE) c.key_of.result.0))) (sym c.in_ok-kept.was ∙ c.remove.ensures.value)
+    ∙ ap (option_map (resting_of_kept c.key_of.result.1 (price_at (is_buy g.row.SIDE) c.key_of.result.0))) (sym c.in_ok-kept.was ∙ c.remove.ensures.value)
     ∙ sym (found_at _ c.key_of.result (resting_of c.args.order.now) c.self.inside.orders.entries c.key_of.ensures.keyed c.self.invariant)
     ∙ ap (find (is_same (resting_of c.args.order.now))) c.self.view_is
 

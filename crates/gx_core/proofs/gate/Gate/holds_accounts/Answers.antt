@@ -2,7 +2,7 @@ use Rattle.std.proofs.Common.{◌≡◌, Bool, true, false, ◌&&◌, ◌∙◌,
 use Rattle.gx_policy.specs.People.{is_officer, role_in}
 use Rattle.gx_answers.specs.Gates.{GateData}
 use Rattle.gx_core.specs.Known.{has_concerned}
-use Rattle.gx_core.proofs.{Commanding.concerned_are_his, Judged.officers_are_known}
+use Rattle.gx_core.proofs.{Command_call.concerned_are_his, Facts_call.officers_are_known}
 use Rattle.gx_core.proofs.gate.Gate.holds_accounts.Goals as goal
 
 pub returns-then-is_officer : goal.returns-then-is_officer
@@ -10,7 +10,7 @@ returns-then-is_officer c =
     let role = role_in c.args.self.now.policy.users c.args.officer in
     let is : is_officer role ≡ true =
     ap (λ (g : GateData). is_officer (role_in g.policy.users c.args.officer)) (sym c.self.view_is)
-    ∙ sym (officers_are_known c.self.inside.policy c.self.inside.history.records c.self.inside.keepers c.args.officer c.self.invariant.kept)
+    ∙ sym (officers_are_known c.self.inside.policy c.self.inside.history.records c.self.inside.state c.args.officer c.self.invariant.kept)
     ∙ sym c.is_officer.ensures ∙ c.if-is_officer.true in
     c.has_concerned.ensures
     ∙ ap (λ (b : Bool). b && has_concerned c.args.self.now role c.args.action.now) (sym is)
@@ -21,7 +21,7 @@ returns-else-is_officer c =
     let role = role_in c.args.self.now.policy.users c.args.officer in
     let is : is_officer role ≡ false =
     ap (λ (g : GateData). is_officer (role_in g.policy.users c.args.officer)) (sym c.self.view_is)
-    ∙ sym (officers_are_known c.self.inside.policy c.self.inside.history.records c.self.inside.keepers c.args.officer c.self.invariant.kept)
+    ∙ sym (officers_are_known c.self.inside.policy c.self.inside.history.records c.self.inside.state c.args.officer c.self.invariant.kept)
     ∙ sym c.is_officer.ensures ∙ c.if-is_officer.false in
     c.if-is_officer.false
     ∙ ap (λ (b : Bool). b && has_concerned c.args.self.now role c.args.action.now) (sym is)

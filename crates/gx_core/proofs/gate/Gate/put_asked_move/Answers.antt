@@ -2,7 +2,7 @@ use Rattle.std.proofs.Common.{sym, ap, ◌∙◌}
 use Rattle.gx_history.specs.declared.record.Verdict.{Verdict}
 use Rattle.gx_answers.specs.Gates.{GateData}
 use Rattle.gx_core.specs.Moves.{granted_move}
-use Rattle.gx_core.proofs.Moving.{by_verdict, granted_is}
+use Rattle.gx_core.proofs.Move_call.{by_verdict, granted_is}
 use Rattle.gx_core.proofs.gate.Gate.put_asked_move.Goals as goal
 
 pub returns-in-Granted : goal.returns-in-Granted

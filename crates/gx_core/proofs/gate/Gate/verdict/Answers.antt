@@ -9,11 +9,11 @@ pub returns-clause-verdict : goal.returns-clause-verdict
 returns-clause-verdict c =
     let policy = c.self.inside.policy in
     let records = c.self.inside.history.records in
-    let keepers = c.self.inside.keepers in
+    let state = c.self.inside.state in
     let in_force = c.self.invariant.kept.in_force in
     let known : c.args.known.now ≡ facts_now policy records c.args.a.now =
     c.requires.known ∙ ap (λ (g : GateData). facts_now g.policy g.records c.args.a.now) (sym c.self.view_is) in
-    decided_is_the_verdict policy records keepers.people keepers.rules keepers.ledger c.args.known.now c.args.a.now c.decide.result
+    decided_is_the_verdict policy records state.people state.rules state.ledger c.args.known.now c.args.a.now c.decide.result
     c.rules.ensures.sound c.self.invariant.kept.legal in_force.people in_force.rules known in_force.ledger c.decide.ensures.decided
     ∙ ap (λ (g : GateData). verdict g.policy g.records c.args.a.now) c.self.view_is
 

@@ -6,7 +6,7 @@ use Rattle.gx_history.specs.{declared.{«record».RecordData.RecordData, report.
 use Rattle.gx_answers.specs.Gates.{GateData}
 use Rattle.gx_streams.specs.Recorded.{IsRecorded, house_of}
 use Rattle.gx_streams.proofs.Recording.{part_is_recorded}
-use Rattle.gx_core.proofs.Judged.{copies_are_given, reports_are_known}
+use Rattle.gx_core.proofs.Facts_call.{copies_are_given, reports_are_known}
 use Rattle.gx_core.proofs.gate.GateAccessGate.put_reports.Goals as goal
 
 -- each Accepted of the part is what the records tell
@@ -18,7 +18,7 @@ put_pull-requires c =
     let house = c.house_of.ensures ∙ ap (λ (g : GateData). house_of g.policy c.args.user) (sym c.self.view_is) in
     record {
       recorded =
-          subst (λ (l : List Report). AllByRecursion (IsRecorded c.house_of.result c.records.result) (slice l c.args.from c.args.most)) (sym (reports_are_known policy records c.self.inside.keepers c.args.user kept))
+          subst (λ (l : List Report). AllByRecursion (IsRecorded c.house_of.result c.records.result) (slice l c.args.from c.args.most)) (sym (reports_are_known policy records c.self.inside.state c.args.user kept))
           (subst (λ (rs : List RecordData). AllByRecursion (IsRecorded c.house_of.result rs) (slice (stream policy records c.args.user) c.args.from c.args.most)) (sym c.records.ensures)
           (subst (λ (firm : Option Firm). AllByRecursion (IsRecorded firm records) (slice (stream policy records c.args.user) c.args.from c.args.most)) (sym house)
           (part_is_recorded policy records c.args.user c.args.from c.args.most kept.legal)));
@@ -27,5 +27,5 @@ put_pull-requires c =
 pub returns-clause-copies : goal.returns-clause-copies
 returns-clause-copies c =
     rw (← c.self.view_is) (
-    copies_are_given c.put_pull.result (λ _. c.put_pull.new.list.items) c.self.inside.policy c.self.inside.history.records c.self.inside.keepers c.args.user c.args.from c.args.most c.self.invariant.kept c.put_pull.ensures.reports
+    copies_are_given c.put_pull.result (λ _. c.put_pull.new.list.items) c.self.inside.policy c.self.inside.history.records c.self.inside.state c.args.user c.args.from c.args.most c.self.invariant.kept c.put_pull.ensures.reports
     )

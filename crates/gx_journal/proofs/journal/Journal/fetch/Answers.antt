@@ -1,7 +1,7 @@
 use Rattle.std.proofs.Common.{◌≡◌, refl, subst, sym, false, ap, ◌∙◌}
 use Rattle.gx_pass.specs.declared.view.Holds.{Holds}
 use Rattle.gx_journal.specs.Journals.{added_by, is_broken, met_by, IsKept, JournalData}
-use Rattle.gx_journal.proofs.Keeping.{journal, kept_later}
+use Rattle.gx_journal.proofs.Journal_call.{journal, kept_later}
 use Rattle.gx_journal.proofs.journal.Journal.fetch.Goals as goal
 
 pub invariant_of-self : goal.invariant_of-self

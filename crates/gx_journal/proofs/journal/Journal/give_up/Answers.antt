@@ -1,6 +1,6 @@
 use Rattle.std.proofs.Common.{◌≡◌, false, subst, sym}
 use Rattle.gx_journal.specs.Journals.{is_broken, met_by, JournalData}
-use Rattle.gx_journal.proofs.Keeping.{kept_stopped}
+use Rattle.gx_journal.proofs.Journal_call.{kept_stopped}
 use Rattle.gx_journal.proofs.journal.Journal.give_up.Goals as goal
 
 pub invariant_of-self : goal.invariant_of-self

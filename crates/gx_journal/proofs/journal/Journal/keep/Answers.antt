@@ -1,4 +1,4 @@
-use Rattle.gx_journal.proofs.Keeping.{all_known}
+use Rattle.gx_journal.proofs.Journal_call.{all_known}
 use Rattle.gx_journal.proofs.journal.Journal.keep.Goals as goal
 
 pub returns-clause-kept : goal.returns-clause-kept

@@ -1,5 +1,5 @@
 use Rattle.std.proofs.Common.{refl, ◌∙◌}
-use Rattle.gx_journal.proofs.Keeping.{kept_begun}
+use Rattle.gx_journal.proofs.Journal_call.{kept_begun}
 use Rattle.gx_journal.proofs.journal.Journal.new.Goals as goal
 
 pub invariant_of-result : goal.invariant_of-result

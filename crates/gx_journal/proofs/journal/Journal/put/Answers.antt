@@ -1,6 +1,6 @@
 use Rattle.std.proofs.Common.{◌≡◌, false, take, drop, length, subst, sym}
 use Rattle.gx_journal.specs.Journals.{is_broken, met_by, JournalData}
-use Rattle.gx_journal.proofs.Keeping.{kept_put}
+use Rattle.gx_journal.proofs.Journal_call.{kept_put}
 use Rattle.gx_journal.proofs.journal.Journal.put.Goals as goal
 
 pub invariant_of-self : goal.invariant_of-self

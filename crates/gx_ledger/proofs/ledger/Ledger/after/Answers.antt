@@ -1,5 +1,5 @@
 use Rattle.std.proofs.Common.{◌∙◌, ap, sym, subst}
-use Rattle.gx_ledger.specs.{Keeping.Kept, StandsFor.GivesFigures}
+use Rattle.gx_ledger.specs.{Keeping.LedgerData, StandsFor.GivesFigures}
 use Rattle.gx_ledger.proofs.Answering.{figures_answer}
 use Rattle.gx_ledger.proofs.ledger.Ledger.after.Goals as goal
 
@@ -9,7 +9,7 @@ returns c =
       figures =
           subst (λ asked. GivesFigures c.args.self.now c.args.account c.args.request.now c.args.replaced c.args.moment asked)
           (λ i. record {
-            tallies = sym (c.deref.ensures.value ∙ ap (λ (k : Kept). k.tallies) c.self.view_is) i;
+            tallies = sym (c.deref.ensures.value ∙ ap (λ (k : LedgerData). k.tallies) c.self.view_is) i;
             wanted = record {
               place = sym c.place.ensures i;
               entered = sym c.asked_as.ensures i;

@@ -1,5 +1,5 @@
 use Rattle.std.proofs.Common.{◌∙◌, sym}
-use Rattle.gx_overview.proofs.Knowing.{ok_then, replaced_known}
+use Rattle.gx_overview.proofs.Owners_next.{ok_then, replaced_known}
 use Rattle.gx_overview.proofs.owners.Owners.note_replacing.Goals as goal
 
 pub returns : goal.returns

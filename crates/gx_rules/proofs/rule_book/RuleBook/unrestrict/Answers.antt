@@ -1,19 +1,19 @@
 use Rattle.gx_policy.specs.Kinds.{with_stocks}
 use Rattle.std.proofs.Common.{◌≤◌, ◌∙◌, ap, sym, map, subst}
-use Rattle.gx_history.specs.InForce.{change_rule, removing}
+use Rattle.gx_history.specs.InForce.{change_rule, without_stock}
 use Rattle.indexmap.proofs.CallerLemmas.{index_map_len-with_value_at}
 use Rattle.gx_rules.proofs.{Covering.table_kept, Places.{changed_at, changed_nowhere}}
 use Rattle.gx_rules.proofs.rule_book.RuleBook.unrestrict.Goals as goal
 
 pub returns-in-Some : goal.returns-in-Some
 returns-in-Some c =
-    let there = changed_at c.args.rule (with_stocks (removing c.args.stock)) c.self.inside.rules.entries c.in-Some.index c.index_mut.result.now c.unrestrict.new.self c.in-Some.ensures.unique (sym c.in-Some.ensures.index) c.index_mut.ensures.value c.unrestrict.ensures.kind c.unrestrict.ensures.scope in
-    record { unrestricted = there ∙ ap (map (change_rule c.args.rule (with_stocks (removing c.args.stock)))) c.self.view_is }
+    let there = changed_at c.args.rule (with_stocks (without_stock c.args.stock)) c.self.inside.rules.entries c.in-Some.index c.index_mut.result.now c.unrestrict.new.self c.in-Some.ensures.unique (sym c.in-Some.ensures.index) c.index_mut.ensures.value c.unrestrict.ensures.kind c.unrestrict.ensures.scope in
+    record { unrestricted = there ∙ ap (map (change_rule c.args.rule (with_stocks (without_stock c.args.stock)))) c.self.view_is }
 
 pub returns-in_default : goal.returns-in_default
 returns-in_default c =
-    let nowhere = changed_nowhere c.args.rule (with_stocks (removing c.args.stock)) c.self.inside.rules.entries (sym c.in_default.ensures.found) in
-    record { unrestricted = sym c.self.view_is ∙ nowhere ∙ ap (map (change_rule c.args.rule (with_stocks (removing c.args.stock)))) c.self.view_is }
+    let nowhere = changed_nowhere c.args.rule (with_stocks (without_stock c.args.stock)) c.self.inside.rules.entries (sym c.in_default.ensures.found) in
+    record { unrestricted = sym c.self.view_is ∙ nowhere ∙ ap (map (change_rule c.args.rule (with_stocks (without_stock c.args.stock)))) c.self.view_is }
 
 pub invariant_of-self : goal.invariant_of-self
 invariant_of-self c =

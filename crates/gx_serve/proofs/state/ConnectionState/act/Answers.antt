@@ -1,8 +1,8 @@
 use Rattle.std.proofs.Common.{Result, IfOk, sym, ◌∙◌, subst}
 use Rattle.gx_answers.specs.{declared.outcome.StepFault.StepFault, Gates.left_by}
-use Rattle.gx_door.specs.{declared.matched.Turned.Turned, Acts.{asked_on, met}, Matching.Turns}
+use Rattle.gx_door.specs.{declared.matched.Turned.Turned, Acts.{asked_on, history_met}, Matching.Turns}
 use Rattle.gx_serve.specs.Announcements.{WasAnnounced}
-use Rattle.gx_serve.proofs.Sitting.{was_announced}
+use Rattle.gx_serve.proofs.Session_call.{was_announced}
 use Rattle.gx_serve.proofs.state.ConnectionState.act.Goals as goal
 
 pub returns-in-Ok-clause-announced : goal.returns-in-Ok-clause-announced
@@ -15,5 +15,5 @@ returns-in-Ok-clause-announced g c =
     subst (λ (found : Result Turned StepFault). IfOk found (λ t. Turns g.D.Door.policy was is (left_by a t.outcome) t.ended c.args.moment t.matched.made)) c.in-Ok.is c.turn-pass.ensures.done in
     let announced : WasAnnounced g.D.Door.policy a was is c.announced_of.result =
     was_announced g.D.Door.policy a was is t.outcome t.ended t.matched.made c.announced_of.result c.turn-pass.ensures.later turns c.announced_of.ensures in
-    subst (λ pass. WasAnnounced g.D.Door.policy (asked_on (met g.D.Door.held pass).line c.args.self.now.user c.args.request c.args.moment) (met g.D.Door.held pass) is c.announced_of.result)
+    subst (λ pass. WasAnnounced g.D.Door.policy (asked_on (history_met g.D.Door.held pass).line c.args.self.now.user c.args.request c.args.moment) (history_met g.D.Door.held pass) is c.announced_of.result)
     (sym (sym c.take.ensures.value ∙ c.in-Some.is)) announced

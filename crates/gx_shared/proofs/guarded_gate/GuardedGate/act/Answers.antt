@@ -4,7 +4,7 @@ use Rattle.gx_history.specs.{declared.record.{Asked.Asked, RecordData.RecordData
 use Rattle.gx_answers.specs.Gates.{left_by}
 use Rattle.gx_pass.specs.{Rules.IsMet, Views.holds}
 use Rattle.gx_door.specs.Acts.{asked_on}
-use Rattle.gx_shared.proofs.{Meetings.{adds_own, goes_later, step_begins}, Refusals.stays_refused}
+use Rattle.gx_shared.proofs.{Pass_met.{adds_own, goes_later, step_begins}, Refused_call.stays_refused}
 use Rattle.gx_shared.proofs.guarded_gate.GuardedGate.act.Goals as goal
 
 pub returns-clause-later : goal.returns-clause-later

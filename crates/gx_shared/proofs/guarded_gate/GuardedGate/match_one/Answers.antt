@@ -2,7 +2,7 @@ use Rattle.std.proofs.Common.{ℕ, List, length, ◌∙◌, ap, subst}
 use Rattle.gx_policy.specs.declared.policy.PolicyData.{PolicyData}
 use Rattle.gx_history.specs.{declared.record.RecordData.RecordData, Verdicts.IsLegal}
 use Rattle.gx_pass.specs.{Rules.IsMet, Views.holds}
-use Rattle.gx_shared.proofs.Meetings.{goes_later, match_begins, match_is_nobodys}
+use Rattle.gx_shared.proofs.Pass_met.{goes_later, match_begins, match_is_nobodys}
 use Rattle.gx_shared.proofs.guarded_gate.GuardedGate.match_one.Goals as goal
 
 pub returns-clause-later : goal.returns-clause-later

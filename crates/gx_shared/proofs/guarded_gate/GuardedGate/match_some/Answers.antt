@@ -3,7 +3,7 @@ use Rattle.gx_policy.specs.declared.policy.PolicyData.{PolicyData}
 use Rattle.gx_history.specs.{declared.record.RecordData.RecordData, Verdicts.IsLegal}
 use Rattle.gx_pass.specs.{Rules.IsMet, Views.holds}
 use Rattle.gx_pass.proofs.Fronts.{prefix_self}
-use Rattle.gx_shared.proofs.{Matchings.still_met, Meetings.{goes_later, holds_own}, Turning.matches}
+use Rattle.gx_shared.proofs.{Match_next.still_met, Pass_met.{goes_later, holds_own}, Turn_call.matches}
 use Rattle.gx_shared.proofs.guarded_gate.GuardedGate.match_some.Goals as goal
 
 pub returns-clause-later : goal.returns-clause-later

@@ -4,7 +4,7 @@ use Rattle.gx_history.specs.{declared.record.{Asked.Asked, RecordData.RecordData
 use Rattle.gx_answers.specs.Gates.{left_by}
 use Rattle.gx_pass.specs.{Rules.IsMet, Views.holds}
 use Rattle.gx_door.specs.{Acts.asked_on, Endings.{ended_by, sums_of}, Matching.AddsMatches}
-use Rattle.gx_shared.proofs.{Meetings.goes_later, Refusals.stays_refused, Turning.{turn_begins, turns}}
+use Rattle.gx_shared.proofs.{Pass_met.goes_later, Refused_call.stays_refused, Turn_call.{turn_begins, turns}}
 use Rattle.gx_shared.proofs.guarded_gate.GuardedGate.turn.Goals as goal
 
 pub returns-clause-later : goal.returns-clause-later

@@ -1,5 +1,5 @@
 use Rattle.std.proofs.Common.{◌∙◌, ap, arith}
-use Rattle.gx_streams.specs.{declared.entry.Entry.Entry, Kept.{Kept, with_kept_last}}
+use Rattle.gx_streams.specs.{declared.stored_report.StoredReport.StoredReport, Kept.{ReservedList, with_reserved_last}}
 use Rattle.gx_streams.proofs.Slotting.{AddsOne, kept_then, put_last}
 use Rattle.gx_streams.proofs.stream.Stream.push_reserved.Goals as goal
 
@@ -21,4 +21,4 @@ invariant_of-self c =
 pub returns : goal.returns
 returns c =
     put_last c.self.inside.details c.put-slot.new.self c.self.inside.slots.items c.push_reserved.new.self.items c.args.entry c.put-slot.result (adds c) c.put-slot.ensures.spare
-    ∙ ap (λ (k : Kept Entry). with_kept_last c.args.entry k) c.self.view_is
+    ∙ ap (λ (k : ReservedList StoredReport). with_reserved_last c.args.entry k) c.self.view_is

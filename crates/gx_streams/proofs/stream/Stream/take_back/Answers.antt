@@ -1,5 +1,5 @@
 use Rattle.std.proofs.Common.{length, take, ◌∙◌, ap}
-use Rattle.gx_streams.specs.{declared.{entry.Entry.Entry}, Kept.{Kept, without_last}}
+use Rattle.gx_streams.specs.{declared.{stored_report.StoredReport.StoredReport}, Kept.{ReservedList, without_last}}
 use Rattle.gx_streams.proofs.Slotting.{taken_back}
 use Rattle.gx_streams.proofs.stream.Stream.take_back.Goals as goal
 
@@ -7,4 +7,4 @@ pub returns : goal.returns
 returns c =
     taken_back c.self.inside.details c.self.inside.slots.items c.truncate.new.self.items (length c.as_slice-count.result.now) (ap length c.as_slice-count.ensures.value)
     (c.truncate.ensures.items ∙ ap (λ n. take n c.self.inside.slots.items) c.saturating_sub.ensures)
-    ∙ ap (λ (k : Kept Entry). without_last k) c.self.view_is
+    ∙ ap (λ (k : ReservedList StoredReport). without_last k) c.self.view_is

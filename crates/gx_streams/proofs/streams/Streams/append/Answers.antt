@@ -1,5 +1,5 @@
 use Rattle.std.proofs.{Common.length, lemmas.Result.on_ok_weaker}
-use Rattle.gx_streams.specs.{declared.entry.Entry.Entry, Kept.{on_user, with_last}}
+use Rattle.gx_streams.specs.{declared.stored_report.StoredReport.StoredReport, Kept.{on_user, with_last}}
 use Rattle.gx_streams.proofs.{Shown.{known_changed, last_shown, there_with_last}, Silent.silent_changed, Whole.{sound_told, told_changed, told_here}}
 use Rattle.gx_streams.proofs.streams.Streams.append.Goals as goal
 
@@ -8,7 +8,7 @@ append-requires c = record { known = (told_here c.self.inside.fills.items c.self
 
 pub invariant_of-self : goal.invariant_of-self
 invariant_of-self c =
-    let entry = Entry.Typed c.args.report in
+    let entry = StoredReport.Typed c.args.report in
     let was = c.self.invariant in
     let his = told_here c.self.inside.fills.items c.self.inside.told c.self.inside.readers c.args.self.now c.args.user c.self.view_is c.requires.told in
     sound_told c.append.result c.self.inside.fills.items c.self.inside.told (on_user c.args.user (with_last entry) c.self.inside.told) c.append.new.self c.self.inside.readers c.append.ensures.ok c.append.ensures.err
@@ -21,7 +21,7 @@ invariant_of-self c =
 
 pub returns-clause-ok : goal.returns-clause-ok
 returns-clause-ok c =
-    let entry = Entry.Typed c.args.report in
+    let entry = StoredReport.Typed c.args.report in
     let his = told_here c.self.inside.fills.items c.self.inside.told c.self.inside.readers c.args.self.now c.args.user c.self.view_is c.requires.told in
     on_ok_weaker c.append.result
     (λ done. told_changed c.self.inside.fills.items c.self.inside.told c.append.new.self c.self.inside.readers c.args.self.now c.args.user (with_last entry) (with_last c.args.report) done

@@ -1,5 +1,5 @@
 use Rattle.gx_units.specs.declared.names.UserName.{UserName}
-use Rattle.gx_streams.specs.Streams.{is_told}
+use Rattle.gx_streams.specs.Streams.{has_own_stream}
 use Rattle.std.proofs.Common.{◌≡◌, true, ◌^◌, [], ◌∷◌, ◌++◌, length, ap, ◌∙◌, arith}
 use Rattle.gx_streams.proofs.{Spanning.few_enough, Whole.{IsToldHere, filled, filled_sound, told_here}}
 use Rattle.gx_streams.proofs.streams.Streams.put_fill.Goals as goal
@@ -18,7 +18,7 @@ note-requires c =
 
 pub invariant_of-self-2 : goal.invariant_of-self-2
 invariant_of-self-2 c =
-    let here : (user : UserName) → is_told c.args.self.now user ≡ true → IsToldHere c.self.inside.told c.self.inside.readers user =
+    let here : (user : UserName) → has_own_stream c.args.self.now user ≡ true → IsToldHere c.self.inside.told c.self.inside.readers user =
     λ user is. told_here c.self.inside.fills.items c.self.inside.told c.self.inside.readers c.args.self.now user c.self.view_is is in
     filled_sound c.self.inside.fills.items c.as_slice-place.result.now c.push.new.self.items c.self.inside.told c.append_both.new.self c.self.inside.readers c.note.new.self c.args.fill
     (here c.args.fill.taker.user c.requires.taker).reads_not (here c.args.fill.maker.user c.requires.maker).reads_not

@@ -2,7 +2,7 @@ use Rattle.std.proofs.Common.{◌≡◌, List, ◌∙◌, ap, length, map, subst
 use Rattle.gx_policy.specs.Lists.{slice}
 use Rattle.gx_history.specs.declared.report.Report.{Report}
 use Rattle.std.specs.List.{AllByRecursion}
-use Rattle.gx_streams.specs.{declared.{entry.Entry.Entry, fill.ToldFill.ToldFill}, Recorded.IsRecorded, Spans.{AreNumbered, copies_in}, Table.report_of}
+use Rattle.gx_streams.specs.{declared.{stored_report.StoredReport.StoredReport, fill.ReportedFill.ReportedFill}, Recorded.IsRecorded, Spans.{AreNumbered, copies_in}, Table.report_of}
 use Rattle.gx_streams.proofs.{Reading.{count_read, read_copies, sound_reader, told_count, told_slice}, Silent.found_silent}
 use Rattle.gx_streams.proofs.streams.Streams.put_slice.Goals as goal
 
@@ -13,14 +13,14 @@ reader_of-requires c = λ some.
 pub copies-requires : goal.copies-requires
 copies-requires c =
     let his = c.in-Some.reader.now in
-    subst (λ (f : List ToldFill). AreNumbered f 1 his.earlier his.current) (sym c.as_slice-fills.ensures.value)
+    subst (λ (f : List ReportedFill). AreNumbered f 1 his.earlier his.current) (sym c.as_slice-fills.ensures.value)
     (sound_reader c.self.inside.fills.items c.self.inside.told c.self.inside.readers c.args.user his c.in-Some.ensures c.self.invariant).numbered
 
 pub returns-in_ok-reports-in-Some-clause-part : goal.returns-in_ok-reports-in-Some-clause-part
 returns-in_ok-reports-in-Some-clause-part c =
     let his = c.in-Some.reader.now in
     c.in_ok-reports-in-Some.ensures
-    ∙ (ap (λ (f : List ToldFill). slice (copies_in f his.earlier his.current) c.args.from c.args.most) c.as_slice-fills.ensures.value
+    ∙ (ap (λ (f : List ReportedFill). slice (copies_in f his.earlier his.current) c.args.from c.args.most) c.as_slice-fills.ensures.value
     ∙ ap (λ (l : List Report). slice l c.args.from c.args.most) (read_copies c.self.inside.fills.items c.self.inside.told c.self.inside.readers c.args.self.now c.args.user his c.in-Some.ensures c.self.invariant c.self.view_is))
 
 pub returns-in_ok-reports-in-Some-clause-count : goal.returns-in_ok-reports-in-Some-clause-count
@@ -40,8 +40,8 @@ put_reports-requires c =
     record {
       recorded =
           subst (λ (l : List Report). AllByRecursion (IsRecorded c.args.house c.args.records.now) l)
-          (sym (ap (λ (f : List ToldFill). map (report_of f) c.slice.result) c.as_slice-fills.ensures.value
-          ∙ (ap (map (report_of c.self.inside.fills.items)) (c.slice.ensures ∙ ap (λ (l : List Entry). slice l c.args.from c.args.most) c.find-entries.ensures)
+          (sym (ap (λ (f : List ReportedFill). map (report_of f) c.slice.result) c.as_slice-fills.ensures.value
+          ∙ (ap (map (report_of c.self.inside.fills.items)) (c.slice.ensures ∙ ap (λ (l : List StoredReport). slice l c.args.from c.args.most) c.find-entries.ensures)
           ∙ told_slice c.self.inside.fills.items c.self.inside.told c.self.inside.readers c.args.self.now c.args.user c.args.from c.args.most c.in-None.ensures c.self.view_is)))
           c.requires.recorded;
     }
@@ -49,8 +49,8 @@ put_reports-requires c =
 pub returns-in_ok-put_reports-in-None-clause-part : goal.returns-in_ok-put_reports-in-None-clause-part
 returns-in_ok-put_reports-in-None-clause-part c =
     c.in_ok-put_reports-in-None.ensures
-    ∙ (ap (λ (f : List ToldFill). map (report_of f) c.slice.result) c.as_slice-fills.ensures.value
-    ∙ (ap (map (report_of c.self.inside.fills.items)) (c.slice.ensures ∙ ap (λ (l : List Entry). slice l c.args.from c.args.most) c.find-entries.ensures)
+    ∙ (ap (λ (f : List ReportedFill). map (report_of f) c.slice.result) c.as_slice-fills.ensures.value
+    ∙ (ap (map (report_of c.self.inside.fills.items)) (c.slice.ensures ∙ ap (λ (l : List StoredReport). slice l c.args.from c.args.most) c.find-entries.ensures)
     ∙ told_slice c.self.inside.fills.items c.self.inside.told c.self.inside.readers c.args.self.now c.args.user c.args.from c.args.most c.in-None.ensures c.self.view_is))
 
 pub returns-in_ok-put_reports-in-None-clause-count : goal.returns-in_ok-put_reports-in-None-clause-count

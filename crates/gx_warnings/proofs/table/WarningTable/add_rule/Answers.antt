@@ -1,5 +1,5 @@
 use Rattle.std.proofs.Common.{arith}
-use Rattle.gx_warnings.proofs.Places.{all_added, place_added}
+use Rattle.gx_warnings.proofs.Table_next.{all_added, place_added}
 use Rattle.gx_warnings.proofs.table.WarningTable.add_rule.Goals as goal
 
 pub loop-place-preserved : goal.loop-place-preserved

@@ -2,7 +2,7 @@ use Rattle.std.proofs.Common.{◌∙◌, sym}
 use Rattle.std.specs.Map.{lookup}
 use Rattle.indexmap.proofs.CallerLemmas.{insert_entry-new}
 use Rattle.gx_warnings.specs.Marks.{same_mark}
-use Rattle.gx_warnings.proofs.Places.{none_found, put_last}
+use Rattle.gx_warnings.proofs.Table_next.{none_found, put_last}
 use Rattle.gx_warnings.proofs.table.WarningTable.note.Goals as goal
 
 pub returns : goal.returns

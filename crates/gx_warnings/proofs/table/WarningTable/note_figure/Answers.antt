@@ -1,5 +1,5 @@
 use Rattle.gx_peaks.proofs.Looping.{ok_then}
-use Rattle.gx_warnings.proofs.Places.{read_so}
+use Rattle.gx_warnings.proofs.Table_next.{read_so}
 use Rattle.gx_warnings.proofs.table.WarningTable.note_figure.Goals as goal
 
 pub returns : goal.returns

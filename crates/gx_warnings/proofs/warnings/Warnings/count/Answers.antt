@@ -1,4 +1,4 @@
-use Rattle.gx_warnings.proofs.Exact.{exactly}
+use Rattle.gx_warnings.proofs.Warnings_exact.{exactly}
 use Rattle.gx_warnings.proofs.warnings.Warnings.count.Goals as goal
 
 pub returns-clause-exact : goal.returns-clause-exact

@@ -1,4 +1,4 @@
-use Rattle.gx_warnings.proofs.Beginning.{empty_keeps}
+use Rattle.gx_warnings.proofs.Warnings_first.{empty_keeps}
 use Rattle.gx_warnings.proofs.warnings.Warnings.new.Goals as goal
 
 pub returns-clause-none : goal.returns-clause-none

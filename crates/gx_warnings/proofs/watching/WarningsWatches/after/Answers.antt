@@ -3,7 +3,7 @@ use Rattle.gx_policy.specs.Soundness.{is_sound}
 use Rattle.gx_records.specs.Watching.{earlier_of}
 use Rattle.gx_peaks.proofs.Looping.{ok_then}
 use Rattle.gx_warnings.specs.Noting.{with_figures}
-use Rattle.gx_warnings.proofs.Carrying.{all_carried}
+use Rattle.gx_warnings.proofs.Warnings_next.{all_carried}
 use Rattle.gx_warnings.proofs.watching.WarningsWatches.after.Goals as goal
 
 pub returns-clause-saw : goal.returns-clause-saw

@@ -1,4 +1,4 @@
-use Rattle.gx_warnings.proofs.Exact.{exactly}
+use Rattle.gx_warnings.proofs.Warnings_exact.{exactly}
 use Rattle.gx_watch.proofs.watch.Watch.take.Goals as goal
 
 pub returns-in-Ok-clause-warnings : goal.returns-in-Ok-clause-warnings

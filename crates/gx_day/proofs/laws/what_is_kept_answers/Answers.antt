@@ -1,5 +1,0 @@
-use Rattle.gx_day.proofs.Answering.{ends_are_kept, kills_are_kept, lines_are_kept, moments_are_kept}
-use Rattle.gx_day.proofs.laws.what_is_kept_answers.Goals as goal
-
-pub returns : goal.returns
-returns c = record { lines = lines_are_kept; kills = kills_are_kept; end = ends_are_kept; moment = moments_are_kept }

@@ -1,4 +1,0 @@
-pub mod DayData
-pub mod InForce
-pub mod View
-pub mod Laws

@@ -1,6 +1,0 @@
-use Rattle.gx_keepers.proofs.Carrying.{no_other_match}
-use Rattle.gx_keepers.proofs.matching.carry_match.Goals as goal
-
-pub unreachable-requires : goal.unreachable-requires
-unreachable-requires c =
-    no_other_match c.args.next.policy.now c.args.next.history.now.records c.args.next.moves.now c.args.next.left.now c.requires.takes.does c.requires.matches c.in_default.not-Fills c.in_default.not-Rests c.in_default.not-Expires

@@ -1,5 +1,0 @@
-use Rattle.gx_market.proofs.ByKind.{books_next}
-use Rattle.gx_market.proofs.laws.books_go_on.Goals as goal
-
-pub returns : goal.returns
-returns c = books_next

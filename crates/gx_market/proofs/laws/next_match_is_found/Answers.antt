@@ -1,5 +1,0 @@
-use Rattle.gx_market.proofs.Crossing.{matching_is_met, next_record_is_met}
-use Rattle.gx_market.proofs.laws.next_match_is_found.Goals as goal
-
-pub returns : goal.returns
-returns c = record { verdict = matching_is_met; entry = next_record_is_met }

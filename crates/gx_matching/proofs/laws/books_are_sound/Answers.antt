@@ -1,0 +1,5 @@
+use Rattle.gx_matching.proofs.Sound.{books_sound}
+use Rattle.gx_matching.proofs.laws.books_are_sound.Goals as goal
+
+pub returns : goal.returns
+returns c = books_sound

@@ -1,0 +1,5 @@
+use Rattle.gx_matching.proofs.ByKind.{books_next}
+use Rattle.gx_matching.proofs.laws.books_go_on.Goals as goal
+
+pub returns : goal.returns
+returns c = books_next

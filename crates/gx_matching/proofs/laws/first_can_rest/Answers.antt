@@ -1,0 +1,5 @@
+use Rattle.gx_matching.proofs.Latest.{first_is_latest}
+use Rattle.gx_matching.proofs.laws.first_can_rest.Goals as goal
+
+pub returns : goal.returns
+returns c = first_is_latest

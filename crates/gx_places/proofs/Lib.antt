@@ -1,4 +1,0 @@
-pub mod Counting
-pub mod Held
-pub mod Kills
-pub mod Asked

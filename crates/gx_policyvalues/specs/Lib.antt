@@ -1,0 +1,4 @@
+pub mod Field
+pub mod Tables
+pub mod Parsing
+pub mod Telling

@@ -1,0 +1,48 @@
+-- The lines of records that were there before, in the keeper's hand.
+use Rattle.std.proofs.{Common.{◌≡◌, ◌≢◌, ℕ, zero, suc, ◌+◌, ◌<◌, ◌≤◌, max, List, [], ◌∷◌, ◌++◌, take, drop, refl, sym, ap, ◌∙◌, subst, inl, inr, arith, fold, map}, Math.Seq.take-add, lemmas.List.{Sums.fold-append, map-append}}
+use mathlib.Core.Logic.{dite}
+use native.Mathlib.Decide.{ℕ_discrete}
+use Rattle.gx_history.specs.declared.record.RecordData.{RecordData}
+use Rattle.gx_policy.specs.Lists.{slice}
+use Rattle.gx_pass.specs.{declared.view.Keeps.Keeps, Rules.{Has, MayNote}, Views.{keeps, highest_line, line_in}}
+use Rattle.gx_shared.specs.Lines.{IsResuming, lines_to}
+use Rattle.gx_journal.proofs.Journal_next.{before_next}
+
+-- a keeper that has nothing yet
+pub begins : (k : Keeps) → k ≡ keeps [] [] 0 → IsResuming k
+begins k is = subst IsResuming (sym is) (record { issued = refl; hand = refl })
+
+next_line : (n : ℕ) → (n + 1) ∷ lines_to n ≡ lines_to (n + 1)
+next_line n = let one : suc n ≡ n + 1 = omega arith in subst (λ (m : ℕ). m ∷ lines_to n ≡ lines_to m) one refl
+
+-- the next line is in hand
+pub one_more_line : (issued : ℕ) (hand : List ℕ) → hand ≡ lines_to issued → (issued + 1) ∷ hand ≡ lines_to (issued + 1)
+one_more_line issued hand is = ap (λ (lines : List ℕ). (issued + 1) ∷ lines) is ∙ next_line issued
+
+-- each line up to the last is in hand
+has_line : (issued line : ℕ) → 0 < line → line ≤ issued → Has (lines_to issued) line
+has_line zero line some few = absurd (omega arith)
+has_line (suc n) line some few =
+    dite (ℕ_discrete line (suc n))
+    (λ (e : line ≡ suc n). inl e)
+    (λ (ne : line ≢ suc n). inr (has_line n line some (omega arith)))
+
+may_note_up_to : (issued line : ℕ) → line ≤ issued → MayNote (lines_to issued) line
+may_note_up_to issued zero few = inl refl
+may_note_up_to issued (suc line) few = inr (has_line issued (suc line) (omega arith) few)
+
+-- the highest line of one more record
+pub highest_more : (records : List RecordData) (r : RecordData) → highest_line (records ++ r ∷ []) ≡ max (highest_line records) (line_in r)
+highest_more records r =
+    ap (fold max 0) (map-append line_in records (r ∷ []))
+    ∙ fold-append max 0 (map line_in records) (line_in r ∷ [])
+
+-- a record of such a line may be noted
+pub may_note : (issued line was : ℕ) (hand : List ℕ) → hand ≡ lines_to issued → issued ≡ max was line → MayNote hand line
+may_note issued line was hand is most = subst (λ (lines : List ℕ). MayNote lines line) (sym is) (may_note_up_to issued line (omega arith))
+
+-- one more portion is noted
+pub portion_noted : (records now portion later : List RecordData) (done most : ℕ) → now ≡ take done records → portion ≡ slice records (done + 1) most → later ≡ now ++ portion
+    → later ≡ take (done + most) records
+portion_noted records now portion later done most so_far is more =
+    more ∙ (λ i. so_far i ++ (is ∙ ap (λ (n : ℕ). take most (drop n records)) (before_next done)) i) ∙ sym (take-add done most records)

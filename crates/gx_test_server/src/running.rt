@@ -1,0 +1,278 @@
+//! What each step of a scenario does, and what it waits for.
+
+use crate::connection::{MemoryConnection, PauseSwitch};
+use crate::fixture::ScenarioRun;
+use crate::scenario::Scenario;
+use crate::step::ScenarioStep;
+use gx_door::Door;
+use gx_test_devices::decode_hex;
+use gx_units::{Moment, OutOfMemory};
+use std::alloc::Global;
+use std::fmt::Write;
+use std::sync::Wait;
+use std::thread;
+use std::time::{Clock, Duration};
+
+/// How many microseconds lie between two checks of what is waited for.
+const POLL_INTERVAL: u64 = 100;
+
+/// How often it is checked at most.
+const MOST_POLLS: u64 = 40_000;
+
+/// Once the threads of a connection have read the clock so many times more, what they began before that is done.
+const SETTLED_AFTER: u64 = 2;
+
+/// What is waited for.
+#[derive(Clone, Copy)]
+enum WaitCondition<'x> {
+    /// The server has read all that a peer sent and waits for more, or a request waits at the door.
+    Read(&'x MemoryConnection),
+    /// The threads of a connection have read the clock so often, or only wait for their peer.
+    ClockRead(&'x MemoryConnection, u64),
+    /// A peer was sent so many packets.
+    Received(&'x MemoryConnection, u64),
+    /// The server writes no more.
+    Finished(&'x MemoryConnection),
+    /// The server has hung up.
+    HungUp(&'x MemoryConnection),
+    /// All threads of the connection have ended.
+    Ended(&'x MemoryConnection),
+    /// There are so many records.
+    Records(u64),
+}
+
+/// Whether the threads of a connection have read the clock so often, or only wait for their peer.
+fn has_read_clock(connection: &MemoryConnection, least: u64) -> bool {
+    connection.clock_reads.moments() >= least || connection.waits_for_peer()
+}
+
+/// Makes threads wait at this switch from now on, or no longer. Always `true`: there is nothing to wait for.
+fn set_pause(pause: &PauseSwitch, paused: bool) -> bool {
+    pause.set(paused);
+    true
+}
+
+/// The hex with the last three digits of this number, in ASCII, in the place of `######`.
+fn numbered(alloc: Global, hex: &str, number: u64) -> Result<String, OutOfMemory> {
+    let mut digits = String::new(alloc);
+    let (high, middle, low) = (number / 100 % 10, number / 10 % 10, number % 10);
+    write!(digits, "3{high}3{middle}3{low}")?;
+    Ok(hex.replacen(alloc, "######", digits.as_str(), 1)?)
+}
+
+impl<'x, D: Door, A, R: Wait + Clock> ScenarioRun<'x, D, A, R> {
+    /// Opens the connection of the peer of this name.
+    pub(crate) fn begin(&self, name: &str) -> Option<&'x MemoryConnection> {
+        let scenario: &'x Scenario<'x> = self.scenario;
+        let peer = scenario.peer(name)?;
+        peer.connection.begun.raise();
+        Some(&peer.connection)
+    }
+
+    /// Whether what is waited for has come.
+    fn has_come(&self, pass: &mut D::Ticket, condition: &WaitCondition<'_>) -> bool {
+        match condition {
+            WaitCondition::Read(connection) => connection.is_read(self.fixture.rt),
+            WaitCondition::ClockRead(connection, least) => has_read_clock(connection, *least),
+            WaitCondition::Received(connection, least) => connection.packets() >= *least,
+            WaitCondition::Finished(connection) => connection.is_finished(),
+            WaitCondition::HungUp(connection) => connection.hung_up.is_raised(),
+            WaitCondition::Ended(connection) => connection.ended.is_raised(),
+            WaitCondition::Records(least) => self.fixture.door.length(pass) >= *least,
+        }
+    }
+
+    /// Waits for it, for so long at most. Answers whether it has come.
+    fn wait(&self, pass: &mut D::Ticket, condition: WaitCondition<'_>) -> bool {
+        for _ in 0..MOST_POLLS {
+            if self.has_come(pass, &condition) {
+                return true;
+            }
+            thread::sleep(self.fixture.rt, Duration::from_micros(POLL_INTERVAL));
+        }
+        false
+    }
+
+    /// Waits until the server has read all that each peer sent and waits for more.
+    pub(crate) fn all_read(&self, pass: &mut D::Ticket) -> bool {
+        for peer in &self.scenario.peers {
+            if peer.connection.is_open()
+                && !self.wait(pass, WaitCondition::Read(&peer.connection))
+            {
+                return false;
+            }
+        }
+        true
+    }
+
+    /// Waits until the threads of a connection have done what they do at this moment.
+    fn settle(&self, pass: &mut D::Ticket, connection: &MemoryConnection) -> bool {
+        let least = connection
+            .clock_reads
+            .moments()
+            .saturating_add(SETTLED_AFTER);
+        self.wait(pass, WaitCondition::ClockRead(connection, least))
+    }
+
+    /// Sets the clock, and waits until each connection has done what it does at this moment.
+    fn set_clock(&self, pass: &mut D::Ticket, moment: Moment) -> bool {
+        self.fixture.clock.set(moment);
+        for peer in &self.scenario.peers {
+            if peer.connection.begun.is_raised() && !self.settle(pass, &peer.connection) {
+                return false;
+            }
+        }
+        true
+    }
+
+    /// A peer sends the bytes of the hex, and nothing more if they are the last.
+    fn send(&self, connection: &MemoryConnection, hex: &str, last: bool) -> bool {
+        let Ok(bytes) = decode_hex(self.fixture.alloc, hex) else {
+            return false;
+        };
+        connection
+            .send(self.fixture.rt, bytes.as_slice(), last)
+            .is_ok()
+    }
+
+    /// A peer sends the bytes of the hex with this number in it.
+    fn send_numbered(&self, connection: &MemoryConnection, number: u64, hex: &str) -> bool {
+        match numbered(self.fixture.alloc, hex, number) {
+            Ok(hex) => self.send(connection, hex.as_str(), false),
+            Err(_) => false,
+        }
+    }
+
+    /// A peer sends the bytes of the hex so many times, each with its number.
+    fn send_repeatedly(&self, connection: &MemoryConnection, count: u64, hex: &str) -> bool {
+        for number in 0..count {
+            if !self.send_numbered(connection, number, hex) {
+                return false;
+            }
+        }
+        true
+    }
+
+    /// Two peers send the bytes of the hex at once; waits until the server has read both.
+    fn send_both(
+        &self,
+        pass: &mut D::Ticket,
+        one: &MemoryConnection,
+        other: &MemoryConnection,
+        hex: &str,
+    ) -> bool {
+        self.send(one, hex, false)
+            && self.send(other, hex, false)
+            && self.wait(pass, WaitCondition::Read(one))
+            && self.wait(pass, WaitCondition::Read(other))
+    }
+
+    /// Waits until a peer was sent so many packets, and the server has done what follows.
+    fn await_packets(
+        &self,
+        pass: &mut D::Ticket,
+        connection: &MemoryConnection,
+        count: u64,
+    ) -> bool {
+        self.wait(pass, WaitCondition::Received(connection, count)) && self.settle(pass, connection)
+    }
+
+    /// Runs a step on a peer's connection.
+    fn run_on_connection(
+        &self,
+        pass: &mut D::Ticket,
+        step: &ScenarioStep<'_>,
+        connection: &MemoryConnection,
+    ) -> bool {
+        match step {
+            ScenarioStep::Gives(_, hex) => self.send(connection, hex, false)
+                && self.wait(pass, WaitCondition::Read(connection)),
+            ScenarioStep::Repeats(_, count, hex) => self.send_repeatedly(connection, *count, hex),
+            ScenarioStep::TakesNothing(_) => set_pause(&connection.write_pause, true),
+            ScenarioStep::TakesAll(_) => set_pause(&connection.write_pause, false),
+            ScenarioStep::AsksNothing(_) => set_pause(&connection.request_pause, true),
+            ScenarioStep::AsksAll(_) => set_pause(&connection.request_pause, false),
+            ScenarioStep::Ends(_, hex) => self.send(connection, hex, true),
+            ScenarioStep::Hears(_, count) => self.await_packets(pass, connection, *count),
+            ScenarioStep::IsFinished(_) => self.wait(pass, WaitCondition::Finished(connection)),
+            ScenarioStep::IsCut(_) => self.wait(pass, WaitCondition::HungUp(connection)),
+            ScenarioStep::Open(_)
+            | ScenarioStep::Clock(_)
+            | ScenarioStep::Both(_, _, _)
+            | ScenarioStep::Records(_)
+            | ScenarioStep::Stop => { false }
+        }
+    }
+
+    /// Runs a step on the connection of the peer of this name.
+    fn run_for_peer(&self, pass: &mut D::Ticket, step: &ScenarioStep<'_>, name: &str) -> bool {
+        match self.scenario.peer(name) {
+            Some(peer) => self.run_on_connection(pass, step, &peer.connection),
+            None => false,
+        }
+    }
+
+    /// Runs the step of two peers who send at once.
+    fn run_for_both(&self, pass: &mut D::Ticket, one: &str, other: &str, hex: &str) -> bool {
+        match (self.scenario.peer(one), self.scenario.peer(other)) {
+            (Some(one), Some(other)) => self.send_both(
+                pass,
+                &one.connection,
+                &other.connection,
+                hex,
+            ),
+            _ => false,
+        }
+    }
+
+    /// Asks the server to end.
+    fn ask_to_stop(&self) -> bool {
+        self.fixture.control.shutdown.request();
+        true
+    }
+
+    /// Runs a step. Answers whether what it waits for came.
+    pub(crate) fn run_step(&self, pass: &mut D::Ticket, step: &ScenarioStep<'_>) -> bool {
+        match step {
+            ScenarioStep::Clock(moment) => self.set_clock(pass, *moment),
+            ScenarioStep::Both(one, other, hex) => self.run_for_both(pass, one, other, hex),
+            ScenarioStep::Records(count) => self.wait(pass, WaitCondition::Records(*count)),
+            ScenarioStep::Stop => self.ask_to_stop(),
+            ScenarioStep::Open(name)
+            | ScenarioStep::Gives(name, _)
+            | ScenarioStep::Repeats(name, _, _)
+            | ScenarioStep::TakesNothing(name)
+            | ScenarioStep::TakesAll(name)
+            | ScenarioStep::AsksNothing(name)
+            | ScenarioStep::AsksAll(name)
+            | ScenarioStep::Ends(name, _)
+            | ScenarioStep::Hears(name, _)
+            | ScenarioStep::IsFinished(name)
+            | ScenarioStep::IsCut(name) => self.run_for_peer(pass, step, name),
+        }
+    }
+
+    /// Ends the input of each peer in turn, and waits until the threads of that connection have ended. Answers the place
+    /// of the first peer whose threads did not.
+    pub(crate) fn end_all(&self, pass: &mut D::Ticket) -> Option<usize> {
+        for (place, peer) in self.scenario.peers.iter().enumerate() {
+            peer.connection.end(self.fixture.rt);
+            if peer.connection.begun.is_raised()
+                && !self.wait(pass, WaitCondition::Ended(&peer.connection))
+            {
+                return Some(place);
+            }
+        }
+        None
+    }
+
+    /// Lets all threads end, whatever they wait for.
+    pub(crate) fn stop_all(&self) {
+        self.fixture.control.shutdown.request();
+        self.fixture.clock.release();
+        for peer in &self.scenario.peers {
+            peer.connection.end(self.fixture.rt);
+            peer.connection.hung_up.raise();
+        }
+    }
+}

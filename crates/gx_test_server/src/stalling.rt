@@ -1,0 +1,162 @@
+//! A door at which a peer's requests wait while the scenario says so.
+
+use crate::connection::MemoryConnection;
+use gx_answers::{LoginAnswer, Outcome, Pulled, StepFault};
+use gx_door::{Caller, Dial, Door, Matched, PullFault, Turned};
+use gx_history::record::{Record, Request};
+use gx_units::{Moment, OutOfMemory, Password, SessionName, UserName};
+use std::sync::Wait;
+use std::time::Clock;
+
+/// A door for one connection, whose requests wait while they are paused.
+pub(crate) struct StallingDoor<'x, D, C> {
+    clock: &'x C,
+    door: &'x D,
+    connection: &'x MemoryConnection,
+}
+
+impl<'x, D, C> StallingDoor<'x, D, C> {
+    /// In front of this door.
+    pub(crate) fn new(
+        clock: &'x C,
+        door: &'x D,
+        connection: &'x MemoryConnection,
+    ) -> StallingDoor<'x, D, C> {
+        StallingDoor {
+            clock,
+            door,
+            connection,
+        }
+    }
+}
+
+impl<D, C> Drop for StallingDoor<'_, D, C> {
+    fn drop(self) {
+        let StallingDoor {
+            clock: _,
+            door: _,
+            connection: _,
+        } = self;
+    }
+}
+
+impl<D: Door, C: Wait + Clock> Door for StallingDoor<'_, D, C> {
+    type Ticket = D::Ticket;
+
+    ghost policy = { D.policy };
+
+    ghost held = { D.held };
+
+    ghost added = { D.added };
+
+    fn line_of(&self, pass: &D::Ticket) -> u16 {
+        self.door.line_of(pass)
+    }
+
+    fn caller<R: Wait>(&self, rt: &R, user: UserName, password: Password) -> Caller {
+        self.door.caller(rt, user, password)
+    }
+
+    fn login<R: Wait + Dial>(
+        &self,
+        rt: &R,
+        pass: D::Ticket,
+        user: UserName,
+        password: Password,
+        session: SessionName,
+        wanted: u64,
+        moment: Moment,
+    ) -> (D::Ticket, Result<LoginAnswer, StepFault>) {
+        self.door
+            .login(rt, pass, user, password, session, wanted, moment)
+    }
+
+    fn act<R: Wait + Dial>(
+        &self,
+        rt: &R,
+        pass: D::Ticket,
+        user: UserName,
+        request: Request,
+        moment: Moment,
+    ) -> (D::Ticket, Result<Outcome, StepFault>) {
+        self.connection
+            .wait_while_paused(self.clock, &self.connection.request_pause);
+        self.door.act(rt, pass, user, request, moment)
+    }
+
+    fn match_one<R: Wait + Dial>(
+        &self,
+        rt: &R,
+        pass: D::Ticket,
+        moment: Moment,
+    ) -> (D::Ticket, Result<Option<Outcome>, StepFault>) {
+        self.door.match_one(rt, pass, moment)
+    }
+
+    fn match_some<R: Wait + Dial>(
+        &self,
+        rt: &R,
+        pass: D::Ticket,
+        moment: Moment,
+        most: u64,
+    ) -> (D::Ticket, Matched) {
+        self.door.match_some(rt, pass, moment, most)
+    }
+
+    fn turn<R: Wait + Dial>(
+        &self,
+        rt: &R,
+        pass: D::Ticket,
+        user: UserName,
+        request: Request,
+        moment: Moment,
+        most: u64,
+    ) -> (D::Ticket, Result<Turned, StepFault>) {
+        self.connection
+            .wait_while_paused(self.clock, &self.connection.request_pause);
+        self.door.turn(rt, pass, user, request, moment, most)
+    }
+
+    fn pull<R: Wait>(
+        &self,
+        rt: &R,
+        pass: D::Ticket,
+        user: UserName,
+        from: u64,
+        most: u64,
+    ) -> (D::Ticket, Result<Pulled, PullFault>) {
+        self.door.pull(rt, pass, user, from, most)
+    }
+
+    fn logout<R: Wait + Dial>(
+        &self,
+        rt: &R,
+        pass: D::Ticket,
+        user: UserName,
+        moment: Moment,
+    ) -> (D::Ticket, Result<Outcome, StepFault>) {
+        self.door.logout(rt, pass, user, moment)
+    }
+
+    fn records<R: Wait>(
+        &self,
+        rt: &R,
+        pass: D::Ticket,
+        from: u64,
+        most: u64,
+    ) -> (D::Ticket, Result<Vec<Record>, OutOfMemory>) {
+        self.door.records(rt, pass, from, most)
+    }
+
+    fn keep<R: Wait>(&self, rt: &R) -> bool {
+        self.door.keep(rt)
+    }
+
+    fn meet<R: Wait>(&self, rt: &R, one: D::Ticket, other: D::Ticket) -> (D::Ticket, D::Ticket) {
+        self.door.meet(rt, one, other)
+    }
+
+    fn length(&self, pass: &mut D::Ticket) -> u64 {
+        self.door.length(pass)
+    }
+}

@@ -1,0 +1,5 @@
+use Rattle.gx_trading_status.proofs.Going.{day_begins}
+use Rattle.gx_trading_status.proofs.laws.a_day_begins.Goals as goal
+
+pub returns : goal.returns
+returns c = day_begins

@@ -1,0 +1,4 @@
+pub mod StatusData
+pub mod InForce
+pub mod View
+pub mod Laws
