@@ -2,9 +2,11 @@
 """Shows that nobody keeps an officer out: in a flood of wrong passwords, silent peers and garbage he logs in within a second,
 and his kill is answered within a tenth, ten times, also where the server has 256 descriptors.
 
-usage: tests/hostile.py [GATE [SCALE]]
+  tests/hostile.py [GATE [SCALE]]
+  tests/hostile.py [GATE [SCALE]] --slack 10    what is asked for may take ten times as long, for a busy machine
 
-GATE: the built program; where none is named, crates/gate/out/gate of this repository.
+GATE: the built program; where none is named, crates/gate/out/gate of this repository. A part in which something took too long
+is run again, three times at most: other programs of the machine hold up one run, and whoever keeps an officer out holds up each.
 
 At once there come SCALE times 1,000 connections with a wrong password (7 is the default), and SCALE times some thirty of
 each other kind: connections that stay silent, that send heartbeats, that send half a login, that send bytes at random, each
@@ -15,6 +17,7 @@ a guess too many waits, and that who does not log in is hung up on. It wants Lin
 (`ulimit -n`).
 """
 
+import argparse
 import asyncio
 import random
 import resource
@@ -25,6 +28,7 @@ import tempfile
 import time
 from collections.abc import Callable, Iterator
 from contextlib import contextmanager
+from functools import partial
 from multiprocessing import Event, Process, Queue
 from pathlib import Path
 from typing import NamedTuple
@@ -47,6 +51,7 @@ ORDERS = 1_000
 TURNS = 5
 AT_ONCE = 900
 LIMITS = ((1024, 0), (256, 100))
+TRIES = 3
 MOST_LINES = 100
 LOGIN_SECONDS = 1.0
 KILL_SECONDS = 0.1
@@ -54,6 +59,7 @@ MOST_MEMORY = 120
 FLOOD_SECONDS = 10.0
 AGAIN_SECONDS = 1.0
 NOISE_SECONDS = 0.001
+LATE_SECONDS = 0.5
 PATIENCE_SECONDS = 60.0
 
 
@@ -290,7 +296,7 @@ def tell(right: dict[str, bool], limit: int) -> bool:
     return all(right.values())
 
 
-def under(gate: str, scale: int, limit: int, held: int, journal: Path) -> bool:
+def under(gate: str, scale: int, limit: int, held: int, slack: float, journal: Path) -> bool:
     """Whether an officer is kept out by nobody where the server may open so many descriptors, and has these already."""
     begun, times = Event(), Queue()
     with serving(gate, journal, limit, held) as (port, server):
@@ -319,9 +325,9 @@ def under(gate: str, scale: int, limit: int, held: int, journal: Path) -> bool:
         "it says where one was wanting": ("no connection could be taken" in told) == (held > 0),
         f"{WRONG * scale} wrong passwords, and {others} others who stay": server.returncode == 0,
         f"{UNREADABLE * scale} unreadable messages, put out {put_out} times": put_out == babbled,
-        f"an officer's ten logins, the slowest in {took.login * 1000:.1f} ms": took.login <= LOGIN_SECONDS,
-        f"his kills, the slowest in {took.kill * 1000:.1f} ms": took.kill <= KILL_SECONDS,
-        f"his lifts, the slowest in {took.lift * 1000:.1f} ms": took.lift <= KILL_SECONDS,
+        f"an officer's ten logins, the slowest in {took.login * 1000:.1f} ms": took.login <= slack * LOGIN_SECONDS,
+        f"his kills, the slowest in {took.kill * 1000:.1f} ms": took.kill <= slack * KILL_SECONDS,
+        f"his lifts, the slowest in {took.lift * 1000:.1f} ms": took.lift <= slack * KILL_SECONDS,
         f"the journal is {checked}": checked.startswith("legal "),
         f"{lines} lines, {babbled} of them for those who were put out": lines - babbled <= MOST_LINES,
         f"{memory} MB at most": memory <= MOST_MEMORY,
@@ -350,8 +356,9 @@ def is_hung_up_on(port: int, first: bytes) -> None:
             return
 
 
-def patience(gate: str, journal: Path) -> bool:
+def patience(gate: str, slack: float, journal: Path) -> bool:
     """Whether who does not log in is hung up on in time, and a guess that is one too many waits."""
+    late = 1 + slack * LATE_SECONDS
     with serving(gate, journal, 1024, 0, "--login-within", "1") as (port, _):
         silent = seconds_of(lambda: is_hung_up_on(port, b""))
         beating = seconds_of(lambda: is_hung_up_on(port, packet(b"R")))
@@ -360,15 +367,15 @@ def patience(gate: str, journal: Path) -> bool:
         guesses = [Speaker(port).asks(wrong, b"J") for _ in range(6)]
     return tell({
         f"who is silent is hung up on after {silent:.2f} s, who sends heartbeats after {beating:.2f}": (
-            1 <= silent <= 1.5 and 1 <= beating <= 1.5
+            1 <= silent <= late and 1 <= beating <= late
         ),
         f"five guesses are answered within {max(guesses[:5]):.2f} s, the sixth after {guesses[5]:.2f}": (
-            max(guesses[:5]) < 0.5 and 1 <= guesses[5] <= 1.5
+            max(guesses[:5]) < slack * LATE_SECONDS and 1 <= guesses[5] <= late
         ),
     }, 1024)
 
 
-def beside(gate: str, scale: int, journal: Path) -> bool:
+def beside(gate: str, scale: int, slack: float, journal: Path) -> bool:
     """Whether a trader works as well beside connections that stay as without them."""
     begun = Event()
     with serving(gate, journal, 1024, 0) as (port, _):
@@ -384,17 +391,32 @@ def beside(gate: str, scale: int, journal: Path) -> bool:
         trader.line.sendall(packet(b"O"))
     others = (SILENT + BEATING + HALF + RANDOM) * scale
     told = f"a trader's order beside {others} who stay, p99 {crowded * 1e6:.0f} us, without them {alone * 1e6:.0f}"
-    return tell({told: crowded <= max(2 * alone, NOISE_SECONDS)}, 1024)
+    return tell({told: crowded <= max(2 * alone, slack * NOISE_SECONDS)}, 1024)
+
+
+def in_tries(part: Callable[[Path], bool], folder: Path, name: str) -> bool:
+    """Whether all is as wanted in one of some runs of this part, each on a journal of its own."""
+    for turn in range(TRIES):
+        if turn > 0:
+            print("something else may have held up the machine: once more", flush=True)
+        if part(folder / f"{name}-{turn}"):
+            return True
+    return False
 
 
 def main() -> int:
     """Answers the status: 1 where something is not as wanted."""
-    gate = sys.argv[1] if len(sys.argv) > 1 else str(GATE)
-    scale = int(sys.argv[2]) if len(sys.argv) > 2 else DEFAULT_SCALE
+    parser = argparse.ArgumentParser(description="Shows that nobody keeps an officer out.")
+    parser.add_argument("gate", nargs="?", default=str(GATE), help="the built program")
+    parser.add_argument("scale", nargs="?", type=int, default=DEFAULT_SCALE, help="how many thousand guesses come (7)")
+    parser.add_argument("--slack", type=float, default=1.0, help="how many times as long things may take (1)")
+    words = parser.parse_args()
+    gate, scale, slack = words.gate, words.scale, words.slack
+    parts = {f"day-{limit}": partial(under, gate, scale, limit, held, slack) for limit, held in LIMITS}
+    parts["beside"] = partial(beside, gate, scale, slack)
+    parts["patience"] = partial(patience, gate, slack)
     with tempfile.TemporaryDirectory() as folder:
-        right = [under(gate, scale, limit, held, Path(folder) / f"day-{limit}") for limit, held in LIMITS]
-        right.append(beside(gate, scale, Path(folder) / "beside"))
-        right.append(patience(gate, Path(folder) / "patience"))
+        right = [in_tries(part, Path(folder), name) for name, part in parts.items()]
     return 0 if all(right) else 1
 
 

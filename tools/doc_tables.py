@@ -307,7 +307,7 @@ def rules_part():
 def login_letter(rule):
     """The letter of the Login Rejected that a denial by this rule is answered by."""
     arm = re.search(r"\(Verdict\.Denied RuleName\.%s\) = LoginAnswer\.Rejected LoginRejection\.(\w+)" % rule
-                    + r"|other = LoginAnswer\.Rejected LoginRejection\.(\w+)", source("gx_answers/specs/Logins.antt"))
+                    + r"|other = LoginAnswer\.Rejected LoginRejection\.(\w+)", source("gx_access_gate/specs/Logins.antt"))
     told = arm.group(1) or arm.group(2)
     return re.search(r"LoginRejection::%s => b'(.)'" % told, source("gx_soup/src/writing.rt")).group(1)
 

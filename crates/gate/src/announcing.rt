@@ -1,7 +1,7 @@
 //! That a server listens, told on standard output once it takes connections.
 
 use gx_control::ServerControl;
-use gx_program::{Ended, Place};
+use gx_program::{Failure, Resource};
 use gx_units::OutOfMemory;
 use std::alloc::Global;
 use std::sync::{Arc, Wait};
@@ -52,11 +52,11 @@ impl Announcer {
     }
 
     /// The server has ended: whether it was told that it listened, where it did.
-    pub(crate) fn end<'a, R: Threads + Wait>(self, rt: &R) -> Result<(), Ended<'a>> {
+    pub(crate) fn end<'a, R: Threads + Wait>(self, rt: &R) -> Result<(), Failure<'a>> {
         let Announcer { control, telling } = self;
         control.begun.end(rt);
         match telling.join(rt) {
-            Some(error) => Err(Ended::unwritten(Place::Output, error)),
+            Some(error) => Err(Failure::unwritten(Resource::Output, error)),
             None => Ok(()),
         }
     }

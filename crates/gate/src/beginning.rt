@@ -5,7 +5,7 @@ use crate::runtime::ServerRuntime;
 use gx_command_line::Serving;
 use gx_log::Log;
 use gx_policy::Policy;
-use gx_program::{Ended, Named};
+use gx_program::{Failure, Named};
 use gx_records::{ShowsRecords, ShowsState};
 use gx_runs::{Start, close_audited, connections_of, leave_audit, open_audit};
 use gx_shared::{Served, serve};
@@ -25,7 +25,7 @@ fn serve_on<'a, G: ShowsRecords + ShowsState + Send, R: ServerRuntime>(
     serving: &Serving<'a>,
     start: Start,
     log: &Arc<Log, Global>,
-) -> Result<(Served<G>, Result<(), Ended<'a>>), Ended<'a>> {
+) -> Result<(Served<G>, Result<(), Failure<'a>>), Failure<'a>> {
     let Entrance {
         listener,
         page,
@@ -58,7 +58,7 @@ pub(crate) fn serve_under<'a, G: ShowsRecords + ShowsState + Send, R: ServerRunt
     start: Start,
     named: Named<'a>,
     log: &Arc<Log, Global>,
-) -> Result<(), Ended<'a>> {
+) -> Result<(), Failure<'a>> {
     let audit = open_audit(host, named)?;
     match serve_on::<G, R>(rt, host, policy, serving, start, log) {
         Ok((left, announced)) => {

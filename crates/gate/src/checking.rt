@@ -1,11 +1,11 @@
 //! `gate check`: whether an audit is that of a legal day.
 
 use crate::telling::write;
-use gx_answers::AccessGate;
+use gx_access_gate::AccessGate;
 use gx_audit::{AuditAnswer, more_of_audit, told_of_audit};
 use gx_command_line::AuditFiles;
 use gx_policy::Policy;
-use gx_program::{Content, Ended, Place, bytes_of, policy_of};
+use gx_program::{Content, Failure, Resource, bytes_of, policy_of};
 use std::io::Write;
 use std::process::ExitCode;
 
@@ -35,10 +35,10 @@ fn tell_audit<'a, G: AccessGate>(
     rt: &HostRuntime,
     policy: &Policy,
     audit: &[u8],
-) -> Result<ExitCode, Ended<'a>> {
+) -> Result<ExitCode, Failure<'a>> {
     let told = match told_of_audit::<G>(rt.alloc(), policy, audit) {
         Ok(told) => told,
-        Err(fault) => return Err(Ended::of_writing(fault, Place::Output, None)),
+        Err(fault) => return Err(Failure::of_writing(fault, Resource::Output, None)),
     };
     let status = write(rt, told.line.as_slice(), told.status())?;
     tell_more_of::<G>(rt, policy, audit, &told);
@@ -50,7 +50,7 @@ fn check_under<'a, G: AccessGate>(
     rt: &HostRuntime,
     policy: &Policy,
     path: &'a str,
-) -> Result<ExitCode, Ended<'a>> {
+) -> Result<ExitCode, Failure<'a>> {
     let audit = bytes_of(rt, path, Content::Records)?;
     tell_audit::<G>(rt, policy, audit.as_slice())
 }
@@ -59,7 +59,7 @@ fn check_under<'a, G: AccessGate>(
 pub(crate) fn check<'a, G: AccessGate>(
     rt: &HostRuntime,
     files: AuditFiles<'a>,
-) -> Result<ExitCode, Ended<'a>> {
+) -> Result<ExitCode, Failure<'a>> {
     let policy = policy_of(rt, files.policy)?;
     check_under::<G>(rt, &policy, files.audit)
 }

@@ -3,9 +3,9 @@
 use crate::telling::{tell_fault, write};
 use gx_audit::AuditFault;
 use gx_command_line::{AuditFiles, OtherPolicy};
-use gx_pipe::PipeFault;
+use gx_connection::PipeFault;
 use gx_policy::Policy;
-use gx_program::{Content, Ended, bytes_of, policy_of};
+use gx_program::{Content, Failure, bytes_of, policy_of};
 use gx_records::{ShowsRecords, ShowsState};
 use gx_server::ProgramFault;
 use gx_units::OutOfMemory;
@@ -14,7 +14,7 @@ use std::alloc::Global;
 use std::process::ExitCode;
 
 /// What is told of what changes.
-fn told(alloc: Global, found: &WhatIf, is_json: bool) -> Result<Vec<u8>, OutOfMemory> {
+fn output_text(alloc: Global, found: &WhatIf, is_json: bool) -> Result<Vec<u8>, OutOfMemory> {
     let mut text = Vec::new(alloc);
     if is_json {
         append_whatif_json(&mut text, alloc, found)?;
@@ -33,19 +33,19 @@ fn changes_told<G: ShowsRecords + ShowsState>(
     is_json: bool,
 ) -> Result<Vec<u8>, WhatIfFault> {
     let found = what_if::<G>(alloc, policy, audit, other)?;
-    match told(alloc, &found, is_json) {
+    match output_text(alloc, &found, is_json) {
         Ok(text) => Ok(text),
         Err(_) => Err(WhatIfFault::Audit(AuditFault::OutOfMemory)),
     }
 }
 
 /// That the day under the other policy has no room for a step.
-fn day_full<'a>() -> Ended<'a> {
+fn day_full<'a>() -> Failure<'a> {
     ProgramFault::from(PipeFault::DayFull).into()
 }
 
 /// Tells why nothing can be told.
-fn tell_why_not<'a>(rt: &HostRuntime, fault: WhatIfFault) -> Result<ExitCode, Ended<'a>> {
+fn tell_why_not<'a>(rt: &HostRuntime, fault: WhatIfFault) -> Result<ExitCode, Failure<'a>> {
     let WhatIfFault::Audit(fault) = fault else {
         return Err(day_full());
     };
@@ -59,7 +59,7 @@ fn tell_changes<'a, G: ShowsRecords + ShowsState>(
     audit: &[u8],
     other: &Policy,
     is_json: bool,
-) -> Result<ExitCode, Ended<'a>> {
+) -> Result<ExitCode, Failure<'a>> {
     match changes_told::<G>(rt.alloc(), policy, audit, other, is_json) {
         Ok(text) => write(rt, text.as_slice(), 0),
         Err(fault) => tell_why_not(rt, fault),
@@ -72,7 +72,7 @@ fn whatif_under<'a, G: ShowsRecords + ShowsState>(
     policy: &Policy,
     path: &'a str,
     asked: OtherPolicy<'a>,
-) -> Result<ExitCode, Ended<'a>> {
+) -> Result<ExitCode, Failure<'a>> {
     let other = policy_of(rt, Some(asked.policy))?;
     let audit = bytes_of(rt, path, Content::Records)?;
     tell_changes::<G>(rt, policy, audit.as_slice(), &other, asked.is_json)
@@ -83,7 +83,7 @@ pub(crate) fn whatif<'a, G: ShowsRecords + ShowsState>(
     rt: &HostRuntime,
     files: AuditFiles<'a>,
     asked: OtherPolicy<'a>,
-) -> Result<ExitCode, Ended<'a>> {
+) -> Result<ExitCode, Failure<'a>> {
     let policy = policy_of(rt, files.policy)?;
     whatif_under::<G>(rt, &policy, files.audit, asked)
 }

@@ -8,7 +8,7 @@ use gx_command_line::Serving;
 use gx_control::ServerControl;
 use gx_listen::{Ending, PagePort, ServeFault};
 use gx_log::Log;
-use gx_program::Ended;
+use gx_program::Failure;
 use gx_runs::{Start, await_ends};
 use gx_server::ProgramFault;
 use gx_units::{Moment, OutOfMemory};
@@ -35,7 +35,7 @@ pub(crate) fn open_lobby<'a, R: ServerRuntime>(
     start: Start,
     last: Moment,
     log: &Arc<Log, Global>,
-) -> Result<Entrance, Ended<'a>> {
+) -> Result<Entrance, Failure<'a>> {
     let listener = listen(rt, serving.port)?;
     let page = open_page(rt, host, serving)?;
     let alloc = host.alloc();
@@ -59,16 +59,16 @@ pub(crate) fn open_lobby<'a, R: ServerRuntime>(
 }
 
 /// Why the program gives up, where a server did for this.
-pub(crate) fn unserved<'a>(fault: ServeFault) -> Ended<'a> {
+pub(crate) fn unserved<'a>(fault: ServeFault) -> Failure<'a> {
     match fault {
         ServeFault::OutOfMemory => OutOfMemory.into(),
-        ServeFault::ListenFailed(error) => Ended::no_listener(error),
+        ServeFault::ListenFailed(error) => Failure::no_listener(error),
         ServeFault::NoLines => ProgramFault::NoLines.into(),
     }
 }
 
 /// How a server ended.
-pub(crate) fn served<'a>(ended: Ending) -> Result<(), Ended<'a>> {
+pub(crate) fn served<'a>(ended: Ending) -> Result<(), Failure<'a>> {
     match ended.fault() {
         Some(fault) => Err(unserved(fault)),
         None => Ok(()),

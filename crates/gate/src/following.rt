@@ -8,7 +8,7 @@ use gx_audit_bytes::RECORD_SIZE;
 use gx_command_line::{AuditFiles, FollowAsked};
 use gx_policy::Policy;
 use gx_program::{
-    Content, Ended, MOVED, PIECE, go_to, length_named, look_before, policy_of, print, read_once,
+    Content, Failure, MOVED, PIECE, go_to, length_named, look_before, policy_of, print, read_once,
     refused,
 };
 use gx_records::{ShowsRecords, ShowsState};
@@ -32,22 +32,22 @@ enum Stop<'a> {
     /// Its bytes are none of a legal day.
     Fault(AuditFault),
     /// The program gives up.
-    Ended(Ended<'a>),
+    Failure(Failure<'a>),
 }
 
 impl<'a> From<OutOfMemory> for Stop<'a> {
     fn from(refused: OutOfMemory) -> Stop<'a> {
-        Stop::Ended(refused.into())
+        Stop::Failure(refused.into())
     }
 }
 
 /// The file of the journal, open to be read; `None` where there is none of its name.
-fn open_file<'a>(host: &HostRuntime, path: &'a str) -> Result<Option<File>, Ended<'a>> {
+fn open_file<'a>(host: &HostRuntime, path: &'a str) -> Result<Option<File>, Failure<'a>> {
     look_before(host, path, Content::Records)?;
     match File::open(host, path) {
         Ok(file) => Ok(Some(file)),
         Err(error) if error.kind() == ErrorKind::NotFound => Ok(None),
-        Err(error) => Err(Ended::unread(path, error)),
+        Err(error) => Err(Failure::unread(path, error)),
     }
 }
 
@@ -62,7 +62,7 @@ fn await_file<'a, R: Wait + Clock>(
     host: &HostRuntime,
     path: &'a str,
     asked: FollowAsked,
-) -> Result<File, Ended<'a>> {
+) -> Result<File, Failure<'a>> {
     for _ in rt.forever() {
         if let Some(file) = open_file(host, path)? {
             return Ok(file);
@@ -73,7 +73,7 @@ fn await_file<'a, R: Wait + Clock>(
         pause(rt, asked);
     }
     let gone = Error::new(ErrorKind::NotFound, "there is no such file");
-    Err(Ended::unread(path, gone))
+    Err(Failure::unread(path, gone))
 }
 
 /// Whether the file still has its name, and so many bytes.
@@ -82,7 +82,7 @@ fn look_at_file<'a>(
     path: &'a str,
     file: &File,
     whole: u64,
-) -> Result<(), Ended<'a>> {
+) -> Result<(), Failure<'a>> {
     let Some(length) = length_named(host, path, file)? else {
         return Err(refused(path, MOVED));
     };
@@ -134,7 +134,7 @@ fn tell_records<'a, G: ShowsRecords + ShowsState>(
     let mut text = Vec::new(host.alloc());
     let taken = take_records(host.alloc(), watch, bytes, &mut text);
     if let Err(ended) = print(host, text.as_slice()) {
-        return Err(Stop::Ended(ended));
+        return Err(Stop::Failure(ended));
     }
     match taken {
         Ok(()) => Ok(()),
@@ -151,7 +151,7 @@ fn read_piece<'a>(
     file: &mut File,
     whole: u64,
     room: &mut [u8],
-) -> Result<usize, Ended<'a>>
+) -> Result<usize, Failure<'a>>
     ensures few { IfOk result (λ n. n ≤ length room.new) }
 {
     look_at_file(host, path, file, whole)?;
@@ -170,7 +170,7 @@ fn take_piece<'a, G: ShowsRecords + ShowsState>(
 ) -> Result<bool, Stop<'a>> {
     let count = match read_piece(host, path, file, watch.whole(), room) {
         Ok(count) => count,
-        Err(ended) => return Err(Stop::Ended(ended)),
+        Err(ended) => return Err(Stop::Failure(ended)),
     };
     tell_records(host, watch, &room[..count])?;
     Ok(count > 0)
@@ -233,7 +233,7 @@ fn tell_fault<'a>(
     host: &HostRuntime,
     fault: AuditFault,
     is_json: bool,
-) -> Result<ExitCode, Ended<'a>> {
+) -> Result<ExitCode, Failure<'a>> {
     let told = words_of(host, fault)?;
     let mut text = Vec::new(host.alloc());
     append_fault(&mut text, told.line.as_slice(), is_json)?;
@@ -241,11 +241,11 @@ fn tell_fault<'a>(
 }
 
 /// What is wrong with the journal, if anything is, or why the program gave up.
-fn fault_of<'a>(ended: Result<(), Stop<'a>>) -> Result<Option<AuditFault>, Ended<'a>> {
+fn fault_of<'a>(ended: Result<(), Stop<'a>>) -> Result<Option<AuditFault>, Failure<'a>> {
     match ended {
         Ok(()) => Ok(None),
         Err(Stop::Fault(fault)) => Ok(Some(fault)),
-        Err(Stop::Ended(ended)) => Err(ended),
+        Err(Stop::Failure(ended)) => Err(ended),
     }
 }
 
@@ -255,7 +255,7 @@ fn tell_end<'a>(
     ended: Result<(), Stop<'a>>,
     left: &[u8],
     is_json: bool,
-) -> Result<ExitCode, Ended<'a>> {
+) -> Result<ExitCode, Failure<'a>> {
     let fault = fault_of(ended)?;
     print(host, left)?;
     let Some(fault) = fault else {
@@ -278,7 +278,7 @@ fn open_watch<'a, G: ShowsRecords + ShowsState>(
     host: &HostRuntime,
     policy: &Policy,
     asked: FollowAsked,
-) -> Result<Watch<G>, Ended<'a>> {
+) -> Result<Watch<G>, Failure<'a>> {
     let Ok(shares) = asked.shares.list(host.alloc()) else {
         return Err(OutOfMemory.into());
     };
@@ -292,7 +292,7 @@ fn follow_under<'a, G: ShowsRecords + ShowsState, R: Wait + Clock>(
     policy: &Policy,
     path: &'a str,
     asked: FollowAsked,
-) -> Result<ExitCode, Ended<'a>> {
+) -> Result<ExitCode, Failure<'a>> {
     let mut file = await_file(rt, host, path, asked)?;
     let mut watch: Watch<G> = open_watch(host, policy, asked)?;
     let ended = follow_file(rt, host, path, asked, &mut file, &mut watch);
@@ -308,7 +308,7 @@ pub(crate) fn follow<'a, G: ShowsRecords + ShowsState, R: Wait + Clock>(
     host: &HostRuntime,
     files: AuditFiles<'a>,
     asked: FollowAsked<'a>,
-) -> Result<ExitCode, Ended<'a>> {
+) -> Result<ExitCode, Failure<'a>> {
     let policy = policy_of(host, files.policy)?;
     follow_under::<G, R>(rt, host, &policy, files.audit, asked)
 }

@@ -2,14 +2,14 @@
 
 use crate::entrance::{Entrance, open_lobby, served, unserved};
 use crate::runtime::ServerRuntime;
-use gx_answers::AccessGate;
+use gx_access_gate::AccessGate;
 use gx_audit_bytes::AuditVersion;
 use gx_command_line::{JournalFile, Serving, Standby};
 use gx_devices::WriteFault;
 use gx_listen::ServeFault;
 use gx_log::Log;
 use gx_policy::Policy;
-use gx_program::{Ended, Named, Place, tell_apart};
+use gx_program::{Failure, Named, Resource, tell_apart};
 use gx_records::{ShowsRecords, ShowsState};
 use gx_runs::{
     AuditFile, Day, JournalDevice, Start, TakenOver, audit_version, close_audited, connections_of,
@@ -31,7 +31,13 @@ fn go_on<'a, G: ShowsRecords + ShowsState + Send, R: ServerRuntime>(
     start: Start,
     day: Day<G>,
     log: &Arc<Log, Global>,
-) -> Result<(Kept<G, ErrorRecorder<JournalDevice>>, Result<(), Ended<'a>>), Ended<'a>> {
+) -> Result<
+    (
+        Kept<G, ErrorRecorder<JournalDevice>>,
+        Result<(), Failure<'a>>,
+    ),
+    Failure<'a>,
+> {
     let Day {
         gate,
         version,
@@ -81,9 +87,9 @@ fn kept<'a>(
     fault: Option<WriteFault>,
     path: &'a str,
     said: Option<io::Error>,
-) -> Result<(), Ended<'a>> {
+) -> Result<(), Failure<'a>> {
     match fault {
-        Some(fault) => Err(Ended::of_writing(fault, Place::File(path), said)),
+        Some(fault) => Err(Failure::of_writing(fault, Resource::File(path), said)),
         None => Ok(()),
     }
 }
@@ -93,10 +99,10 @@ fn close_server<'a, G: ShowsRecords>(
     host: &HostRuntime,
     path: &'a str,
     left: Kept<G, ErrorRecorder<JournalDevice>>,
-    ended: Result<(), Ended<'a>>,
+    ended: Result<(), Failure<'a>>,
     version: AuditVersion,
     audit: Option<AuditFile<'a>>,
-) -> Result<(), Ended<'a>> {
+) -> Result<(), Failure<'a>> {
     let Kept {
         gate,
         fault,
@@ -117,7 +123,7 @@ fn open_day<'a, G: AccessGate>(
     journal: JournalFile<'a>,
     named: Named<'a>,
     asked: AuditVersion,
-) -> Result<(Day<G>, Option<AuditFile<'a>>), Ended<'a>> {
+) -> Result<(Day<G>, Option<AuditFile<'a>>), Failure<'a>> {
     let file = open_journal(host, journal.path)?;
     tell_apart(host, named)?;
     let audit = open_audit(host, named)?;
@@ -149,7 +155,7 @@ fn stand_by<'a, G: AccessGate, R: Wait + Clock>(
     journal: JournalFile<'a>,
     named: Named<'a>,
     log: &Log,
-) -> Result<Option<Opened<'a, G>>, Ended<'a>> {
+) -> Result<Option<Opened<'a, G>>, Failure<'a>> {
     let file = open_file(host, journal.path, false)?;
     tell_apart(host, named)?;
     let audit = open_audit(host, named)?;
@@ -178,7 +184,7 @@ fn open_kept<'a, G: AccessGate, R: Wait + Clock>(
     journal: JournalFile<'a>,
     named: Named<'a>,
     log: &Log,
-) -> Result<Option<Opened<'a, G>>, Ended<'a>> {
+) -> Result<Option<Opened<'a, G>>, Failure<'a>> {
     if let Some(standby) = serving.standby {
         return stand_by(
             rt, host, policy, serving, standby, start, journal, named, log,
@@ -198,7 +204,7 @@ pub(crate) fn serve_kept<'a, G: ShowsRecords + ShowsState + Send, R: ServerRunti
     journal: JournalFile<'a>,
     named: Named<'a>,
     log: &Arc<Log, Global>,
-) -> Result<(), Ended<'a>> {
+) -> Result<(), Failure<'a>> {
     let kept = open_kept::<G, R>(rt, host, policy, serving, start, journal, named, log)?;
     let Some(opened) = kept else {
         return Ok(());

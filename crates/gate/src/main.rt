@@ -27,11 +27,11 @@ mod telling;
 use checking::check;
 use comparing::whatif;
 use following::follow;
-use gx_command_line::Asked;
+use gx_command_line::Invocation;
 use gx_core::Gate;
 use gx_desk_command::desk_told;
 use gx_program::{
-    Ended, NULL, StandIns, asked_of, print_migrated, tell, tell_bad_word, tell_policy, words_of,
+    Failure, NULL, StandIns, asked_of, print_migrated, tell, tell_bad_word, tell_policy, words_of,
 };
 use gx_records::{ShowsRecords, ShowsState};
 use gx_runs::{Input, run_files};
@@ -50,21 +50,21 @@ use std::time::Clock;
 fn run<'a, G: ShowsRecords + ShowsState + Send, R: ServerRuntime>(
     rt: &R,
     host: &HostRuntime,
-    asked: Asked<'a>,
-) -> Result<ExitCode, Ended<'a>> {
+    asked: Invocation<'a>,
+) -> Result<ExitCode, Failure<'a>> {
     match asked {
-        Asked::Pipe(files) => run_files::<G>(host, Input::Packets, files)?,
-        Asked::Script(files) => run_files::<G>(host, Input::Lines, files)?,
-        Asked::Policy(file) => tell_policy(host, file)?,
-        Asked::Migrate(file) => print_migrated(host, file)?,
-        Asked::Serve(serving) => return Ok(serve_told::<G, R>(rt, host, serving)),
-        Asked::Desk(desk) => return Ok(desk_told(rt, host, desk)),
-        Asked::Check(files) => return check::<G>(host, files),
-        Asked::Show(files, wanted, shape) => return show::<G>(host, files, wanted, shape),
-        Asked::State(files, asked) => return state::<G>(host, files, asked),
-        Asked::WhatIf(files, asked) => return whatif::<G>(host, files, asked),
-        Asked::Report(files, form) => return report::<G, R>(rt, host, files, form),
-        Asked::Follow(files, asked) => return follow::<G, R>(rt, host, files, asked),
+        Invocation::Pipe(files) => run_files::<G>(host, Input::Packets, files)?,
+        Invocation::Script(files) => run_files::<G>(host, Input::Lines, files)?,
+        Invocation::Policy(file) => tell_policy(host, file)?,
+        Invocation::Migrate(file) => print_migrated(host, file)?,
+        Invocation::Serve(serving) => return Ok(serve_told::<G, R>(rt, host, serving)),
+        Invocation::Desk(desk) => return Ok(desk_told(rt, host, desk)),
+        Invocation::Check(files) => return check::<G>(host, files),
+        Invocation::Show(files, wanted, shape) => return show::<G>(host, files, wanted, shape),
+        Invocation::State(files, asked) => return state::<G>(host, files, asked),
+        Invocation::WhatIf(files, asked) => return whatif::<G>(host, files, asked),
+        Invocation::Report(files, form) => return report::<G, R>(rt, host, files, form),
+        Invocation::Follow(files, asked) => return follow::<G, R>(rt, host, files, asked),
     }
     Ok(ExitCode::SUCCESS)
 }
@@ -85,7 +85,7 @@ where
 {
     let _held = match StandIns::open(host) {
         Ok(opened) => opened,
-        Err(error) => return tell(host, Ended::unread(NULL, error)),
+        Err(error) => return tell(host, Failure::unread(NULL, error)),
     };
     let words = match words_of(host) {
         Ok(Some(words)) => words,

@@ -3,7 +3,7 @@
 use crate::telling::{tell_fault, write};
 use gx_command_line::{AuditFiles, PageForm};
 use gx_policy::Policy;
-use gx_program::{Content, Ended, bytes_of, policy_of};
+use gx_program::{Content, Failure, bytes_of, policy_of};
 use gx_records::{ShowsRecords, ShowsState};
 use gx_report::{ReportForm, day_report};
 use std::process::ExitCode;
@@ -26,7 +26,7 @@ fn report_under<'a, G: ShowsRecords + ShowsState + Send, R: Threads + Sync>(
     policy: &Policy,
     path: &'a str,
     form: PageForm,
-) -> Result<ExitCode, Ended<'a>> {
+) -> Result<ExitCode, Failure<'a>> {
     let audit = bytes_of(host, path, Content::Records)?;
     match day_report::<G, R>(rt, host.alloc(), policy, audit.as_slice(), form_of(form)) {
         Ok(text) => write(host, text.as_slice(), 0),
@@ -40,7 +40,7 @@ pub(crate) fn report<'a, G: ShowsRecords + ShowsState + Send, R: Threads + Sync>
     host: &HostRuntime,
     files: AuditFiles<'a>,
     form: PageForm,
-) -> Result<ExitCode, Ended<'a>> {
+) -> Result<ExitCode, Failure<'a>> {
     let policy = policy_of(host, files.policy)?;
     report_under::<G, R>(rt, host, &policy, files.audit, form)
 }

@@ -5,7 +5,7 @@ use crate::going_on::serve_kept;
 use crate::runtime::ServerRuntime;
 use gx_command_line::Serving;
 use gx_log::{Log, write_on};
-use gx_program::{Ended, policy_of, tell, tell_in};
+use gx_program::{Failure, policy_of, tell, tell_in};
 use gx_records::{ShowsRecords, ShowsState};
 use gx_runs::{Start, names_of};
 use gx_units::OutOfMemory;
@@ -25,7 +25,7 @@ fn serve_port<'a, G: ShowsRecords + ShowsState + Send, R: ServerRuntime>(
     host: &HostRuntime,
     serving: Serving<'a>,
     log: &Arc<Log, Global>,
-) -> Result<(), Ended<'a>> {
+) -> Result<(), Failure<'a>> {
     let start = Start::of_run(rt, serving.files.version, serving.midnight);
     let path = serving.journal.map(|journal| journal.path);
     let named = names_of(host, serving.files, path)?;

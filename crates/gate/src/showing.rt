@@ -9,7 +9,7 @@ use gx_desk::Action;
 use gx_endings::endings::Ending;
 use gx_history::record::{Record, Request, Step, Verdict};
 use gx_policy::Policy;
-use gx_program::{Content, Ended, Place, bytes_of, held_back, policy_of};
+use gx_program::{Content, Failure, Resource, bytes_of, held_back, policy_of};
 use gx_records::ShowsState;
 use gx_shortened::Shortened;
 use gx_show::{
@@ -131,14 +131,14 @@ fn write_found<'a, G: ShowsState>(
     audit: &[u8],
     style: &Style,
     found: &AuditRecords,
-) -> Result<ExitCode, Ended<'a>> {
+) -> Result<ExitCode, Failure<'a>> {
     let mut writer = held_back(rt.alloc(), io::writer(rt))?;
     let records = found.records.as_slice();
     let endings = endings_for::<G>(rt.alloc(), policy, audit, style, records)?;
     let endings = endings.as_slice();
     if let Err(fault) = write_records(rt.alloc(), policy, style, records, endings, &mut writer) {
         let cause = writer.into_inner().cause;
-        return Err(Ended::of_writing(fault, Place::Output, cause));
+        return Err(Failure::of_writing(fault, Resource::Output, cause));
     }
     match found.bad {
         Some(number) => {
@@ -150,7 +150,7 @@ fn write_found<'a, G: ShowsState>(
 }
 
 /// Tells why no records were found: the status that says so.
-fn tell_unfound<'a>(rt: &HostRuntime, fault: FindingFault) -> Result<ExitCode, Ended<'a>> {
+fn tell_unfound<'a>(rt: &HostRuntime, fault: FindingFault) -> Result<ExitCode, Failure<'a>> {
     match fault {
         FindingFault::OtherPolicy => {
             let _ = eprintln!(rt; "other policy");
@@ -167,7 +167,7 @@ fn show_chosen<'a, G: ShowsState>(
     audit: &[u8],
     choice: &Choice,
     style: &Style,
-) -> Result<ExitCode, Ended<'a>> {
+) -> Result<ExitCode, Failure<'a>> {
     let found = match found_in_audit(rt.alloc(), policy, choice, audit) {
         Ok(found) => found,
         Err(fault) => return tell_unfound(rt, fault),
@@ -201,7 +201,7 @@ fn show_under<'a, G: ShowsState>(
     path: &'a str,
     wanted: ShowFilter<'a>,
     shape: Shape,
-) -> Result<ExitCode, Ended<'a>> {
+) -> Result<ExitCode, Failure<'a>> {
     let mut choice = match choice_of(policy, &names_of(&wanted), &unnamed(&wanted)) {
         Ok(choice) => choice,
         Err(unknown) => return Ok(tell_unknown(rt, policy, &wanted, unknown)),
@@ -217,7 +217,7 @@ pub(crate) fn show<'a, G: ShowsState>(
     files: AuditFiles<'a>,
     wanted: ShowFilter<'a>,
     shape: Shape,
-) -> Result<ExitCode, Ended<'a>> {
+) -> Result<ExitCode, Failure<'a>> {
     let policy = policy_of(rt, files.policy)?;
     show_under::<G>(rt, &policy, files.audit, wanted, shape)
 }

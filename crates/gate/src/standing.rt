@@ -2,9 +2,9 @@
 
 use crate::telling::{tell_fault, write};
 use gx_audit::{count_until, replay_first};
-use gx_command_line::{AuditFiles, Behind, StateAsked};
+use gx_command_line::{AuditFiles, Behind, StateOptions};
 use gx_policy::Policy;
-use gx_program::{Content, Ended, bytes_of, policy_of};
+use gx_program::{Content, Failure, bytes_of, policy_of};
 use gx_records::{ShowsRecords, ShowsState};
 use gx_state::{state_json, state_text};
 use gx_units::OutOfMemory;
@@ -24,10 +24,10 @@ fn records_wanted(audit: &[u8], behind: Behind) -> u64 {
 }
 
 /// What is told of the gate.
-fn told<G: ShowsRecords + ShowsState>(
+fn output_text<G: ShowsRecords + ShowsState>(
     alloc: Global,
     gate: &G,
-    asked: StateAsked,
+    asked: StateOptions,
 ) -> Result<Vec<u8>, OutOfMemory> {
     if asked.is_json {
         state_json(alloc, gate, asked.with_orders)
@@ -41,12 +41,12 @@ fn tell_state<'a, G: ShowsRecords + ShowsState>(
     rt: &HostRuntime,
     policy: &Policy,
     audit: &[u8],
-    asked: StateAsked,
-) -> Result<ExitCode, Ended<'a>> {
+    asked: StateOptions,
+) -> Result<ExitCode, Failure<'a>> {
     let wanted = records_wanted(audit, asked.behind);
     match replay_first::<G>(rt.alloc(), policy, audit, wanted) {
         Ok(gate) => {
-            let text = told(rt.alloc(), &gate, asked);
+            let text = output_text(rt.alloc(), &gate, asked);
             gate.close();
             write(rt, text?.as_slice(), 0)
         }
@@ -59,8 +59,8 @@ fn state_under<'a, G: ShowsRecords + ShowsState>(
     rt: &HostRuntime,
     policy: &Policy,
     path: &'a str,
-    asked: StateAsked,
-) -> Result<ExitCode, Ended<'a>> {
+    asked: StateOptions,
+) -> Result<ExitCode, Failure<'a>> {
     let audit = bytes_of(rt, path, Content::Records)?;
     tell_state::<G>(rt, policy, audit.as_slice(), asked)
 }
@@ -69,8 +69,8 @@ fn state_under<'a, G: ShowsRecords + ShowsState>(
 pub(crate) fn state<'a, G: ShowsRecords + ShowsState>(
     rt: &HostRuntime,
     files: AuditFiles<'a>,
-    asked: StateAsked,
-) -> Result<ExitCode, Ended<'a>> {
+    asked: StateOptions,
+) -> Result<ExitCode, Failure<'a>> {
     let policy = policy_of(rt, files.policy)?;
     state_under::<G>(rt, &policy, files.audit, asked)
 }

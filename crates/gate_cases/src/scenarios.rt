@@ -4,7 +4,7 @@
 ghost use Rattle.std.specs.Prelude.{◌≡◌, []};
 
 use crate::shared_case::{SharedCase, report_shared};
-use gx_answers::AccessGate;
+use gx_access_gate::AccessGate;
 use gx_audit::{Resumed, resume};
 use gx_audit_bytes::AuditVersion::Two;
 use gx_audit_bytes::write_header;
@@ -13,7 +13,7 @@ use gx_journal::Journaled;
 use gx_pass::GateName;
 use gx_policy::Policy;
 use gx_records::{ShowsRecords, ShowsState};
-use gx_shared::{Entrance, Kept, Permits, SharedGate, Ticket, close_kept};
+use gx_shared::{CountedPass, Entrance, Kept, Permits, SharedGate, close_kept};
 use gx_test_devices::{DeviceLimits, LARGE, OutputText, ShortWriter, limits_of};
 use gx_test_server::{
     Scenario, ScenarioFailure, are_owed, run_scenario, write_comparisons, write_failure,
@@ -177,7 +177,7 @@ pub(crate) fn run_at_gate<
     policy: &Policy,
     shared: SharedGate<G, N>,
     permits: Permits<N>,
-    pass: Ticket<N>,
+    pass: CountedPass<N>,
     case: ScenarioCase<'_, '_>,
 )
     requires front { pass.held.front ≡ [] }

@@ -8,7 +8,7 @@ use gx_case_parts::{CallKind, put_legal, report_calls};
 use gx_pass::{Blank, GateName};
 use gx_policy::Policy;
 use gx_records::{ShowsRecords, ShowsState};
-use gx_shared::{BlankLedgers, Entrance, Permits, SharedGate, Ticket};
+use gx_shared::{BlankLedgers, CountedPass, Entrance, Permits, SharedGate};
 use gx_test_devices::OutputText;
 use gx_test_server::{ClockReads, ClockedRuntime, ScenarioClock};
 use std::alloc::Global;
@@ -63,7 +63,7 @@ fn report_calls_at<
     policy: &Policy,
     shared: SharedGate<G, N>,
     permits: Permits<N>,
-    pass: Ticket<N>,
+    pass: CountedPass<N>,
     kind: CallKind,
 ) {
     make_calls_at(rt, alloc, out, &shared, permits, kind);

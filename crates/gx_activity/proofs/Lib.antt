@@ -1,8 +1,8 @@
-pub mod Counting
-pub mod Rowing
-pub mod Knowing
-pub mod Standing
-pub mod Tables
-pub mod Trading
-pub mod Denied
-pub mod Timing
+pub mod Counts_next
+pub mod AccountRow_next
+pub mod Known_next
+pub mod Counts_bounds
+pub mod Table_next
+pub mod Positions_next
+pub mod Denials_next
+pub mod Spans_next

@@ -6,7 +6,7 @@ use Rattle.gx_policy.specs.declared.policy.PolicyData.{PolicyData}
 use Rattle.gx_audit_bytes.specs.{Headers.front_of, Versions.has_header, declared.version.AuditVersion.AuditVersion, Audits.all_bytes, Records.record_bytes}
 use Rattle.gx_audit.proofs.Header_call.{no_front}
 use Rattle.gx_history.specs.declared.record.RecordData.{RecordData}
-use Rattle.gx_audit_bytes.proofs.Joined.{no_bytes}
+use Rattle.gx_audit_bytes.proofs.Records_next.{no_bytes}
 
 all_joined : (version : AuditVersion) (xs ys : List RecordData) → all_bytes version (xs ++ ys) ≡ all_bytes version xs ++ all_bytes version ys
 unfolding all_bytes

@@ -16,8 +16,8 @@ begins_header policy file header answer short is tested agreed = record {
 }
 
 -- the file is the journal of these records, and at most a part of one
-pub is_day : (policy : PolicyData) (file : List ℕ) (records : List RecordData) (kept count : ℕ) → HoldsRecords policy file records → count ≡ length records → kept ≡ journal_size count → Stands policy file records kept
-is_day policy file records kept count holds counted is =
+pub is_day : {policy : PolicyData} (file : List ℕ) {records : List RecordData} (kept count : ℕ) → HoldsRecords policy file records → count ≡ length records → kept ≡ journal_size count → Stands policy file records kept
+is_day {policy} file {records} kept count holds counted is =
     let audit = whole_audit (version_of file) policy records in
     let size : kept ≡ length audit = is ∙ ap journal_size counted ∙ sym (audit_size (version_of file) policy records holds.headed holds.shown) in
     let all : length file ≡ length audit + length holds.rest = ap length (sym holds.bytes_are) ∙ length-append audit holds.rest in

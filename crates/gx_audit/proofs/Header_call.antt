@@ -5,7 +5,7 @@ use Rattle.gx_policy.specs.declared.policy.PolicyData.{PolicyData}
 use Rattle.gx_history.specs.declared.record.RecordData.{RecordData}
 use Rattle.gx_audit.specs.{declared.fault.AuditFault.AuditFault, Auditing.{HasOtherHeader, IsAnswer}, Replaying.IsHeaderFault}
 use Rattle.gx_audit_bytes.specs.{declared.version.AuditVersion.AuditVersion, Versions.{has_header, version_of, DayFits}, Headers.{header_bytes, header_in, front_of}, Records.record_bytes, Audits.{all_bytes, whole_audit}}
-use Rattle.gx_audit_bytes.proofs.HeaderParts.{day_known, size_in}
+use Rattle.gx_audit_bytes.proofs.Header_parts.{day_known, size_in}
 
 -- the version of an audit is found in it
 pub version_known : (version : AuditVersion) (policy : PolicyData) (records : List RecordData) → DayFits version → version_of (whole_audit version policy records) ≡ version

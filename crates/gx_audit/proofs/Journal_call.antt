@@ -5,12 +5,12 @@ use Rattle.gx_policy.specs.declared.policy.PolicyData.{PolicyData}
 use Rattle.gx_history.specs.declared.record.RecordData.{RecordData}
 use Rattle.gx_audit_bytes.specs.{declared.version.AuditVersion.AuditVersion, Audits.{all_bytes, whole_audit, AreShown}, Headers.front_of, Records.record_bytes, Versions.{has_header, version_of}}
 use Rattle.gx_audit.specs.Replaying.{EndsAt, HoldsRecords, journal_size}
-use Rattle.gx_audit_bytes.proofs.HeaderParts.{size_in}
+use Rattle.gx_audit_bytes.proofs.Header_parts.{size_in}
 use Rattle.gx_audit.proofs.{Header_call.front_is, Bytes_only.shown_size}
 
-held : (policy : PolicyData) (journal : List ℕ) (records : List RecordData) (end : ℕ) → IsTrue (has_header (version_of journal))
+held : {policy : PolicyData} (journal : List ℕ) {records : List RecordData} (end : ℕ) → IsTrue (has_header (version_of journal))
     → EndsAt (version_of journal) policy journal records end → HoldsRecords policy journal records
-held policy journal records end headed ends = record {
+held journal end headed ends = record {
   headed = headed;
   shown = ends.shown;
   rest = drop end journal;
@@ -22,7 +22,7 @@ held policy journal records end headed ends = record {
 pub holds_records : (version : AuditVersion) (policy : PolicyData) (journal : List ℕ) (records : List RecordData) (end : ℕ) → version_of journal ≡ version → IsTrue (has_header version)
     → EndsAt version policy journal records end → HoldsRecords policy journal records
 holds_records version policy journal records end is headed ends =
-    held policy journal records end
+    held journal end
     (subst (λ (v : AuditVersion). IsTrue (has_header v)) (sym is) headed)
     (subst (λ (v : AuditVersion). EndsAt v policy journal records end) (sym is) ends)
 

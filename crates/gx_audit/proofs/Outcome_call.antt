@@ -1,7 +1,7 @@
 -- A record and what came of its step.
 use Rattle.std.proofs.Common.{◌≡◌, sym}
 use Rattle.gx_history.specs.declared.record.RecordData.{RecordData}
-use Rattle.gx_answers.specs.declared.outcome.Outcome.{Outcome}
+use Rattle.gx_access_gate.specs.declared.outcome.Outcome.{Outcome}
 use Rattle.gx_audit.specs.Auditing.{left_by}
 
 -- of one number, moment and verdict

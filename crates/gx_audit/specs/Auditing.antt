@@ -3,7 +3,7 @@ use Rattle.std.specs.Prelude.{◌≡◌, ◌≢◌, ℕ, ◌+◌, ◌<◌, ◌�
 use Rattle.gx_policy.specs.declared.policy.PolicyData.{PolicyData}
 use Rattle.gx_history.specs.{declared.record.{RecordData.RecordData, Step.Step}, Verdicts.{IsLegal, Follows}}
 use Rattle.gx_audit.specs.declared.fault.AuditFault.{AuditFault}
-use Rattle.gx_answers.specs.declared.outcome.Outcome.{Outcome}
+use Rattle.gx_access_gate.specs.declared.outcome.Outcome.{Outcome}
 use Rattle.gx_audit_bytes.specs.{declared.version.AuditVersion.AuditVersion, Versions.{has_header, version_of}, Audits.{record_size, whole_audit, AreShown}, Headers.header_in, Records.record_bytes, Reading.{record_of, IsShown}}
 
 -- the bytes are the audit of a legal day, in one of the versions, with so many records

@@ -1,7 +1,7 @@
 -- What is told of an audit.
 use Rattle.std.specs.Prelude.{ℕ, List, [], ◌++◌, codes, decimal, Result, Ok, Err}
 use Rattle.gx_audit.specs.declared.fault.AuditFault.{AuditFault}
-use Rattle.gx_script.specs.Printing.{line_end}
+use Rattle.gx_script_text.specs.Printing.{line_end}
 
 -- how many records a legal audit has, or the first fault; want of memory is no answer of an audit
 abbrev pub answer_words : Result ℕ AuditFault → List ℕ

@@ -7,7 +7,7 @@ ghost use Rattle.gx_audit_bytes.specs.{Headers.front_of, Versions.version_of};
 
 use crate::checking::{check_watched, record_at, records_start};
 use crate::fault::AuditFault;
-use gx_answers::AccessGate;
+use gx_access_gate::AccessGate;
 use gx_audit_bytes::{AuditVersion, RECORD_SIZE};
 use gx_policy::Policy;
 use gx_records::{NoWatch, Watches};

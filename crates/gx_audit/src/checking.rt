@@ -2,13 +2,13 @@
 
 ghost use Rattle.std.specs.Prelude.{◌≡◌, ◌≢◌, ◌+◌, ◌-◌, ◌<◌, ◌≤◌, ◌^◌, IsTrue, IsFalse, IfOk, IfErr, OnOk, Err, ◌++◌, [], length, take, drop, option_map, Some};
 ghost use Rattle.gx_history.specs.Verdicts.{next, IsLegal};
-ghost use Rattle.gx_answers.specs.declared.outcome.StepFault.TheVariants as stepping;
+ghost use Rattle.gx_access_gate.specs.declared.outcome.StepFault.TheVariants as stepping;
 ghost use Rattle.gx_audit.specs.declared.fault.AuditFault.TheVariants as faults;
 ghost use Rattle.gx_audit.specs.{Auditing.{left_by, with_left, HasOtherHeader, IsAnswer, IsOneMore, IsOnlyAnswer, IsRecordFault, NoneFollows}, Replaying.{EndsAt, IsHeaderFault, IsRecordsFault}};
 ghost use Rattle.gx_audit_bytes.specs.{Reading.{record_of, shows_rule, IsAskableStep, IsShown}, Headers.front_of, Records.record_bytes, Versions.{has_header, version_of}};
 
 use crate::fault::AuditFault;
-use gx_answers::{AccessGate, Outcome, StepFault};
+use gx_access_gate::{AccessGate, Outcome, StepFault};
 use gx_audit_bytes::{
     AuditVersion, RECORD_SIZE, read_record_in, same_bytes, shows_verdict, whole, write_header_in,
 };
@@ -214,7 +214,7 @@ pub fn check_record<G: AccessGate>(
 }
 
 /// Checks that these bytes are the gate's next record in this version, as [`check_record`] does, while the watcher looks on.
-#[tactic(auto, using(gx_audit_bytes::proofs::Rules::shown_names_rule))]
+#[tactic(auto, using(gx_audit_bytes::proofs::Verdict_read::shown_names_rule))]
 pub fn check_watched<G: AccessGate, W: Watches<G>>(
     gate: &mut G,
     watcher: &mut W,

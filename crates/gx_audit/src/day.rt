@@ -4,7 +4,7 @@ ghost use Rattle.std.specs.Prelude.{◌≡◌, IfOk, length};
 ghost use Rattle.gx_audit.specs.Auditing.{IsLegalAudit};
 ghost use Rattle.gx_audit_bytes.specs.{Audits.whole_audit, Headers.{front_of, header_in}, Versions.DayFits};
 
-use gx_answers::AccessGate;
+use gx_access_gate::AccessGate;
 use gx_audit_bytes::{AuditVersion, RECORD_SIZE, audit_bytes, write_header_in};
 use gx_units::OutOfMemory;
 use std::alloc::Global;

@@ -3,11 +3,11 @@
 use crate::checking::check_record;
 use crate::fault::AuditFault;
 use crate::places::bytes_at;
-use gx_answers::AccessGate;
+use gx_access_gate::AccessGate;
 use gx_audit_bytes::{AuditVersion, RECORD_SIZE, read_record_in, wrong_field};
 use gx_history::record::RecordData;
 use gx_policy::Policy;
-use gx_script::{append, append_number, append_verdict};
+use gx_script_text::{append, append_number, append_verdict};
 use gx_units::OutOfMemory;
 use std::alloc::Global;
 

@@ -6,7 +6,7 @@ ghost use Rattle.gx_audit.specs.Replaying.{journal_size, HoldsRecords, IsReplayF
 
 use crate::checking::{follow_records, header_end};
 use crate::fault::AuditFault;
-use gx_answers::AccessGate;
+use gx_access_gate::AccessGate;
 use gx_audit_bytes::AuditVersion;
 use gx_policy::Policy;
 use std::alloc::Global;

@@ -7,7 +7,7 @@ ghost use Rattle.gx_audit.specs.{Replaying.{journal_size, IsReplayFault}, Resumi
 
 use crate::fault::AuditFault;
 use crate::replaying::replay;
-use gx_answers::AccessGate;
+use gx_access_gate::AccessGate;
 use gx_audit_bytes::{AuditVersion, RECORD_SIZE, write_header_in};
 use gx_policy::Policy;
 use std::alloc::Global;

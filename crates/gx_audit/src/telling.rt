@@ -2,14 +2,14 @@
 
 ghost use Rattle.std.specs.Prelude.{◌≡◌, ◌++◌, decimal, Err, IfOk, OnOk};
 ghost use Rattle.gx_audit.specs.{Auditing.{IsAnswer, IsJudgement, IsOnlyAnswer}, Telling.{answer_line, answer_status}};
-ghost use Rattle.gx_script.specs.Printing.{line_end};
+ghost use Rattle.gx_script_text.specs.Printing.{line_end};
 
 use crate::checking::check_audit;
 use crate::fault::AuditFault;
-use gx_answers::AccessGate;
+use gx_access_gate::AccessGate;
 use gx_devices::WriteFault;
 use gx_policy::Policy;
-use gx_script::{append, with_number};
+use gx_script_text::{append, with_number};
 use gx_units::OutOfMemory;
 use std::alloc::Global;
 

@@ -6,7 +6,7 @@ ghost use Rattle.gx_history.specs.Payloads.{request_of};
 ghost use Rattle.gx_history.specs.declared.record.Request.TheVariants as requests;
 ghost use Rattle.gx_audit_bytes.specs.{Bodies.{request_body, request_kind, yes_or_no, zero_padded}, Reading.request_in, Contents.{enter_contents, replace_contents, cancel_contents, command_contents, command_layout, LimitFits}};
 
-use crate::draft::Draft;
+use crate::draft::RecordDraft;
 use gx_desk::{Action, Command};
 use gx_history::record::Request;
 use gx_ouch::{CancelOrder, EnterOrder, ReplaceOrder};
@@ -27,8 +27,8 @@ pub(crate) fn request_kind(request: &Request) -> u8
 }
 
 /// What a record shows of the request, at most 49 bytes.
-#[tactic(auto, unfolding(crate::specs::Bodies::request_body), using(crate::proofs::Requests::enter_in, crate::proofs::Requests::replace_in, crate::proofs::Requests::cancel_in, crate::proofs::Requests::command_in, crate::proofs::Requests::login_read, crate::proofs::Requests::unreadable_read, crate::proofs::Requests::logout_read))]
-pub(crate) fn request_body(request: &Request) -> Draft
+#[tactic(auto, unfolding(crate::specs::Bodies::request_body), using(crate::proofs::Request_read::enter_in, crate::proofs::Request_read::replace_in, crate::proofs::Request_read::cancel_in, crate::proofs::Request_read::command_in, crate::proofs::Request_read::login_read, crate::proofs::Request_read::unreadable_read, crate::proofs::Request_read::logout_read))]
+pub(crate) fn request_body(request: &Request) -> RecordDraft
     ensures bytes { result ≡ request_body request.now }
     ensures within { length result ≤ 49 }
     ensures read { request_in (request_kind request.now) (zero_padded 58 result)
@@ -36,15 +36,15 @@ pub(crate) fn request_body(request: &Request) -> Draft
 {
     match request {
         Request::Login(login) => {
-            let mut draft = Draft::new();
+            let mut draft = RecordDraft::new();
             draft.put(&[yes_or_no(login.password_is_right)]);
             draft.put(&[yes_or_no(login.session_is_right)]);
             draft.put(&login.wanted.to_be_bytes());
             draft
         }
-        Request::Logout => Draft::new(),
+        Request::Logout => RecordDraft::new(),
         Request::Unreadable(payload) => {
-            let mut draft = Draft::new();
+            let mut draft = RecordDraft::new();
             draft.put(&payload.length.to_be_bytes());
             draft.put(&[payload.first]);
             draft
@@ -62,13 +62,13 @@ fn yes_or_no(right: bool) -> u8
     if right { b'Y' } else { b'N' }
 }
 
-#[tactic(auto, using(crate::proofs::Messages::enter_read))]
-fn enter_order(order: &EnterOrder) -> Draft
+#[tactic(auto, using(crate::proofs::Message_read::enter_read))]
+fn enter_order(order: &EnterOrder) -> RecordDraft
     ensures bytes { result ≡ laid_out enter_order (enter_contents order.now) }
     ensures len { length result ≡ 49 }
     ensures asks { request_of result ≡ requests.Enter order.now }
 {
-    let mut draft = Draft::new();
+    let mut draft = RecordDraft::new();
     draft.put(b"O");
     draft.put(&order.token.bytes);
     draft.put(&[order.side]);
@@ -86,13 +86,13 @@ fn enter_order(order: &EnterOrder) -> Draft
     draft
 }
 
-#[tactic(auto, using(crate::proofs::Messages::replace_read))]
-fn replace_order(order: &ReplaceOrder) -> Draft
+#[tactic(auto, using(crate::proofs::Message_read::replace_read))]
+fn replace_order(order: &ReplaceOrder) -> RecordDraft
     ensures bytes { result ≡ laid_out replace_order (replace_contents order.now) }
     ensures len { length result ≡ 47 }
     ensures asks { request_of result ≡ requests.Replace order.now }
 {
-    let mut draft = Draft::new();
+    let mut draft = RecordDraft::new();
     draft.put(b"U");
     draft.put(&order.existing_token.bytes);
     draft.put(&order.replacement_token.bytes);
@@ -105,21 +105,21 @@ fn replace_order(order: &ReplaceOrder) -> Draft
     draft
 }
 
-#[tactic(auto, using(crate::proofs::Messages::cancel_read))]
-fn cancel_order(order: &CancelOrder) -> Draft
+#[tactic(auto, using(crate::proofs::Message_read::cancel_read))]
+fn cancel_order(order: &CancelOrder) -> RecordDraft
     ensures bytes { result ≡ laid_out cancel_order (cancel_contents order.now) }
     ensures len { length result ≡ 19 }
     ensures asks { request_of result ≡ requests.Cancel order.now }
 {
-    let mut draft = Draft::new();
+    let mut draft = RecordDraft::new();
     draft.put(b"X");
     draft.put(&order.token.bytes);
     draft.put(&order.shares.to_be_bytes());
     draft
 }
 
-#[tactic(auto, using(crate::proofs::Messages::command_read))]
-fn command_message(command: &Command) -> Draft
+#[tactic(auto, using(crate::proofs::Message_read::command_read))]
+fn command_message(command: &Command) -> RecordDraft
     ensures bytes { result
         ≡ laid_out (command_layout command.now.action) (command_contents command.now) }
     ensures len { length result ≡ (command_layout command.now.action).size }
@@ -128,14 +128,14 @@ fn command_message(command: &Command) -> Draft
     command_draft(command)
 }
 
-fn command_draft(command: &Command) -> Draft
+fn command_draft(command: &Command) -> RecordDraft
     ensures bytes { result
         ≡ laid_out (command_layout command.now.action) (command_contents command.now) }
     ensures len { length result ≡ (command_layout command.now.action).size }
     ensures sizes { HasSizes (command_layout command.now.action) (command_contents command.now) }
     ensures fits { LimitFits command.now.action }
 {
-    let mut draft = Draft::new();
+    let mut draft = RecordDraft::new();
     draft.put(&[command.action.command_type()]);
     draft.put(&command.tag.bytes);
     match &command.action {

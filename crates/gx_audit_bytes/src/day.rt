@@ -49,7 +49,7 @@ fn offset(sign: u8, minutes: u16) -> UtcOffset
 }
 
 /// The first 128 bytes; zero bytes for those that are missing.
-#[tactic(auto, using(crate::proofs::Fields::take_short))]
+#[tactic(auto, using(crate::proofs::Fields_cut::take_short))]
 fn header_bytes(audit: &[u8]) -> [u8; RECORD_SIZE]
     ensures { result ≡ zero_padded 128 (take 128 audit.now) }
 {

@@ -10,12 +10,12 @@ pub const RECORD_SIZE: usize = 128;
 
 /// A record as far as it is written. Contracts see the list of these bytes.
 #[derive(Drop)]
-pub(crate) struct Draft {
+pub(crate) struct RecordDraft {
     room: [u8; RECORD_SIZE],
     used: usize,
 }
 
-impl Model for Draft {
+impl Model for RecordDraft {
     ghost use Rattle.std.specs.Prelude.{ℕ, List, take, ◌≤◌};
     ghost use Rattle.gx_audit_bytes.specs.declared.draft.TheConstants.{RECORD_SIZE};
 
@@ -26,12 +26,12 @@ impl Model for Draft {
     ghost invariant = { λ draft. draft.used ≤ RECORD_SIZE };
 }
 
-impl Draft {
+impl RecordDraft {
     /// A record of which nothing is written yet.
-    pub(crate) fn new() -> Draft
+    pub(crate) fn new() -> RecordDraft
         ensures { result ≡ [] }
     {
-        Draft {
+        RecordDraft {
             room: [0; RECORD_SIZE],
             used: 0,
         }
@@ -53,7 +53,7 @@ impl Draft {
         requires { length self ≡ RECORD_SIZE }
         ensures { result ≡ self }
     {
-        let Draft { room, used: _ } = self;
+        let RecordDraft { room, used: _ } = self;
         room
     }
 

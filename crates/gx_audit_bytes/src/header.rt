@@ -7,7 +7,7 @@ ghost use Rattle.gx_audit_bytes.specs.declared.version.AuditVersion.TheVariants 
 ghost use Rattle.gx_audit_bytes.specs.{Headers.{audit_header, dated_bytes, dated_contents, dated_header, header_bytes, header_contents, header_in, policy_shown, session_shown}, Versions.{version_of, DayFits}};
 
 use crate::day::{AuditDay, minutes, sign};
-use crate::draft::{Draft, RECORD_SIZE, whole};
+use crate::draft::{RECORD_SIZE, RecordDraft, whole};
 use crate::version::AuditVersion;
 use gx_digest::policy_digest;
 use gx_policy::{Lifters, Policy};
@@ -27,7 +27,7 @@ pub fn write_header(policy: &Policy) -> [u8; RECORD_SIZE]
 }
 
 /// The header of an audit of version 3 under this policy and of this day: each part at its place. Takes no memory.
-#[tactic(auto, using(crate::proofs::HeaderParts::day_read))]
+#[tactic(auto, using(crate::proofs::Header_parts::day_read))]
 pub fn write_header_3(policy: &Policy, day: AuditDay) -> [u8; RECORD_SIZE]
     ensures bytes { result ≡ dated_bytes policy.now day }
     ensures fields { LiesIn dated_header (dated_contents policy.now day) result }
@@ -51,7 +51,7 @@ pub fn write_header_in(version: AuditVersion, policy: &Policy) -> [u8; RECORD_SI
 }
 
 #[tactic(auto, unfolding(crate::specs::Headers::header_bytes))]
-fn header_draft(policy: &Policy) -> Draft
+fn header_draft(policy: &Policy) -> RecordDraft
     ensures bytes { result ≡ header_bytes policy.now }
     ensures len { length result ≡ 128 }
 {
@@ -61,7 +61,7 @@ fn header_draft(policy: &Policy) -> Draft
 }
 
 #[tactic(auto, unfolding(crate::specs::Headers::dated_bytes))]
-fn dated_draft(policy: &Policy, day: AuditDay) -> Draft
+fn dated_draft(policy: &Policy, day: AuditDay) -> RecordDraft
     ensures bytes { result ≡ dated_bytes policy.now day }
     ensures len { length result ≡ 128 }
     ensures fits { DayFits (versions.Three day) }
@@ -76,11 +76,11 @@ fn dated_draft(policy: &Policy, day: AuditDay) -> Draft
 }
 
 /// The mark, and what each header says of the policy.
-fn policy_draft(mark: [u8; 4], policy: &Policy) -> Draft
+fn policy_draft(mark: [u8; 4], policy: &Policy) -> RecordDraft
     ensures bytes { result ≡ with_fields mark (policy_shown policy.now) }
     ensures len { length result ≡ 23 }
 {
-    let mut draft = Draft::new();
+    let mut draft = RecordDraft::new();
     draft.put(&mark);
     draft.put(&session(policy));
     draft.put(&[lifters(policy.lifters())]);
@@ -91,7 +91,7 @@ fn policy_draft(mark: [u8; 4], policy: &Policy) -> Draft
     draft
 }
 
-#[tactic(auto, using(crate::proofs::Fields::take_session))]
+#[tactic(auto, using(crate::proofs::Fields_cut::take_session))]
 fn session(policy: &Policy) -> [u8; 10]
     ensures { result ≡ session_shown policy.now }
 {
@@ -108,7 +108,7 @@ fn lifters(asked: Lifters) -> u8
 }
 
 /// How many accounts there are. What a policy keeps is told with its rules.
-#[tactic(auto, using(crate::proofs::Counts::accounts_fit))]
+#[tactic(auto, using(crate::proofs::Counts_bounds::accounts_fit))]
 fn accounts(policy: &Policy) -> u16
     ensures { result ≡ length policy.now.accounts }
 {
@@ -116,7 +116,7 @@ fn accounts(policy: &Policy) -> u16
     policy.accounts().len() as u16
 }
 
-#[tactic(auto, using(crate::proofs::Counts::stocks_fit))]
+#[tactic(auto, using(crate::proofs::Counts_bounds::stocks_fit))]
 fn stocks(policy: &Policy) -> u16
     ensures { result ≡ length policy.now.stocks }
 {
@@ -124,7 +124,7 @@ fn stocks(policy: &Policy) -> u16
     policy.stocks().len() as u16
 }
 
-#[tactic(auto, using(crate::proofs::Counts::users_fit))]
+#[tactic(auto, using(crate::proofs::Counts_bounds::users_fit))]
 fn users(policy: &Policy) -> u16
     ensures { result ≡ length policy.now.users }
 {
@@ -132,7 +132,7 @@ fn users(policy: &Policy) -> u16
     policy.users().len() as u16
 }
 
-#[tactic(auto, using(crate::proofs::Counts::rules_fit))]
+#[tactic(auto, using(crate::proofs::Counts_bounds::rules_fit))]
 fn rules(policy: &Policy) -> u16
     ensures { result ≡ length policy.now.rules }
 {

@@ -38,7 +38,7 @@ pub fn read_record_2(bytes: &[u8; RECORD_SIZE]) -> Option<Record>
 }
 
 /// The record whose bytes these are in this version; None where they are no record's. Takes no memory.
-#[tactic(auto, unfolding(crate::specs::Reading::record_of), using(crate::proofs::Standing::shown_so))]
+#[tactic(auto, unfolding(crate::specs::Reading::record_of), using(crate::proofs::Record_parts::shown_so))]
 pub fn read_record_in(version: AuditVersion, bytes: &[u8; RECORD_SIZE]) -> Option<Record>
     ensures shown { result ≡ record_of version bytes.now }
     ensures bytes { IfSome result (λ r. record_bytes version r ≡ bytes.now) }
@@ -331,7 +331,7 @@ fn shows_rule(shown: &RuleName, made: &RuleName) -> bool
 }
 
 /// Whether this fill was made.
-#[tactic(auto, using(crate::proofs::Rules::one_fill))]
+#[tactic(auto, using(crate::proofs::Verdict_read::one_fill))]
 fn shows_fill(shown: &Fill, made: &Fill) -> bool
     ensures same { IsTrue result → shown.now ≡ made.now }
     ensures other { IsFalse result → shown.now ≢ made.now }

@@ -24,7 +24,7 @@ fn put(version: AuditVersion, bytes: &mut Vec<u8>, given: &Record) -> Result<(),
 /// # Errors
 ///
 /// `OutOfMemory` where memory was refused.
-#[tactic(auto, using(crate::proofs::Joined::no_bytes))]
+#[tactic(auto, using(crate::proofs::Records_next::no_bytes))]
 pub fn audit_bytes(
     alloc: Global,
     version: AuditVersion,

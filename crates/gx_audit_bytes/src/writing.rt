@@ -8,7 +8,7 @@ ghost use Rattle.gx_audit_bytes.specs.declared.version.AuditVersion.TheVariants 
 ghost use Rattle.gx_audit_bytes.specs.{Bodies.zero_padded, Reading.{record_of, shows_rule, IsShown, NumbersFit, StepIsRead, VerdictIsRead}, Records.{audit_record, record_contents, record_bytes, line_shown, user_shown, kind_shown, body_shown, verdict_letter, rule_shown, order_shown, maker_shown, shares_shown, price_shown, HasPlaces}, Versions.mark_of};
 
 use crate::bodies::{request_body, request_kind};
-use crate::draft::{Draft, RECORD_SIZE, zero_padded};
+use crate::draft::{RECORD_SIZE, RecordDraft, zero_padded};
 use crate::version::AuditVersion;
 use gx_history::record::{Record, RecordData, Step, Verdict};
 use gx_policy::RuleName;
@@ -50,7 +50,7 @@ pub fn write_record_in(version: AuditVersion, given: &Record) -> [u8; RECORD_SIZ
 }
 
 /// What stands in a record, as the audit shows it.
-#[tactic(auto, using(crate::proofs::ReadBack::read_back, crate::proofs::ReadBack::fields_lie, crate::proofs::ReadBack::is_shown))]
+#[tactic(auto, using(crate::proofs::Record_read::read_back, crate::proofs::Record_read::fields_lie, crate::proofs::Record_read::is_shown))]
 pub(crate) fn write_content(version: AuditVersion, content: &RecordData) -> [u8; RECORD_SIZE]
     ensures bytes { result ≡ record_bytes version content.now }
     ensures fields { LiesIn audit_record (record_contents version content.now) result }
@@ -62,7 +62,7 @@ pub(crate) fn write_content(version: AuditVersion, content: &RecordData) -> [u8;
 }
 
 #[tactic(auto, unfolding(crate::specs::Records::record_bytes))]
-fn record_draft(version: AuditVersion, content: &RecordData) -> Draft
+fn record_draft(version: AuditVersion, content: &RecordData) -> RecordDraft
     ensures bytes { result ≡ record_bytes version content.now }
     ensures len { length result ≡ 128 }
     ensures places { HasPlaces version content.now }
@@ -71,7 +71,7 @@ fn record_draft(version: AuditVersion, content: &RecordData) -> Draft
     ensures verdict { IsTrue (shows_rule content.now.verdict)
         → VerdictIsRead content.now.verdict }
 {
-    let mut draft = Draft::new();
+    let mut draft = RecordDraft::new();
     draft.put(&mark(version));
     draft.put(&content.number.to_be_bytes());
     draft.put(&handed(&content.step).to_be_bytes());
@@ -137,8 +137,8 @@ fn kind(step: &Step) -> u8
 }
 
 /// Writes what the step shows in its body, with zero bytes up to the body's end.
-#[tactic(auto, using(crate::proofs::Requests::asked_read, crate::proofs::Requests::matching_read))]
-fn put_body(draft: &mut Draft, step: &Step)
+#[tactic(auto, using(crate::proofs::Request_read::asked_read, crate::proofs::Request_read::matching_read))]
+fn put_body(draft: &mut RecordDraft, step: &Step)
     requires { length draft.old + 58 ≤ RECORD_SIZE }
     ensures bytes { draft.new ≡ draft.old ++ zero_padded 58 (body_shown step.now) }
     ensures len { length draft.new ≡ length draft.old + 58 }
@@ -164,7 +164,7 @@ fn letter(verdict: &Verdict) -> u8
     }
 }
 
-#[tactic(auto, using(crate::proofs::Rules::grant_read, crate::proofs::Rules::denial_read, crate::proofs::Rules::fill_read, crate::proofs::Rules::rest_read, crate::proofs::Rules::expiry_read))]
+#[tactic(auto, using(crate::proofs::Verdict_read::grant_read, crate::proofs::Verdict_read::denial_read, crate::proofs::Verdict_read::fill_read, crate::proofs::Verdict_read::rest_read, crate::proofs::Verdict_read::expiry_read))]
 fn rule(verdict: &Verdict) -> [u8; 8]
     ensures bytes { result ≡ rule_shown verdict.now }
     ensures read { IsTrue (shows_rule verdict.now) → VerdictIsRead verdict.now }

@@ -2,9 +2,10 @@
 use Rattle.std.proofs.{Common.{◌≡◌, ℕ, ◌+◌, arith, Bool, true, false, cond, not, List, [], ◌∷◌, length, refl, ap, sym, ◌∙◌, sum_by}, lemmas.{List.Sums.sum_by-cons, Bool.{or_parts, and_parts, not-true}}}
 use Rattle.std.specs.{Prelude.{Option, Some, option_and_then, option_map}, Option.option_map_or, List.{AllByRecursion, list_any}}
 use Rattle.gx_units.specs.{declared.names.{AccountName.AccountName, UserName.UserName}, Names.{same_account, same_user}}
+use Rattle.gx_units.proofs.{Names_equal.{same_user_flip, user_is}, Test_known.nothing_either_way}
 use Rattle.gx_policy.specs.{declared.policy.{PolicyData.PolicyData, User.User}, Lists.are_distinct, People.{account_of_role, role_in, user_in}, Soundness.is_sound}
 use Rattle.gx_history.specs.{declared.{live_order.LiveOrder.LiveOrder, record.RecordData.RecordData}, Live.live, Verdicts.IsLegal}
-use Rattle.gx_laws.proofs.{Adding.user_is, Names.{same_user_flip, users_differ}, TheirTraders.live_orders_are_of_their_traders, Sums.nothing_either_way}
+use Rattle.gx_laws.proofs.{Names_differ.users_differ, LiveOrders_owned.live_orders_are_of_their_traders}
 use Rattle.gx_laws.specs.EffectLaws.{IsOfItsTrader}
 use Rattle.gx_slab.specs.Slabs.{of_account}
 use Rattle.gx_records.specs.State.{of_user}
@@ -94,7 +95,7 @@ traders_have_all policy account apart (o ∷ os) h =
     by false = omega arith
 
 -- in a legal day of a sound policy
-pub traders_orders : (policy : PolicyData) (records : List RecordData) (account : AccountName) → is_sound policy ≡ true → IsLegal policy records
+pub traders_orders : {policy : PolicyData} {records : List RecordData} (account : AccountName) → is_sound policy ≡ true → IsLegal policy records
     → sum_by (orders_of_trader (live policy records) account) policy.users ≡ length (of_account account (live policy records))
-traders_orders policy records account sound legal =
+traders_orders {policy} {records} account sound legal =
     traders_have_all policy account (users_differ policy sound) (live policy records) (live_orders_are_of_their_traders policy records legal)

@@ -9,9 +9,9 @@ counted_records : Counts → ℕ
 counted_records c = c.records
 
 -- a summary of the first of the records counts as many as these are
-count_is : (policy : PolicyData) (records : List RecordData) (m : ℕ) (d : Summary) → length records < 2 ^ 63 → IsSummary policy (take m records) d → d.counts.records ≡ min m (length records)
+count_is : {policy : PolicyData} (records : List RecordData) (m : ℕ) (d : Summary) → length records < 2 ^ 63 → IsSummary policy (take m records) d → d.counts.records ≡ min m (length records)
 unfolding counted_records
-count_is policy records m d small is =
+count_is records m d small is =
     let long = length-take m records in
     let told : d.counts.records ≡ capped_count (length (take m records)) = ap counted_records is.counted.counts in
     omega (arith, long, told)
@@ -26,40 +26,40 @@ first_are records m = elim (either m (length records)) [
   | inr many ↦ take_all (min m (length records)) records (omega arith) ∙ sym (take_all m records many)
 ]
 
-behind_at : (policy : PolicyData) (records : List RecordData) (m : ℕ) (d : Summary) → length records < 2 ^ 63 → IsSummary policy (take m records) d → IsBehind policy records d
-behind_at policy records m d small is =
-    let count = count_is policy records m d small is in
+behind_at : {policy : PolicyData} (records : List RecordData) (m : ℕ) (d : Summary) → length records < 2 ^ 63 → IsSummary policy (take m records) d → IsBehind policy records d
+behind_at {policy} records m d small is =
+    let count = count_is records m d small is in
     record {
       few = omega (arith, count);
       summary = subst (λ (some : List RecordData). IsSummary policy some d) (sym (first_are records m) ∙ ap (λ (k : ℕ). take k records) (sym count)) is;
     }
 
 -- with so many more, or all that there are
-more_followed : (policy : PolicyData) (records : List RecordData) (most : ℕ) (old new : Summary) → IsBehind policy records old → Follows (take most (drop old.counts.records records)) old new
+more_followed : {policy : PolicyData} {records : List RecordData} (most : ℕ) (old new : Summary) → IsBehind policy records old → Follows (take most (drop old.counts.records records)) old new
     → IsSummary policy (take (old.counts.records + most) records) new
-more_followed policy records most old new was follows =
+more_followed {policy} {records} most old new was follows =
     subst (λ (some : List RecordData). IsSummary policy some new) (sym (take-add old.counts.records most records)) (follows policy (take old.counts.records records) was.summary)
 
-pub behind_more : (policy : PolicyData) (records : List RecordData) (most : ℕ) (old new : Summary) → length records < 2 ^ 63 → IsBehind policy records old
+pub behind_more : {policy : PolicyData} {records : List RecordData} (most : ℕ) (old new : Summary) → length records < 2 ^ 63 → IsBehind policy records old
     → Follows (take most (drop old.counts.records records)) old new → IsBehind policy records new
-behind_more policy records most old new small was follows =
-    behind_at policy records (old.counts.records + most) new small (more_followed policy records most old new was follows)
+behind_more {records} most old new small was follows =
+    behind_at records (old.counts.records + most) new small (more_followed most old new was follows)
 
-pub counts_more : (policy : PolicyData) (records : List RecordData) (most : ℕ) (old new : Summary) → length records < 2 ^ 63 → IsBehind policy records old
+pub counts_more : {policy : PolicyData} {records : List RecordData} (most : ℕ) (old new : Summary) → length records < 2 ^ 63 → IsBehind policy records old
     → Follows (take most (drop old.counts.records records)) old new → new.counts.records ≡ min (old.counts.records + most) (length records)
-counts_more policy records most old new small was follows =
-    count_is policy records (old.counts.records + most) new small (more_followed policy records most old new was follows)
+counts_more {records} most old new small was follows =
+    count_is records (old.counts.records + most) new small (more_followed most old new was follows)
 
-pub behind_still : (policy : PolicyData) (records : List RecordData) (old new : Summary) → length records < 2 ^ 63 → IsBehind policy records old → Stays old new → IsBehind policy records new
-behind_still policy records old new small was stays = behind_at policy records old.counts.records new small (stays policy (take old.counts.records records) was.summary)
+pub behind_still : {policy : PolicyData} {records : List RecordData} (old new : Summary) → length records < 2 ^ 63 → IsBehind policy records old → Stays old new → IsBehind policy records new
+behind_still {policy} {records} old new small was stays = behind_at records old.counts.records new small (stays policy (take old.counts.records records) was.summary)
 
 -- one that counts as many as there are is that of all
-pub all_there : (policy : PolicyData) (records : List RecordData) (d : Summary) → IsBehind policy records d → d.counts.records ≡ length records → IsSummary policy records d
-all_there policy records d behind all = subst (λ (some : List RecordData). IsSummary policy some d) (ap (λ (k : ℕ). take k records) all ∙ take-length records) behind.summary
+pub all_there : {policy : PolicyData} {records : List RecordData} (d : Summary) → IsBehind policy records d → d.counts.records ≡ length records → IsSummary policy records d
+all_there {policy} {records} d behind all = subst (λ (some : List RecordData). IsSummary policy some d) (ap (λ (k : ℕ). take k records) all ∙ take-length records) behind.summary
 
 -- and one that was behind these records is behind these and more
-pub behind_longer : (policy : PolicyData) (records more : List RecordData) (d : Summary) → IsBehind policy records d → IsBehind policy (records ++ more) d
-behind_longer policy records more d behind = record {
+pub behind_longer : {policy : PolicyData} {records : List RecordData} (more : List RecordData) (d : Summary) → IsBehind policy records d → IsBehind policy (records ++ more) d
+behind_longer {policy} {records} more d behind = record {
   few = omega (arith, behind.few, length-append records more);
   summary = subst (λ (some : List RecordData). IsSummary policy some d) (sym (take-append-le d.counts.records records more behind.few)) behind.summary;
 }

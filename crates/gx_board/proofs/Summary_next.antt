@@ -1,12 +1,13 @@
 -- What one more record makes of a summary.
-use Rattle.std.proofs.{Common.{◌≡◌, ℕ, ◌+◌, ◌-◌, Bool, true, false, List, [], ◌∷◌, ◌++◌, ◌<◌, length, map, drop, take, refl, sym, ap, ◌∙◌, subst, if◌then◌else◌, arith, append-nil}, lemmas.List.{append_assoc, drop-append-le, drop-drop, length-append, length-drop, map-append, Elements.{filter-append, filter_map-append}, Sums.{fold-append, sum_by-append}}}
-use Rattle.std.specs.Prelude.{count_by, filter, fold, max, Option, Some, None, slice_get}
+use Rattle.std.proofs.{Common.{◌≡◌, ℕ, ◌+◌, ◌-◌, Bool, true, false, List, [], ◌∷◌, ◌++◌, ◌<◌, length, map, drop, take, refl, sym, ap, ◌∙◌, subst, if◌then◌else◌, arith, append-nil}, lemmas.List.{append_assoc, drop-append-le, drop-drop, length-append, length-drop, Elements.{filter-append, filter_map-append}, Sums.sum_by-append}}
+use Rattle.std.specs.Prelude.{count_by, filter, Option, Some, None, slice_get}
 use Rattle.circular_buffer.specs.Buffer.{buffer, keep_last}
 use Rattle.gx_units.specs.declared.names.RuleId.{RuleId}
+use Rattle.gx_units.proofs.Lists_found.{found_within, one_more_taken}
 use Rattle.gx_policy.specs.declared.policy.PolicyData.{PolicyData}
 use Rattle.gx_history.specs.declared.record.RecordData.{RecordData}
-use Rattle.gx_history.proofs.Unpacking.{found_within, one_more_taken}
-use Rattle.gx_pass.specs.Views.{highest_line, line_in}
+use Rattle.gx_pass.specs.Views.{highest_line}
+use Rattle.gx_pass.proofs.HighestLine_next.{highest_more}
 use Rattle.gx_overview.specs.{Accounts.capped_count, Commands.{granted_command, granted_commands}}
 use Rattle.gx_board.specs.{declared.{summary.Summary.Summary}, Counting.{commands, counts_with, counts_of, denied_row, denies, fills, grants, is_denied_by, one_more, row_counted, rule_names}, Summaries.{Counted, Follows, IsCounted, IsNoted, Notes, most_recent, pushed_if, recent}}
 
@@ -19,9 +20,6 @@ one_counted : (p : RecordData → Bool) (records : List RecordData) (r : RecordD
 one_counted p records r =
     let more : count_by p (records ++ r ∷ []) ≡ count_by p records + (if p r then 1 else 0) = grind (arith, sum_by-append (λ (x : RecordData). if p x then 1 else 0) records (r ∷ [])) in
     ap capped_count more ∙ cap_more (p r) (count_by p records)
-
-pub highest_more : (records : List RecordData) (r : RecordData) → highest_line (records ++ r ∷ []) ≡ max (highest_line records) (line_in r)
-highest_more records r = ap (fold max 0) (map-append line_in records (r ∷ [])) ∙ fold-append max 0 (map line_in records) (line_in r ∷ [])
 
 length_more : (records : List RecordData) (r : RecordData) → capped_count (length (records ++ r ∷ [])) ≡ capped_count (capped_count (length records) + 1)
 length_more records r = let long = length-append records (r ∷ []) in grind (arith, long)
@@ -61,8 +59,8 @@ one_kept false found r = ap recent (append-nil found)
 recent_next : (p : RecordData → Bool) (records : List RecordData) (r : RecordData) → recent (filter p (records ++ r ∷ [])) ≡ pushed_if (p r) r (recent (filter p records))
 recent_next p records r = ap recent (filter-append p records (r ∷ [])) ∙ one_kept (p r) (filter p records) r
 
-counted_next : (policy : PolicyData) (records : List RecordData) (r : RecordData) (old new : Summary) → Notes r old new → IsCounted policy records old → IsCounted policy (records ++ r ∷ []) new
-counted_next policy records r old new notes was = record {
+counted_next : {policy : PolicyData} {records : List RecordData} (r : RecordData) (old new : Summary) → Notes r old new → IsCounted policy records old → IsCounted policy (records ++ r ∷ []) new
+counted_next {policy} {records} r old new notes was = record {
   counts = notes.counts ∙ ap (counts_with r) was.counts ∙ sym (counts_next records r);
   denied = notes.denied ∙ ap (map (row_counted r)) was.denied ∙ sym (rows_next records r (rule_names policy));
   last_denied = notes.last_denied ∙ ap (pushed_if (denies r) r) was.last_denied ∙ sym (recent_next denies records r);
@@ -73,7 +71,7 @@ counted_next policy records r old new notes was = record {
 pub one_further : (so_far : List RecordData) (r : RecordData) (first old new : Summary) → Notes r old new → Counted so_far first old → Counted (so_far ++ r ∷ []) first new
 one_further so_far r first old new notes counts policy records was =
     subst (λ (all : List RecordData). IsCounted policy all new) (append_assoc records so_far (r ∷ []))
-    (counted_next policy (records ++ so_far) r old new notes (counts policy records was))
+    (counted_next r old new notes (counts policy records was))
 
 -- those that were counted so far, and the next
 pub next_noted : (more : List RecordData) (i : ℕ) (first old new : Summary) → i < length more → IsNoted (slice_get more i) old new

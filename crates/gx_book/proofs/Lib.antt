@@ -1,6 +1,6 @@
-pub mod Order
-pub mod Keyed
-pub mod Stocks
-pub mod Opening
-pub mod Shown
-pub mod TakenOut
+pub mod Side_order
+pub mod Side_keys
+pub mod Stocks_table
+pub mod Book_first
+pub mod Change_seen
+pub mod AccountOrders_out

@@ -84,7 +84,7 @@ impl Book {
     }
 
     /// Whether the stock, which is looked for at this place of the policy's stocks first, is listed.
-    #[tactic(auto, using(crate::proofs::Stocks::listed_found))]
+    #[tactic(auto, using(crate::proofs::Stocks_table::listed_found))]
     pub fn lists(&self, stock: Symbol, near: usize) -> bool
         ensures { result ≡ is_some (stock_in self.now stock) }
     {
@@ -93,7 +93,7 @@ impl Book {
 
     /// The best order on a side of the stock: of those with the best price the first to rest. Here and below, the stock is
     /// looked for at this place of the policy's stocks first.
-    #[tactic(auto, using(crate::proofs::Stocks::stock_found, crate::proofs::Stocks::always_sound))]
+    #[tactic(auto, using(crate::proofs::Stocks_table::stock_found, crate::proofs::Stocks_table::always_sound))]
     pub fn best(&self, stock: Symbol, near: usize, side: u8) -> Option<Resting>
         ensures best { result ≡ best_in self.now stock (is_buy side) }
         ensures sound { IsSound self.now }
@@ -111,7 +111,7 @@ impl Book {
     /// # Errors
     ///
     /// `OutOfMemory` where there is no memory for one more; then nothing has changed.
-    #[tactic(auto, using(crate::proofs::Stocks::side_found))]
+    #[tactic(auto, using(crate::proofs::Stocks_table::side_found))]
     pub fn rest(&mut self, order: &LiveOrder, near: usize) -> Result<(), OutOfMemory>
         requires latest { IsLatest (resting_of order.now) (own_side self.old order.now) }
         ensures ok { OnOk result (self.new ≡ put_to_rest order.now self.old) }
@@ -147,7 +147,7 @@ impl Book {
     }
 
     /// Takes the order out, and answers what rested of it; `None` where it does not rest.
-    #[tactic(auto, using(crate::proofs::Stocks::side_found, crate::proofs::Stocks::none_found))]
+    #[tactic(auto, using(crate::proofs::Stocks_table::side_found, crate::proofs::Stocks_table::none_found))]
     pub fn remove(&mut self, order: &LiveOrder, near: usize) -> Option<Resting>
         ensures given { result ≡ found_in self.old order.now }
         ensures removed { self.new ≡ taken_out order.now self.old }

@@ -55,7 +55,7 @@ impl<const SIDE: u8> Side<SIDE> {
     }
 
     /// The rank of the order's price on this side, and its number.
-    #[tactic(auto, using(crate::proofs::Keyed::order_is_keyed))]
+    #[tactic(auto, using(crate::proofs::Side_keys::order_is_keyed))]
     fn key_of(order: &LiveOrder) -> (u32, u64)
         ensures keyed { IsTrue (is_keyed (is_buy SIDE) (result, resting_of order.now)) }
         ensures meant { price_at (is_buy SIDE) result.0 ≡ order.now.terms.price }

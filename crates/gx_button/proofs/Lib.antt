@@ -1,2 +1,2 @@
-mod Comparing
-mod Stepping
+mod Bytes_compared
+mod Step_call

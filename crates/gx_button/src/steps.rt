@@ -7,9 +7,9 @@ ghost use Rattle.gx_button.specs.Steps.{is_staff, kill_command, AsksAndLeaves, I
 
 use crate::permission::may_kill;
 use crate::token::{Secret, same_token};
-use gx_answers::{LoginAnswer, Outcome, StepFault};
+use gx_access_gate::{LoginAnswer, Outcome, StepFault};
 use gx_desk::{Action, Command, Tag};
-use gx_door::{Caller, Dial, Door, Ended, Turned};
+use gx_door::{Caller, Dial, Door, EndedTotals, Turned};
 use gx_history::record::Request;
 use gx_http::{Credentials, KillForm};
 use gx_policy::Policy;
@@ -41,7 +41,7 @@ pub struct Decided {
     /// What its record says.
     pub outcome: Outcome,
     /// What it ended.
-    pub ended: Ended,
+    pub ended: EndedTotals,
 }
 
 /// What was done on the page's line for a caller who may kill the account.
@@ -104,15 +104,15 @@ fn kill_request(account: AccountName) -> Request
 }
 
 /// The command of a caller who was logged in. No matching step is made behind it: a kill leaves no order that waits.
-#[tactic(auto, using(crate::proofs::Stepping::kills_on))]
+#[tactic(auto, using(crate::proofs::Step_call::kills_on))]
 fn ask<D: Door, R: Wait + Dial>(
     door: &D,
     rt: &R,
-    pass: D::Ticket,
+    pass: D::Pass,
     who: &Credentials,
     account: AccountName,
     moment: Moment,
-) -> (D::Ticket, Result<Decided, StepFault>)
+) -> (D::Pass, Result<Decided, StepFault>)
     requires clock { R.shown moment }
     ensures later { IsLater D.policy (D.held pass) (D.held result.0) }
     ensures step { KillsOn D.policy (D.held pass) (D.held result.0) (asked_on (D.held pass).line
@@ -134,14 +134,14 @@ fn ask<D: Door, R: Wait + Dial>(
 }
 
 /// The logout of a caller who was logged in.
-#[tactic(auto, using(crate::proofs::Stepping::steps_on))]
+#[tactic(auto, using(crate::proofs::Step_call::steps_on))]
 fn leave<D: Door, R: Wait + Dial>(
     door: &D,
     rt: &R,
-    pass: D::Ticket,
+    pass: D::Pass,
     who: &Credentials,
     moment: Moment,
-) -> (D::Ticket, Result<Outcome, StepFault>)
+) -> (D::Pass, Result<Outcome, StepFault>)
     requires clock { R.shown moment }
     ensures later { IsLater D.policy (D.held pass) (D.held result.0) }
     ensures step { StepsOn D.policy (D.held pass) (D.held result.0)
@@ -155,11 +155,11 @@ fn leave<D: Door, R: Wait + Dial>(
 fn ask_and_leave<D: Door, R: Wait + Dial>(
     door: &D,
     rt: &R,
-    pass: D::Ticket,
+    pass: D::Pass,
     who: &Credentials,
     account: AccountName,
 ) -> (
-    D::Ticket,
+    D::Pass,
     Result<Decided, StepFault>,
     Result<Outcome, StepFault>,
 )
@@ -179,10 +179,10 @@ fn ask_and_leave<D: Door, R: Wait + Dial>(
 fn kill_as<D: Door, R: Wait + Dial>(
     door: &D,
     rt: &R,
-    pass: D::Ticket,
+    pass: D::Pass,
     who: &Credentials,
     account: AccountName,
-) -> (D::Ticket, Deed)
+) -> (D::Pass, Deed)
     ensures later { IsLater D.policy (D.held pass) (D.held result.0) }
     ensures steps { Makes D.policy (D.held pass) (D.held result.0) who.now
         (kill_command TAG account) result.1 }
@@ -212,10 +212,10 @@ pub fn kill<D: Door, R: Wait + Dial>(
     rt: &R,
     policy: &Policy,
     secret: &Secret,
-    pass: D::Ticket,
+    pass: D::Pass,
     caller: Option<Credentials>,
     form: &KillForm,
-) -> (D::Ticket, Result<Deed, Refusal>)
+) -> (D::Pass, Result<Deed, Refusal>)
     requires policy { policy.now ≡ D.policy }
     ensures later { OnOk result.1 (IsLater D.policy (D.held pass) (D.held result.0)) }
     ensures untouched { OnErr result.1 (result.0 ≡ pass) }

@@ -1,6 +1,6 @@
 //! The audit of a gate's records: it is written, checked as it is and as a case changes it, and shown.
 
-use gx_answers::AccessGate;
+use gx_access_gate::AccessGate;
 use gx_audit::{
     AuditAnswer, AuditFault, audit_of, check_audit, more_of_audit, told_of_audit, write_audit,
 };

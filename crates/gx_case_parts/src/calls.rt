@@ -3,7 +3,7 @@
 ghost use Rattle.std.specs.Prelude.{IsTrue};
 ghost use Rattle.gx_history.specs.Showing.{has_its_first};
 
-use gx_answers::{Outcome, Pulled};
+use gx_access_gate::{Outcome, Pulled};
 use gx_desk::{Action, Command, Tag};
 use gx_door::{Dial, Door, Issuer, PullFault};
 use gx_history::record::{Record, Request, Step};
@@ -134,12 +134,7 @@ fn request(role: CallerRole, number: u16) -> Request
 }
 
 /// A login.
-fn log_in<D: Door, R: Wait + Dial>(
-    rt: &R,
-    door: &D,
-    caller: TestCaller,
-    pass: D::Ticket,
-) -> D::Ticket {
+fn log_in<D: Door, R: Wait + Dial>(rt: &R, door: &D, caller: TestCaller, pass: D::Pass) -> D::Pass {
     let password = Password {
         bytes: caller.password,
     };
@@ -158,8 +153,8 @@ fn call<D: Door, R: Wait + Dial>(
     alloc: Global,
     door: &D,
     caller: TestCaller,
-    pass: D::Ticket,
-) -> (D::Ticket, Vec<u64>) {
+    pass: D::Pass,
+) -> (D::Pass, Vec<u64>) {
     let mut numbers = Vec::new(alloc);
     let mut pass = log_in(rt, door, caller, pass);
     for number in 0..CALLS {
@@ -177,7 +172,7 @@ fn call<D: Door, R: Wait + Dial>(
 type CallResults<T> = ((T, Vec<u64>), (T, Vec<u64>), (T, Vec<u64>));
 
 /// Makes the calls of all three at once; `None` where no thread could be made.
-fn call_at_once<'x, T: Drop + Send, D: Door<Ticket = T> + Sync, R: Threads + Wait + Dial + Sync>(
+fn call_at_once<'x, T: Drop + Send, D: Door<Pass = T> + Sync, R: Threads + Wait + Dial + Sync>(
     rt: &'x R,
     alloc: Global,
     door: &'x D,
@@ -275,7 +270,7 @@ fn put_called<D: Door>(
     door: &D,
     records: &[Record],
     caller: TestCaller,
-    called: &(D::Ticket, Vec<u64>),
+    called: &(D::Pass, Vec<u64>),
 ) {
     let line = door.line_of(&called.0);
     put_caller(out, records, caller, line, called.1.as_slice())
@@ -286,7 +281,7 @@ fn put_all<D: Door>(
     out: &mut OutputText,
     door: &D,
     records: &[Record],
-    called: &CallResults<D::Ticket>,
+    called: &CallResults<D::Pass>,
 ) {
     let [alice, bob, olga] = CALLERS;
     put_called(out, door, records, alice, &called.0);
@@ -314,9 +309,9 @@ fn put_pull<D: Door, R: Wait>(
     rt: &R,
     out: &mut OutputText,
     door: &D,
-    pass: D::Ticket,
+    pass: D::Pass,
     text: &str,
-) -> D::Ticket {
+) -> D::Pass {
     let (pass, pulled) = door.pull(rt, pass, ALICE, 1, 10);
     out.put(text);
     out.put(words_of(&pulled));
@@ -328,7 +323,7 @@ fn put_pulls<D: Door, R: Wait + Dial>(
     rt: &R,
     out: &mut OutputText,
     door: &D,
-    passes: (D::Ticket, D::Ticket),
+    passes: (D::Pass, D::Pass),
 ) {
     let (one, other) = passes;
     let [alice, _, _] = CALLERS;
@@ -351,13 +346,7 @@ fn put_own(alloc: Global, out: &mut OutputText, records: &[Record], line: u16) {
 }
 
 /// Writes what a pass has met of a day: the records, and how many of them are of its own line.
-fn put_met<D: Door, R: Wait>(
-    rt: &R,
-    alloc: Global,
-    out: &mut OutputText,
-    door: &D,
-    pass: D::Ticket,
-) {
+fn put_met<D: Door, R: Wait>(rt: &R, alloc: Global, out: &mut OutputText, door: &D, pass: D::Pass) {
     let line = door.line_of(&pass);
     let (_pass, records) = door.records(rt, pass, 1, u64::MAX);
     match records {
@@ -379,7 +368,7 @@ fn put_meeting<D: Door, R: Wait + Dial>(
     alloc: Global,
     out: &mut OutputText,
     door: &D,
-    passes: (D::Ticket, D::Ticket),
+    passes: (D::Pass, D::Pass),
 ) {
     let (one, mut other) = passes;
     let asked = request(CallerRole::Trader, 0);
@@ -396,8 +385,8 @@ fn log_in_again<D: Door, R: Wait + Dial>(
     rt: &R,
     door: &D,
     caller: TestCaller,
-    pass: D::Ticket,
-) -> D::Ticket {
+    pass: D::Pass,
+) -> D::Pass {
     let mut pass = pass;
     let before = door.length(&mut pass);
     let mut pass = log_in(rt, door, caller, pass);
@@ -412,10 +401,10 @@ fn log_in_again<D: Door, R: Wait + Dial>(
 fn act_again<D: Door, R: Wait + Dial>(
     rt: &R,
     door: &D,
-    pass: D::Ticket,
+    pass: D::Pass,
     user: UserName,
     order: EnterOrder,
-) -> (D::Ticket, Option<Outcome>) {
+) -> (D::Pass, Option<Outcome>) {
     let mut pass = pass;
     let before = door.length(&mut pass);
     let (mut pass, answer) = door.act(rt, pass, user, Request::Enter(order), rt.moment());
@@ -439,7 +428,7 @@ fn put_outcome(out: &mut OutputText, outcome: Option<Outcome>) {
 }
 
 /// Makes a trader's orders, each again where it was refused, and writes which records they have left.
-fn put_again<D: Door, R: Wait + Dial>(rt: &R, out: &mut OutputText, door: &D, pass: D::Ticket) {
+fn put_again<D: Door, R: Wait + Dial>(rt: &R, out: &mut OutputText, door: &D, pass: D::Pass) {
     let [alice, _, _] = CALLERS;
     let mut pass = log_in_again(rt, door, alice, pass);
     for number in 0..3 {
@@ -450,7 +439,7 @@ fn put_again<D: Door, R: Wait + Dial>(rt: &R, out: &mut OutputText, door: &D, pa
 }
 
 /// Makes the calls of three callers at once, and writes how many are on record.
-fn put_three<T: Drop + Send, D: Door<Ticket = T> + Sync, R: Threads + Wait + Dial + Sync>(
+fn put_three<T: Drop + Send, D: Door<Pass = T> + Sync, R: Threads + Wait + Dial + Sync>(
     rt: &R,
     alloc: Global,
     out: &mut OutputText,
@@ -501,7 +490,7 @@ impl CallKind {
 fn three_passes<D: Door, I: Issuer<D>, R: Wait>(
     rt: &R,
     issuer: &mut I,
-) -> Option<(D::Ticket, D::Ticket, D::Ticket)> {
+) -> Option<(D::Pass, D::Pass, D::Pass)> {
     let one = issuer.issue(rt).ok()?;
     let two = issuer.issue(rt).ok()?;
     let three = issuer.issue(rt).ok()?;
@@ -511,7 +500,7 @@ fn three_passes<D: Door, I: Issuer<D>, R: Wait>(
 /// Makes the calls at a door, by passes of this issuer, and writes what came of them.
 pub fn report_calls<
     T: Drop + Send,
-    D: Door<Ticket = T> + Sync,
+    D: Door<Pass = T> + Sync,
     I: Issuer<D>,
     R: Threads + Wait + Dial + Sync,
 >(rt: &R, alloc: Global, out: &mut OutputText, door: &D, issuer: &mut I, kind: CallKind) {

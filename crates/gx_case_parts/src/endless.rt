@@ -1,9 +1,9 @@
 //! A connection whose input does not end.
 
 use crate::runs::RunEnd;
-use gx_answers::AccessGate;
+use gx_access_gate::AccessGate;
+use gx_connection::run_pipe_within;
 use gx_devices::CallCounter;
-use gx_pipe::run_pipe_within;
 use gx_test_devices::{
     DeviceLimits, EndlessReader, OutputText, ShortWriter, hex_bytes_of, put_endless,
 };

@@ -1,7 +1,7 @@
 //! Runs of inputs, each on a fresh gate of its own.
 
 use crate::runs::{RunEnd, put_verdicts, run_kind, run_on};
-use gx_answers::AccessGate;
+use gx_access_gate::AccessGate;
 use gx_devices::CallCounter;
 use gx_policy::Policy;
 use gx_test_devices::{

@@ -5,15 +5,15 @@ ghost use Rattle.std.specs.Prelude.{◌-◌, ◌^◌, ◌<◌};
 use crate::audits::{report_audit, report_checks, report_shown, write_audit_bytes};
 use crate::endless::report_endless;
 use crate::fresh_gate::FreshGateRunner;
-use gx_answers::AccessGate;
+use gx_access_gate::AccessGate;
 use gx_audit_bytes::AuditDay;
 use gx_audit_bytes::AuditVersion::{One, Three, Two};
 use gx_clock::UtcOffset;
+use gx_connection::{PipeFault, run_pipe};
 use gx_devices::CallCounter;
-use gx_pipe::{PipeFault, run_pipe};
 use gx_policy::Policy;
 use gx_records::ShowsRecords;
-use gx_scripting::{Explained, run_script};
+use gx_script_run::{Explained, run_script};
 use gx_server::ErrorRecorder;
 use gx_test_devices::{
     DeviceLimits, InputKind, OutputText, RunOutcome, ShortReader, ShortWriter, halves,

@@ -77,14 +77,14 @@ pub record ServerSoup : Type 0 where
   pub rest : List ℕ
 
 -- packets, and then all of these
-abbrev pub behind : List ServerPacket → ServerSoup → ServerSoup
-behind packets soup = record { packets = packets ++ soup.packets; fault = soup.fault; rest = soup.rest }
+abbrev pub packets_behind : List ServerPacket → ServerSoup → ServerSoup
+packets_behind packets soup = record { packets = packets ++ soup.packets; fault = soup.fault; rest = soup.rest }
 
 -- by what stands first: a packet, if it is not passed over, and then those of what follows it
 abbrev pub soup_from : (List ℕ → ServerSoup) → List ℕ → Front → ServerSoup
 soup_from following bytes Short = record { packets = []; fault = None; rest = bytes }
 soup_from following bytes (Faulty fault) = record { packets = []; fault = Some fault; rest = [] }
-soup_from following bytes (Whole packet taken) = behind (option_to_list packet) (following (drop taken bytes))
+soup_from following bytes (Whole packet taken) = packets_behind (option_to_list packet) (following (drop taken bytes))
 
 -- at most n packets
 abbrev pub soup_within : ℕ → List ℕ → ServerSoup

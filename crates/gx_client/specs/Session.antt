@@ -57,19 +57,19 @@ abbrev pub heard_after : ℕ → List ServerPacket → ServerPacket → Heard
 heard_after wanted packets packet = heard_as (stage_of packets) (next_of wanted packets) packet
 
 -- what a session shows: its login, its stage, and the number of its next report
-pub record Standing : Type 0 where
+pub record SessionView : Type 0 where
   pub login : LoginRequest
   pub stage : Stage
   pub next : ℕ
 
 -- a session that began with this login has heard these packets
-pub record HasHeard (session : Standing) (asked : LoginRequest) (packets : List ServerPacket) : Type 0 where
+pub record HasHeard (session : SessionView) (asked : LoginRequest) (packets : List ServerPacket) : Type 0 where
   pub login : session.login ≡ asked
   pub stage : session.stage ≡ stage_of packets
   pub next : session.next ≡ next_of asked.wanted packets
 
 -- a session to which this was said
-abbrev pub standing_after : Standing → Heard → Standing
+abbrev pub standing_after : SessionView → Heard → SessionView
 standing_after session (Heard.LoggedIn name first) = record session { stage = On; next = min first greatest }
 standing_after session (Heard.Refused why) = record session { stage = Over }
 standing_after session (Heard.Report number) = record session { next = min (number + 1) greatest }

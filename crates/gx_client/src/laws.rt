@@ -5,7 +5,7 @@ ghost use Rattle.gx_units.specs.declared.names.SessionName.{SessionName};
 ghost use Rattle.gx_soup.specs.{declared.packet.{ClientPacket.TheVariants.Data, ServerPacket.{ServerPacket, TheVariants.{Accepted, Sequenced}}}, Login.greatest, Packets.{packets_of, with_packet}, Standard.{debug, longest_packet, unsequenced_data}, Writing.{framed_packet, server_bytes}};
 ghost use Rattle.gx_ouch.specs.{declared.inbound.Inbound.Inbound, Writing.outbound_bytes};
 ghost use Rattle.gx_desk.specs.{declared.Command.Command, Writing.{answer_bytes, drop_copy_bytes}};
-ghost use Rattle.gx_client.specs.{Messages.{IsOutbound, IsAnswer, IsDropCopy, AreToldApart, HaveNoneInCommon}, Sending.{CarriesCommand, CarriesInbound}, ServerPackets.{server_packets_of, behind, IsServerPacket}, Session.{is_end, reports_in, stage_of, heard_after}, declared.heard.Stage.TheVariants.Over};
+ghost use Rattle.gx_client.specs.{Messages.{IsOutbound, IsAnswer, IsDropCopy, AreToldApart, HaveNoneInCommon}, Sending.{CarriesCommand, CarriesInbound}, ServerPackets.{server_packets_of, packets_behind, IsServerPacket}, Session.{is_end, reports_in, stage_of, heard_after}, declared.heard.Stage.TheVariants.Over};
 ghost use Rattle.gx_client.specs.declared.heard.Heard.TheVariants as hears;
 
 /// No two messages of a kind have the same bytes, nor has one message at two moments.
@@ -35,7 +35,7 @@ pub fn what_is_sent_is_heard()
 pub fn packets_are_read_back()
     ensures { (packet : ServerPacket) (rest : List ℕ) → IsServerPacket packet
         → server_packets_of (server_bytes packet ++ rest)
-        ≡ behind (packet ∷ []) (server_packets_of rest) }
+        ≡ packets_behind (packet ∷ []) (server_packets_of rest) }
 {}
 
 /// Debug and Unsequenced Data of a server are passed over.

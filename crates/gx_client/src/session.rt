@@ -18,9 +18,9 @@ pub struct ClientSession {
 }
 
 impl Model for ClientSession {
-    ghost use Rattle.gx_client.specs.Session.{Standing};
+    ghost use Rattle.gx_client.specs.Session.{SessionView};
 
-    ghost Value = { Standing };
+    ghost Value = { SessionView };
 
     ghost view = { λ s. record { login = s.login; stage = s.stage; next = s.next } };
 }

@@ -7,7 +7,7 @@ ghost use Rattle.gx_desk.specs.Reading.{command_of};
 ghost use Rattle.gx_client.specs.Contents.{command_contents, command_layout, LimitFits};
 
 use gx_desk::{Action, Command};
-use gx_ouch::{CancelOrder, Draft, EnterOrder, Inbound, MESSAGE_ROOM, ReplaceOrder};
+use gx_ouch::{CancelOrder, EnterOrder, Inbound, MESSAGE_ROOM, MessageDraft, ReplaceOrder};
 use gx_units::OutOfMemory;
 use std::alloc::Global;
 
@@ -35,7 +35,7 @@ pub fn write_command(alloc: Global, command: &Command) -> Result<Vec<u8>, OutOfM
     to_vec(alloc, &command_draft(command))
 }
 
-fn to_vec(alloc: Global, draft: &Draft) -> Result<Vec<u8>, OutOfMemory>
+fn to_vec(alloc: Global, draft: &MessageDraft) -> Result<Vec<u8>, OutOfMemory>
     ensures bytes { IfOk result (λ bytes. bytes.items ≡ draft.now) }
     ensures within { IfOk result (λ bytes. length bytes.items ≤ MESSAGE_ROOM) }
 {
@@ -45,7 +45,7 @@ fn to_vec(alloc: Global, draft: &Draft) -> Result<Vec<u8>, OutOfMemory>
     Ok(bytes)
 }
 
-fn inbound_draft(message: &Inbound) -> Draft
+fn inbound_draft(message: &Inbound) -> MessageDraft
     ensures { inbound_of result ≡ Some message.now }
 {
     match message {
@@ -55,11 +55,11 @@ fn inbound_draft(message: &Inbound) -> Draft
     }
 }
 
-#[tactic(auto, using(crate::proofs::Written::enter_read))]
-fn enter_order(order: &EnterOrder) -> Draft
+#[tactic(auto, using(crate::proofs::Requests_read::enter_read))]
+fn enter_order(order: &EnterOrder) -> MessageDraft
     ensures { inbound_of result ≡ Some (inbounds.Enter order.now) }
 {
-    let mut draft = Draft::new();
+    let mut draft = MessageDraft::new();
     draft.put(b"O");
     draft.put(&order.token.bytes);
     draft.put(&[order.side]);
@@ -77,11 +77,11 @@ fn enter_order(order: &EnterOrder) -> Draft
     draft
 }
 
-#[tactic(auto, using(crate::proofs::Written::replace_read))]
-fn replace_order(order: &ReplaceOrder) -> Draft
+#[tactic(auto, using(crate::proofs::Requests_read::replace_read))]
+fn replace_order(order: &ReplaceOrder) -> MessageDraft
     ensures { inbound_of result ≡ Some (inbounds.Replace order.now) }
 {
-    let mut draft = Draft::new();
+    let mut draft = MessageDraft::new();
     draft.put(b"U");
     draft.put(&order.existing_token.bytes);
     draft.put(&order.replacement_token.bytes);
@@ -94,32 +94,32 @@ fn replace_order(order: &ReplaceOrder) -> Draft
     draft
 }
 
-#[tactic(auto, using(crate::proofs::Written::cancel_read))]
-fn cancel_order(order: &CancelOrder) -> Draft
+#[tactic(auto, using(crate::proofs::Requests_read::cancel_read))]
+fn cancel_order(order: &CancelOrder) -> MessageDraft
     ensures { inbound_of result ≡ Some (inbounds.Cancel order.now) }
 {
-    let mut draft = Draft::new();
+    let mut draft = MessageDraft::new();
     draft.put(b"X");
     draft.put(&order.token.bytes);
     draft.put(&order.shares.to_be_bytes());
     draft
 }
 
-#[tactic(auto, using(crate::proofs::Written::command_read))]
-fn command_draft(command: &Command) -> Draft
+#[tactic(auto, using(crate::proofs::Requests_read::command_read))]
+fn command_draft(command: &Command) -> MessageDraft
     ensures { command_of result ≡ Some command.now }
 {
     command_fields(command)
 }
 
-fn command_fields(command: &Command) -> Draft
+fn command_fields(command: &Command) -> MessageDraft
     ensures bytes { result
         ≡ laid_out (command_layout command.now.action) (command_contents command.now) }
     ensures len { length result ≡ (command_layout command.now.action).size }
     ensures sizes { HasSizes (command_layout command.now.action) (command_contents command.now) }
     ensures fits { LimitFits command.now.action }
 {
-    let mut draft = Draft::new();
+    let mut draft = MessageDraft::new();
     draft.put(&[command.action.command_type()]);
     draft.put(&command.tag.bytes);
     match &command.action {

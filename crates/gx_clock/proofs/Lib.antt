@@ -1,2 +1,2 @@
-pub mod Reading
-pub mod Going
+pub mod Offset_read
+pub mod Clock_moments

@@ -18,13 +18,13 @@ abbrev pub last_date : ℕ
 last_date = 2 ^ 32 - 1
 
 -- by how much local time is ahead of UTC, less whole days
-abbrev pub ahead : UtcOffset → ℕ
-ahead (UtcOffset.Ahead minutes) = minutes * minute
-ahead (UtcOffset.Behind minutes) = day - minutes * minute % day
+abbrev pub ahead_of_utc : UtcOffset → ℕ
+ahead_of_utc (UtcOffset.Ahead minutes) = minutes * minute
+ahead_of_utc (UtcOffset.Behind minutes) = day - minutes * minute % day
 
 -- how long ago local midnight was, so many nanoseconds behind the beginning of 1970 in UTC
 abbrev pub moment_of_day : UtcOffset → ℕ → ℕ
-moment_of_day offset since = (since + ahead offset) % day
+moment_of_day offset since = (since + ahead_of_utc offset) % day
 
 -- the local time, so many nanoseconds behind the beginning of 1970 there; no earlier than that
 abbrev pub local_time : UtcOffset → ℕ → ℕ

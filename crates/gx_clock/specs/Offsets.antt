@@ -52,6 +52,6 @@ text_of sign minutes =
     sign ∷ tens (minutes / 60) ∷ ones (minutes / 60) ∷ 58 ∷ tens (minutes % 60) ∷ ones (minutes % 60) ∷ []
 
 -- how an offset is written
-abbrev pub written : UtcOffset → List ℕ
-written (UtcOffset.Ahead minutes) = text_of 43 minutes
-written (UtcOffset.Behind minutes) = text_of 45 minutes
+abbrev pub offset_text : UtcOffset → List ℕ
+offset_text (UtcOffset.Ahead minutes) = text_of 43 minutes
+offset_text (UtcOffset.Behind minutes) = text_of 45 minutes

@@ -1,13 +1,13 @@
 //! What holds of all offsets and moments, as functions that do nothing.
 
 ghost use Rattle.std.specs.Prelude.{◌≡◌, ℕ, ◌+◌, ◌*◌, ◌/◌, ◌%◌, ◌≤◌, List, Some};
-ghost use Rattle.gx_clock.specs.{declared.offset.UtcOffset.UtcOffset, Moments.{date_of, day, last_date, local_time, minute, moment_at, moment_of_day}, Offsets.{minutes_in, most_minutes, offset_of, written}};
+ghost use Rattle.gx_clock.specs.{declared.offset.UtcOffset.UtcOffset, Moments.{date_of, day, last_date, local_time, minute, moment_at, moment_of_day}, Offsets.{minutes_in, most_minutes, offset_of, offset_text}};
 ghost use Rattle.gx_clock.specs.declared.offset.UtcOffset.TheVariants as offsets;
 
 /// An offset of at most 14 hours is read from its text.
 pub fn offsets_are_read()
     ensures { (offset : UtcOffset) → minutes_in offset ≤ most_minutes
-        → offset_of (written offset) ≡ Some offset }
+        → offset_of (offset_text offset) ≡ Some offset }
 {}
 
 /// Behind UTC a moment is earlier by the offset, on whatever day.
@@ -35,5 +35,5 @@ pub fn no_other_text_is_read()
     ensures few { (text : List ℕ) (offset : UtcOffset) → offset_of text ≡ Some offset
         → minutes_in offset ≤ most_minutes }
     ensures text { (text : List ℕ) (offset : UtcOffset) → offset_of text ≡ Some offset
-        → text ≡ written offset }
+        → text ≡ offset_text offset }
 {}

@@ -1,7 +1,7 @@
 //! The moment of the day, and how moments go on.
 
 ghost use Rattle.std.specs.{Prelude.{◌≡◌, ◌≤◌, ◌<◌, option_map}, Duration.as_nanos, Time.instant_nanos};
-ghost use Rattle.gx_clock.specs.Moments.{ahead, first_moment, moment_at, moment_of_day, day, last_shown};
+ghost use Rattle.gx_clock.specs.Moments.{ahead_of_utc, first_moment, moment_at, moment_of_day, day, last_shown};
 
 use crate::offset::UtcOffset;
 use gx_units::Moment;
@@ -18,7 +18,7 @@ pub(crate) const LAST_SHOWN: Moment = 259_199_999_999_999;
 
 /// By how much local time is ahead of UTC, less whole days.
 fn ahead(offset: UtcOffset) -> u128
-    ensures { result ≡ ahead offset }
+    ensures { result ≡ ahead_of_utc offset }
 {
     match offset {
         UtcOffset::Ahead(minutes) => u128::from(minutes) * MINUTE,

@@ -19,7 +19,7 @@ use gx_clock::{TimeOfDay, UtcOffset};
 use gx_text::Form;
 use refused::told_of;
 use state::state_asked;
-pub use state::{Behind, StateAsked};
+pub use state::{Behind, StateOptions};
 use std::alloc::Global;
 pub use values::{BadValue, ReadOption};
 pub use words::{BadWord, LONGEST_WORD, first_bad_word};
@@ -195,7 +195,7 @@ pub struct Desk<'a> {
 
 /// What a call asks for.
 #[derive(Clone, Copy)]
-pub enum Asked<'a> {
+pub enum Invocation<'a> {
     /// `gate pipe`: to serve one connection.
     Pipe(RunFiles<'a>),
     /// `gate serve`: to serve connections to a port.
@@ -211,7 +211,7 @@ pub enum Asked<'a> {
     /// `gate show`: to show records of an audit.
     Show(AuditFiles<'a>, ShowFilter<'a>, Shape),
     /// `gate state`: to tell what stands in an audit's day.
-    State(AuditFiles<'a>, StateAsked),
+    State(AuditFiles<'a>, StateOptions),
     /// `gate report`: to report an audit's day.
     Report(AuditFiles<'a>, PageForm),
     /// `gate whatif`: to tell which verdicts of an audit's day change under another policy.
@@ -359,13 +359,13 @@ fn form_of_page<'a>(given: &ArgMatches<'a>) -> PageForm {
 }
 
 /// To show records of an audit.
-fn show_options<'a>(given: &ArgMatches<'a>) -> Option<Asked<'a>> {
+fn show_options<'a>(given: &ArgMatches<'a>) -> Option<Invocation<'a>> {
     let shape = Shape {
         form: form_of_table(given),
         has_clock: given.get_flag("clock"),
         has_words: given.get_flag("words"),
     };
-    Some(Asked::Show(audit_files(given)?, wanted_records(given), shape))
+    Some(Invocation::Show(audit_files(given)?, wanted_records(given), shape))
 }
 
 /// The last so many words.
@@ -374,9 +374,9 @@ fn last_words<'a>(words: &'a [String], count: usize) -> &'a [String] {
 }
 
 /// To follow a journal.
-fn follow_options<'a>(given: &ArgMatches<'a>) -> Option<Asked<'a>> {
+fn follow_options<'a>(given: &ArgMatches<'a>) -> Option<Invocation<'a>> {
     let asked = follow_asked(given, EVERY, WARN, JSON, ONCE)?;
-    Some(Asked::Follow(audit_files(given)?, asked))
+    Some(Invocation::Follow(audit_files(given)?, asked))
 }
 
 /// Under which policy a day is judged again.
@@ -406,21 +406,24 @@ fn desk_options<'a>(given: &ArgMatches<'a>, words: &'a [String]) -> Option<Desk<
 }
 
 /// What was asked for; `None` where no command was named, which the command line refuses beforehand.
-fn asked_for<'a>(given: &ArgMatches<'a>, words: &'a [String]) -> Option<Asked<'a>> {
+fn asked_for<'a>(given: &ArgMatches<'a>, words: &'a [String]) -> Option<Invocation<'a>> {
     let (name, given) = given.subcommand()?;
     match name {
-        "pipe" => Some(Asked::Pipe(run_files(given))),
-        "serve" => Some(Asked::Serve(server_options(given)?)),
-        "script" => Some(Asked::Script(run_files(given))),
-        "policy" => Some(Asked::Policy(given.get_str("file")?)),
-        "migrate" => Some(Asked::Migrate(given.get_str("file")?)),
-        "check" => Some(Asked::Check(audit_files(given)?)),
+        "pipe" => Some(Invocation::Pipe(run_files(given))),
+        "serve" => Some(Invocation::Serve(server_options(given)?)),
+        "script" => Some(Invocation::Script(run_files(given))),
+        "policy" => Some(Invocation::Policy(given.get_str("file")?)),
+        "migrate" => Some(Invocation::Migrate(given.get_str("file")?)),
+        "check" => Some(Invocation::Check(audit_files(given)?)),
         "show" => Some(show_options(given)?),
-        "state" => Some(Asked::State(audit_files(given)?, state_asked(given, AT, ORDERS, JSON)?)),
-        "report" => Some(Asked::Report(audit_files(given)?, form_of_page(given))),
-        "whatif" => Some(Asked::WhatIf(audit_files(given)?, other_policy(given)?)),
+        "state" => Some(Invocation::State(
+            audit_files(given)?,
+            state_asked(given, AT, ORDERS, JSON)?,
+        )),
+        "report" => Some(Invocation::Report(audit_files(given)?, form_of_page(given))),
+        "whatif" => Some(Invocation::WhatIf(audit_files(given)?, other_policy(given)?)),
         "follow" => Some(follow_options(given)?),
-        "desk" => Some(Asked::Desk(desk_options(given, words)?)),
+        "desk" => Some(Invocation::Desk(desk_options(given, words)?)),
         _ => None,
     }
 }
@@ -481,7 +484,7 @@ fn matches_of<'a>(alloc: Global, words: &'a [String]) -> Result<ArgMatches<'a>, 
 /// # Errors
 ///
 /// What is wrong with the call.
-pub fn read<'a>(alloc: Global, words: &'a [String]) -> Result<Option<Asked<'a>>, BadCall<'a>> {
+pub fn read<'a>(alloc: Global, words: &'a [String]) -> Result<Option<Invocation<'a>>, BadCall<'a>> {
     let given = matches_of(alloc, words)?;
     match bad_value(&given) {
         Some(bad) => Err(BadCall::Value(bad)),

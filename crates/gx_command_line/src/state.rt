@@ -29,7 +29,7 @@ impl Behind {
 
 /// Which state is wanted, and how it is told.
 #[derive(Clone, Copy)]
-pub struct StateAsked {
+pub struct StateOptions {
     /// Behind which record, or at which time of day.
     pub behind: Behind,
     /// Whether each live order is told.
@@ -44,12 +44,12 @@ pub(crate) fn state_asked<'a>(
     at: &str,
     orders: &str,
     json: &str,
-) -> Option<StateAsked> {
+) -> Option<StateOptions> {
     let behind = match given.get_str(at) {
         Some(text) => Behind::parse(text)?,
         None => Behind::Last,
     };
-    Some(StateAsked {
+    Some(StateOptions {
         behind,
         with_orders: given.get_flag(orders),
         is_json: given.get_flag(json),

@@ -4,7 +4,7 @@ use crate::fault::Fault;
 use crate::run::{Phase, Run};
 use crate::timer::Timer;
 use crossbeam_channel::Receiver;
-use gx_operator::Asked;
+use gx_operator::ClientRequest;
 use gx_terminal::{HELP, Wish, Wrong};
 use std::alloc::Global;
 use std::io::{Read, Write};
@@ -102,7 +102,7 @@ impl<S: Read + Write + Drop, O: Write + Drop, E: Write + Drop> Run<S, O, E> {
     }
 
     /// Asks for this.
-    fn send_asked<R: Clock>(&mut self, rt: &R, asked: &Asked) -> Result<(), Fault> {
+    fn send_asked<R: Clock>(&mut self, rt: &R, asked: &ClientRequest) -> Result<(), Fault> {
         let packet = self.operator.ask(asked)?;
         self.asked = Timer::start(rt);
         self.send(rt, packet.as_slice())
@@ -120,7 +120,7 @@ impl<S: Read + Write + Drop, O: Write + Drop, E: Write + Drop> Run<S, O, E> {
     }
 
     /// Asks for each of these, in this order.
-    fn send_each<R: Clock>(&mut self, rt: &R, all: &[Asked]) -> Result<(), Fault> {
+    fn send_each<R: Clock>(&mut self, rt: &R, all: &[ClientRequest]) -> Result<(), Fault> {
         for asked in all {
             self.send_asked(rt, asked)?;
         }

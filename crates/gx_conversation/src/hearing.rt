@@ -13,7 +13,7 @@ use std::time::Clock;
 
 impl<S: Read + Write + Drop, O: Write + Drop, E: Write + Drop> Run<S, O, E> {
     /// Hears what comes next, if anything comes in time.
-    pub(crate) fn listen<R: Clock>(&mut self, rt: &R) -> Result<(), Fault> {
+    pub(crate) fn read_reports<R: Clock>(&mut self, rt: &R) -> Result<(), Fault> {
         let mut buffer = [0u8; 4096];
         match self.stream.read(&mut buffer) {
             Ok(0) => self.hear_end(),

@@ -3,7 +3,7 @@
 ghost use Rattle.std.specs.{Prelude.{◌≡◌, is_some}, List.list_all};
 ghost use Rattle.gx_conversation.specs.Waiting.{named_by, named_order};
 
-use gx_operator::Asked;
+use gx_operator::ClientRequest;
 use gx_ouch::Inbound;
 use gx_units::Token;
 
@@ -18,17 +18,17 @@ fn named_by(order: &Inbound) -> Option<Token>
 }
 
 /// The token of the live order that a replace or a cancel names: the gate answers neither where there is none.
-pub(crate) fn named_order(asked: &Asked) -> Option<Token>
+pub(crate) fn named_order(asked: &ClientRequest) -> Option<Token>
     ensures { result ≡ named_order asked.now }
 {
     match asked {
-        Asked::Command(_) => None,
-        Asked::Order(order) => named_by(order),
+        ClientRequest::Command(_) => None,
+        ClientRequest::Order(order) => named_by(order),
     }
 }
 
 /// Whether all of it may never be answered.
-pub(crate) fn all_name_orders(waiting: &[Asked]) -> bool
+pub(crate) fn all_name_orders(waiting: &[ClientRequest]) -> bool
     ensures { result ≡ list_all (λ asked. is_some (named_order asked)) waiting.now }
 {
     waiting.iter().all(|asked| named_order(asked).is_some())

@@ -141,7 +141,7 @@ impl<S: Read + Write + Drop, O: Write + Drop, E: Write + Drop> Run<S, O, E> {
         let packet = self.session.login_packet(self.alloc)?;
         self.send(rt, packet.as_slice())?;
         for _ in rt.forever() {
-            self.listen(rt)?;
+            self.read_reports(rt)?;
             self.keep_time(rt)?;
             if self.phase != Phase::LoggingIn {
                 break;
@@ -209,7 +209,7 @@ impl<S: Read + Write + Drop, O: Write + Drop, E: Write + Drop> Run<S, O, E> {
         if self.phase == Phase::Ended {
             return self.await_no_line(rt, lines);
         }
-        self.listen(rt)?;
+        self.read_reports(rt)?;
         self.keep_time(rt)?;
         self.obey_next(rt, lines)
     }

@@ -5,8 +5,8 @@ use Rattle.std.specs.{List.list_all, Option.option_map_or, Prelude.{Option, Some
 use Rattle.gx_units.specs.declared.names.{AccountName.AccountName, RuleId.RuleId, Symbol.Symbol, UserName.UserName}
 use Rattle.gx_desk.specs.declared.{Action.Action, WrittenName.WrittenName}
 use Rattle.gx_history.specs.{declared.record.RecordData.RecordData, Asking.{are_his, holds_accounts, has_limit, has_stock, knows_limit, knows_stocks, rule_in_force, sees_now}, Readers.reader_in}
-use Rattle.gx_people.specs.Entitled.{holds, sees}
-use Rattle.gx_people.proofs.{Changing.reader_in_force, Keeping.named_see}
+use Rattle.gx_people.specs.Entitled.{holds_account, sees}
+use Rattle.gx_people.proofs.{Users_stay.reader_in_force, Users_laws.named_see}
 use Rattle.gx_rules.specs.Settings.{covers_in, limit_in, lists_in}
 use Rattle.gx_gate_state.specs.declared.state.GateState.{GateState}
 use Rattle.gx_core.specs.{Kept.IsKept, Known.{has_concerned, is_his_or_not_its}}
@@ -54,10 +54,10 @@ readers_are_known policy history k written kept =
     by None = refl
     by (Some u) = refl
 
-pub sights_are_known : (policy : PolicyData) (history : List RecordData) (k : GateState) (written : WrittenName) (account : AccountName) → IsKept policy history k
+pub sights_are_known : {policy : PolicyData} {history : List RecordData} (k : GateState) (written : WrittenName) (account : AccountName) → IsKept policy history k
     → is_sound policy ≡ true
     → option_map_or (λ name. sees k.people name account) (option_map (λ (u : User). u.name) (reader_in k.people written)) false ≡ sees_now policy history written account
-sights_are_known policy history k written account kept sound =
+sights_are_known {policy} {history} k written account kept sound =
     ap (λ (users : List User). option_map_or (λ name. sees users name account) (option_map (λ (u : User). u.name) (reader_in users written)) false) kept.in_force.people
     ∙ named_see policy history written account sound
 
@@ -78,12 +78,12 @@ same_test policy inner outer (a ∷ accounts) = by (covers inner a.name) (same_t
 
 -- the accounts that a rule is for, as the state know them
 abbrev pub its_accounts_are_his : GateState → UserName → RuleId → List Account → Bool
-its_accounts_are_his k officer name accounts = list_all (λ (a : Account). not (covers_in k.rules name a.name) || holds k.people officer a.name) accounts
+its_accounts_are_his k officer name accounts = list_all (λ (a : Account). not (covers_in k.rules name a.name) || holds_account k.people officer a.name) accounts
 
-pub its_accounts_are_known : (policy : PolicyData) (history : List RecordData) (k : GateState) (officer : UserName) (name : RuleId) → IsKept policy history k
+pub its_accounts_are_known : {policy : PolicyData} {history : List RecordData} (k : GateState) (officer : UserName) (name : RuleId) → IsKept policy history k
     → its_accounts_are_his k officer name policy.accounts
     ≡ list_all (is_his_or_not_its (record { policy = policy; records = history }) (role_in policy.users officer) name) policy.accounts
-its_accounts_are_known policy history k officer name kept =
+its_accounts_are_known {policy} {history} k officer name kept =
     λ i. list_all (λ (a : Account). not (covers_in (kept.in_force.rules i) name a.name) || scopes_are_known policy history k officer a.name kept i) policy.accounts
 
 -- an officer has what the command concerns, and nobody else has

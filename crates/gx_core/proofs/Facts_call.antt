@@ -8,13 +8,13 @@ use Rattle.gx_matching.specs.BookInForce.{book_in_force, stock_in_force}
 use Rattle.gx_desk.specs.declared.Action.{Action}
 use Rattle.gx_history.specs.{declared.{«record».{RecordData.RecordData, Request.Request}, report.Report.Report}, Asking.{has_power, live_named}, InForce.{is_closed, is_killed, kill_in_force, line_of}, Logins.password_is, Orders.is_token_used, Requests.named_token, Streams.{copies, stream}, Verdicts.last_moment, Live.{live, live_under}}
 use Rattle.gx_trading_status.specs.StatusData.{TradingStatusData, kill_in, killed_in, line_in}
-use Rattle.gx_trading_status.proofs.Answering.{ends_are_kept, kills_are_kept, lines_are_kept, moments_are_kept}
+use Rattle.gx_trading_status.proofs.Status_answers.{ends_are_kept, kills_are_kept, lines_are_kept, moments_are_kept}
 use Rattle.gx_orders.specs.LiveOrders.{OrdersData, is_used}
-use Rattle.gx_orders.proofs.Keeping.{used_is}
-use Rattle.gx_people.specs.Entitled.{has, holds, holds_in_role, power_of}
-use Rattle.gx_people.proofs.Keeping.{accounts_stay, officers_stay, passwords_stay, powers_stay, scopes_stay, users_stay}
+use Rattle.gx_orders.proofs.UsedTokens_next.{used_is}
+use Rattle.gx_people.specs.Entitled.{has, holds_account, holds_in_role, power_of}
+use Rattle.gx_people.proofs.Users_laws.{accounts_stay, officers_stay, passwords_stay, powers_stay, scopes_stay, users_stay}
 use Rattle.gx_streams.specs.Streams.{reports_in}
-use Rattle.gx_streams.proofs.{Finding.reports_are, OnlyKnown.{readers_are, streams_are_copies}}
+use Rattle.gx_streams.proofs.{UserLists_found.reports_are, Copies_only.{readers_are, streams_are_copies}}
 use Rattle.gx_gate_state.specs.declared.state.GateState.{GateState}
 use Rattle.gx_core.specs.Kept.{IsKept}
 
@@ -50,8 +50,8 @@ pub powers_are_known : (policy : PolicyData) (history : List RecordData) (k : Ga
 powers_are_known policy history k user action kept = ap (λ (users : List User). has users user (power_of action)) kept.in_force.people ∙ powers_stay policy history user action
 
 pub scopes_are_known : (policy : PolicyData) (history : List RecordData) (k : GateState) (user : UserName) (account : AccountName) → IsKept policy history k
-    → holds k.people user account ≡ holds_in_role (role_in policy.users user) account
-scopes_are_known policy history k user account kept = ap (λ (users : List User). holds users user account) kept.in_force.people ∙ scopes_stay policy history user account
+    → holds_account k.people user account ≡ holds_in_role (role_in policy.users user) account
+scopes_are_known policy history k user account kept = ap (λ (users : List User). holds_account users user account) kept.in_force.people ∙ scopes_stay policy history user account
 
 -- the day
 pub line_is_known : (policy : PolicyData) (history : List RecordData) (k : GateState) (user : UserName) → IsKept policy history k → line_in k.status user ≡ line_of history user
@@ -88,16 +88,16 @@ pub reports_are_known : (policy : PolicyData) (history : List RecordData) (k : G
 reports_are_known policy history k user kept = reports_are policy history k.streams kept.legal kept.in_force.streams user
 
 -- of a reader: his drop copies
-copies_are_known : (policy : PolicyData) (history : List RecordData) (k : GateState) (user : UserName) → IsKept policy history k → is_reader (role_in policy.users user) ≡ true
+copies_are_known : {policy : PolicyData} {history : List RecordData} (k : GateState) (user : UserName) → IsKept policy history k → is_reader (role_in policy.users user) ≡ true
     → reports_in k.streams user ≡ copies policy history user
-copies_are_known policy history k user kept reads =
-    reports_are_known policy history k user kept ∙ streams_are_copies policy history user kept.legal (readers_are policy user reads)
+copies_are_known {policy} {history} k user kept reads =
+    reports_are_known policy history k user kept ∙ streams_are_copies user kept.legal (readers_are policy user reads)
 
-pub copies_are_given : {V E : Type 0} (r : Result V E) (given : V → List Report) (policy : PolicyData) (history : List RecordData) (k : GateState) (user : UserName) (from most : ℕ) → IsKept policy history k
+pub copies_are_given : {V E : Type 0} (r : Result V E) (given : V → List Report) {policy : PolicyData} {history : List RecordData} (k : GateState) (user : UserName) (from most : ℕ) → IsKept policy history k
     → IfOk r (λ v. given v ≡ slice (reports_in k.streams user) from most)
     → IfOk r (λ v. is_reader (role_in policy.users user) ≡ true → given v ≡ slice (copies policy history user) from most)
-copies_are_given (Ok v) given policy history k user from most kept is = λ reads. is ∙ ap (λ (l : List Report). slice l from most) (copies_are_known policy history k user kept reads)
-copies_are_given (Err e) given policy history k user from most kept is = tt
+copies_are_given (Ok v) given k user from most kept is = λ reads. is ∙ ap (λ (l : List Report). slice l from most) (copies_are_known k user kept reads)
+copies_are_given (Err e) given k user from most kept is = tt
 
 -- a number behind the last report fits, where the first that is wanted does
 pub numbers_fit : (owed : List Report) (from most : ℕ) → length owed < 2 ^ 63 → from < 2 ^ 64 → max 1 from + length (slice owed from most) < 2 ^ 64

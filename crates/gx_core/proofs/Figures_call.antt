@@ -7,8 +7,8 @@ use Rattle.gx_ouch.specs.declared.outbound.OrderTerms.{OrderTerms}
 use Rattle.gx_history.specs.{declared.{facts.StockSide.StockSide, live_order.LiveOrder.LiveOrder, «record».RecordData.RecordData}, Executions.{Execution, executions}, Figures.{counts_account, done_of_chosen, done_value, live_value, of_accounts, on_side, open_of_chosen, open_value, other_side, positions}, InForce.is_entitled, Live.{live, live_numbered}, LiveOrders.shares_open, Verdicts.{IsLegal, day_limit}}
 use Rattle.gx_orders.specs.LiveOrders.{OrdersData}
 use Rattle.gx_people.specs.Entitled.{sees}
-use Rattle.gx_people.proofs.Entitling.{kept}
-use Rattle.gx_laws.proofs.{Sized.{IsSized, legal_is_sized}, Small.{IsSmall, IsSmallSide, below, product, sum_within}, Sound.{live_are_few, positions_are_sound}}
+use Rattle.gx_people.proofs.Grants_next.{kept}
+use Rattle.gx_laws.proofs.{Days_bounds.{IsSized, legal_is_sized}, SmallDays_next.{IsSmall, IsSmallSide, below, product, sum_within}, Positions_sound.{live_are_few, positions_are_sound}}
 use Rattle.gx_rules.specs.Settings.{limit_in}
 use Rattle.gx_ledger.specs.{declared.{figure_kind.FigureKind.FigureKind, sums.{NetSums.NetSums, Sums.Sums}}, Standing.{GivesGross, GivesNet, counted_with, gross_sums_of, net_sums_of}, Tallies.{asks_of, count_of}}
 use Rattle.gx_gate_state.specs.declared.state.GateState.{GateState}
@@ -99,10 +99,10 @@ stands_there rules name =
     ∙ ap (slice_get rules)
     (sym (ap (λ o. unwrap_or o (length rules)) (position_from-zero named rules) ∙ ap (unwrap_or (position_from named 0 rules)) none ∙ place_from named 0 rules ∙ first))
 
-pub gross_is_known : (policy : PolicyData) (history : List RecordData) (k : GateState) (name : RuleId) (account : AccountName) (given : Option Sums) → IsKept policy history k
+pub gross_is_known : {policy : PolicyData} {history : List RecordData} (k : GateState) (name : RuleId) (account : AccountName) (given : Option Sums) → IsKept policy history k
     → GivesGross k.ledger (place_of_rule policy.rules name) account given
     → option_map gross_in given ≡ gross_used policy history name account
-gross_is_known policy history k name account given is gives =
+gross_is_known {policy} {history} k name account given is gives =
     ap (option_map gross_in) (gives policy (positions policy history) is.in_force.ledger)
     ∙ by (slice_get policy.rules (place_of_rule policy.rules name))
     ∙ ap (option_and_then (gross_of_rule policy history account)) (sym (stands_there policy.rules name))
@@ -113,10 +113,10 @@ gross_is_known policy history k name account given is gives =
     by None = refl
     by (Some rule) = gross_is policy history account rule
 
-pub net_is_known : (policy : PolicyData) (history : List RecordData) (k : GateState) (name : RuleId) (account : AccountName) (side : StockSide) (given : Option NetSums) → IsKept policy history k
+pub net_is_known : {policy : PolicyData} {history : List RecordData} (k : GateState) (name : RuleId) (account : AccountName) (side : StockSide) (given : Option NetSums) → IsKept policy history k
     → GivesNet k.ledger (place_of_rule policy.rules name) account side given
     → option_map net_in given ≡ net_used policy history name account side
-net_is_known policy history k name account side given is gives =
+net_is_known {policy} {history} k name account side given is gives =
     ap (option_map net_in) (gives policy (positions policy history) is.in_force.ledger (positions_are_sound policy history is.legal))
     ∙ by (slice_get policy.rules (place_of_rule policy.rules name))
     ∙ ap (option_and_then (net_of_rule policy history account side)) (sym (stands_there policy.rules name))
@@ -137,7 +137,7 @@ net_fits done other live low also small = omega (arith, ints, low, also, small)
 
 module _ (policy : PolicyData) (history : List RecordData) (legal : IsLegal policy history) where
   abbrev sized : IsSized policy history
-  sized = legal_is_sized policy history legal
+  sized = legal_is_sized legal
 
   few_live : length (live policy history) ≤ day_limit + day_limit
   few_live = omega (arith, live_are_few policy history legal)
@@ -190,9 +190,9 @@ module _ (policy : PolicyData) (history : List RecordData) (legal : IsLegal poli
   net_small side (FigureKind.Recent rate) (Some among) = tt
   net_small side (FigureKind.Alike repeat) (Some among) = tt
 
-pub gross_is_small : (policy : PolicyData) (history : List RecordData) (k : GateState) (place : ℕ) (account : AccountName) (given : Option Sums) → IsKept policy history k
+pub gross_is_small : {policy : PolicyData} {history : List RecordData} (k : GateState) (place : ℕ) (account : AccountName) (given : Option Sums) → IsKept policy history k
     → GivesGross k.ledger place account given → IfSome given AreSmall
-gross_is_small policy history k place account given is gives =
+gross_is_small {policy} {history} k place account given is gives =
     subst (λ (o : Option Sums). IfSome o AreSmall) (sym (gives policy (positions policy history) is.in_force.ledger)) (at (slice_get policy.rules place))
   where
     at : (found : Option FileRule)
@@ -200,9 +200,9 @@ gross_is_small policy history k place account given is gives =
     at None = tt
     at (Some rule) = gross_small policy history is.legal (asks_of rule.kind) (counted_with policy account rule)
 
-pub net_is_small : (policy : PolicyData) (history : List RecordData) (k : GateState) (place : ℕ) (account : AccountName) (side : StockSide) (given : Option NetSums) → IsKept policy history k
+pub net_is_small : {policy : PolicyData} {history : List RecordData} (k : GateState) (place : ℕ) (account : AccountName) (side : StockSide) (given : Option NetSums) → IsKept policy history k
     → GivesNet k.ledger place account side given → IfSome given AreNetSmall
-net_is_small policy history k place account side given is gives =
+net_is_small {policy} {history} k place account side given is gives =
     subst (λ (o : Option NetSums). IfSome o AreNetSmall) (sym (gives policy (positions policy history) is.in_force.ledger (positions_are_sound policy history is.legal))) (at (slice_get policy.rules place))
   where
     at : (found : Option FileRule)

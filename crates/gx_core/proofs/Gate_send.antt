@@ -27,7 +27,7 @@ use Rattle.gx_ledger.specs.contracts.group.Group as group
 use Rattle.gx_ledger.specs.contracts.tally.Tally as tally
 use Rattle.gx_ledger.specs.contracts.ledger.Ledger as ledger
 use Rattle.gx_ledger.specs.contracts.ledger.Ledger.TheInside as ledger_inside
-use Rattle.gx_streams.proofs.Crossing.{streams_send}
+use Rattle.gx_streams.proofs.Streams_send.{streams_send}
 use Rattle.gx_gate_state.specs.contracts.state.GateState as state
 use Rattle.gx_core.specs.contracts.gate.Gate as gate
 

@@ -4,7 +4,7 @@ use Rattle.std.specs.Prelude.{Option}
 use Rattle.gx_units.specs.declared.names.AccountName.{AccountName}
 use Rattle.gx_policy.specs.People.{account_of}
 use Rattle.gx_history.specs.{declared.{live_order.LiveOrder.LiveOrder, «record».{Asked.Asked, RecordData.RecordData, Request.Request, Step.Step, Verdict.Verdict}}, World.{move_asked, move_by, world}}
-use Rattle.gx_answers.specs.Gates.{GateData}
+use Rattle.gx_access_gate.specs.Gates.{GateData}
 use Rattle.gx_core.specs.{Known.order_asked, Moves.{done_by, granted_move}}
 
 by_request : (gate : GateData) (r : RecordData) (a : Asked) (q : Request) → a.request ≡ q

@@ -13,19 +13,19 @@ pub record IsKept (policy : PolicyData) (records : List RecordData) (k : GateSta
 
 -- each Kill and each Logout that may be granted has its places: one for its record, beside the day's limit too, and one for each
 -- report that it owes
-pub record AreReserved (policy : PolicyData) (records : List RecordData) (spare : ℕ) (k : GateState) : Type 0 where
+pub record AreReserved (policy : PolicyData) (records : List RecordData) (reserved : ℕ) (k : GateState) : Type 0 where
   pub within : length records + reserved_records policy records ≤ day_limit + most_reserved_records policy
-  pub recorded : reserved_records policy records ≤ spare
+  pub recorded : reserved_records policy records ≤ reserved
   pub told : HaveReservedReports policy records k.streams
 
 -- steps alone speak of them: opened at every call, they would be in the way of its proof
 unfoldable pub HaveReserved : PolicyData → List RecordData → ℕ → GateState → Type 0
-HaveReserved policy records spare k = AreReserved policy records spare k
+HaveReserved policy records reserved k = AreReserved policy records reserved k
 
 -- what is always so
-pub record IsWhole (policy : PolicyData) (records : List RecordData) (spare : ℕ) (k : GateState) : Type 0 where
+pub record IsWhole (policy : PolicyData) (records : List RecordData) (reserved : ℕ) (k : GateState) : Type 0 where
   pub kept : IsKept policy records k
-  pub places : HaveReserved policy records spare k
+  pub places : HaveReserved policy records reserved k
 
 -- the reports of the user
 abbrev pub reports_of_user : GateState → UserName → List Report

@@ -3,7 +3,7 @@ use Rattle.std.specs.{Option.option_map_or, Prelude.{Option, Some, None}}
 use Rattle.gx_units.specs.declared.names.AccountName.{AccountName}
 use Rattle.gx_policy.specs.declared.policy.PolicyData.{PolicyData}
 use Rattle.gx_history.specs.{declared.{live_order.LiveOrder.LiveOrder, moves.Move.{Move, TheVariants.{Nothing, PutsOn, Adds, Sizes, Replaces, Commands}}, «record».{Asked.Asked, RecordData.RecordData, Request.Request}}, LiveOrders.replacement_order, Turns.new_order, World.{move_of, world}}
-use Rattle.gx_answers.specs.Gates.{GateData}
+use Rattle.gx_access_gate.specs.Gates.{GateData}
 
 -- what the record does after the gate's records
 abbrev pub done_by : GateData → RecordData → Move

@@ -3,7 +3,7 @@
 ghost use Rattle.std.specs.{Prelude.{◌≡◌, ◌||◌, not}, List.list_all};
 ghost use Rattle.gx_history.specs.Asking.{are_his, changes, has_limit, knows_names, rule_in_force, sees_now};
 ghost use Rattle.gx_policy.specs.People.{role_in};
-ghost use Rattle.gx_people.specs.Entitled.{holds};
+ghost use Rattle.gx_people.specs.Entitled.{holds_account};
 ghost use Rattle.gx_rules.specs.Settings.{covers_in};
 ghost use Rattle.gx_core.specs.Known.{accounts_held, change_asked, has_concerned, is_his_or_not_its, names_known, power_held};
 
@@ -42,7 +42,7 @@ fn are_its_accounts_his(
     accounts: &[Account],
 ) -> bool
     ensures { result ≡ list_all (λ a.
-        not (covers_in rules.now rule a.name) || holds people.now officer a.name) accounts.now }
+        not (covers_in rules.now rule a.name) || holds_account people.now officer a.name) accounts.now }
 {
     accounts.iter().all(|a| !rules.covers(rule, a.name) || people.holds(officer, a.name))
 }

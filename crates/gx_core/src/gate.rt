@@ -8,7 +8,7 @@ use crate::login::{login_answered, login_asked};
 use crate::moves::matched_move;
 use crate::putting::put_pull;
 use crate::reserve::{first_history, reserve_for, reserve_one};
-use gx_answers::{
+use gx_access_gate::{
     AccessGate, LoginAnswer, Outcome, Pulled, Reached, Reports, StepFault, record_of,
     record_of_match,
 };
@@ -40,14 +40,14 @@ pub struct Gate {
 }
 
 impl Model for Gate {
-    ghost use Rattle.gx_answers.specs.Gates.{GateData};
+    ghost use Rattle.gx_access_gate.specs.Gates.{GateData};
     ghost use Rattle.gx_core.specs.Kept.{IsWhole};
 
     ghost Value = { GateData };
 
     ghost view = { λ g. record { policy = g.policy; records = g.history.records } };
 
-    ghost invariant = { λ g. IsWhole g.policy g.history.records g.history.spare g.state };
+    ghost invariant = { λ g. IsWhole g.policy g.history.records g.history.reserved g.state };
 }
 
 impl AccessGate for Gate {
@@ -87,7 +87,7 @@ impl AccessGate for Gate {
     fn step(&mut self, a: Asked) -> Result<Outcome, StepFault> {
         let asker = self.near_asker(&a);
         let mut known = self.facts_of(&a, asker);
-        self.put_named(&a, &mut known);
+        self.put_target_order(&a, &mut known);
         let near = self.near_named(asker, &known);
         let outcome = self.judge(&a, near, &known);
         let entry = record_of(&a, outcome);

@@ -5,11 +5,11 @@ ghost use Rattle.gx_history.specs.declared.record.Step.TheVariants as steps;
 ghost use Rattle.gx_history.specs.{Asking.{changes, facts, fits_role, has_power, is_on_line, knows_user, lists_its_stock}, InForce.{is_killed, line_of}, Showing.{answers, is_askable, is_showable}, Verdicts.{facts_now, moment_of, next, verdict}};
 ghost use Rattle.gx_policy.specs.People.{account_of, role_in};
 ghost use Rattle.gx_people.specs.Entitled.{holds_in_role};
-ghost use Rattle.gx_answers.specs.{Gates.left_by, Steps.{next_of, verdict_of}, Told.stream_of};
-ghost use Rattle.gx_core.specs.Known.{accounts_held, change_asked, has_used, is_available_after, names_known, order_asked, power_held, role_asking, with_named};
+ghost use Rattle.gx_access_gate.specs.{Gates.left_by, Steps.{next_of, verdict_of}, Told.stream_of};
+ghost use Rattle.gx_core.specs.Known.{accounts_held, change_asked, has_used, is_available_after, names_known, order_asked, power_held, role_asking, with_target_order};
 
 use crate::gate::Gate;
-use gx_answers::{AccessGate, Outcome};
+use gx_access_gate::{AccessGate, Outcome};
 use gx_decide::decide;
 use gx_desk::Action;
 use gx_gate_state::listed::fits_firm;
@@ -30,7 +30,7 @@ const NO_FACTS: Facts = Facts {
     is_on_this_line: false,
     role_fits: false,
     token_is_used: false,
-    named: None,
+    target_order: None,
     day_is_closed: false,
     account_is_killed: false,
     firm_fits: false,
@@ -152,9 +152,9 @@ impl Gate {
     /// names are looked for at these places first.
     #[tactic(auto, unfolding(gx_history::specs::Asking::facts))]
     pub(crate) fn facts_of(&self, a: &Asked, near: Near) -> Facts
-        ensures told { with_named (order_asked self.now a.now) result
+        ensures told { with_target_order (order_asked self.now a.now) result
             ≡ facts_now self.now.policy self.now.records a.now }
-        ensures none { result.named ≡ None }
+        ensures none { result.target_order ≡ None }
         ensures account { result.account ≡ account_of self.now.policy a.now.user }
         ensures moment { result.moment ≡ moment_of self.now.records (steps.Asked a.now) }
     {
@@ -186,17 +186,17 @@ impl Gate {
 
     /// Puts the order that the request names to the facts, which have none. One that is returned with them would be copied
     /// from place to place on the way.
-    pub(crate) fn put_named(&self, a: &Asked, known: &mut Facts)
-        requires told { with_named (order_asked self.now a.now) known.old
+    pub(crate) fn put_target_order(&self, a: &Asked, known: &mut Facts)
+        requires told { with_target_order (order_asked self.now a.now) known.old
             ≡ facts_now self.now.policy self.now.records a.now }
-        requires none { known.old.named ≡ None }
+        requires none { known.old.target_order ≡ None }
         ensures told { known.new ≡ facts_now self.now.policy self.now.records a.now }
-        ensures named { known.new.named ≡ order_asked self.now a.now }
+        ensures named { known.new.target_order ≡ order_asked self.now a.now }
         ensures account { known.new.account ≡ known.old.account }
         ensures moment { known.new.moment ≡ known.old.moment }
     {
         if let Some(order) = self.order_named(a) {
-            known.named = Some(order);
+            known.target_order = Some(order);
         }
     }
 
@@ -214,7 +214,7 @@ impl Gate {
     }
 
     /// The number, the moment and the verdict of the record that the request leaves, by what the rules ask.
-    #[tactic(auto, using(gx_laws::proofs::Granting::next_in_parts))]
+    #[tactic(auto, using(gx_laws::proofs::Requests_judged::next_in_parts))]
     pub(crate) fn judge(&self, a: &Asked, near: Near, known: &Facts) -> Outcome
         requires askable { IsTrue (is_askable a.now) }
         requires known { known.now ≡ facts_now self.now.policy self.now.records a.now }

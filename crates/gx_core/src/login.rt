@@ -2,9 +2,9 @@
 
 ghost use Rattle.std.specs.Prelude.{◌≡◌};
 ghost use Rattle.gx_history.specs.Logins.{session_is, first_wanted};
-ghost use Rattle.gx_answers.specs.Logins.{login_answer_after, login_asked_of};
+ghost use Rattle.gx_access_gate.specs.Logins.{login_answer_after, login_asked_of};
 
-use gx_answers::LoginAnswer;
+use gx_access_gate::LoginAnswer;
 use gx_history::record::{Login, Request, Verdict};
 use gx_people::People;
 use gx_policy::{Policy, RuleName};

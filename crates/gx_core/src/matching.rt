@@ -2,11 +2,11 @@
 
 ghost use Rattle.std.specs.Prelude.{◌≡◌, ◌≤◌, ◌<◌, length, IsTrue, Some};
 ghost use Rattle.gx_history.specs.Showing.{is_showable};
-ghost use Rattle.gx_answers.specs.{Gates.matched_by, Matches.{matching_of, next_match}};
+ghost use Rattle.gx_access_gate.specs.{Gates.matched_by, Matches.{matching_of, next_match}};
 ghost use Rattle.gx_core.specs.Known.{first_of};
 
 use crate::gate::Gate;
-use gx_answers::{AccessGate, Outcome};
+use gx_access_gate::{AccessGate, Outcome};
 use gx_history::live_order::LiveOrder;
 use gx_matching::meeting::{best_against, outcome_against};
 use gx_units::Moment;

@@ -13,7 +13,7 @@ use gx_history::live_order::LiveOrder;
 use gx_history::moves::Move;
 use gx_history::record::{Asked, RecordData, Request, Verdict};
 use gx_index::Near;
-use gx_ouch::{EnterOrder, OrderTerms, ReplaceOrder};
+use gx_ouch::{EnterOrder, ReplaceOrder};
 use gx_policy::{Policy, RuleName};
 use gx_units::{AccountName, UserName};
 
@@ -33,19 +33,7 @@ fn order_of(
         user,
         account,
         token: m.token,
-        terms: OrderTerms {
-            side: m.side,
-            shares: m.shares,
-            stock: m.stock,
-            price: m.price,
-            time_in_force: m.time_in_force,
-            firm: firm_of(policy, account, near, m.firm),
-            display: m.display,
-            capacity: m.capacity,
-            intermarket_sweep: m.intermarket_sweep,
-            minimum_quantity: m.minimum_quantity,
-            cross_type: m.cross_type,
-        },
+        terms: m.terms(firm_of(policy, account, near, m.firm)),
         total: m.shares,
         done: 0,
         waits: true,
@@ -101,15 +89,15 @@ fn put_granted_apart(
     known: &Facts,
 )
     ensures { moves.new ≡ granted_move
-        policy.now left.now a.now known.now.account known.now.named a.now.request }
+        policy.now left.now a.now known.now.account known.now.target_order a.now.request }
 {
     match &a.request {
         Request::Login(_) => *moves = Move::PutsOn(a.user, Some(a.line)),
         Request::Logout => *moves = Move::PutsOn(a.user, None),
         Request::Unreadable(_) => *moves = Move::Nothing,
         Request::Enter(m) => put_enter(moves, policy, left, a.user, known.account, near, m),
-        Request::Replace(m) => put_replace(moves, left, &known.named, m),
-        Request::Cancel(m) => put_cancel(moves, &known.named, m.shares),
+        Request::Replace(m) => put_replace(moves, left, &known.target_order, m),
+        Request::Cancel(m) => put_cancel(moves, &known.target_order, m.shares),
         Request::Command(c) => *moves = Move::Commands(a.user, *c),
     }
 }
@@ -125,7 +113,7 @@ fn put_granted(
     known: &Facts,
 )
     ensures { moves.new ≡ granted_move
-        policy.now left.now a.now known.now.account known.now.named a.now.request }
+        policy.now left.now a.now known.now.account known.now.target_order a.now.request }
 {
     match &a.request {
         Request::Enter(m) => put_enter(moves, policy, left, a.user, known.account, near, m),
@@ -168,7 +156,7 @@ impl Gate {
     )
         requires asks { left.now.step ≡ steps.Asked a.now }
         requires account { known.now.account ≡ account_of self.now.policy a.now.user }
-        requires named { known.now.named ≡ order_asked self.now a.now }
+        requires named { known.now.target_order ≡ order_asked self.now a.now }
         ensures does { moves.new ≡ done_by self.now left.now }
     {
         match left.verdict {

@@ -22,7 +22,7 @@ impl Gate {
 
     /// The same, with the stock of the order that a Replace or a Cancel names.
     pub(crate) fn near_named(&self, asker: Near, known: &Facts) -> Near {
-        match &known.named {
+        match &known.target_order {
             Some(order) => Near {
                 stock: self.state.book.near(order.terms.stock),
                 ..asker

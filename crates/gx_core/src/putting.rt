@@ -5,7 +5,7 @@ ghost use Rattle.gx_policy.specs.Lists.{slice};
 ghost use Rattle.gx_streams.specs.Recorded.{IsRecorded};
 ghost use Rattle.gx_core.specs.Kept.{is_past_the_end, reports_of_user};
 
-use gx_answers::Reached;
+use gx_access_gate::Reached;
 use gx_gate_state::GateState;
 use gx_history::records::Records;
 use gx_history::report::Report;

@@ -1,10 +1,10 @@
 //! The places of records.
 
 ghost use Rattle.std.specs.Prelude.{◌≡◌, ◌+◌, ◌-◌, ◌<◌, ◌≤◌, ◌^◌, [], length, IfErr, IfOk, IsFalse, IsOk, IsTrue, OnOk};
-ghost use Rattle.gx_answers.specs.declared.outcome.StepFault.TheVariants as faults;
+ghost use Rattle.gx_access_gate.specs.declared.outcome.StepFault.TheVariants as faults;
 ghost use Rattle.gx_history.specs.{Verdicts.day_limit, Reserved.{is_never_refused, most_reserved_records}};
 
-use gx_answers::StepFault;
+use gx_access_gate::StepFault;
 use gx_decide::is_full;
 use gx_history::History;
 use gx_history::record::{Asked, Verdict};
@@ -24,10 +24,10 @@ fn most_reserved_records(policy: &Policy) -> usize
     policy.accounts().len() + policy.users().len()
 }
 
-/// No record yet, and the places that are kept at the beginning of a day: those of the first records among them.
+/// No record yet, and the reserved places at the beginning of a day: those of the first records among them.
 pub(crate) fn first_history(alloc: Global, policy: &Policy) -> Result<History, OutOfMemory>
     ensures records { IfOk result (λ history. history.records ≡ []) }
-    ensures enough { IfOk result (λ history. most_reserved_records policy.now ≤ history.spare) }
+    ensures enough { IfOk result (λ history. most_reserved_records policy.now ≤ history.reserved) }
 {
     let mut history = History::new(alloc);
     history.reserve(most_reserved_records(policy).max(FIRST_RECORDS))?;
@@ -39,8 +39,8 @@ pub(crate) fn first_history(alloc: Global, policy: &Policy) -> Result<History, O
 /// `DayFull` comes before `OutOfMemory`, and only where the day has as many records as it may have.
 pub(crate) fn reserve_one(history: &mut History, policy: &Policy) -> Result<(), StepFault>
     ensures records { history.new.records ≡ history.old.records }
-    ensures more { history.old.spare ≤ history.new.spare }
-    ensures own { OnOk result (most_reserved_records policy.now + 1 ≤ history.new.spare) }
+    ensures more { history.old.reserved ≤ history.new.reserved }
+    ensures own { OnOk result (most_reserved_records policy.now + 1 ≤ history.new.reserved) }
     ensures room { OnOk result (length history.old.records < day_limit) }
     ensures full { day_limit ≤ length history.old.records → result ≡ Err faults.DayFull }
     ensures day_full { IfErr result (λ e. e ≡ faults.DayFull
@@ -61,9 +61,9 @@ pub(crate) fn reserve_for(
     given: Verdict,
 ) -> Result<(), StepFault>
     ensures records { history.new.records ≡ history.old.records }
-    ensures more { history.old.spare ≤ history.new.spare }
+    ensures more { history.old.reserved ≤ history.new.reserved }
     ensures own { OnOk result (IsFalse (is_never_refused a.now.request given)
-        → most_reserved_records policy.now + 1 ≤ history.new.spare) }
+        → most_reserved_records policy.now + 1 ≤ history.new.reserved) }
     ensures room { OnOk result (IsFalse (is_never_refused a.now.request given)
         → length history.old.records < day_limit) }
     ensures sure { IsTrue (is_never_refused a.now.request given) → IsOk result }

@@ -42,7 +42,7 @@ fn judged(rules: &RuleBook, ledger: &Ledger, facts: &Facts, near: Near, a: &Aske
     let Some(account) = facts.account else {
         return verdict_by(rules.first_forbidding(facts, &NoFigures, near.account, &a.request));
     };
-    let figures = ledger.after(account, &a.request, near, facts.named, facts.moment);
+    let figures = ledger.after(account, &a.request, near, facts.target_order, facts.moment);
     verdict_by(rules.first_forbidding(facts, &figures, near.account, &a.request))
 }
 

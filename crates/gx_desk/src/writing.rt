@@ -5,7 +5,7 @@ ghost use Rattle.gx_ouch.specs.{Layout.{HasSizes, LiesIn}, Writing.outbound_byte
 ghost use Rattle.gx_desk.specs.{Messages.{answer, drop_copy}, Writing.{answer_bytes, answer_code, answer_contents, drop_copy_bytes, drop_copy_contents}};
 
 use crate::{Answer, AnswerCode, DropCopy};
-use gx_ouch::{Draft, MESSAGE_ROOM, Outbound};
+use gx_ouch::{MESSAGE_ROOM, MessageDraft, Outbound};
 
 impl AnswerCode {
     /// The code's two bytes: `OK`, `PL`, or `Q` and the number of the rule that denies.
@@ -36,12 +36,12 @@ impl Answer {
     }
 
     #[tactic(auto, unfolding(crate::specs::Writing::answer_bytes))]
-    fn draft(&self, timestamp: u64) -> Draft
+    fn draft(&self, timestamp: u64) -> MessageDraft
         ensures bytes { result ≡ answer_bytes timestamp self.now }
         ensures len { length result ≡ answer.size }
         ensures sizes { HasSizes answer (answer_contents timestamp self.now) }
     {
-        let mut draft = Draft::new();
+        let mut draft = MessageDraft::new();
         draft.put(b"Q");
         draft.put(&timestamp.to_be_bytes());
         draft.put(&self.tag.bytes);
@@ -66,7 +66,7 @@ impl DropCopy {
     }
 
     #[tactic(auto, unfolding(crate::specs::Writing::drop_copy_bytes, gx_ouch::specs::Writing::outbound_bytes))]
-    fn draft(&self, timestamp: u64) -> Draft
+    fn draft(&self, timestamp: u64) -> MessageDraft
         ensures bytes { result ≡ drop_copy_bytes timestamp self.now }
         ensures len { length result ≡ drop_copy.size }
         ensures sizes { HasSizes drop_copy (drop_copy_contents timestamp self.now) }

@@ -5,7 +5,7 @@ use gx_clock::{DayClock, UtcOffset};
 use gx_command_line::Desk;
 use gx_conversation::{Fault, NO_ACCOUNTS, Run, Setup};
 use gx_policy::Policy;
-use gx_program::{Content, Ended, bytes_of, policy_of, tell};
+use gx_program::{Content, Failure, bytes_of, policy_of, tell};
 use gx_soup::LoginRequest;
 use gx_terminal::Wish;
 use gx_text::Form;
@@ -50,7 +50,7 @@ type Lines = Receiver<Option<Vec<u8>>, Global>;
 #[derive(Drop)]
 enum Stop<'a> {
     /// The program gave up.
-    Ended(Ended<'a>),
+    Failure(Failure<'a>),
     /// The arguments, or what they name, can't be meant; what is told of that.
     Words(&'static str),
     /// The gate can't be reached.
@@ -59,15 +59,15 @@ enum Stop<'a> {
     Fault(Fault, u8),
 }
 
-impl<'a> From<Ended<'a>> for Stop<'a> {
-    fn from(ended: Ended<'a>) -> Stop<'a> {
-        Stop::Ended(ended)
+impl<'a> From<Failure<'a>> for Stop<'a> {
+    fn from(ended: Failure<'a>) -> Stop<'a> {
+        Stop::Failure(ended)
     }
 }
 
 impl<'a> From<OutOfMemory> for Stop<'a> {
     fn from(refused: OutOfMemory) -> Stop<'a> {
-        Stop::Ended(refused.into())
+        Stop::Failure(refused.into())
     }
 }
 
@@ -97,7 +97,7 @@ fn names_of(alloc: Global, policy: &Policy) -> Result<Vec<AccountName>, OutOfMem
 fn accounts_of<'a>(
     host: &HostRuntime,
     path: Option<&'a str>,
-) -> Result<Option<Vec<AccountName>>, Ended<'a>> {
+) -> Result<Option<Vec<AccountName>>, Failure<'a>> {
     if path.is_none() {
         return Ok(None);
     }
@@ -408,7 +408,7 @@ fn tell_fault(host: &HostRuntime, fault: &Fault, status: u8) -> ExitCode {
 /// Tells why there is no run, or why it ended early: the status that says so.
 fn tell_stop(host: &HostRuntime, stop: Stop) -> ExitCode {
     match stop {
-        Stop::Ended(ended) => tell(host, ended),
+        Stop::Failure(ended) => tell(host, ended),
         Stop::Words(text) => tell_words(host, text),
         Stop::Unreached(error) => tell_unreached(host, &error),
         Stop::Fault(fault, status) => tell_fault(host, &fault, status),

@@ -1,3 +1,3 @@
-pub mod Known
-pub mod Stopping
-pub mod Pieces
+pub mod Parts_written
+pub mod Run_stopped
+pub mod Run_pieces

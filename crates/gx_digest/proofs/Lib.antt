@@ -1,2 +1,2 @@
-pub mod Taking
-pub mod Apart
+pub mod Digest_next
+pub mod Policies_apart

@@ -31,7 +31,7 @@ fn put_policy(hasher: &mut Sha256, policy: &Policy)
 }
 
 /// The SHA-256 of the policy's text, in which all stands that the policy says but passwords. Takes no memory.
-#[tactic(auto, using(crate::proofs::Apart::told_apart, crate::proofs::Apart::no_passwords))]
+#[tactic(auto, using(crate::proofs::Policies_apart::told_apart, crate::proofs::Policies_apart::no_passwords))]
 pub fn policy_digest(policy: &Policy) -> [u8; 32]
     ensures digest { result ≡ sha256 (policy_text policy.now) }
     ensures apart { IsToldApart policy.now }

@@ -39,7 +39,7 @@ fn write_items<T: Written>(hasher: &mut Sha256, items: &[T])
 }
 
 /// Takes a list in: its items, and a semicolon.
-#[tactic(auto, using(crate::proofs::Taking::two))]
+#[tactic(auto, using(crate::proofs::Digest_next::two))]
 pub(crate) fn write_list<T: Written>(hasher: &mut Sha256, items: &[T])
     ensures { TakesIn hasher.old hasher.new (list_text T.text items.now) }
 {

@@ -3,9 +3,9 @@ use Rattle.std.specs.Prelude.{◌≡◌, ◌≤◌, ℕ, List, [], ◌∷◌, �
 use mathlib.Core.List.{IsPrefix}
 use Rattle.gx_policy.specs.declared.policy.PolicyData.{PolicyData}
 use Rattle.gx_history.specs.declared.record.RecordData.{RecordData}
-use Rattle.gx_answers.specs.{declared.outcome.Outcome.Outcome, Gates.{GateData, matched_by}, Matches.matching_of}
-use Rattle.gx_pass.specs.{declared.view.Holds.Holds, Views.mine}
-use Rattle.gx_door.specs.{Acts.IsToldFull, Endings.{ended_by, sums_of}, declared.{ended.Ended.Ended, matched.MatchEnd.MatchEnd}}
+use Rattle.gx_access_gate.specs.{declared.outcome.Outcome.Outcome, Gates.{GateData, matched_by}, Matches.matching_of}
+use Rattle.gx_pass.specs.{declared.view.LineView.LineView, Views.mine}
+use Rattle.gx_door.specs.{Acts.IsToldFull, Endings.{ended_by, sums_of}, declared.{ended.EndedTotals.EndedTotals, matched.MatchEnd.MatchEnd}}
 
 -- the records of so many matching steps were added, all handed in at this moment
 pub record AddsMatches (moment made : ℕ) (earlier later : List RecordData) : Type 0 where
@@ -14,13 +14,13 @@ pub record AddsMatches (moment made : ℕ) (earlier later : List RecordData) : T
   pub count : length outcomes ≡ made
 
 -- they stand behind all that had been met
-pub record Matches (was is : Holds) (moment made : ℕ) : Type 0 where
+pub record Matches (was is : LineView) (moment made : ℕ) : Type 0 where
   pub earlier : List RecordData
   pub begins : IsPrefix was.front earlier
   pub adds : AddsMatches moment made earlier is.front
 
 -- the record stands behind all that had been met, and these behind it; it is one more of the pass's own, and they are not; and so much it ended itself
-pub record Turns (policy : PolicyData) (was is : Holds) (r : RecordData) (ended : Ended) (moment made : ℕ) : Type 0 where
+pub record Turns (policy : PolicyData) (was is : LineView) (r : RecordData) (ended : EndedTotals) (moment made : ℕ) : Type 0 where
   pub earlier : List RecordData
   pub begins : IsPrefix was.front earlier
   pub adds : AddsMatches moment made (earlier ++ r ∷ []) is.front

@@ -5,8 +5,8 @@ ghost use Rattle.gx_units.specs.Spelling.{folded_user};
 ghost use Rattle.gx_history.specs.declared.record.Request.TheVariants as requests;
 ghost use Rattle.gx_history.specs.{InForce.line_of, Showing.has_its_first, Verdicts.IsLegal};
 ghost use Rattle.gx_policy.specs.Lists.{slice};
-ghost use Rattle.gx_answers.specs.{Gates.{left_by, matched_by}, Matches.matching_of};
-ghost use Rattle.gx_pass.specs.Views.{mine, retold};
+ghost use Rattle.gx_access_gate.specs.{Gates.{left_by, matched_by}, Matches.matching_of};
+ghost use Rattle.gx_pass.specs.Views.{mine, with_told};
 ghost use Rattle.gx_door.specs.declared.fault.PullFault.TheVariants as pull_faults;
 ghost use Rattle.gx_door.specs.{Acts.{asked_on, gate_met, login_on, AddsOwn, EndsWith, IsLater, IsPulled, IsToldFull, LogsIn, MayBeRefused}, Callers.caller_of, Matching.{EndsSo, Matches, Turns}};
 
@@ -14,7 +14,7 @@ use crate::caller::Caller;
 use crate::dial::Dial;
 use crate::fault::PullFault;
 use crate::matched::{Matched, Turned};
-use gx_answers::{LoginAnswer, Outcome, Pulled, StepFault};
+use gx_access_gate::{LoginAnswer, Outcome, Pulled, StepFault};
 use gx_history::record::{Record, Request};
 use gx_units::{Moment, OutOfMemory, Password, SessionName, UserName};
 use std::sync::Wait;
@@ -29,22 +29,22 @@ use std::sync::Wait;
 pub trait Door {
     ghost use Rattle.std.specs.Prelude.{ℕ};
     ghost use Rattle.gx_policy.specs.declared.policy.PolicyData.{PolicyData};
-    ghost use Rattle.gx_pass.specs.declared.view.Holds.{Holds};
+    ghost use Rattle.gx_pass.specs.declared.view.LineView.{LineView};
 
     /// A pass, as its holder sees it.
-    type Ticket: Drop;
+    type Pass: Drop;
 
     // What the gate judges by.
     ghost policy: { PolicyData };
 
     // What the pass has met.
-    ghost held: { Self.Ticket → Holds };
+    ghost held: { Self.Pass → LineView };
 
     // How many records were added with the pass.
-    ghost added: { Self.Ticket → ℕ };
+    ghost added: { Self.Pass → ℕ };
 
     /// The number of the connection that holds the pass.
-    fn line_of(&self, pass: &Self::Ticket) -> u16
+    fn line_of(&self, pass: &Self::Pass) -> u16
         ensures { result ≡ (held pass.now).line };
 
     /// Who asks to log in so. No step is made.
@@ -55,13 +55,13 @@ pub trait Door {
     fn login<R: Wait + Dial>(
         &self,
         rt: &R,
-        pass: Self::Ticket,
+        pass: Self::Pass,
         user: UserName,
         password: Password,
         session: SessionName,
         wanted: u64,
         moment: Moment,
-    ) -> (Self::Ticket, Result<LoginAnswer, StepFault>)
+    ) -> (Self::Pass, Result<LoginAnswer, StepFault>)
         requires clock { R.shown moment }
         ensures later { IsLater policy (held pass) (held result.0) }
         ensures done { IfOk result.1 (LogsIn policy (held pass) (held result.0)
@@ -75,11 +75,11 @@ pub trait Door {
     fn act<R: Wait + Dial>(
         &self,
         rt: &R,
-        pass: Self::Ticket,
+        pass: Self::Pass,
         user: UserName,
         request: Request,
         moment: Moment,
-    ) -> (Self::Ticket, Result<Outcome, StepFault>)
+    ) -> (Self::Pass, Result<Outcome, StepFault>)
         requires clock { R.shown moment }
         requires first { IsTrue (has_its_first request) }
         ensures later { IsLater policy (held pass) (held result.0) }
@@ -96,9 +96,9 @@ pub trait Door {
     fn match_one<R: Wait + Dial>(
         &self,
         rt: &R,
-        pass: Self::Ticket,
+        pass: Self::Pass,
         moment: Moment,
-    ) -> (Self::Ticket, Result<Option<Outcome>, StepFault>)
+    ) -> (Self::Pass, Result<Option<Outcome>, StepFault>)
         requires clock { R.shown moment }
         ensures later { IsLater policy (held pass) (held result.0) }
         ensures own { mine (held result.0) ≡ mine (held pass) }
@@ -119,10 +119,10 @@ pub trait Door {
     fn match_some<R: Wait + Dial>(
         &self,
         rt: &R,
-        pass: Self::Ticket,
+        pass: Self::Pass,
         moment: Moment,
         most: u64,
-    ) -> (Self::Ticket, Matched)
+    ) -> (Self::Pass, Matched)
         requires clock { R.shown moment }
         ensures later { IsLater policy (held pass) (held result.0) }
         ensures made { Matches (held pass) (held result.0) moment result.1.made }
@@ -136,12 +136,12 @@ pub trait Door {
     fn turn<R: Wait + Dial>(
         &self,
         rt: &R,
-        pass: Self::Ticket,
+        pass: Self::Pass,
         user: UserName,
         request: Request,
         moment: Moment,
         most: u64,
-    ) -> (Self::Ticket, Result<Turned, StepFault>)
+    ) -> (Self::Pass, Result<Turned, StepFault>)
         requires clock { R.shown moment }
         requires first { IsTrue (has_its_first request) }
         ensures later { IsLater policy (held pass) (held result.0) }
@@ -163,11 +163,11 @@ pub trait Door {
     fn pull<R: Wait>(
         &self,
         rt: &R,
-        pass: Self::Ticket,
+        pass: Self::Pass,
         user: UserName,
         from: u64,
         most: u64,
-    ) -> (Self::Ticket, Result<Pulled, PullFault>)
+    ) -> (Self::Pass, Result<Pulled, PullFault>)
         ensures later { IsLater policy (held pass) (held result.0) }
         ensures own { mine (held result.0) ≡ mine (held pass) }
         ensures on { OnOk result.1
@@ -182,10 +182,10 @@ pub trait Door {
     fn logout<R: Wait + Dial>(
         &self,
         rt: &R,
-        pass: Self::Ticket,
+        pass: Self::Pass,
         user: UserName,
         moment: Moment,
-    ) -> (Self::Ticket, Result<Outcome, StepFault>)
+    ) -> (Self::Pass, Result<Outcome, StepFault>)
         requires clock { R.shown moment }
         ensures later { IsLater policy (held pass) (held result.0) }
         ensures done { IfOk result.1 (λ o. AddsOwn (held pass) (held result.0)
@@ -201,10 +201,10 @@ pub trait Door {
     fn records<R: Wait>(
         &self,
         rt: &R,
-        pass: Self::Ticket,
+        pass: Self::Pass,
         from: u64,
         most: u64,
-    ) -> (Self::Ticket, Result<Vec<Record>, OutOfMemory>)
+    ) -> (Self::Pass, Result<Vec<Record>, OutOfMemory>)
         ensures later { IsLater policy (held pass) (held result.0) }
         ensures own { mine (held result.0) ≡ mine (held pass) }
         ensures records { IfOk result.1
@@ -216,12 +216,7 @@ pub trait Door {
     fn keep<R: Wait>(&self, rt: &R) -> bool;
 
     /// Both passes have met the same records.
-    fn meet<R: Wait>(
-        &self,
-        rt: &R,
-        one: Self::Ticket,
-        other: Self::Ticket,
-    ) -> (Self::Ticket, Self::Ticket)
+    fn meet<R: Wait>(&self, rt: &R, one: Self::Pass, other: Self::Pass) -> (Self::Pass, Self::Pass)
         ensures first { IsLater policy (held one) (held result.0) }
         ensures second { IsLater policy (held other) (held result.1) }
         ensures first_own { mine (held result.0) ≡ mine (held one) }
@@ -232,8 +227,8 @@ pub trait Door {
         ensures second_adds_none { added result.1 ≡ added other };
 
     /// How many records there are: at least as many as were met, and as were told before. It waits for nobody.
-    fn length(&self, pass: &mut Self::Ticket) -> u64
-        ensures told { held pass.new ≡ retold (held pass.old) result }
+    fn length(&self, pass: &mut Self::Pass) -> u64
+        ensures told { held pass.new ≡ with_told (held pass.old) result }
         ensures more { (held pass.old).told ≤ result }
         ensures front { length (held pass.old).front ≤ result }
         ensures adds_none { added pass.new ≡ added pass.old };

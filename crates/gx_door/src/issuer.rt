@@ -26,7 +26,7 @@ pub trait Issuer<D: Door> {
     /// # Errors
     ///
     /// `NoLines` only where the last line was issued, 65,535.
-    fn issue<R: Wait>(&mut self, rt: &R) -> Result<D::Ticket, PassFault>
+    fn issue<R: Wait>(&mut self, rt: &R) -> Result<D::Pass, PassFault>
         ensures legal { IfOk result (λ p. IsLegal D.policy (D.held p).front) }
         ensures own { IfOk result (λ p. mine (D.held p) ≡ []) }
         ensures adds_none { IfOk result (λ p. D.added p ≡ 0) }

@@ -13,7 +13,7 @@ mod matched;
 pub use caller::{Caller, is_officer};
 pub use dial::Dial;
 pub use door::Door;
-pub use ended::Ended;
+pub use ended::EndedTotals;
 pub use fault::PullFault;
 pub use issuer::Issuer;
 pub use matched::{MatchEnd, Matched, Turned};

@@ -3,8 +3,8 @@
 ghost use Rattle.std.specs.Prelude.{◌≡◌, ◌↔◌, IsTrue};
 ghost use Rattle.gx_door.specs.declared.matched.MatchEnd.TheVariants as ends;
 
-use crate::ended::Ended;
-use gx_answers::{Outcome, StepFault};
+use crate::ended::EndedTotals;
+use gx_access_gate::{Outcome, StepFault};
 
 /// Why no more matching steps were made.
 #[derive(Clone, Copy)]
@@ -44,7 +44,7 @@ pub struct Turned {
     /// What the request's record says.
     pub outcome: Outcome,
     /// What the request's own record ended.
-    pub ended: Ended,
+    pub ended: EndedTotals,
     /// The matching steps behind it.
     pub matched: Matched,
 }

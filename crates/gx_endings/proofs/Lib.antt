@@ -1,2 +1,2 @@
-pub mod Few
-pub mod Next
+pub mod LiveOrders_bounds
+pub mod Endings_next

@@ -1,6 +1,6 @@
 //! Two that look on together.
 
-use gx_answers::AccessGate;
+use gx_access_gate::AccessGate;
 use gx_history::record::RecordData;
 use gx_records::Watches;
 use gx_units::OutOfMemory;

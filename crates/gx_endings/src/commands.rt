@@ -137,12 +137,12 @@ impl<G: ShowsState> Watches<G> for Commands {
     ghost expects = { λ watcher policy records next.
         watcher.list.items ≡ command_rows policy (records ++ next ∷ []) };
 
-    #[tactic(auto, using(crate::proofs::Next::one_more_command))]
+    #[tactic(auto, using(crate::proofs::Endings_next::one_more_command))]
     fn before(&mut self, gate: &G, next: &RecordData) -> Result<(), OutOfMemory> {
         put_last(&mut self.list, command_by(gate, next))
     }
 
-    #[tactic(auto, using(crate::proofs::Next::stands_behind))]
+    #[tactic(auto, using(crate::proofs::Endings_next::stands_behind))]
     fn after(&mut self, _gate: &G, _left: &RecordData) -> Result<(), OutOfMemory> {
         Ok(())
     }

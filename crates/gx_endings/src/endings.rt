@@ -69,7 +69,7 @@ pub(crate) fn granted_action(shown: &RecordData) -> Option<Action>
 }
 
 /// What the record that comes next ends, if it is a granted Kill or Close Day.
-#[tactic(auto, using(crate::proofs::Few::live_are_few, crate::proofs::Few::those_are_few))]
+#[tactic(auto, using(crate::proofs::LiveOrders_bounds::live_are_few, crate::proofs::LiveOrders_bounds::those_are_few))]
 fn ending_by<G: ShowsState>(gate: &G, next: &RecordData) -> Option<Ending>
     ensures { result
         ≡ ending_by (G.seen gate.now).policy (G.seen gate.now).records next.now }
@@ -111,12 +111,12 @@ impl<G: ShowsState> Watches<G> for Endings {
     ghost expects = { λ watcher policy records next.
         watcher.list.items ≡ endings policy (records ++ next ∷ []) };
 
-    #[tactic(auto, using(crate::proofs::Next::one_more_ending))]
+    #[tactic(auto, using(crate::proofs::Endings_next::one_more_ending))]
     fn before(&mut self, gate: &G, next: &RecordData) -> Result<(), OutOfMemory> {
         put_last(&mut self.list, ending_by(gate, next))
     }
 
-    #[tactic(auto, using(crate::proofs::Next::stands_behind))]
+    #[tactic(auto, using(crate::proofs::Endings_next::stands_behind))]
     fn after(&mut self, _gate: &G, _left: &RecordData) -> Result<(), OutOfMemory> {
         Ok(())
     }

@@ -87,12 +87,12 @@ impl<G: ShowsState> Watches<G> for OrderEnds {
     ghost expects = { λ watcher policy records next.
         watcher.list.items ≡ order_ends policy (records ++ next ∷ []) };
 
-    #[tactic(auto, using(crate::proofs::Next::more_ends))]
+    #[tactic(auto, using(crate::proofs::Endings_next::more_ends))]
     fn before(&mut self, gate: &G, next: &RecordData) -> Result<(), OutOfMemory> {
         note_ends(&mut self.list, gate, next)
     }
 
-    #[tactic(auto, using(crate::proofs::Next::stands_behind))]
+    #[tactic(auto, using(crate::proofs::Endings_next::stands_behind))]
     fn after(&mut self, _gate: &G, _left: &RecordData) -> Result<(), OutOfMemory> {
         Ok(())
     }

@@ -1,6 +1,6 @@
-mod Limiting
-mod Counting
-mod Knowing
-mod Going
-mod Sampling
-mod Lining
+mod Limits_next
+mod MinuteCount_next
+mod Known_next
+mod Lines_next
+mod Sample_computed
+mod Event_line

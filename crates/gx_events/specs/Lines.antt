@@ -50,6 +50,6 @@ abbrev pub closing_line : Form → Known → List ℕ
 closing_line form known = maybe_line form known.moment 0 (untold_denials known)
 
 -- the form of a log, and what it knows of the records that were told or passed over
-pub record Standing : Type 0 where
+pub record LogState : Type 0 where
   pub form : Form
   pub known : Known

@@ -11,12 +11,12 @@ abbrev pub of_name : List ℕ → List ℕ → List ℕ
 of_name words name = words ++ shown_name name
 
 -- words between two names
-abbrev pub between : List ℕ → List ℕ → List ℕ → List ℕ
-between first words second = shown_name first ++ words ++ shown_name second
+abbrev pub words_between : List ℕ → List ℕ → List ℕ → List ℕ
+words_between first words second = shown_name first ++ words ++ shown_name second
 
 -- words, a name, words and a name
 abbrev pub of_both : List ℕ → List ℕ → List ℕ → List ℕ → List ℕ
-of_both front first words second = front ++ between first words second
+of_both front first words second = front ++ words_between first words second
 
 -- a name behind words, and a number
 abbrev pub to_number : List ℕ → List ℕ → ℕ → List ℕ
@@ -37,10 +37,10 @@ done_text (Action.Kill account) earlier = shown_name account.bytes ++ codes " ki
 done_text (Action.Lift account) earlier = codes "Lift of " ++ shown_name account.bytes ++ codes " given"
 done_text (Action.SetLimit rule limit) earlier =
     codes "limit of " ++ shown_name rule.bytes ++ codes " set" ++ from_text earlier ++ codes " to " ++ decimal limit
-done_text (Action.Restrict rule stock) earlier = between stock.bytes (codes " restricted under ") rule.bytes
-done_text (Action.Unrestrict rule stock) earlier = between stock.bytes (codes " unrestricted under ") rule.bytes
-done_text (Action.Grant reader account) earlier = between account.bytes (codes " granted to ") reader.bytes
-done_text (Action.Revoke reader account) earlier = between account.bytes (codes " revoked from ") reader.bytes
+done_text (Action.Restrict rule stock) earlier = words_between stock.bytes (codes " restricted under ") rule.bytes
+done_text (Action.Unrestrict rule stock) earlier = words_between stock.bytes (codes " unrestricted under ") rule.bytes
+done_text (Action.Grant reader account) earlier = words_between account.bytes (codes " granted to ") reader.bytes
+done_text (Action.Revoke reader account) earlier = words_between account.bytes (codes " revoked from ") reader.bytes
 done_text Action.CloseDay earlier = codes "day closed"
 
 -- what a command asks for

@@ -34,9 +34,9 @@ pub struct EventLog {
 }
 
 impl Model for EventLog {
-    ghost use Rattle.gx_events.specs.Lines.{Standing};
+    ghost use Rattle.gx_events.specs.Lines.{LogState};
 
-    ghost Value = { Standing };
+    ghost Value = { LogState };
 
     ghost view = { λ log. record {
       form = log.form;
@@ -73,7 +73,7 @@ impl EventLog {
     /// # Errors
     ///
     /// `OutOfMemory` where the limits of the policy's rules were refused their memory.
-    #[tactic(auto, using(crate::proofs::Knowing::known_first))]
+    #[tactic(auto, using(crate::proofs::Known_next::known_first))]
     pub fn new(alloc: Global, form: Form, policy: &Policy) -> Result<EventLog, OutOfMemory>
         ensures form { IfOk result (λ log. log.form ≡ form) }
         ensures known { IfOk result (λ log. log.known ≡ known_of policy.now []) }

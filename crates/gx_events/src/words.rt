@@ -1,7 +1,7 @@
 //! An event in words.
 
 ghost use Rattle.std.specs.Prelude.{◌≡◌, ◌++◌, decimal, OnOk};
-ghost use Rattle.gx_events.specs.{Words.{asked_text, between, by_user, denied_by, done_text, event_text, from_text, minute_count, of_both, of_name, on_line, to_number, used_text}, declared.event.Event.TheVariants.{LoginDenied, MoreDenied, Commanded, CommandDenied, RecordsUsed, LinesUsed}};
+ghost use Rattle.gx_events.specs.{Words.{asked_text, words_between, by_user, denied_by, done_text, event_text, from_text, minute_count, of_both, of_name, on_line, to_number, used_text}, declared.event.Event.TheVariants.{LoginDenied, MoreDenied, Commanded, CommandDenied, RecordsUsed, LinesUsed}};
 ghost use Rattle.gx_desk.specs.declared.Action.TheVariants.{SetLimit};
 
 use crate::event::Event;
@@ -26,7 +26,7 @@ fn append_between(
     second: &[u8],
 ) -> Result<(), OutOfMemory>
     ensures { OnOk result (text.new.items
-        ≡ text.old.items ++ between first.now words.now second.now) }
+        ≡ text.old.items ++ words_between first.now words.now second.now) }
 {
     append_name(text, first)?;
     append_of_name(text, words, second)

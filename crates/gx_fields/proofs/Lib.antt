@@ -1,1 +1,1 @@
-pub mod ReadBack
+pub mod Row_read

@@ -2,7 +2,7 @@
 use Rattle.std.specs.Prelude.{Option, Some, None, option_map}
 use Rattle.gx_desk.specs.declared.Action.{Action}
 use Rattle.gx_history.specs.declared.record.{RecordData.RecordData, Request.Request, Step.Step, Verdict.Verdict}
-use Rattle.gx_script.specs.Words.{◌>>=◌}
+use Rattle.gx_script_text.specs.Words.{◌>>=◌}
 use Rattle.gx_fields.specs.declared.row.{Row.Row, RowKind.RowKind, RowVerdict.RowVerdict}
 
 -- no field but what each record has

@@ -201,7 +201,7 @@ fn with_verdict(verdict: &Verdict, row: Row) -> Row
 
 /// The row of a record: each of its fields, and none that such a record has not. The record is read back from it, by
 /// [`record_of`](crate::record_of).
-#[tactic(auto, using(crate::proofs::ReadBack::read_back))]
+#[tactic(auto, using(crate::proofs::Row_read::read_back))]
 pub fn row_of(shown: &RecordData) -> Row
     ensures row { result ≡ row_of shown.now }
     ensures read_back { record_of result ≡ Some shown.now }

@@ -1,5 +1,5 @@
-pub mod Growing
-pub mod Beginning
-pub mod Taking
-pub mod Settling
-pub mod Standing
+pub mod Version_next
+pub mod Audit_first
+pub mod Audit_next
+pub mod Reading_next
+pub mod Reading_stands

@@ -2,7 +2,7 @@
 use Rattle.std.specs.Prelude.{◌≡◌, ℕ, ◌<◌, ◌≤◌, ◌^◌, List, [], ◌++◌, length, Option, Some, None, Err}
 use Rattle.gx_policy.specs.declared.policy.PolicyData.{PolicyData}
 use Rattle.gx_history.specs.declared.record.RecordData.{RecordData}
-use Rattle.gx_answers.specs.Gates.{GateData}
+use Rattle.gx_access_gate.specs.Gates.{GateData}
 use Rattle.gx_audit.specs.{declared.fault.AuditFault.AuditFault, Auditing.IsAnswer}
 use Rattle.gx_audit_bytes.specs.{declared.version.AuditVersion.AuditVersion, Audits.{record_size, whole_audit, AreShown}, Versions.version_of}
 use Rattle.gx_follower.specs.declared.piece.Reading.{Reading}

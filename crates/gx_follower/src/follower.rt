@@ -7,7 +7,7 @@ ghost use Rattle.gx_audit_bytes.specs.Versions.{version_of};
 ghost use Rattle.gx_follower.specs.{Followers.AreWhole, Readings.{read_of, IsSettled}};
 
 use crate::piece::{Reading, Rest, kept_of, take_all};
-use gx_answers::AccessGate;
+use gx_access_gate::AccessGate;
 use gx_audit::{AuditFault, Resumed};
 use gx_audit_bytes::AuditVersion;
 use gx_policy::Policy;

@@ -6,7 +6,7 @@ ghost use Rattle.gx_audit_bytes.specs.{Audits.{whole_audit, AreShown}, Versions.
 ghost use Rattle.gx_follower.specs.Readings.{read_of, whole_of, HasBegun, IsKnown, IsReading, IsSettled, IsTold};
 
 use arrayvec::ArrayVec;
-use gx_answers::AccessGate;
+use gx_access_gate::AccessGate;
 use gx_audit::{AuditFault, check_watched, header_end, is_new};
 use gx_audit_bytes::{AuditVersion, RECORD_SIZE, whole};
 use gx_records::Watches;
@@ -26,7 +26,7 @@ pub(crate) struct Reading {
 }
 
 /// Takes the policy's header.
-#[tactic(auto, using(crate::proofs::Beginning::known_header, crate::proofs::Beginning::header_whole, crate::proofs::Beginning::told_of_header))]
+#[tactic(auto, using(crate::proofs::Audit_first::known_header, crate::proofs::Audit_first::header_whole, crate::proofs::Audit_first::told_of_header))]
 fn begin_headed<G: AccessGate>(
     gate: &G,
     version: AuditVersion,
@@ -48,7 +48,7 @@ fn begin_headed<G: AccessGate>(
 }
 
 /// Takes the next record.
-#[tactic(auto, using(crate::proofs::Taking::known_on, crate::proofs::Taking::whole_on, crate::proofs::Taking::told_of_record))]
+#[tactic(auto, using(crate::proofs::Audit_next::known_on, crate::proofs::Audit_next::whole_on, crate::proofs::Audit_next::told_of_record))]
 fn take_record<G: AccessGate, W: Watches<G>>(
     gate: &mut G,
     watcher: &mut W,
@@ -81,7 +81,7 @@ fn take_record<G: AccessGate, W: Watches<G>>(
 }
 
 /// Takes the first bytes, so many as a header or a record has: the version is the one that they show.
-#[tactic(auto, using(crate::proofs::Beginning::begins_bare, crate::proofs::Beginning::none_whole, crate::proofs::Beginning::told_at_first, gx_audit::proofs::Audit_walk::none_shown))]
+#[tactic(auto, using(crate::proofs::Audit_first::begins_bare, crate::proofs::Audit_first::none_whole, crate::proofs::Audit_first::told_at_first, gx_audit::proofs::Audit_walk::none_shown))]
 fn begin<G: AccessGate, W: Watches<G>>(
     gate: &mut G,
     watcher: &mut W,
@@ -135,7 +135,7 @@ fn take_block<G: AccessGate, W: Watches<G>>(
 }
 
 /// Takes the rest, if it has become whole.
-#[tactic(auto, using(crate::proofs::Settling::settled_on, crate::proofs::Settling::read_on, crate::proofs::Settling::told_on, crate::proofs::Settling::counts))]
+#[tactic(auto, using(crate::proofs::Reading_next::settled_on, crate::proofs::Reading_next::read_on, crate::proofs::Reading_next::told_on, crate::proofs::Reading_next::counts))]
 fn settle<G: AccessGate, W: Watches<G>>(
     gate: &mut G,
     watcher: &mut W,
@@ -214,7 +214,7 @@ pub(crate) fn take_all<G: AccessGate, W: Watches<G>>(
 }
 
 /// How many of the bytes stand: those of a journal that goes on, or none, where no day was begun in them.
-#[tactic(auto, using(crate::proofs::Standing::is_day, crate::proofs::Standing::is_new_day, crate::proofs::Standing::is_cut, crate::proofs::Standing::is_bare))]
+#[tactic(auto, using(crate::proofs::Reading_stands::is_day, crate::proofs::Reading_stands::is_new_day, crate::proofs::Reading_stands::is_cut, crate::proofs::Reading_stands::is_bare))]
 pub(crate) fn kept_of<G: AccessGate>(gate: &G, reading: &Reading) -> Result<u64, AuditFault>
     requires settled { IsSettled reading.now (G.seen gate.now) }
     ensures stands { IfOk result (λ kept. Stands (G.seen gate.now).policy

@@ -2,8 +2,8 @@
 use Rattle.std.proofs.{Common.{◌≡◌, ◌∙◌, ◌+◌, ℕ, zero, suc, Bool, true, false, cond, not, ◌||◌, nat_lt, List, [], ◌∷◌, length, Some, None, is_some, unwrap_or, slice_get, position, refl, sym, ap, true≢false, arith, lt-ltb}, lemmas.{Option.slice_get_within, Bool.and_parts}}
 use Rattle.std.specs.List.{find, list_any, position_or_len}
 use Rattle.gx_units.specs.{Names.same_account, declared.names.AccountName.AccountName}
+use Rattle.gx_units.proofs.Names_equal.{account_is}
 use Rattle.gx_policy.specs.declared.policy.Account.{Account}
-use Rattle.gx_laws.proofs.Names.{account_is}
 use Rattle.gx_ledger.specs.Tables.{accounts_differ}
 
 abbrev has : AccountName → Account → Bool

@@ -3,18 +3,19 @@ use Rattle.gx_policy.specs.{Kinds.limit_of, declared.policy.{FileRule.FileRule, 
 use Rattle.std.proofs.{Common.{◌≡◌, ℕ, ◌+◌, ◌<◌, ◌≤◌, arith, true, false, Bool, List, [], ◌∷◌, ◌++◌, length, refl, ◌∙◌, ap, sym, cond, map}, Math.Path.subst, lemmas.{List.{append_assoc, append_cancel_left, map-append}, Bool.{not-true, and_parts}}}
 use Rattle.std.specs.{Prelude.{Option, Some, None, is_some, option_and_then, option_map, ◌||◌}, Option.option_map_or, List.{AllByRecursion, filter, list_any}}
 use Rattle.gx_units.specs.{Names.same_user, declared.names.{AccountName.AccountName, UserName.UserName}}
+use Rattle.gx_units.proofs.Names_equal.{same_user_flip, user_is, user_is_itself}
 use Rattle.gx_desk.specs.declared.{Action.Action, AnswerCode.AnswerCode, Command.Command}
 use Rattle.gx_history.specs.{declared.{moves.Move.Move, «record».{RecordData.RecordData, Step.Step}, report.Report.Report, live_order.LiveOrder.LiveOrder}, Asking.{knows_limit, knows_names, rule_in_force}, InForce.{rules_after, rules_in_force}, Readers.reader_in, Streams.{answer, day_end, granted_code, lift_code, report_of, reports_of, stream, to_user, ended_of}, Verdicts.next, Live.live}
-use Rattle.gx_laws.proofs.{Adding.{user_is, user_is_itself}, Names.{same_user_flip, users_differ}, NextReports.stream_next, Commanding.{grants_the_command, told_by_command}, Doing.{IsCommanded, command_does, may_do}}
+use Rattle.gx_laws.proofs.{Names_differ.users_differ, Streams_next.stream_next, Commands_granted.{grants_the_command, told_by_command}, Moves_known.{IsCommanded, command_does, may_do}}
 use Rattle.gx_trading_status.specs.{StatusData.{TradingStatusData, at_moment}, InForce.{day_commanded, status_in_force, status_moved}}
-use Rattle.gx_trading_status.proofs.{Going.day_next, Answering.known_kill_is_kept}
+use Rattle.gx_trading_status.proofs.{Status_next.day_next, Status_answers.known_kill_is_kept}
 use Rattle.gx_orders.specs.{Changes.{is_lasting, live_left, with_live}, LiveOrders.OrdersData}
 use Rattle.gx_book.specs.Books.{StockOrders}
 use Rattle.gx_matching.specs.Changes.{ended_by}
 use Rattle.gx_people.specs.Entitled.{users_after, has_room, people_in_force}
-use Rattle.gx_people.proofs.Room.{readers_have_room}
+use Rattle.gx_people.proofs.Users_sound.{readers_have_room}
 use Rattle.gx_streams.specs.{Kept.{UserList, reserved_in}, Streams.{AllStreams, ReaderMask}, Telling.{each_with_more, reports_to, shown_streams, with_all_reports, with_report, end_message, end_messages, report_to}}
-use Rattle.gx_streams.proofs.{Owing.{owed_both, ended_are_owed}, Places.{owed_taken, count_of_both}, Telling.{GoesOn, all_owed_shown, more_told}}
+use Rattle.gx_streams.proofs.{EndedOrders_owed.{owed_both, ended_are_owed}, Places_kept.{owed_taken, count_of_both}, Reports_told.{GoesOn, all_owed_shown, more_told}}
 use Rattle.gx_ledger.specs.Following.{ClosesAll}
 use Rattle.gx_gate_state.specs.{declared.state.GateState.GateState, Ends.{HaveReservedFor, code_by, is_ended, answer_report, close_reports, command_reports, day_end_report, day_end_reports, end_report, end_reports, trades, day_end_message}, State.{AreInForceAfter, AreSentTo, HaveReservedForRecord, Takes}, Ledgers.ended_orders, Settings.{HasRoom, HasSetting, sent_on}}
 use Rattle.gx_gate_state.proofs.{State_next.goes_on, Ledger_next.{command_figured, none_end}, Readers_next.{owed_masks, sent_after, sent_told, shown_by_told}}
@@ -115,26 +116,26 @@ abbrev pub code_left : PolicyData → List RecordData → RecordData → Command
 code_left policy history r c = granted_code policy (history ++ r ∷ []) c.action
 
 -- what its record owes
-pub command_owes : (policy : PolicyData) (history : List RecordData) (r : RecordData) (officer : UserName) (c : Command) (k : GateState) (user : UserName) → Takes policy history (Move.Commands officer c) r k
+pub command_owes : {policy : PolicyData} {history : List RecordData} (r : RecordData) (officer : UserName) (c : Command) (k : GateState) (user : UserName) → Takes policy history (Move.Commands officer c) r k
     → reports_of policy user (history, r) ≡ map (report_of r) (ended_of (live policy history) c.action user ++ day_end policy c.action user ++ to_user officer user (answer r c (code_left policy history r c)))
-command_owes policy history r officer c k user t =
-    let is : IsCommanded r.verdict r.step officer c = command_does policy history r officer c t.does in
+command_owes {policy} {history} r officer c k user t =
+    let is : IsCommanded r.verdict r.step officer c = command_does r officer c t.does in
     let left : next policy history (Step.Asked is.asked) ≡ Some r = ap (next policy history) (sym is.asks) ∙ t.does.is_next in
     append_cancel_left (stream policy history user) _ _
     (sym (stream_next policy history r user) ∙ told_by_command policy history r is.asked c c.action user (grants_the_command policy history is.asked r c c.action left is.commands refl is.granted) is.commands refl)
     ∙ ap (λ (who : UserName). map (report_of r) (ended_of (live policy history) c.action user ++ day_end policy c.action user ++ to_user who user (answer r c (code_left policy history r c)))) is.is_his
 
 -- as the state tell it
-owed_now : (policy : PolicyData) (history : List RecordData) (r : RecordData) (officer : UserName) (c : Command) (k : GateState) (user : UserName)
+owed_now : {policy : PolicyData} {history : List RecordData} (r : RecordData) (officer : UserName) (c : Command) (k : GateState) (user : UserName)
     → Takes policy history (Move.Commands officer c) r k → is_sound policy ≡ true
     → reports_of policy user (history, r) ≡ reports_to (command_reports policy r officer c (code_left policy history r c) k.orders.live) user
-owed_now policy history r officer c k user t sound =
+owed_now {policy} {history} r officer c k user t sound =
     let ends : List (UserName × Report) = end_reports c.action r.moment (live policy history) in
     let close : List (UserName × Report) = close_reports c.action r.moment policy.users in
     let done : List (UserName × Report) = answer_report r officer c (code_left policy history r c) ∷ [] in
     let told : map (report_of r) (ended_of (live policy history) c.action user) ≡ reports_to ends user =
     ended_are_owed (live policy history) r c.action user ∙ ap (λ (os : List (UserName × Report)). reports_to os user) (ends_are r c.action (live policy history)) in
-    command_owes policy history r officer c k user t
+    command_owes r officer c k user t
     ∙ map-append (report_of r) (ended_of (live policy history) c.action user ++ day_end policy c.action user) (to_user officer user (answer r c (code_left policy history r c)))
     ∙ ap (λ (rs : List Report). rs ++ map (report_of r) (to_user officer user (answer r c (code_left policy history r c)))) (map-append (report_of r) (ended_of (live policy history) c.action user) (day_end policy c.action user))
     ∙ append_assoc (map (report_of r) (ended_of (live policy history) c.action user)) (map (report_of r) (day_end policy c.action user)) (map (report_of r) (to_user officer user (answer r c (code_left policy history r c))))
@@ -146,11 +147,11 @@ owed_now policy history r officer c k user t sound =
     ∙ ap (λ (orders : OrdersData). reports_to (command_reports policy r officer c (code_left policy history r c) orders.live) user) (sym t.in_force.orders)
 
 -- each user is told what is owed to him
-command_tells : (policy : PolicyData) (history : List RecordData) (r : RecordData) (officer : UserName) (c : Command) (k : GateState)
+command_tells : {policy : PolicyData} {history : List RecordData} (r : RecordData) (officer : UserName) (c : Command) (k : GateState)
     → Takes policy history (Move.Commands officer c) r k → is_sound policy ≡ true
     → GoesOn policy history (history ++ r ∷ []) (reports_to (command_reports policy r officer c (code_left policy history r c) k.orders.live))
-command_tells policy history r officer c k t sound user =
-    stream_next policy history r user ∙ ap (λ (rs : List Report). stream policy history user ++ rs) (owed_now policy history r officer c k user t sound)
+command_tells {policy} {history} r officer c k t sound user =
+    stream_next policy history r user ∙ ap (λ (rs : List Report). stream policy history user ++ rs) (owed_now r officer c k user t sound)
 
 code_kept : (policy : PolicyData) (history now : List RecordData) (action : Action) → knows_names policy history action ≡ true → code_by (status_in_force policy now) action ≡ granted_code policy now action
 code_kept policy history now (Action.Kill account) known = refl
@@ -163,26 +164,26 @@ code_kept policy history now (Action.Grant reader account) known = refl
 code_kept policy history now (Action.Revoke reader account) known = refl
 
 -- the day that the command leaves tells the code of its answer
-pub code_is_left : (policy : PolicyData) (history : List RecordData) (r : RecordData) (officer : UserName) (c : Command) (k : GateState) (status : TradingStatusData) (code : AnswerCode) → Takes policy history (Move.Commands officer c) r k
+pub code_is_left : {policy : PolicyData} {history : List RecordData} (r : RecordData) (officer : UserName) (c : Command) (k : GateState) (status : TradingStatusData) (code : AnswerCode) → Takes policy history (Move.Commands officer c) r k
     → status ≡ at_moment r.moment (day_commanded officer c.action k.status) → code ≡ code_by status c.action → code ≡ code_left policy history r c
-code_is_left policy history r officer c k status code t day_is code_is =
+code_is_left {policy} {history} r officer c k status code t day_is code_is =
     code_is
     ∙ ap (λ (d : TradingStatusData). code_by d c.action)
     (day_is ∙ ap (λ (d : TradingStatusData). at_moment r.moment (day_commanded officer c.action d)) t.in_force.status
     ∙ sym (day_next policy history r ∙ ap (λ (x : Move). at_moment r.moment (status_moved x (status_in_force policy history))) t.does.moves))
-    ∙ code_kept policy history (history ++ r ∷ []) c.action (may_do policy history r (Move.Commands officer c) t.does)
+    ∙ code_kept policy history (history ++ r ∷ []) c.action (may_do r (Move.Commands officer c) t.does)
 
 -- and has a place for it
-pub command_places : (policy : PolicyData) (history : List RecordData) (r : RecordData) (officer : UserName) (c : Command) (k : GateState) (streams : AllStreams) (now : List User) (status : TradingStatusData) (code : AnswerCode)
+pub command_places : {policy : PolicyData} {history : List RecordData} (r : RecordData) (officer : UserName) (c : Command) (k : GateState) (streams : AllStreams) (now : List User) (status : TradingStatusData) (code : AnswerCode)
     → status ≡ at_moment r.moment (day_commanded officer c.action k.status) → code ≡ code_by status c.action → streams ≡ sent_on policy k.people now k.streams c.action
     → Takes policy history (Move.Commands officer c) r k → HaveReservedForRecord policy history r k.streams → is_sound policy ≡ true
     → HaveReservedFor (command_reports policy r officer c code k.orders.live) streams
-command_places policy history r officer c k streams now status code day_is code_is sent_is t places sound user =
-    subst (λ (x : AnswerCode). length (reports_to (command_reports policy r officer c x k.orders.live) user) ≤ reserved_in streams.told user)
-    (sym (code_is_left policy history r officer c k status code t day_is code_is)) (
+command_places {policy} {history} r officer c k streams now status code day_is code_is sent_is t places sound user =
+    subst (λ (x : AnswerCode). length (reports_to (command_reports policy r officer c x k.orders.live) user) ≤ reserved_in streams.lists user)
+    (sym (code_is_left r officer c k status code t day_is code_is)) (
     subst (λ (told : List (UserList Report)). length (reports_to (command_reports policy r officer c (code_left policy history r c) k.orders.live) user) ≤ reserved_in told user)
-    (sym (ap (λ (s : AllStreams). s.told) sent_is ∙ sent_told policy k.people now k.streams c.action))
-    (subst (λ (reports : List Report). length reports ≤ reserved_in k.streams.told user) (owed_now policy history r officer c k user t sound) (places user)))
+    (sym (ap (λ (s : AllStreams). s.lists) sent_is ∙ sent_told policy k.people now k.streams c.action))
+    (subst (λ (reports : List Report). length reports ≤ reserved_in k.streams.lists user) (owed_now r officer c k user t sound) (places user)))
 
 -- ---- telling in turn
 
@@ -221,7 +222,7 @@ first_passed {X} passes owe x rest left streams now all left_is others now_is en
     )
 
 -- who comes first has a place
-pub one_has_place : (o : UserName × Report) (owed : List (UserName × Report)) (streams : AllStreams) → HaveReservedFor (o ∷ owed) streams → 0 < reserved_in streams.told o.0
+pub one_has_place : (o : UserName × Report) (owed : List (UserName × Report)) (streams : AllStreams) → HaveReservedFor (o ∷ owed) streams → 0 < reserved_in streams.lists o.0
 one_has_place o owed streams enough =
     let others : List (UserName × Report) = filter (λ (x : UserName × Report). same_user x.0 o.0) owed in
     let own : length (reports_to (o ∷ owed) o.0) ≡ length (reports_to owed o.0) + 1 =
@@ -230,7 +231,7 @@ one_has_place o owed streams enough =
 
 -- and so has the first of those that are left, if he passes
 pub first_has_place : {X : Type 0} (passes : X → Bool) (owe : X → UserName × Report) (x : X) (rest left : List X) (streams : AllStreams)
-    → left ≡ x ∷ rest → passes x ≡ true → HaveReservedFor (map owe (filter passes left)) streams → 0 < reserved_in streams.told (owe x).0
+    → left ≡ x ∷ rest → passes x ≡ true → HaveReservedFor (map owe (filter passes left)) streams → 0 < reserved_in streams.lists (owe x).0
 first_has_place {X} passes owe x rest left streams left_is his enough =
     one_has_place (owe x) (map owe (filter passes rest)) streams
     (subst (λ (owed : List (UserName × Report)). HaveReservedFor owed streams)
@@ -256,22 +257,22 @@ none_ends_by_default (Action.Revoke reader account) orders book no_kill no_close
 
 -- ---- a granted command
 
-pub command_goes_on : (policy : PolicyData) (history : List RecordData) (r : RecordData) (officer : UserName) (c : Command) (code : AnswerCode) (before k : GateState) (sent : AllStreams)
+pub command_goes_on : {policy : PolicyData} {history : List RecordData} (r : RecordData) (officer : UserName) (c : Command) (code : AnswerCode) (before k : GateState) (sent : AllStreams)
     → Takes policy history (Move.Commands officer c) r before → is_sound policy ≡ true
     → k.people ≡ users_after before.people c.action → sent ≡ sent_on policy before.people k.people before.streams c.action
     → k.rules ≡ rules_after before.rules c.action → k.status ≡ at_moment r.moment (status_moved (Move.Commands officer c) before.status)
     → k.orders ≡ with_live (live_left c.action before.orders.live) before.orders → k.book ≡ ended_by c.action before.book
     → ClosesAll (ended_orders c.action before.orders.live) before.ledger k.ledger → code ≡ code_by k.status c.action → k.streams ≡ with_all_reports (command_reports policy r officer c code before.orders.live) sent
     → AreInForceAfter policy history r k
-command_goes_on policy history r officer c code before k sent t sound people_are sent_is rules_are day_is orders_are book_is closes code_is told =
+command_goes_on {policy} {history} r officer c code before k sent t sound people_are sent_is rules_are day_is orders_are book_is closes code_is told =
     let owed : List (UserName × Report) = command_reports policy r officer c (code_left policy history r c) before.orders.live in
     let streams_are : k.streams ≡ with_all_reports owed sent =
-    told ∙ ap (λ (x : AnswerCode). with_all_reports (command_reports policy r officer c x before.orders.live) sent) (code_is_left policy history r officer c before k.status code t day_is code_is) in
-    goes_on policy history (Move.Commands officer c) r before k t people_are rules_are day_is orders_are book_is
-    (command_figured policy history r officer c before k.ledger t closes)
+    told ∙ ap (λ (x : AnswerCode). with_all_reports (command_reports policy r officer c x before.orders.live) sent) (code_is_left r officer c before k.status code t day_is code_is) in
+    goes_on (Move.Commands officer c) r before k t people_are rules_are day_is orders_are book_is
+    (command_figured r officer c before k.ledger t closes)
     (ap shown_streams streams_are ∙ all_owed_shown sent owed
-    ∙ ap (each_with_more (reports_to owed)) (shown_by_told sent before.streams (ap (λ (s : AllStreams). s.told) sent_is ∙ sent_told policy before.people k.people before.streams c.action) ∙ t.in_force.streams)
-    ∙ sym (more_told policy history (history ++ r ∷ []) (reports_to owed) (command_tells policy history r officer c before t sound)))
+    ∙ ap (each_with_more (reports_to owed)) (shown_by_told sent before.streams (ap (λ (s : AllStreams). s.lists) sent_is ∙ sent_told policy before.people k.people before.streams c.action) ∙ t.in_force.streams)
+    ∙ sym (more_told policy history (history ++ r ∷ []) (reports_to owed) (command_tells r officer c before t sound)))
     (subst (λ (rs : List ReaderMask). AreSentTo policy k.people rs)
     (sym (ap (λ (s : AllStreams). s.readers) streams_are ∙ owed_masks owed sent ∙ ap (λ (s : AllStreams). s.readers) sent_is))
     (sent_after policy before.people k.people before.streams c.action people_are t.in_force.sent))
@@ -291,18 +292,18 @@ knows_setting policy history (Action.Kill account) h = tt
 knows_setting policy history (Action.Lift account) h = tt
 knows_setting policy history Action.CloseDay h = tt
 
-pub has_setting : (policy : PolicyData) (history : List RecordData) (r : RecordData) (officer : UserName) (c : Command) (k : GateState)
+pub has_setting : {policy : PolicyData} {history : List RecordData} (r : RecordData) (officer : UserName) (c : Command) (k : GateState)
     → Takes policy history (Move.Commands officer c) r k → HasSetting k.rules c.action
-has_setting policy history r officer c k t =
+has_setting {policy} {history} r officer c k t =
     subst (λ (rules : List FileRule). HasSetting rules c.action) (sym t.in_force.rules)
-    (knows_setting policy history c.action (may_do policy history r (Move.Commands officer c) t.does))
+    (knows_setting policy history c.action (may_do r (Move.Commands officer c) t.does))
 
 -- the reader whom a granted Grant names has room for the account
-pub has_room_for : (policy : PolicyData) (history : List RecordData) (r : RecordData) (officer : UserName) (c : Command) (k : GateState)
+pub has_room_for : {policy : PolicyData} {history : List RecordData} (r : RecordData) (officer : UserName) (c : Command) (k : GateState)
     → Takes policy history (Move.Commands officer c) r k → is_sound policy ≡ true → HasRoom k.people c.action
-has_room_for policy history r officer c k t sound =
+has_room_for {policy} {history} r officer c k t sound =
     subst (λ (people : List User). HasRoom people c.action) (sym t.in_force.people)
-    (by c.action (may_do policy history r (Move.Commands officer c) t.does))
+    (by c.action (may_do r (Move.Commands officer c) t.does))
   where
     by : (action : Action) → knows_names policy history action ≡ true → HasRoom (people_in_force policy history) action
     by (Action.Grant written account) known = named (reader_in (people_in_force policy history) written)

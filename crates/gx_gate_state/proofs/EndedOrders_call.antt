@@ -6,12 +6,12 @@ use Rattle.gx_desk.specs.declared.Action.{Action}
 use Rattle.gx_policy.specs.declared.policy.PolicyData.{PolicyData}
 use Rattle.gx_history.specs.declared.{live_order.LiveOrder.LiveOrder, moves.Move.Move, «record».RecordData.RecordData, report.Report.Report}
 use Rattle.gx_ledger.specs.{Following.ClosesAll, StandsFor.Closes, Keeping.LedgerData}
-use Rattle.gx_ledger.proofs.Following.{one_more_closes}
+use Rattle.gx_ledger.proofs.EndedOrders_followed.{one_more_closes}
 use Rattle.gx_streams.specs.{Streams.AllStreams, Telling.{with_all_reports, with_report}}
 use Rattle.gx_orders.specs.LiveOrders.{OrdersData, of_account}
 use Rattle.gx_book.specs.{Books.StockOrders, Account.AreAllOf}
 use Rattle.gx_matching.specs.{BookInForce.book_in_force, Standing.IsLiveBook}
-use Rattle.gx_matching.proofs.Living.{books_are_live}
+use Rattle.gx_matching.proofs.Book_live.{books_are_live}
 use Rattle.gx_gate_state.specs.{declared.state.GateState.GateState, Ends.{HaveReservedFor, is_ended}, State.Takes, Ledgers.ended_orders}
 use Rattle.gx_gate_state.proofs.Command_next.{rest_have_places}
 
@@ -54,8 +54,8 @@ pub all_are_his : (account : AccountName) (live ending : List LiveOrder) (book :
 all_are_his account live ending book whole his = subst (λ (os : List LiveOrder). AreAllOf account os book) (sym his) (whole account)
 
 -- and it is before each record
-pub book_is_live : (policy : PolicyData) (history : List RecordData) (m : Move) (r : RecordData) (k : GateState) → Takes policy history m r k → IsLiveBook k.orders.live k.book
-book_is_live policy history m r k t =
+pub book_is_live : {policy : PolicyData} {history : List RecordData} (m : Move) (r : RecordData) (k : GateState) → Takes policy history m r k → IsLiveBook k.orders.live k.book
+book_is_live {policy} {history} m r k t =
     subst (IsLiveBook k.orders.live) (sym t.in_force.book)
     (subst (λ (d : OrdersData). IsLiveBook d.live (book_in_force policy history)) (sym t.in_force.orders) (books_are_live policy history t.does.legal))
 

@@ -1,11 +1,12 @@
 -- Whose fills readers get, as a Grant or a Revoke changes it, and at the beginning of a day.
-use Rattle.std.proofs.{Common.{◌≡◌, ℕ, ◌+◌, ◌<◌, Bool, true, false, true≢false, cond, not, ◌&&◌, List, [], ◌∷◌, ◌++◌, length, map, take, get_or, refl, ◌∙◌, ap, sym, subst, if◌then◌else◌}, lemmas.{List.{Sums.fold_push, take_more}, Bool.{and_parts, not-true}}}
+use Rattle.std.proofs.{Common.{◌≡◌, ℕ, ◌+◌, ◌<◌, Bool, true, false, true≢false, cond, not, ◌&&◌, List, [], ◌∷◌, ◌++◌, length, map, take, get_or, refl, ◌∙◌, ap, sym, subst, if◌then◌else◌}, lemmas.{List.{Sums.fold_push, take_more}, Bool.{and_parts, not-true}, Option.same_Some}}
 use Rattle.std.specs.{Prelude.{◌||◌, Option, Some, None, is_some, option_map, fold, find}, Option.option_map_or, List.{flat_map, list_any}}
 use Rattle.gx_units.specs.{Names.{same_account, same_user}, declared.names.{AccountName.AccountName, UserName.UserName}}
+use Rattle.gx_units.proofs.Names_equal.{same_user_flip, user_is, user_is_itself}
 use Rattle.gx_desk.specs.declared.Action.{Action}
 use Rattle.gx_policy.specs.{declared.policy.{PolicyData.PolicyData, Role.Role, User.User}, Lists.are_distinct, Soundness.is_sound, People.{is_reader, role_in, user_in}}
 use Rattle.gx_history.specs.{declared.report.Report.Report, InForce.in_role, Masks.mask_by, Readers.reader_in}
-use Rattle.gx_laws.proofs.{Adding.{user_is, user_is_itself}, Masks.same_mask, Order.some_same, Names.{same_user_flip, users_differ}}
+use Rattle.gx_laws.proofs.{Masks_bits.same_mask, Names_differ.users_differ}
 use Rattle.gx_people.specs.Entitled.{change_role, users_after, granted_to, has_room, revoked_from, sees, sees_with, sees_without, with_account, without_account}
 use Rattle.gx_streams.specs.{Kept.at_first, Streams.{AllStreams, ReaderMask, empty_streams, with_reader_entitled, mask_in, no_mask, with_mask}, Telling.{shown_streams, shown_list, with_all_reports, with_report}}
 use Rattle.gx_gate_state.specs.{State.{AreSentTo, mask_for}, Settings.{sent_on, sent_to}}
@@ -130,11 +131,11 @@ sent_after policy before now streams (Action.Revoke written account) is sent = b
         (λ user apart other. ap (λ us. sees us user other) same ∙ others_see u.name user (without_account account) apart before other) sent
 
 -- a command changes no list by it
-sent_to_told : (policy : PolicyData) (now : List User) (streams : AllStreams) (found : Option User) → (sent_to policy now streams found).told ≡ streams.told
+sent_to_told : (policy : PolicyData) (now : List User) (streams : AllStreams) (found : Option User) → (sent_to policy now streams found).lists ≡ streams.lists
 sent_to_told policy now streams None = refl
 sent_to_told policy now streams (Some u) = refl
 
-pub sent_told : (policy : PolicyData) (before now : List User) (streams : AllStreams) (action : Action) → (sent_on policy before now streams action).told ≡ streams.told
+pub sent_told : (policy : PolicyData) (before now : List User) (streams : AllStreams) (action : Action) → (sent_on policy before now streams action).lists ≡ streams.lists
 sent_told policy before now streams (Action.Kill account) = refl
 sent_told policy before now streams (Action.Lift account) = refl
 sent_told policy before now streams (Action.SetLimit rule limit) = refl
@@ -144,7 +145,7 @@ sent_told policy before now streams Action.CloseDay = refl
 sent_told policy before now streams (Action.Grant written account) = sent_to_told policy now streams (reader_in before written)
 sent_told policy before now streams (Action.Revoke written account) = sent_to_told policy now streams (reader_in before written)
 
-pub shown_by_told : (streams other : AllStreams) → streams.told ≡ other.told → shown_streams streams ≡ shown_streams other
+pub shown_by_told : (streams other : AllStreams) → streams.lists ≡ other.lists → shown_streams streams ≡ shown_streams other
 unfolding shown_streams
 shown_by_told streams other same = ap (map shown_list) same
 
@@ -181,7 +182,7 @@ sent_user policy people streams u = with_reader_entitled u.name (mask_by (sees p
 abbrev pub sent_users : PolicyData → List User → List User → AllStreams → AllStreams
 sent_users policy people users streams = fold (sent_user policy people) streams users
 
-told_stays : (policy : PolicyData) (people users : List User) (streams : AllStreams) → (sent_users policy people users streams).told ≡ streams.told
+told_stays : (policy : PolicyData) (people users : List User) (streams : AllStreams) → (sent_users policy people users streams).lists ≡ streams.lists
 told_stays policy people [] streams = refl
 told_stays policy people (u ∷ users) streams = told_stays policy people users (sent_user policy people streams u)
 
@@ -312,10 +313,10 @@ all_sent policy people before now sound empty is user =
 pub sent_named : (policy : PolicyData) (now : List User) (streams : AllStreams) (found : Option User) (reader : UserName) → option_map (λ (u : User). u.name) found ≡ Some reader
     → sent_to policy now streams found ≡ with_reader_entitled reader (mask_by (sees now reader) policy.accounts) streams
 sent_named policy now streams None reader e = cc
-sent_named policy now streams (Some u) reader e = ap (λ (name : UserName). with_reader_entitled name (mask_by (sees now name) policy.accounts) streams) (some_same e)
+sent_named policy now streams (Some u) reader e = ap (λ (name : UserName). with_reader_entitled name (mask_by (sees now name) policy.accounts) streams) (same_Some _ _ e)
 
 -- the reader named has room where whom the name finds has
 pub room_named : (users : List User) (found : Option User) (reader : UserName) (account : AccountName) → option_map (λ (u : User). u.name) found ≡ Some reader
     → option_map_or (λ (u : User). has_room users u.name account) found true ≡ true → has_room users reader account ≡ true
 room_named users None reader account e room = cc
-room_named users (Some u) reader account e room = ap (λ (name : UserName). has_room users name account) (sym (some_same e)) ∙ room
+room_named users (Some u) reader account e room = ap (λ (name : UserName). has_room users name account) (sym (same_Some _ _ e)) ∙ room

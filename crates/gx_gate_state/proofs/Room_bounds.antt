@@ -5,14 +5,14 @@ use Rattle.gx_units.specs.{Names.same_user, declared.names.UserName.UserName}
 use Rattle.gx_desk.specs.declared.Action.{Action}
 use Rattle.gx_policy.specs.declared.policy.{PolicyData.PolicyData, User.User}
 use Rattle.gx_history.specs.{declared.{«record».RecordData.RecordData, report.{Message.Message, Report.Report}}, Readers.reader_in, Streams.{reports_of, stream}, Verdicts.IsLegal}
-use Rattle.gx_laws.proofs.NextReports.{stream_next}
+use Rattle.gx_laws.proofs.Streams_next.{stream_next}
 use Rattle.gx_streams.specs.{declared.fill.ReportedFill.ReportedFill, Kept.{UserList, list_of, on_user, with_reserved_last}, Streams.{AllStreams, has_own_stream, on_list_of, reports_in, with_fill, with_fill_reports}, Telling.{shown_streams, reports_after, with_all_reports, with_report}}
-use Rattle.gx_streams.proofs.Finding.{reports_are}
+use Rattle.gx_streams.proofs.UserLists_found.{reports_are}
 use Rattle.gx_gate_state.specs.{State.{HaveReservedWithRecord, HaveNoFewer, HaveReservedReports, KeepRoom, KnowsUsers, with_message}, Settings.{sent_on, sent_to}}
 
 -- the room of a list
 abbrev room_of : Option (UserList Report) → ℕ
-room_of found = length (option_map_or (λ (l : UserList Report). l.kept.items) found []) + option_map_or (λ (l : UserList Report). l.kept.spare) found 0
+room_of found = length (option_map_or (λ (l : UserList Report). l.kept.items) found []) + option_map_or (λ (l : UserList Report). l.kept.reserved) found 0
 
 -- a report in a place that was kept takes no room from anybody
 one_told : (user other : UserName) (report : Report) (ls : List (UserList Report)) → room_of (list_of ls other) ≤ room_of (list_of (on_user user (with_reserved_last report) ls) other)
@@ -25,7 +25,7 @@ one_told user other report (l ∷ ls) = at (same_user user l.user) (one_told use
     rest : Option (UserList Report)
     rest = list_of (on_user user (with_reserved_last report) ls) other
 
-    more : length l.kept.items + l.kept.spare ≤ length changed.kept.items + changed.kept.spare
+    more : length l.kept.items + l.kept.reserved ≤ length changed.kept.items + changed.kept.reserved
     more = omega (arith, length-append l.kept.items (report ∷ []))
 
     told : (b : Bool) → room_of (list_of ls other) ≤ room_of rest → room_of (cond b (Some l) (list_of ls other)) ≤ room_of (cond b (Some changed) rest)
@@ -44,7 +44,7 @@ pub no_room_lost : (streams : AllStreams) → KeepRoom streams streams
 no_room_lost streams = record { room = λ user. omega arith }
 
 pub one_keeps_room : (streams : AllStreams) (user : UserName) (report : Report) → KeepRoom streams (on_list_of user (with_reserved_last report) streams)
-one_keeps_room streams user report = record { room = λ other. one_told user other report streams.told }
+one_keeps_room streams user report = record { room = λ other. one_told user other report streams.lists }
 
 pub both_keep_room : (before between after : AllStreams) → KeepRoom before between → KeepRoom between after → KeepRoom before after
 both_keep_room before between after first second = record { room = λ user. omega (arith, first.room user, second.room user) }
@@ -85,10 +85,10 @@ sent_keeps_room policy people now before after action is = subst (KeepRoom befor
 
 -- a fill takes nobody's places
 fill_takes_none : (f : ReportedFill) (streams : AllStreams) → HaveNoFewer streams (with_fill f streams)
-fill_takes_none f streams user = at streams.told
+fill_takes_none f streams user = at streams.lists
   where
     spare_of : Option (UserList Report) → ℕ
-    spare_of found = option_map_or (λ (l : UserList Report). l.kept.spare) found 0
+    spare_of found = option_map_or (λ (l : UserList Report). l.kept.reserved) found 0
 
     told : UserList Report → UserList Report
     told l = with_fill_reports streams.readers f l
@@ -105,11 +105,11 @@ fill_takes_none f streams user = at streams.told
 pub filling_takes_none : (before after : AllStreams) (f : ReportedFill) → after ≡ with_fill f before → HaveNoFewer before after
 filling_takes_none before after f is = subst (HaveNoFewer before) (sym is) (fill_takes_none f before)
 
--- after what the record owes was told, there are still the places that are kept behind it
-pub places_behind : (policy : PolicyData) (history : List RecordData) (r : RecordData) (placed after : AllStreams) → IsLegal policy history → IsLegal policy (history ++ r ∷ [])
+-- after what the record owes was told, there are still the reserved places behind it
+pub places_behind : {policy : PolicyData} {history : List RecordData} (r : RecordData) (placed after : AllStreams) → IsLegal policy history → IsLegal policy (history ++ r ∷ [])
     → KnowsUsers policy placed → KnowsUsers policy after → shown_streams placed ≡ reports_after policy history → shown_streams after ≡ reports_after policy (history ++ r ∷ [])
     → KeepRoom placed after → HaveReservedWithRecord policy history r placed → HaveReservedReports policy (history ++ r ∷ []) after
-places_behind policy history r placed after legal legal_then knows knows_then shows shows_then keep have = record {
+places_behind {policy} {history} r placed after legal legal_then knows knows_then shows shows_then keep have = record {
   kept = λ user told.
       let there : has_own_stream placed user ≡ true = knows user ∙ sym (knows_then user) ∙ told in
       let was : length (reports_in placed user) ≡ length (stream policy history user) = ap length (reports_are policy history placed legal shows user) in
@@ -119,10 +119,10 @@ places_behind policy history r placed after legal legal_then knows knows_then sh
 }
 
 -- where nothing was told, they are the same
-pub places_still : (policy : PolicyData) (history : List RecordData) (placed after : AllStreams) → IsLegal policy history
+pub places_still : {policy : PolicyData} {history : List RecordData} (placed after : AllStreams) → IsLegal policy history
     → KnowsUsers policy placed → KnowsUsers policy after → shown_streams placed ≡ reports_after policy history → shown_streams after ≡ reports_after policy history
     → KeepRoom placed after → HaveReservedReports policy history placed → HaveReservedReports policy history after
-places_still policy history placed after legal knows knows_then shows shows_then keep have = record {
+places_still {policy} {history} placed after legal knows knows_then shows shows_then keep have = record {
   kept = λ user told.
       let there : has_own_stream placed user ≡ true = knows user ∙ sym (knows_then user) ∙ told in
       omega (

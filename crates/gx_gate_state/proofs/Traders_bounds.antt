@@ -4,8 +4,8 @@ use Rattle.std.specs.{Prelude.{Option, Some, None, option_and_then}, Option.opti
 use Rattle.gx_units.specs.declared.names.{AccountName.AccountName}
 use Rattle.gx_policy.specs.{declared.policy.{PolicyData.PolicyData, Role.Role, User.User}, People.{account_of, account_of_role, is_officer, role_in, user_in}}
 use Rattle.gx_history.specs.{declared.{live_order.LiveOrder.LiveOrder, moves.Move.Move, «record».{Asked.Asked, RecordData.RecordData, Request.Request, Step.Step, Verdict.Verdict}}, Live.live_under, Turns.new_order, World.{Does, World, move_asked, move_by, world}}
-use Rattle.gx_laws.proofs.Doing.{may_do}
-use Rattle.gx_people.proofs.Keeping.{officers_stay}
+use Rattle.gx_laws.proofs.Moves_known.{may_do}
+use Rattle.gx_people.proofs.Users_laws.{officers_stay}
 use Rattle.gx_streams.specs.Streams.{AllStreams, has_own_stream}
 use Rattle.gx_gate_state.specs.{declared.state.GateState.GateState, State.{HasEnough, HasReserved, Takes, count_of, kills_of}}
 use Rattle.gx_gate_state.proofs.{Reserved_next.known_told, Match_next.trader_told}
@@ -53,14 +53,14 @@ module _ (policy : PolicyData) (history : List RecordData) (a : Asked) (r : Reco
   his_account : account_of policy a.user ≡ Some new.account
   his_account =
       let does = subst (Does policy history r) adds t.does in
-      ap (account_of policy) his_order ∙ (may_do policy history r (Move.Adds new) does).is_his
+      ap (account_of policy) his_order ∙ (may_do r (Move.Adds new) does).is_his
 
   trades : is_officer (role_in policy.users a.user) ≡ false
   trades = no_officer (role_in policy.users a.user) new.account his_account
 
   -- he is told report by report
   pub trader_is_told : has_own_stream k.streams a.user ≡ true
-  trader_is_told = known_told policy history k t.in_force a.user ∙ trader_told new.account (user_in policy.users a.user) his_account
+  trader_is_told = known_told k t.in_force a.user ∙ trader_told new.account (user_in policy.users a.user) his_account
 
   kills_none : kills_of k.people policy a.user ≡ 0
   kills_none = ap (λ (b : Bool). if b then length policy.accounts else 0)

@@ -66,7 +66,7 @@ next_reports n officer c code live = command_reports n.policy.now n.data.now off
 
 -- each user has a place for each report that is for him
 abbrev pub HaveReservedFor : List (UserName × Report) → AllStreams → Type 0
-HaveReservedFor owed streams = (user : UserName) → length (reports_to owed user) ≤ reserved_in streams.told user
+HaveReservedFor owed streams = (user : UserName) → length (reports_to owed user) ≤ reserved_in streams.lists user
 
 -- the orders that end told to their users, in places that were kept
 abbrev pub with_end_reports : Action → ℕ → List LiveOrder → AllStreams → AllStreams

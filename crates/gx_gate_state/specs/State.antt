@@ -43,11 +43,11 @@ KnowTheSame before after = (user : UserName) → has_own_stream after user ≡ h
 
 -- nobody has fewer places than before
 abbrev pub HaveNoFewer : AllStreams → AllStreams → Type 0
-HaveNoFewer before after = (user : UserName) → reserved_in before.told user ≤ reserved_in after.told user
+HaveNoFewer before after = (user : UserName) → reserved_in before.lists user ≤ reserved_in after.lists user
 
 -- the user has so many places, if he is told report by report
 abbrev pub HasReserved : UserName → ℕ → AllStreams → Type 0
-HasReserved user places streams = IsTrue (has_own_stream streams user) → places ≤ reserved_in streams.told user
+HasReserved user places streams = IsTrue (has_own_stream streams user) → places ≤ reserved_in streams.lists user
 
 -- how many of the live orders are the user's
 abbrev pub count_of : List LiveOrder → UserName → ℕ
@@ -71,13 +71,13 @@ HaveEnough live people policy streams users = AllByRecursion (λ (u : User). Has
 
 -- what the user was told, and the places for more
 abbrev pub room_in : AllStreams → UserName → ℕ
-room_in streams user = length (reports_in streams user) + reserved_in streams.told user
+room_in streams user = length (reports_in streams user) + reserved_in streams.lists user
 
 -- nobody has less room than before
 pub record KeepRoom (before after : AllStreams) : Type 0 where
   pub room : (user : UserName) → room_in before user ≤ room_in after user
 
--- each user who is known has the places that are kept for him
+-- each user who is known has the places that are reserved for him
 pub record HaveReservedReports (policy : PolicyData) (history : List RecordData) (streams : AllStreams) : Type 0 where
   pub kept : (user : UserName) → HasReserved user (reserved_reports policy history user) streams
 
@@ -92,7 +92,7 @@ with_message user moment (Some message) streams = on_list_of user (with_reserved
 
 -- each user whom the record tells has a place for each of its reports
 abbrev pub HaveReservedForRecord : PolicyData → List RecordData → RecordData → AllStreams → Type 0
-HaveReservedForRecord policy history r streams = (user : UserName) → length (reports_of policy user (history, r)) ≤ reserved_in streams.told user
+HaveReservedForRecord policy history r streams = (user : UserName) → length (reports_of policy user (history, r)) ≤ reserved_in streams.lists user
 
 -- after a legal day with what is in force, the record is next, and does so
 pub record Takes (policy : PolicyData) (history : List RecordData) (m : Move) (r : RecordData) (k : GateState) : Type 0 where
@@ -135,7 +135,7 @@ AreAfter n k = AreInForceAfter n.policy.now n.history.now.records n.data.now k
 abbrev pub IsReservedWhole : NextRecord → GateState → Type 0
 IsReservedWhole n k = HaveReservedWithRecord n.policy.now n.history.now.records n.data.now k.streams
 
--- the places that are kept before the record
+-- the reserved places before the record
 abbrev pub HaveReservedBefore : NextRecord → GateState → Type 0
 HaveReservedBefore n k = HaveReservedReports n.policy.now n.history.now.records k.streams
 

@@ -168,7 +168,7 @@ fn apply_asked(state: &mut GateState, next: NextRecord<'_>, a: &Asked) -> Result
 }
 
 /// Reserves a place for each report that the record of the request owes, does what the record does,
-/// and leaves the places that are kept behind it. A granted Kill or Logout is never refused.
+/// and leaves the reserved places behind it. A granted Kill or Logout is never refused.
 ///
 /// # Errors
 ///

@@ -82,10 +82,7 @@ pub fn house_of(policy: &Policy, account: Option<AccountName>, near: usize) -> O
 pub fn firm_of(policy: &Policy, account: AccountName, near: usize, asked_for: Firm) -> Firm
     ensures { result ≡ firm_of policy.now account asked_for }
 {
-    match account_near(policy, near, account) {
-        Some(found) => found.firm,
-        None => asked_for,
-    }
+    house_of_account(policy, account, near).unwrap_or(asked_for)
 }
 
 /// Whether an Enter's firm is blank, or that of the account that it is for; true for any other

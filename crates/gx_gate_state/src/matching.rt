@@ -156,7 +156,7 @@ fn apply_expiry(state: &mut GateState, next: NextRecord<'_>, number: u64) -> Res
     Ok(())
 }
 
-/// Does what the record of a matching step does, and leaves the places that are kept
+/// Does what the record of a matching step does, and leaves the reserved places
 /// behind it.
 ///
 /// # Errors

@@ -167,7 +167,7 @@ pub fn tell(
     moment: Moment,
     found: Option<Message>,
 )
-    requires { IfSome found (λ message. 0 < reserved_in streams.old.told user) }
+    requires { IfSome found (λ message. 0 < reserved_in streams.old.lists user) }
     ensures { streams.new ≡ with_message user moment found streams.old }
 {
     if let Some(message) = found {

@@ -1,6 +1,6 @@
 //! Every place that a record can want, made before anything changes.
 //!
-//! For each user places are kept beforehand: one for the end of each of his live orders, and one for
+//! For each user places are reserved beforehand: one for the end of each of his live orders, and one for
 //! the answer to each Kill that he may ask for. So a granted Kill, and a granted Logout, make none.
 
 ghost use Rattle.std.specs.Prelude.{◌≡◌, ◌+◌, ◌<◌, ◌≤◌, ◌^◌, length, IsOk, IsTrue, OnOk, Some};
@@ -22,9 +22,9 @@ use gx_policy::Policy;
 use gx_streams::Streams;
 use gx_units::{OutOfMemory, UserName};
 
-/// Keeps at least so many places for the user, if he is known and no reader. Here and below, he is
+/// Reserves at least so many places for the user, if he is known and no reader. Here and below, he is
 /// looked for at this place of the policy's users first.
-fn keep(
+fn reserve_for_user(
     streams: &mut Streams,
     user: UserName,
     near: usize,
@@ -70,7 +70,7 @@ fn enough_reserved(
     orders.count_of(user, near) + most_kills(people, policy, user, near) + 2
 }
 
-/// Keeps as many places for the user, if he is known and no reader.
+/// Reserves as many places for the user, if he is known and no reader.
 fn reserve_enough(
     streams: &mut Streams,
     orders: &Orders,
@@ -87,7 +87,7 @@ fn reserve_enough(
     ensures places { OnOk result
         (HasEnough orders.now.live people.now policy.now streams.new user) }
 {
-    keep(
+    reserve_for_user(
         streams,
         user,
         near,
@@ -95,7 +95,7 @@ fn reserve_enough(
     )
 }
 
-/// Keeps as many places for a user who trades: there is no account for him to kill.
+/// Reserves as many places for a user who trades: there is no account for him to kill.
 fn reserve_enough_for_trader(
     streams: &mut Streams,
     orders: &Orders,
@@ -115,7 +115,7 @@ fn reserve_enough_for_trader(
     Ok(())
 }
 
-/// Keeps as many places for each user of the policy.
+/// Reserves as many places for each user of the policy.
 ///
 /// # Errors
 ///
@@ -140,7 +140,7 @@ pub fn reserve_enough_for_all(
     Ok(())
 }
 
-/// Keeps a place for each report that the record of the request owes, and those that are to be kept
+/// Reserves a place for each report that the record of the request owes, and those that are to be reserved
 /// behind it. A granted Kill or Logout finds its own.
 ///
 /// # Errors
@@ -181,7 +181,7 @@ pub fn reserve_reports(
     )
 }
 
-/// Keeps a place for the report of an order that expires, and those that are to be kept behind it.
+/// Reserves a place for the report of an order that expires, and those that are to be reserved behind it.
 ///
 /// # Errors
 ///

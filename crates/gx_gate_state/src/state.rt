@@ -79,7 +79,7 @@ struct Trading {
     ledger: Ledger,
 }
 
-/// Each reader gets the fills of his accounts, and the places are kept that a day begins with.
+/// Each reader gets the fills of his accounts, and the places are reserved that a day begins with.
 fn make_ready(
     streams: &mut Streams,
     orders: &Orders,
@@ -162,7 +162,7 @@ fn first_trading(alloc: Global, policy: &Policy) -> Result<Trading, OutOfMemory>
 }
 
 impl GateState {
-    /// As they are at the beginning of a day under the policy, with the places that are kept then.
+    /// As they are at the beginning of a day under the policy, with the places that are reserved then.
     ///
     /// # Errors
     ///

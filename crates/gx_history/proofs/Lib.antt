@@ -1,2 +1,2 @@
-pub mod Slicing
-pub mod Unpacking
+pub mod Lists_slice
+pub mod Rows_table

@@ -26,18 +26,13 @@ is_under user token o = same_user o.user user && same_token o.token token
 
 -- the terms of an order that is replaced
 abbrev pub terms_then : ReplaceOrder → OrderTerms → OrderTerms
-terms_then m terms = record {
-  side = terms.side;
+terms_then m terms = record terms {
   shares = m.shares;
-  stock = terms.stock;
   price = m.price;
   time_in_force = m.time_in_force;
-  firm = terms.firm;
   display = m.display;
-  capacity = terms.capacity;
   intermarket_sweep = m.intermarket_sweep;
   minimum_quantity = m.minimum_quantity;
-  cross_type = terms.cross_type;
 }
 
 -- the order that replaces o: its chain has executed as much, and it waits

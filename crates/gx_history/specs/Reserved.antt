@@ -1,4 +1,4 @@
--- The places that are kept beforehand, so that each Kill and each Logout that may be granted can be recorded and told.
+-- The places that are reserved beforehand, so that each Kill and each Logout that may be granted can be recorded and told.
 use Rattle.std.specs.{Prelude.{ℕ, ◌+◌, Bool, true, false, ◌&&◌, not, is_some, length, List, Option, Some, if◌then◌else◌}, List.filter}
 use Rattle.gx_units.specs.{Names.same_user, declared.names.{AccountName.AccountName, UserName.UserName}}
 use Rattle.gx_desk.specs.declared.Action.{Action}
@@ -26,7 +26,7 @@ can_kill policy history user a = may_kill (role_in policy.users user) a.name && 
 abbrev pub kills_left : PolicyData → List RecordData → UserName → ℕ
 kills_left policy history user = length (filter (can_kill policy history user) policy.accounts)
 
--- the places that are kept for reports to the user
+-- the places that are reserved for reports to the user
 abbrev pub reserved_reports : PolicyData → List RecordData → UserName → ℕ
 reserved_reports policy history user = orders_held policy history user + kills_left policy history user
 
@@ -47,7 +47,7 @@ can_be_killed policy history a = not (is_fully_killed policy history a.name)
 abbrev pub is_logged_in : List RecordData → User → Bool
 is_logged_in history u = is_some (line_of history u.name)
 
--- the places that are kept for records: one for each account that a Kill would change, and one for each user who may log out
+-- the places that are reserved for records: one for each account that a Kill would change, and one for each user who may log out
 abbrev pub reserved_records : PolicyData → List RecordData → ℕ
 reserved_records policy history = length (filter (can_be_killed policy history) policy.accounts) + length (filter (is_logged_in history) policy.users)
 

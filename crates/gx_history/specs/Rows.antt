@@ -16,7 +16,7 @@ no_lists = record { asked = []; rules = []; fills = [] }
 -- such lists, and of how many more records they can take what is long without memory
 pub record KeptLists : Type 0 where
   pub lists : Lists
-  pub spare : ℕ
+  pub reserved : ℕ
 
 -- the request at this place
 abbrev pub step_at : List Asked → ℕ → Step
@@ -76,8 +76,8 @@ fills_of other = []
 abbrev pub with_details : Step → Verdict → Lists → Lists
 with_details step verdict lists = record { asked = lists.asked ++ asked_of step; rules = lists.rules ++ rules_of verdict; fills = lists.fills ++ fills_of verdict }
 
--- what each row names is there, each record can be shown, and there is room for the rows of those that places are kept for
+-- what each row names is there, each record can be shown, and there is room for the rows of those that places are reserved for
 pub record AreKept (kept : KeptLists) (rows : List Row) (used capacity : ℕ) : Type 0 where
   pub there : AllThere kept.lists rows
   pub showable : AllShowable (records_in kept.lists rows)
-  pub room : used + kept.spare ≤ capacity
+  pub room : used + kept.reserved ≤ capacity

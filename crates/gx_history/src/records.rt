@@ -39,7 +39,7 @@ impl<'a> Records<'a> {
     }
 
     /// How many there are.
-    #[tactic(auto, using(crate::proofs::Unpacking::records_length))]
+    #[tactic(auto, using(crate::proofs::Rows_table::records_length))]
     pub fn len(&self) -> usize
         ensures { result ≡ length self.now }
     {
@@ -57,7 +57,7 @@ impl<'a> Records<'a> {
 
     /// The one at this place, from 0. The place has to be one of them.
     #[inline(always)]
-    #[tactic(auto, using(crate::proofs::Unpacking::found_within))]
+    #[tactic(auto, using(gx_units::proofs::Lists_found::found_within))]
     pub fn at(&self, place: usize) -> Record
         requires { place < length self.now }
         ensures { slice_get self.now place ≡ Some result }
@@ -124,7 +124,7 @@ impl<'a> Records<'a> {
     }
 
     /// Those from this number on, 0 counting as 1, and at most so many.
-    #[tactic(auto, using(crate::proofs::Slicing::slice_is))]
+    #[tactic(auto, using(crate::proofs::Lists_slice::slice_is))]
     pub fn slice(&self, from: u64, most: u64) -> Records<'a>
         ensures { result ≡ slice self.now from most }
     {
@@ -132,7 +132,7 @@ impl<'a> Records<'a> {
     }
 
     /// A list of them.
-    #[tactic(auto, using(crate::proofs::Unpacking::one_more_taken, std::proofs::lemmas::List::take_all))]
+    #[tactic(auto, using(gx_units::proofs::Lists_found::one_more_taken, std::proofs::lemmas::List::take_all))]
     pub fn to_vec(&self, alloc: Global) -> Result<Vec<Record>, OutOfMemory>
         ensures { IfOk result (λ list. list.items ≡ self.now) }
     {

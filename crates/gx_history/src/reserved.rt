@@ -1,4 +1,4 @@
-//! Which requests find their places kept, and which may make more wanted.
+//! Which requests find their places reserved, and which may make more wanted.
 
 ghost use Rattle.std.specs.Prelude.{◌≡◌};
 ghost use Rattle.gx_history.specs.Reserved.{may_notify_all_users, is_never_refused, is_kill_or_logout, is_lift_or_close};

@@ -35,13 +35,13 @@ pub(crate) struct Row {
     pub(crate) event: Event,
 }
 
-/// What is long in the records, each kind in the order of its records, and places kept for more.
+/// What is long in the records, each kind in the order of its records, and places reserved for more.
 #[derive(Drop)]
 pub(crate) struct Details {
     asked: Vec<Asked>,
     rules: Vec<RuleName>,
     fills: Vec<Fill>,
-    spare: usize,
+    reserved: usize,
 }
 
 impl Model for Details {
@@ -50,63 +50,63 @@ impl Model for Details {
 
     ghost Value = { KeptLists };
 
-    ghost view = { λ d. record { lists = record { asked = d.asked.items; rules = d.rules.items; fills = d.fills.items }; spare = d.spare } };
+    ghost view = { λ d. record { lists = record { asked = d.asked.items; rules = d.rules.items; fills = d.fills.items }; reserved = d.reserved } };
 
-    ghost invariant = { λ d. (vec_len d.asked + d.spare ≤ vec_capacity d.asked)
-        × (vec_len d.rules + d.spare ≤ vec_capacity d.rules)
-        × (vec_len d.fills + d.spare ≤ vec_capacity d.fills) };
+    ghost invariant = { λ d. (vec_len d.asked + d.reserved ≤ vec_capacity d.asked)
+        × (vec_len d.rules + d.reserved ≤ vec_capacity d.rules)
+        × (vec_len d.fills + d.reserved ≤ vec_capacity d.fills) };
 }
 
 impl Details {
-    /// None, and no place kept. Takes no memory.
+    /// None, and no place reserved. Takes no memory.
     pub(crate) fn new(alloc: Global) -> Details
         ensures lists { result.lists ≡ no_lists }
-        ensures spare { result.spare ≡ 0 }
+        ensures reserved { result.reserved ≡ 0 }
     {
         Details {
             asked: Vec::new(alloc),
             rules: Vec::new(alloc),
             fills: Vec::new(alloc),
-            spare: 0,
+            reserved: 0,
         }
     }
 
     /// The records that `put` has places for.
-    pub(crate) fn spare(&self) -> usize
-        ensures { result ≡ self.now.spare }
+    pub(crate) fn reserved(&self) -> usize
+        ensures { result ≡ self.now.reserved }
     {
-        self.spare
+        self.reserved
     }
 
-    /// Keeps places for those of at least so many records. Places that are kept already count.
+    /// Reserves places for those of at least so many records. Places that are reserved already count.
     pub(crate) fn reserve(&mut self, places: usize) -> Result<(), OutOfMemory>
-        requires { self.old.spare ≤ places }
+        requires { self.old.reserved ≤ places }
         ensures lists { self.new.lists ≡ self.old.lists }
-        ensures few { self.new.spare ≤ places }
-        ensures ok { OnOk result (self.new.spare ≡ places) }
+        ensures few { self.new.reserved ≤ places }
+        ensures ok { OnOk result (self.new.reserved ≡ places) }
         ensures err { OnErr result (self.new ≡ self.old) }
     {
         self.asked.reserve(places)?;
         self.rules.reserve(places)?;
         self.fills.reserve(places)?;
-        self.spare = places;
+        self.reserved = places;
         Ok(())
     }
 
     /// Puts what is long in them last, and names it by its place.
     #[inline(always)]
-    #[tactic(auto, using(crate::proofs::Unpacking::get_last))]
+    #[tactic(auto, using(gx_units::proofs::Lists_found::get_last))]
     pub(crate) fn put(&mut self, step: &Step, verdict: &Verdict) -> Event
         requires of_step { IsTrue (is_verdict_of step.now verdict.now) }
-        requires room { 0 < self.old.spare }
+        requires room { 0 < self.old.reserved }
         ensures lists { self.new.lists ≡ with_details step.now verdict.now self.old.lists }
-        ensures spare { self.new.spare + 1 ≡ self.old.spare }
+        ensures reserved { self.new.reserved + 1 ≡ self.old.reserved }
         ensures step { step_in self.new.lists.asked result ≡ step.now }
         ensures verdict { verdict_in self.new.lists.rules self.new.lists.fills result
             ≡ verdict.now }
         ensures there { IsThere self.new.lists result }
     {
-        self.spare -= 1;
+        self.reserved -= 1;
         match (step, verdict) {
             (Step::Asked(asked), Verdict::Granted) => {
                 let place = self.asked.len();

@@ -1,5 +1,5 @@
-mod Decoded
-mod Heads
-mod Named
-mod ReadingBack
-mod Sending
+mod Text_decoded
+mod Head_parts
+mod FieldSearch_next
+mod Response_read
+mod Response_sent

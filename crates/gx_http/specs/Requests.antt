@@ -2,7 +2,7 @@
 use Rattle.std.specs.Prelude.{◌≡◌, ◌⊎◌, ⊤, ℕ, ◌+◌, ◌<◌, ◌≤◌, Bool, not, ◌==◌, ◌&&◌, ◌||◌, List, length, map, take, Option, Some, None, Result, Ok, Err, if◌then◌else◌, nat_lt}
 use Rattle.httparse.specs.{Grammar.{RequestHead, print_request, ReadsRequest, HasNoRequest, MayBecomeRequest}, Spans.{RequestOverflows, header_bytes, name_and_value, span_bytes}, declared.spans.{HeaderSpan.HeaderSpan, RequestSpans.RequestSpans}}
 use Rattle.http1.specs.{Fields.{Header, known_fields}, Framing.{method_kind, request_framing}, declared.{fields.KnownFields.KnownFields, framing.{Framing.Framing, FramingError.FramingError}}}
-use Rattle.gx_http.specs.{declared.{credentials.Credentials.Credentials, forms.KillForm.KillForm, request.{Asked.Asked, Request.Request, RequestFault.RequestFault}, routes.Route.Route}, Credentials.credentials_in, Forms.kill_form, Routes.route_of, Words.◌>>=◌}
+use Rattle.gx_http.specs.{declared.{credentials.Credentials.Credentials, forms.KillForm.KillForm, request.{RequestTarget.RequestTarget, Request.Request, RequestFault.RequestFault}, routes.Route.Route}, Credentials.credentials_in, Forms.kill_form, Routes.route_of, Words.◌>>=◌}
 
 -- a request has no more bytes than these
 abbrev pub most_bytes : ℕ
@@ -62,21 +62,21 @@ within_bounds head body = if nat_lt most_bytes (head + body) then Err RequestFau
 abbrev pub whole_body : ℕ → List ℕ → Result (List ℕ) RequestFault
 whole_body n bytes = if nat_lt (length bytes) n then Err RequestFault.Unfinished else Ok (take n bytes)
 
-abbrev pub killed_by : Option KillForm → Result Asked RequestFault
+abbrev pub killed_by : Option KillForm → Result RequestTarget RequestFault
 killed_by None = Err RequestFault.BadRequest
-killed_by (Some form) = Ok (Asked.Kill form)
+killed_by (Some form) = Ok (RequestTarget.Kill form)
 
 -- what is asked for by this route and this body
-abbrev pub asked_by : Route → List ℕ → Result Asked RequestFault
-asked_by Route.Page body = Ok Asked.Page
-asked_by Route.Script body = Ok Asked.Script
-asked_by Route.Style body = Ok Asked.Style
-asked_by Route.State body = Ok Asked.State
-asked_by Route.Metrics body = Ok Asked.Metrics
-asked_by Route.Health body = Ok Asked.Health
+abbrev pub asked_by : Route → List ℕ → Result RequestTarget RequestFault
+asked_by Route.Page body = Ok RequestTarget.Page
+asked_by Route.Script body = Ok RequestTarget.Script
+asked_by Route.Style body = Ok RequestTarget.Style
+asked_by Route.State body = Ok RequestTarget.State
+asked_by Route.Metrics body = Ok RequestTarget.Metrics
+asked_by Route.Health body = Ok RequestTarget.Health
 asked_by Route.Kill body = killed_by (kill_form body)
 
-abbrev pub request_by : Option Credentials → Asked → Result Request RequestFault
+abbrev pub request_by : Option Credentials → RequestTarget → Result Request RequestFault
 request_by caller asked = Ok (record { caller = caller; asked = asked })
 
 -- the request that a head and the bytes behind it are, by the first fault where there is one

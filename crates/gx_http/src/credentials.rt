@@ -80,7 +80,7 @@ fn user_and_password(text: &[u8]) -> Option<Credentials>
 }
 
 /// The user and the password that stand in base64 in this text.
-#[tactic(auto, using(crate::proofs::Decoded::some_decoded))]
+#[tactic(auto, using(crate::proofs::Text_decoded::some_decoded))]
 fn decoded_credentials(text: &[u8]) -> Option<Credentials>
     requires { length text.now ≤ 24 }
     ensures { result ≡ option_and_then user_and_password (decoded_of standard text.now) }

@@ -18,6 +18,6 @@ mod routes;
 pub use credentials::Credentials;
 pub use forms::{KillForm, PageToken};
 pub use laws::responses_read_back;
-pub use request::{Asked, MOST_BYTES, Request, RequestFault, read_request};
+pub use request::{MOST_BYTES, Request, RequestFault, RequestTarget, read_request};
 pub use response::{Content, Status, write_response};
 pub use routes::{Method, Route};

@@ -21,7 +21,7 @@ const MOST_FIELDS: usize = 32;
 
 /// What a request asks for.
 #[derive(Clone, Copy, PartialEq, Eq)]
-pub enum Asked {
+pub enum RequestTarget {
     /// The page.
     Page,
     /// Its script.
@@ -44,7 +44,7 @@ pub struct Request {
     /// The user and the password that it names.
     pub caller: Option<Credentials>,
     /// What it asks for.
-    pub asked: Asked,
+    pub asked: RequestTarget,
 }
 
 /// Why bytes are no request that is served.
@@ -103,25 +103,25 @@ fn whole_body(length: usize, bytes: &[u8]) -> Result<&[u8], RequestFault>
 }
 
 /// What is asked for by this route and this body.
-fn asked_by(route: Route, body: &[u8]) -> Result<Asked, RequestFault>
+fn asked_by(route: Route, body: &[u8]) -> Result<RequestTarget, RequestFault>
     ensures { result ≡ asked_by route body.now }
 {
     match route {
-        Route::Page => Ok(Asked::Page),
-        Route::Script => Ok(Asked::Script),
-        Route::Style => Ok(Asked::Style),
-        Route::State => Ok(Asked::State),
-        Route::Metrics => Ok(Asked::Metrics),
-        Route::Health => Ok(Asked::Health),
+        Route::Page => Ok(RequestTarget::Page),
+        Route::Script => Ok(RequestTarget::Script),
+        Route::Style => Ok(RequestTarget::Style),
+        Route::State => Ok(RequestTarget::State),
+        Route::Metrics => Ok(RequestTarget::Metrics),
+        Route::Health => Ok(RequestTarget::Health),
         Route::Kill => match kill_form(body) {
-            Some(form) => Ok(Asked::Kill(form)),
+            Some(form) => Ok(RequestTarget::Kill(form)),
             None => Err(RequestFault::BadRequest),
         },
     }
 }
 
 /// The request whose head has these fields and parts.
-#[tactic(auto, using(crate::proofs::Heads::all_within))]
+#[tactic(auto, using(crate::proofs::Head_parts::all_within))]
 fn behind_head(
     bytes: &[u8],
     fields: &[HeaderSpan],

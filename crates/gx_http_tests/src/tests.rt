@@ -1,6 +1,8 @@
 //! What no clause says: that requests as browsers send them are read, and how a response looks.
 
-use gx_http::{Asked, Content, MOST_BYTES, RequestFault, Status, read_request, write_response};
+use gx_http::{
+    Content, MOST_BYTES, RequestFault, RequestTarget, Status, read_request, write_response,
+};
 use std::alloc::Global;
 
 /// What a page in Chromium asks for each second.
@@ -19,7 +21,7 @@ fn is_state_of_olga(bytes: &[u8]) -> bool {
     let Some(caller) = request.caller else {
         return false;
     };
-    request.asked == Asked::State
+    request.asked == RequestTarget::State
         && caller.user.bytes == *b"OLGA  "
         && caller.password.bytes == *b"orange    "
 }
@@ -28,7 +30,7 @@ fn is_state_of_olga(bytes: &[u8]) -> bool {
 fn is_kill_of_alfa(bytes: &[u8]) -> bool {
     match read_request(bytes) {
         Ok(request) => match request.asked {
-            Asked::Kill(form) => {
+            RequestTarget::Kill(form) => {
                 form.account.bytes == *b"ALFA    "
                     && form.token.bytes == *b"0123456789abcdef0123456789abcdef"
             }

@@ -1,1 +1,1 @@
-pub mod Distinct
+pub mod Keys_only

@@ -11,7 +11,7 @@ use std::hash::{BuildHasher, Hash};
 /// The index of the key. The entry at this place is looked at first; where the key stands
 /// elsewhere, it is found by its hash: a wrong place costs time alone.
 #[inline(always)]
-#[tactic(auto, using(crate::proofs::Distinct::index_at, crate::proofs::Distinct::found_at, crate::proofs::Distinct::value_at))]
+#[tactic(auto, using(crate::proofs::Keys_only::index_at, crate::proofs::Keys_only::found_at, crate::proofs::Keys_only::value_at))]
 pub fn index_near<K: Eq + Hash + Copy, V, S: BuildHasher, A: Allocator>(
     map: &IndexMap<K, V, S, A>,
     near: usize,
@@ -61,7 +61,7 @@ pub fn get_mut_near<K: Eq + Hash + Copy, V, S: BuildHasher, A: Allocator>(
 
 /// The place of the value in a set. This place is looked at first, as by [`index_near`].
 #[inline(always)]
-#[tactic(auto, using(crate::proofs::Distinct::place_at))]
+#[tactic(auto, using(crate::proofs::Keys_only::place_at))]
 pub fn place_near<T: Eq + Hash + Copy>(set: &IndexSet<T>, near: usize, value: T) -> Option<usize>
     ensures { result ≡ position (T.eq value) set.now.keys }
 {

@@ -5,15 +5,15 @@ use Rattle.std.specs.Io.KnownBytes.{Appends}
 use mathlib.Core.List.{IsPrefix}
 use Rattle.gx_history.specs.declared.record.RecordData.{RecordData}
 use Rattle.gx_audit_bytes.specs.declared.version.AuditVersion.{AuditVersion}
-use Rattle.gx_pass.specs.declared.view.Holds.{Holds}
-use Rattle.gx_pass.proofs.Fronts.{prefix_length}
+use Rattle.gx_pass.specs.declared.view.LineView.{LineView}
+use Rattle.gx_pass.proofs.Lists_prefix.{prefix_length}
 use Rattle.gx_journal.specs.Journals.{records_between, is_broken, journal_bytes, known_length, IsGrown, IsKept, JournalData, JournalWriterData}
 use Rattle.gx_journal.proofs.Journal_next.{added_later, cut_there, cut_written, more_written, none_added}
 
 pub sound_of : (writer : JournalWriterData) → writer.fault ≡ None → is_broken writer ≡ false
 sound_of writer none = ap (λ (f : Option WriteFault). is_some f) none
 
-abbrev pub journal : Holds → JournalWriterData → JournalData
+abbrev pub journal : LineView → JournalWriterData → JournalData
 journal met writer = record { met = met; writer = writer }
 
 -- the earlier records are a beginning of those that were met
@@ -26,7 +26,7 @@ begins_later earlier was is begins later =
     ap (take (length earlier)) (sym later.1) ∙ take-append-le (length earlier) was later.0 longer ∙ begins
 
 -- nothing is written yet
-pub kept_begun : (begun : Option (List ℕ)) (count : ℕ) (earlier : List RecordData) (version : AuditVersion) (met : Holds) (writer : JournalWriterData) → met.front ≡ earlier → count ≤ length earlier → writer.contents ≡ begun → writer.done ≡ count → writer.fault ≡ None → writer.version ≡ version → IsKept begun count earlier version (journal met writer)
+pub kept_begun : (begun : Option (List ℕ)) (count : ℕ) (earlier : List RecordData) (version : AuditVersion) (met : LineView) (writer : JournalWriterData) → met.front ≡ earlier → count ≤ length earlier → writer.contents ≡ begun → writer.done ≡ count → writer.fault ≡ None → writer.version ≡ version → IsKept begun count earlier version (journal met writer)
 kept_begun begun count earlier version met writer same within held done none is = record {
   version_is = is;
   begins = ap (take (length earlier)) same ∙ take_all (length earlier) earlier (omega arith);
@@ -39,8 +39,8 @@ kept_begun begun count earlier version met writer same within held done none is 
 }
 
 -- the pass has met more
-pub kept_later : (begun : Option (List ℕ)) (count : ℕ) (earlier : List RecordData) (version : AuditVersion) (was is : Holds) (writer : JournalWriterData) → is_broken writer ≡ false → IsPrefix was.front is.front → IsKept begun count earlier version (journal was writer) → IsKept begun count earlier version (journal is writer)
-kept_later begun count earlier version was is writer sound begins kept = record {
+pub kept_later : (begun : Option (List ℕ)) (count : ℕ) {earlier : List RecordData} (version : AuditVersion) (was is : LineView) (writer : JournalWriterData) → is_broken writer ≡ false → IsPrefix was.front is.front → IsKept begun count earlier version (journal was writer) → IsKept begun count earlier version (journal is writer)
+kept_later begun count {earlier} version was is writer sound begins kept = record {
   version_is = kept.version_is;
   begins = begins_later earlier was.front is.front kept.begins begins;
   first = kept.first;
@@ -51,9 +51,9 @@ kept_later begun count earlier version was is writer sound begins kept = record 
 }
 
 -- nothing is written any more
-pub kept_stopped : (begun : Option (List ℕ)) (count : ℕ) (earlier : List RecordData) (version : AuditVersion) (met : Holds) (was is : JournalWriterData) → is_broken was ≡ false → is_broken is ≡ true → is.contents ≡ was.contents → is.done ≡ was.done → is.version ≡ was.version
+pub kept_stopped : (begun : Option (List ℕ)) (count : ℕ) {earlier : List RecordData} (version : AuditVersion) (met : LineView) (was is : JournalWriterData) → is_broken was ≡ false → is_broken is ≡ true → is.contents ≡ was.contents → is.done ≡ was.done → is.version ≡ was.version
     → IsKept begun count earlier version (journal met was) → IsKept begun count earlier version (journal met is)
-kept_stopped begun count earlier version met was is sound broken same done goes kept = record {
+kept_stopped begun count version met was is sound broken same done goes kept = record {
   version_is = goes ∙ kept.version_is;
   begins = kept.begins;
   first = omega (arith, done, kept.first);
@@ -78,9 +78,9 @@ next_fit records all done next met =
     omega (arith, size, met)
 
 -- the next records were put on the device, or a front of them
-pub kept_put : (begun : Option (List ℕ)) (count : ℕ) (earlier : List RecordData) (version : AuditVersion) (met : Holds) (answer : Bool) (records : List RecordData) (was is : JournalWriterData) → is_broken was ≡ false
+pub kept_put : (begun : Option (List ℕ)) (count : ℕ) {earlier : List RecordData} (version : AuditVersion) (met : LineView) (answer : Bool) {records : List RecordData} (was is : JournalWriterData) → is_broken was ≡ false
     → records ≡ take (length records) (drop was.done met.front) → WasPut answer records was is → IsKept begun count earlier version (journal met was) → IsKept begun count earlier version (journal met is)
-kept_put begun count earlier version met true records was is sound next put kept =
+kept_put begun count version met true {records} was is sound next put kept =
     let done = put.done refl in
     let fits = next_fit records met.front was.done next kept.met in
     record {
@@ -94,7 +94,7 @@ kept_put begun count earlier version met true records was is sound next put kept
           (subst (λ (v : AuditVersion). Appends was.contents is.contents (journal_bytes v records)) kept.version_is (put.whole refl)));
       cut = λ b. absurd (both_ways (is_broken is) (sound_of is (put.sound refl)) b);
     }
-kept_put begun count earlier version met false records was is sound next put kept =
+kept_put begun count version met false {records} was is sound next put kept =
     let done = put.stays refl in
     record {
       version_is = put.version ∙ kept.version_is;
@@ -108,5 +108,5 @@ kept_put begun count earlier version met false records was is sound next put kep
 
 -- A piece of the records behind those that are done.
 
-pub all_known : (h : Holds) (count done : ℕ) → h.told ≤ count → length h.front ≤ count → count ≤ done → known_length h ≤ done
+pub all_known : (h : LineView) (count done : ℕ) → h.told ≤ count → length h.front ≤ count → count ≤ done → known_length h ≤ done
 all_known h count done told front written = omega (arith, told, front, written)

@@ -3,7 +3,7 @@ use Rattle.gx_devices.specs.{declared.fault.WriteFault.WriteFault, Devices.IsFro
 use Rattle.std.specs.{Prelude.{◌≡◌, ℕ, ◌<◌, ◌≤◌, max, List, length, take, drop, [], Bool, Option, Some, None, IsTrue, IsFalse, is_some}, Io.KnownBytes.append_known}
 use Rattle.gx_history.specs.declared.record.RecordData.{RecordData}
 use Rattle.gx_audit_bytes.specs.{declared.version.AuditVersion.AuditVersion, Audits.all_bytes}
-use Rattle.gx_pass.specs.{declared.view.Holds.Holds, Views.holds}
+use Rattle.gx_pass.specs.{declared.view.LineView.LineView, Views.line_view}
 
 -- what a device holds, as far as that is known, in which version records are put there, how many of the day's records are on it, and why no more are put there
 pub record JournalWriterData : Type 0 where
@@ -14,7 +14,7 @@ pub record JournalWriterData : Type 0 where
 
 -- what the journal's pass has met, and the device
 pub record JournalData : Type 0 where
-  pub met : Holds
+  pub met : LineView
   pub writer : JournalWriterData
 
 abbrev pub is_broken : JournalWriterData → Bool
@@ -33,9 +33,9 @@ abbrev pub IsGrown : (before after : Option (List ℕ)) → List ℕ → Type 0
 IsGrown before after text = IsTrue (is_some before) → after ≡ append_known before text
 
 -- what a pass has met that may be out
-abbrev pub met_by : {T : Type 0} → (T → Holds) → Option T → Holds
+abbrev pub met_by : {T : Type 0} → (T → LineView) → Option T → LineView
 met_by held (Some pass) = held pass
-met_by held None = holds 0 [] 0
+met_by held None = line_view 0 [] 0
 
 -- how many records were added with a pass that may be out
 abbrev pub added_by : {T : Type 0} → (T → ℕ) → Option T → ℕ
@@ -43,7 +43,7 @@ added_by records_between (Some pass) = records_between pass
 added_by records_between None = 0
 
 -- so many records there are at least, as the pass knows
-abbrev pub known_length : Holds → ℕ
+abbrev pub known_length : LineView → ℕ
 known_length h = max h.told (length h.front)
 
 -- The day begins with its earlier records. The device holds what it held at first, and behind it the bytes of the records that are done; once it is broken, a

@@ -4,7 +4,7 @@ ghost use Rattle.std.specs.Prelude.{◌≡◌, ◌+◌, ◌<◌, ◌≤◌, ◌�
 ghost use mathlib.Core.List.{IsPrefix};
 ghost use Rattle.gx_devices.specs.Devices.{IsFront};
 ghost use Rattle.gx_policy.specs.Lists.{slice};
-ghost use Rattle.gx_pass.specs.Views.{retold};
+ghost use Rattle.gx_pass.specs.Views.{with_told};
 ghost use Rattle.gx_door.specs.Acts.{IsLater};
 ghost use Rattle.gx_journal.specs.Journals.{records_between, is_broken, journal_bytes, known_length, IsGrown, IsKept};
 
@@ -27,7 +27,7 @@ const PIECE: u64 = 4_096;
 /// what its pass has met, what the device holds, how many records are on it, and why no more are put there.
 pub struct Journal<D: Door, W: Write, J: JournalName> {
     /// Taken out for each call of the door.
-    pass: Option<D::Ticket>,
+    pass: Option<D::Pass>,
     writer: JournalWriter<W>,
     of: PhantomData<J>,
 }
@@ -50,7 +50,7 @@ impl<D: Door, W: Write, J: JournalName> Journal<D, W, J> {
     pub fn new(
         alloc: Global,
         version: AuditVersion,
-        pass: D::Ticket,
+        pass: D::Pass,
         count: u64,
         device: W,
     ) -> Journal<D, W, J>
@@ -89,7 +89,7 @@ impl<D: Door, W: Write, J: JournalName> Journal<D, W, J> {
 
     /// How many records there are: at least as many as the pass has met.
     fn length(&mut self, door: &D) -> u64
-        ensures told { self.new.met ≡ retold self.old.met result }
+        ensures told { self.new.met ≡ with_told self.old.met result }
         ensures more { self.old.met.told ≤ result }
         ensures front { length self.old.met.front ≤ result }
         ensures writer { self.new.writer ≡ self.old.writer }
@@ -186,7 +186,7 @@ impl<D: Door, W: Write, J: JournalName> Journal<D, W, J> {
     }
 
     /// The pass, and the device with the day's records that are on it.
-    pub fn into_parts(self) -> (D::Ticket, JournalWriter<W>)
+    pub fn into_parts(self) -> (D::Pass, JournalWriter<W>)
         ensures met { D.held result.0 ≡ self.met }
         ensures none_added { D.added result.0 ≡ 0 }
         ensures writer { result.1 ≡ self.writer }

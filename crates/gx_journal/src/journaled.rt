@@ -4,7 +4,7 @@ ghost use Rattle.std.specs.Prelude.{◌≡◌, ◌≤◌, length};
 
 use crate::journal::Journal;
 use crate::name::JournalName;
-use gx_answers::{LoginAnswer, Outcome, Pulled, StepFault};
+use gx_access_gate::{LoginAnswer, Outcome, Pulled, StepFault};
 use gx_audit_bytes::AuditVersion;
 use gx_door::{Caller, Dial, Door, Matched, PullFault, Turned};
 use gx_history::record::{Record, Request};
@@ -28,7 +28,7 @@ impl<'x, D: Door, W: Write, J: JournalName> Journaled<'x, D, W, J> {
         alloc: Global,
         version: AuditVersion,
         door: &'x D,
-        pass: D::Ticket,
+        pass: D::Pass,
         count: u64,
         device: W,
     ) -> Journaled<'x, D, W, J>
@@ -53,7 +53,7 @@ impl<'x, D: Door, W: Write, J: JournalName> Journaled<'x, D, W, J> {
 }
 
 impl<D: Door, W: Write, J: JournalName> Door for Journaled<'_, D, W, J> {
-    type Ticket = D::Ticket;
+    type Pass = D::Pass;
 
     ghost policy = { D.policy };
 
@@ -61,7 +61,7 @@ impl<D: Door, W: Write, J: JournalName> Door for Journaled<'_, D, W, J> {
 
     ghost added = { D.added };
 
-    fn line_of(&self, pass: &D::Ticket) -> u16 {
+    fn line_of(&self, pass: &D::Pass) -> u16 {
         self.door.line_of(pass)
     }
 
@@ -72,13 +72,13 @@ impl<D: Door, W: Write, J: JournalName> Door for Journaled<'_, D, W, J> {
     fn login<R: Wait + Dial>(
         &self,
         rt: &R,
-        pass: D::Ticket,
+        pass: D::Pass,
         user: UserName,
         password: Password,
         session: SessionName,
         wanted: u64,
         moment: Moment,
-    ) -> (D::Ticket, Result<LoginAnswer, StepFault>) {
+    ) -> (D::Pass, Result<LoginAnswer, StepFault>) {
         self.door
             .login(rt, pass, user, password, session, wanted, moment)
     }
@@ -86,81 +86,81 @@ impl<D: Door, W: Write, J: JournalName> Door for Journaled<'_, D, W, J> {
     fn act<R: Wait + Dial>(
         &self,
         rt: &R,
-        pass: D::Ticket,
+        pass: D::Pass,
         user: UserName,
         request: Request,
         moment: Moment,
-    ) -> (D::Ticket, Result<Outcome, StepFault>) {
+    ) -> (D::Pass, Result<Outcome, StepFault>) {
         self.door.act(rt, pass, user, request, moment)
     }
 
     fn match_one<R: Wait + Dial>(
         &self,
         rt: &R,
-        pass: D::Ticket,
+        pass: D::Pass,
         moment: Moment,
-    ) -> (D::Ticket, Result<Option<Outcome>, StepFault>) {
+    ) -> (D::Pass, Result<Option<Outcome>, StepFault>) {
         self.door.match_one(rt, pass, moment)
     }
 
     fn match_some<R: Wait + Dial>(
         &self,
         rt: &R,
-        pass: D::Ticket,
+        pass: D::Pass,
         moment: Moment,
         most: u64,
-    ) -> (D::Ticket, Matched) {
+    ) -> (D::Pass, Matched) {
         self.door.match_some(rt, pass, moment, most)
     }
 
     fn turn<R: Wait + Dial>(
         &self,
         rt: &R,
-        pass: D::Ticket,
+        pass: D::Pass,
         user: UserName,
         request: Request,
         moment: Moment,
         most: u64,
-    ) -> (D::Ticket, Result<Turned, StepFault>) {
+    ) -> (D::Pass, Result<Turned, StepFault>) {
         self.door.turn(rt, pass, user, request, moment, most)
     }
 
     fn pull<R: Wait>(
         &self,
         rt: &R,
-        pass: D::Ticket,
+        pass: D::Pass,
         user: UserName,
         from: u64,
         most: u64,
-    ) -> (D::Ticket, Result<Pulled, PullFault>) {
+    ) -> (D::Pass, Result<Pulled, PullFault>) {
         self.door.pull(rt, pass, user, from, most)
     }
 
     fn logout<R: Wait + Dial>(
         &self,
         rt: &R,
-        pass: D::Ticket,
+        pass: D::Pass,
         user: UserName,
         moment: Moment,
-    ) -> (D::Ticket, Result<Outcome, StepFault>) {
+    ) -> (D::Pass, Result<Outcome, StepFault>) {
         self.door.logout(rt, pass, user, moment)
     }
 
-    fn meet<R: Wait>(&self, rt: &R, one: D::Ticket, other: D::Ticket) -> (D::Ticket, D::Ticket) {
+    fn meet<R: Wait>(&self, rt: &R, one: D::Pass, other: D::Pass) -> (D::Pass, D::Pass) {
         self.door.meet(rt, one, other)
     }
 
-    fn length(&self, pass: &mut D::Ticket) -> u64 {
+    fn length(&self, pass: &mut D::Pass) -> u64 {
         self.door.length(pass)
     }
 
     fn records<R: Wait>(
         &self,
         rt: &R,
-        pass: D::Ticket,
+        pass: D::Pass,
         from: u64,
         most: u64,
-    ) -> (D::Ticket, Result<Vec<Record>, OutOfMemory>) {
+    ) -> (D::Pass, Result<Vec<Record>, OutOfMemory>) {
         self.door.records(rt, pass, from, most)
     }
 

@@ -2,7 +2,7 @@
 use Rattle.std.specs.{Prelude.{◌≡◌, ℕ, Bool, IsFalse, IsTrue, ◌+◌, ◌↔◌, List, [], ◌∷◌, ◌++◌, None, Some, option_and_then}, List.{AllByRecursion, filter}}
 use Rattle.gx_units.specs.declared.names.{AccountName.AccountName, Symbol.Symbol, Token.Token, UserName.UserName}
 use Rattle.gx_policy.specs.{declared.policy.PolicyData.PolicyData, Lists.IsInOrder, People.account_of}
-use Rattle.gx_history.specs.{declared.{live_order.LiveOrder.LiveOrder, «record».{Asked.Asked, Fill.Fill, RecordData.RecordData, Step.Step, Verdict.Verdict}}, Executions.executions, InForce.is_killed, Live.{IsAtRest, by_time, has_price, waiting, ahead, is_there, side, live_numbered, live, live_under, open_now}, LiveOrders.shares_open, Matched.{AreUncrossed, HasNoOrders, IsFair}, Matching.matching, Orders.{order_under, orders}, Requests.is_order, Settling.{settled, AddsMatches, FillsNoneOf}, Verdicts.{Follows, IsLegal, next}}
+use Rattle.gx_history.specs.{declared.{live_order.LiveOrder.LiveOrder, «record».{Asked.Asked, Fill.Fill, RecordData.RecordData, Step.Step, Verdict.Verdict}}, Executions.executions, InForce.is_killed, Live.{IsAtRest, by_time, has_price, waiting, ahead, is_there, side, live_numbered, live, live_under, open_now}, LiveOrders.shares_open, Matched.{AreUncrossed, HasNoOrders, IsFair}, Matching.matching, Orders.{order_under, orders}, Requests.is_order, Settling.{settled_records, AddsMatches, FillsNoneOf}, Verdicts.{Follows, IsLegal, next}}
 use Rattle.gx_laws.specs.Lifts.{EndsKill}
 
 -- the order is for the account that its user trades for
@@ -39,11 +39,11 @@ RestingByTime = (policy : PolicyData) (history : List RecordData) (stock : Symbo
 
 -- where nothing waits, settling changes nothing
 abbrev pub SettledWhereIdle : Type 0
-SettledWhereIdle = (policy : PolicyData) (history : List RecordData) (moment : ℕ) → next policy history (Step.Matching moment) ≡ None → settled policy history moment ≡ history
+SettledWhereIdle = (policy : PolicyData) (history : List RecordData) (moment : ℕ) → next policy history (Step.Matching moment) ≡ None → settled_records policy history moment ≡ history
 
 -- and when it has settled, nothing is left to match
 abbrev pub SettledLeavesNone : Type 0
-SettledLeavesNone = (policy : PolicyData) (history : List RecordData) (moment : ℕ) → IsLegal policy history → matching policy (settled policy history moment) ≡ None
+SettledLeavesNone = (policy : PolicyData) (history : List RecordData) (moment : ℕ) → IsLegal policy history → matching policy (settled_records policy history moment) ≡ None
 
 -- in a legal history no resting buy crosses a resting sell of its stock
 abbrev pub NeverCrossed : Type 0
@@ -52,7 +52,7 @@ NeverCrossed = (policy : PolicyData) (history : List RecordData) → IsLegal pol
 -- until a Lift no matching steps, however many, fill an order of a killed account
 abbrev pub KilledAreNotFilled : Type 0
 KilledAreNotFilled = (policy : PolicyData) (history : List RecordData) (account : AccountName) (moment : ℕ)
-    → IsLegal policy history → IsTrue (is_killed policy history account) → FillsNoneOf policy history (settled policy history moment) account
+    → IsLegal policy history → IsTrue (is_killed policy history account) → FillsNoneOf policy history (settled_records policy history moment) account
 
 -- a side of the book has no order but the live ones that rest there
 abbrev pub RestingAlone : Type 0
@@ -67,11 +67,11 @@ RestingWhole = (policy : PolicyData) (history : List RecordData) (stock : Symbol
 -- settling begins with the matching step that there is
 abbrev pub SettledStepByStep : Type 0
 SettledStepByStep = (policy : PolicyData) (history : List RecordData) (moment : ℕ) (r : RecordData)
-    → IsLegal policy history → next policy history (Step.Matching moment) ≡ Some r → settled policy history moment ≡ settled policy (history ++ r ∷ []) moment
+    → IsLegal policy history → next policy history (Step.Matching moment) ≡ Some r → settled_records policy history moment ≡ settled_records policy (history ++ r ∷ []) moment
 
 -- it adds records of matching steps at that moment
 abbrev pub SettledByMatches : Type 0
-SettledByMatches = (policy : PolicyData) (history : List RecordData) (moment : ℕ) → AddsMatches history (settled policy history moment) moment
+SettledByMatches = (policy : PolicyData) (history : List RecordData) (moment : ℕ) → AddsMatches history (settled_records policy history moment) moment
 
 -- a killed account is killed no longer only by the Lift of the last of as many different officers as the policy asks for, each entitled to it
 abbrev pub KillsEndByLifts : Type 0

@@ -22,12 +22,12 @@ abbrev pub gross_value : PolicyData → List RecordData → (AccountName → Boo
 gross_value policy history among = live_value (live policy history) among + done_value (executions policy history) among
 
 -- what a sell got above its own price
-abbrev pub gain : Execution → ℕ
-gain e = if is_buy e.order.terms.side then 0 else value e.fill.shares (e.fill.price - e.order.terms.price)
+abbrev pub gain_of_sell : Execution → ℕ
+gain_of_sell e = if is_buy e.order.terms.side then 0 else value e.fill.shares (e.fill.price - e.order.terms.price)
 
 -- what the sells of these accounts got above their own prices
-unfoldable pub gained : List Execution → (AccountName → Bool) → ℕ
-gained made among = sum_by gain (filter (λ (e : Execution). among e.order.account) made)
+unfoldable pub gains_of_sells : List Execution → (AccountName → Bool) → ℕ
+gains_of_sells made among = sum_by gain_of_sell (filter (λ (e : Execution). among e.order.account) made)
 
 -- the executions after these records
 abbrev pub executions_after : PolicyData → List RecordData → List RecordData → List Execution
@@ -56,7 +56,7 @@ KeepsValue policy before r after rule = (limit : ℕ) (count : Count) (account :
     → rule.kind ≡ RuleKind.Exposure ExposureLimit.GrossValue limit count → IsTrue (covers rule.scope account)
     → let among = counts_account count rule.scope account in
     IsLastGrant policy (of_accounts among) before r after
-    → gross_value policy (before ++ r ∷ after) among ≤ limit + gained (executions_after policy (before ++ r ∷ []) (before ++ r ∷ after)) among
+    → gross_value policy (before ++ r ∷ after) among ≤ limit + gains_of_sells (executions_after policy (before ++ r ∷ []) (before ++ r ∷ after)) among
 
 -- The rule limits what an account of its scope, or all of them together, have on one side of a stock: after their last
 -- grant there it is no more than the limit and what they executed on the other side.

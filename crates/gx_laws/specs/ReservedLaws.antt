@@ -1,4 +1,4 @@
--- What each record changes of the places that are kept.
+-- What each record changes of the reserved places.
 use Rattle.std.specs.Prelude.{◌≡◌, ◌+◌, ◌≤◌, ℕ, IsTrue, IsFalse, length, List, [], ◌∷◌, ◌++◌, Some}
 use Rattle.gx_units.specs.{Names.same_user, declared.names.UserName.UserName}
 use Rattle.gx_policy.specs.declared.policy.PolicyData.{PolicyData}
@@ -32,7 +32,7 @@ MatchesWantNoMore = (policy : PolicyData) (history : List RecordData) (handed : 
 abbrev pub EnoughIsMore : Type 0
 EnoughIsMore = (policy : PolicyData) (history : List RecordData) (user : UserName) → reserved_reports policy history user + 2 ≤ enough_reserved policy history user
 
--- the record of a granted Kill or Logout takes one of the places that are kept for records
+-- the record of a granted Kill or Logout takes one of the places that are reserved for records
 abbrev pub KillsTakeReservedRecords : Type 0
 KillsTakeReservedRecords = (policy : PolicyData) (history : List RecordData) (a : Asked) (r : RecordData)
     → IsLegal policy history → next policy history (Step.Asked a) ≡ Some r → IsTrue (is_never_refused a.request r.verdict)

@@ -1,4 +1,4 @@
-//! Laws of the places that are kept, each as what a function without a body ensures.
+//! Laws of the reserved places, each as what a function without a body ensures.
 
 ghost use Rattle.gx_laws.specs.ReservedLaws.{EnoughIsMore, ReservedReportsAreEnough, KillsTakeReservedRecords, MatchesWantNoMore, OthersWantNoMore, EnoughReservedIsEnough, MostReservedRecordsAreEnough};
 

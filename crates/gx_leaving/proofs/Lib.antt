@@ -1,1 +1,1 @@
-pub mod LoggedOut
+pub mod Logout_call

@@ -3,7 +3,7 @@ use Rattle.std.specs.{Prelude.{◌≡◌, ◌≢◌, ℕ, ◌<◌, IsFalse, leng
 use Rattle.gx_units.specs.{Names.same_user, declared.names.UserName.UserName, Spelling.folded_user}
 use Rattle.gx_policy.specs.declared.policy.{PolicyData.PolicyData, User.User}
 use Rattle.gx_history.specs.{declared.record.{Asked.Asked, RecordData.RecordData, Request.Request, Step.Step, Verdict.Verdict}, InForce.line_of, Verdicts.last_moment, World.world}
-use Rattle.gx_answers.specs.Gates.{GateData}
+use Rattle.gx_access_gate.specs.Gates.{GateData}
 
 -- a granted Logout that was handed in at this moment
 pub record IsGrantedLogout (handed : ℕ) (r : RecordData) : Type 0 where

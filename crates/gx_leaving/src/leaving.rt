@@ -5,7 +5,7 @@ ghost use Rattle.gx_units.specs.{declared.names.UserName.UserName, Spelling.fold
 ghost use Rattle.gx_history.specs.{InForce.line_of, Verdicts.IsLegal};
 ghost use Rattle.gx_leaving.specs.Logouts.{AddsLogouts, IsOff, LeavesLine, NobodyIsOn};
 
-use gx_answers::AccessGate;
+use gx_access_gate::AccessGate;
 use gx_history::record::{Asked, Request};
 use gx_units::{Moment, UserName};
 
@@ -66,7 +66,7 @@ pub fn log_out_all<G: AccessGate>(gate: &mut G, moment: Moment)
 }
 
 /// Logs out each user who is logged in by the gate's records, at the moment of the last of them.
-#[tactic(auto, using(crate::proofs::LoggedOut::longer))]
+#[tactic(auto, using(crate::proofs::Logout_call::longer))]
 pub fn log_out_at_last<G: AccessGate>(gate: &mut G)
     ensures policy { (G.seen gate.new).policy ≡ (G.seen gate.old).policy }
     ensures added { AddsLogouts 0 (G.seen gate.old).records (G.seen gate.new).records }

@@ -3,12 +3,12 @@ use Rattle.std.specs.{Prelude.{◌≡◌, ℕ, ◌+◌, ◌-◌, ◌*◌, ◌/�
 use Rattle.gx_ledger.specs.declared.group.RepeatKey.{RepeatKey}
 
 -- all that like Enters have in common, spread over the numbers of 64 bits
-unfoldable pub spread : RepeatKey → ℕ
-spread e = ((e.price * 2 ^ 32 + e.shares) * 11400714819323198485 % 2 ^ 64 + (from_le_bytes w64 e.stock.bytes + e.side) % 2 ^ 64 * 14029467366897019727 % 2 ^ 64) % 2 ^ 64
+unfoldable pub spread_key : RepeatKey → ℕ
+spread_key e = ((e.price * 2 ^ 32 + e.shares) * 11400714819323198485 % 2 ^ 64 + (from_le_bytes w64 e.stock.bytes + e.side) % 2 ^ 64 * 14029467366897019727 % 2 ^ 64) % 2 ^ 64
 
 -- which of so many cells an Enter falls into
 abbrev pub cell_of : ℕ → RepeatKey → ℕ
-cell_of cells e = spread e * cells / 2 ^ 64
+cell_of cells e = spread_key e * cells / 2 ^ 64
 
 -- each cell holds how many of the Enters fall into it, but for one that came to 255: it counts no more
 abbrev pub AreCounted : List ℕ → List RepeatKey → Type 0

@@ -2,7 +2,7 @@
 
 ghost use Rattle.std.specs.Prelude.{◌≡◌, ◌∷◌, ◌++◌, ◌<◌, List, [], IfOk, IsTrue, count_by, length, nat_le};
 ghost use Rattle.circular_buffer.specs.Buffer.{buffer};
-ghost use Rattle.gx_ledger.specs.{Cells.{AreCounted, cell_of, one_less, spread}, Running.{are_alike, count_alike, with_latest}, declared.group.RepeatKey.RepeatKey};
+ghost use Rattle.gx_ledger.specs.{Cells.{AreCounted, cell_of, one_less, spread_key}, Running.{are_alike, count_alike, with_latest}, declared.group.RepeatKey.RepeatKey};
 
 use crate::alike::alike_among;
 use crate::group::RepeatKey;
@@ -38,7 +38,7 @@ impl Model for Enters {
 
 /// All that like Enters have in common, spread over the numbers of 64 bits.
 fn spread(entered: &RepeatKey) -> u64
-    ensures { result ≡ spread entered.now }
+    ensures { result ≡ spread_key entered.now }
 {
     let terms = u64::from(entered.price) * 0x1_0000_0000 + u64::from(entered.shares);
     let named = u64::from_le_bytes(entered.stock.bytes).wrapping_add(u64::from(entered.side));

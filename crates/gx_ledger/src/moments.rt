@@ -62,7 +62,7 @@ fn recent_in_turn(ring: &HeapCircularBuffer<u64>, window: u64, moment: u64) -> u
 }
 
 /// Whether so many of the last moments, of which none is earlier than the one before it, are recent.
-#[tactic(auto, using(crate::proofs::Halves::enough_recent, crate::proofs::Halves::never_more))]
+#[tactic(auto, using(crate::proofs::Moments_rise::enough_recent, crate::proofs::Moments_rise::never_more))]
 fn are_enough_recent(ring: &HeapCircularBuffer<u64>, window: u64, moment: u64, limit: u64) -> bool
     requires { IsNonDecreasing ring.now.items }
     ensures { result ≡ nat_le limit (recent_in ring.now.items window moment) }

@@ -1,4 +1,4 @@
-pub mod Visible
-pub mod Plain
-pub mod PlainAnswers
-pub mod PlainOrders
+pub mod Names_visible
+pub mod Text_plain
+pub mod AnswerLines_plain
+pub mod OrderLines_plain

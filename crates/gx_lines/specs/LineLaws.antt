@@ -3,7 +3,7 @@ use Rattle.std.specs.{Prelude.{ℕ, ◌≡◌, ◌<◌, ◌^◌, List, ◌++◌,
 use Rattle.gx_desk.specs.declared.{Action.Action, Answer.Answer, DropCopy.DropCopy}
 use Rattle.gx_ouch.specs.declared.outbound.{OrderTerms.OrderTerms, Executed.Executed, Outbound.Outbound}
 use Rattle.gx_text.specs.{declared.form.Form.Form, Shown.is_printed}
-use Rattle.gx_script.specs.Printing.{line_end}
+use Rattle.gx_script_text.specs.Printing.{line_end}
 use Rattle.gx_lines.specs.{NameLaws.IsBytes, AnswerLines.{answer_line, earlier_answer_line}, OrderLines.{order_line, copy_line}}
 
 -- spaces and visible characters, and an LF behind them

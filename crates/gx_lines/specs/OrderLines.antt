@@ -3,7 +3,7 @@ use Rattle.std.specs.Prelude.{ℕ, ◌==◌, if◌then◌else◌, List, [], ◌�
 use Rattle.gx_desk.specs.declared.DropCopy.{DropCopy}
 use Rattle.gx_ouch.specs.{declared.{letters.{Liquidity.Liquidity, CancelReason.CancelReason, RejectReason.RejectReason}, outbound.{OrderTerms.OrderTerms, Executed.Executed, Outbound.Outbound}}, Letters.reject_letter}
 use Rattle.gx_history.specs.OuchValues.{side_buy, side_sell, side_sell_short, side_sell_short_exempt}
-use Rattle.gx_script.specs.Printing.{line_end}
+use Rattle.gx_script_text.specs.Printing.{line_end}
 use Rattle.gx_text.specs.{declared.{form.Form.{Form, TheVariants.{Text, Json}}, moments.Decimals.TheVariants.Nine}, Moments.moment_text, Shown.{shown_text, shown_name}}
 use Rattle.gx_lines.specs.Showing.{price_text, text_field, name_field, number_field, json_line}
 

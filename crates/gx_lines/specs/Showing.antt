@@ -2,7 +2,7 @@
 use Rattle.std.specs.Prelude.{ℕ, ◌/◌, ◌%◌, ◌==◌, if◌then◌else◌, List, ◌++◌, codes, decimal}
 use Rattle.gx_units.specs.Spelling.{without_right_spaces}
 use Rattle.gx_text.specs.{Moments.{with_zeros, moment_text}, Shown.json_string, declared.moments.Decimals.TheVariants.Nine}
-use Rattle.gx_script.specs.Printing.{line_end}
+use Rattle.gx_script_text.specs.Printing.{line_end}
 
 -- the part of a price behind its dollars, in two to four decimals
 abbrev pub decimals_text : ℕ → List ℕ

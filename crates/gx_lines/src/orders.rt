@@ -2,7 +2,7 @@
 
 ghost use Rattle.std.specs.Prelude.{◌≡◌, ◌++◌, IfOk, OnOk, decimal, option_map};
 ghost use Rattle.gx_text.specs.{Shown.shown_name, declared.form.Form.TheVariants.{Text, Json}};
-ghost use Rattle.gx_script.specs.Printing.{line_end};
+ghost use Rattle.gx_script_text.specs.Printing.{line_end};
 ghost use Rattle.gx_ouch.specs.declared.outbound.Outbound.TheVariants as messages;
 ghost use Rattle.gx_lines.specs.OrderLines.{side_words, side_text, side_field, liquidity_word, cancel_words, reject_words, shares_text, terms_text, match_text, told_text, time_text, terms_fields, executed_fields, event_word, told_fields, order_line, copy_text, copy_fields, copy_line};
 

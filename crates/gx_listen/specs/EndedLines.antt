@@ -2,7 +2,7 @@
 use Rattle.std.specs.Prelude.{ℕ, List, ◌++◌, codes, decimal}
 use Rattle.gx_text.specs.{declared.{form.Form.{Form, TheVariants.{Text, Json}}, moments.Decimals.TheVariants.{Nine, Six}}, Moments.moment_text, Shown.shown_name}
 use Rattle.gx_units.specs.declared.names.UserName.{UserName}
-use Rattle.gx_door.specs.declared.ended.Ended.{Ended}
+use Rattle.gx_door.specs.declared.ended.EndedTotals.{EndedTotals}
 use Rattle.gx_events.specs.Fields.{event_field, key, name_field, number_field}
 use Rattle.gx_serve.specs.declared.announcing.{EndedBy.EndedBy, EndedOrders.EndedOrders}
 
@@ -29,7 +29,7 @@ ended_text e =
 unfoldable pub officer_fields : UserName → List ℕ
 officer_fields officer = event_field (codes "orders_ended") ++ name_field (codes "user") officer.bytes
 
-unfoldable pub sum_fields : Ended → List ℕ
+unfoldable pub sum_fields : EndedTotals → List ℕ
 sum_fields ended = number_field (codes "orders") ended.orders ++ number_field (codes "shares") ended.shares
 
 abbrev pub ended_fields : EndedOrders → List ℕ

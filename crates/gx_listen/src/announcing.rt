@@ -5,7 +5,7 @@ ghost use Rattle.gx_text.specs.declared.form.Form.TheVariants.{Json, Text};
 ghost use Rattle.gx_events.specs.Fields.{event_field, key, name_field, number_field};
 ghost use Rattle.gx_listen.specs.EndedLines.{command_field, command_fields, command_text, ended_fields, ended_line, ended_text, officer_fields, sum_fields};
 
-use gx_door::Ended;
+use gx_door::EndedTotals;
 use gx_log::Log;
 use gx_serve::{EndedBy, EndedOrders};
 use gx_text::{
@@ -104,7 +104,7 @@ fn append_officer_fields(text: &mut Vec<u8>, officer: UserName) -> Result<(), Ou
 }
 
 #[tactic(auto, unfolding(crate::specs::EndedLines::sum_fields))]
-fn append_sum_fields(text: &mut Vec<u8>, ended: Ended) -> Result<(), OutOfMemory>
+fn append_sum_fields(text: &mut Vec<u8>, ended: EndedTotals) -> Result<(), OutOfMemory>
     ensures { OnOk result (text.new.items ≡ text.old.items ++ sum_fields ended) }
 {
     append_number_field(text, b"orders", ended.orders)?;

@@ -28,7 +28,7 @@ pub struct PagePort {
 
 /// The page that is served, what it looks at the gate and makes kills with, and where browsers come in.
 #[derive(Drop)]
-pub(crate) struct Paging<'x, T: Drop, D: Door<Ticket = T>, L: Lookout<Pass = T>> {
+pub(crate) struct Paging<'x, T: Drop, D: Door<Pass = T>, L: Lookout<Pass = T>> {
     server: PageServer<'x, T, D, L>,
     board: Board<L>,
     listener: TcpListener,
@@ -39,7 +39,7 @@ pub(crate) fn open_page<
     'x,
     T: Drop,
     L: Lookout<Pass = T>,
-    D: Door<Ticket = T>,
+    D: Door<Pass = T>,
     I: Issuer<D>,
     R: Wait,
 >(
@@ -85,7 +85,7 @@ pub(crate) trait Aside {
     );
 }
 
-impl<T: Drop, D: Door<Ticket = T>, L: Lookout<Pass = T>> Aside for Paging<'_, T, D, L> {
+impl<T: Drop, D: Door<Pass = T>, L: Lookout<Pass = T>> Aside for Paging<'_, T, D, L> {
     fn go_on<R: Wait + Clock>(
         self,
         rt: &R,

@@ -46,7 +46,7 @@ fn serve_peer<D: Door + Sync, A: Admits<D>, R: Threads + Wait + Clock + Sync>(
     guest: Guest<'_, R>,
 )
 where
-    D::Ticket: Send,
+    D::Pass: Send,
 {
     let Guest { peer, slot } = guest;
     let gone = serve_stream(hall, &peer);
@@ -57,7 +57,7 @@ where
 }
 
 /// The peer of this number, with a slot; `None` where there is no memory for him. He is hung up on then.
-fn next_guest<'x, T: Drop + Send, D: Door<Ticket = T> + Sync, A, R: Threads + Wait + Clock + Sync>(
+fn next_guest<'x, T: Drop + Send, D: Door<Pass = T> + Sync, A, R: Threads + Wait + Clock + Sync>(
     hall: &'x Hall<'x, D, A, R>,
     listener: &TcpListener,
     number: u64,
@@ -126,7 +126,7 @@ fn go_without<R: Wait>(rt: &R, control: &ServerControl, number: u64) {
 fn take_guests<
     'x,
     T: Drop + Send,
-    D: Door<Ticket = T> + Sync,
+    D: Door<Pass = T> + Sync,
     A: Admits<D> + Sync,
     R: Threads + Wait + Clock + Sync,
 >(hall: &'x Hall<'x, D, A, R>, listener: TcpListener, connections: u64) -> Ending {
@@ -158,7 +158,7 @@ fn take_guests<
 /// Takes connections at the door: how this ended.
 fn take_connections<
     T: Drop + Send,
-    D: Door<Ticket = T> + Sync,
+    D: Door<Pass = T> + Sync,
     A: Admits<D> + Sync,
     R: Threads + Wait + Clock + Sync,
 >(
@@ -211,7 +211,7 @@ fn open_log<D: Door, I: Issuer<D>, R: Wait>(
 fn take_told<
     'x,
     T: Drop + Send,
-    D: Door<Ticket = T> + Sync,
+    D: Door<Pass = T> + Sync,
     A: Admits<D> + Sync,
     R: Threads + Wait + Clock + Sync,
 >(
@@ -243,7 +243,7 @@ fn take_told<
 fn take_watched<
     'x,
     T: Drop + Send,
-    D: Door<Ticket = T> + Sync,
+    D: Door<Pass = T> + Sync,
     A: Admits<D> + Sync,
     R: Threads + Wait + Clock + Sync,
 >(
@@ -285,7 +285,7 @@ fn take_watched<
 fn run<
     'x,
     T: Drop + Send,
-    D: Door<Ticket = T> + Sync,
+    D: Door<Pass = T> + Sync,
     A: Admits<D> + Sync,
     R: Threads + Wait + Clock + Sync,
 >(
@@ -332,7 +332,7 @@ fn run<
 fn run_paged<
     'x,
     T: Drop + Send,
-    D: Door<Ticket = T> + Sync,
+    D: Door<Pass = T> + Sync,
     A: Admits<D> + Sync,
     P: Aside + Drop + Send,
     R: Threads + Wait + Clock + Sync,
@@ -398,7 +398,7 @@ fn run_paged<
 pub fn serve_door<
     T: Drop + Send,
     L: Lookout<Pass = T> + Sync,
-    D: Door<Ticket = T> + Sync,
+    D: Door<Pass = T> + Sync,
     I: Issuer<D> + Drop + Send,
     R: Threads + Wait + Clock + Sync,
 >(

@@ -11,7 +11,7 @@ use gx_door::{Caller, Door};
 use gx_pass::PassFault;
 use gx_reception::{Admits, LineFault, NoLine, Opening};
 use gx_serve::{
-    Cut, Exclusion, Farewell, Gone, HangUp, Received, SharedConnection, let_go_of, receive,
+    Cut, Exclusion, Farewell, Gone, HangUp, Received, SharedConnection, read_to_end, receive,
     run_connection, turn_away,
 };
 use gx_soup::LoginRequest;
@@ -104,13 +104,13 @@ fn turn_stranger_away<D: Door, A: Admits<D>, R: Wait + Clock>(
 /// Serves a user who has a line to his end. What his commands ended is told in the log. Answers why he was cut off, if he was.
 fn serve_user<D: Door + Sync, A, R: Threads + Wait + Clock + Sync>(
     hall: &Hall<'_, D, A, R>,
-    shared: &SharedConnection<D::Ticket>,
+    shared: &SharedConnection<D::Pass>,
     opening: Opening,
     stream: &TcpStream,
     wakeup: &WriterWakeup,
 ) -> Option<Cut>
 where
-    D::Ticket: Send,
+    D::Pass: Send,
 {
     let rt = &Dated::new(hall.rt, hall.alloc, hall.control);
     let (_hung_up, listening) = run_connection(
@@ -146,12 +146,12 @@ fn register_wakeup<D, A, R: Wait>(
 fn serve_admitted<D: Door + Sync, A, R: Threads + Wait + Clock + Sync>(
     hall: &Hall<'_, D, A, R>,
     peer: &Peer,
-    pass: D::Ticket,
+    pass: D::Pass,
     caller: Caller,
     opening: Opening,
 ) -> Gone
 where
-    D::Ticket: Send,
+    D::Pass: Send,
 {
     let Ok(wakeup) = register_wakeup(hall, peer.number) else {
         return Gone::Quietly;
@@ -184,7 +184,7 @@ where
 /// Lets go of what comes, once nothing more is written, until the peer has ended or was hung up on.
 fn part<R: Wait>(rt: &R, stream: &TcpStream, gone: Gone) -> Gone {
     stream.finish();
-    let_go_of(rt, &mut CallCounter::new(stream));
+    read_to_end(rt, &mut CallCounter::new(stream));
     gone
 }
 
@@ -194,7 +194,7 @@ pub(crate) fn serve_stream<D: Door + Sync, A: Admits<D>, R: Threads + Wait + Clo
     peer: &Peer,
 ) -> Gone
 where
-    D::Ticket: Send,
+    D::Pass: Send,
 {
     let stream = &peer.stream;
     if set_up(stream).is_err() {

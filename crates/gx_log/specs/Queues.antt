@@ -19,5 +19,5 @@ abbrev pub left_out_line : ℕ → List ℕ
 left_out_line count = if count == 0 then [] else codes "gate: " ++ decimal count ++ codes " lines were left out: standard error was not read in time\n"
 
 -- what is written: the lines, and behind them how many were left out
-abbrev pub written : QueueData → List ℕ
-written queue = queue.text ++ left_out_line queue.left_out
+abbrev pub queue_text : QueueData → List ℕ
+queue_text queue = queue.text ++ left_out_line queue.left_out

@@ -2,7 +2,7 @@
 
 ghost use Rattle.std.specs.{Prelude.{◌≡◌, ◌<◌, ◌^◌, ◌-◌, OnErr, OnOk}, Io.KnownBytes.Appends};
 ghost use Rattle.gx_devices.specs.Devices.{IsFront};
-ghost use Rattle.gx_log.specs.Queues.{left_out_line, written};
+ghost use Rattle.gx_log.specs.Queues.{left_out_line, queue_text};
 
 use crate::log::Log;
 use crate::queue::{Batch, LOG_ROOM};
@@ -43,7 +43,7 @@ fn write_left_out<W: Write>(count: u64, writer: &mut CallCounter<W>) -> Result<(
 pub fn write_batch<W: Write>(batch: &Batch, writer: &mut CallCounter<W>) -> Result<(), WriteFailed>
     requires { writer.old.failed < 2 ^ 64 - 1 }
     ensures written { OnOk result (Appends
-        (W.contents writer.old.device) (W.contents writer.new.device) (written batch.now)) }
+        (W.contents writer.old.device) (W.contents writer.new.device) (queue_text batch.now)) }
 {
     write_whole(writer, batch.text())?;
     write_left_out(batch.left_out(), writer)

@@ -1,1 +1,1 @@
-pub mod Giving
+pub mod Lines_next

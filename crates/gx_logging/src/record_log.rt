@@ -3,7 +3,7 @@
 ghost use Rattle.std.specs.Prelude.{◌≡◌, ◌+◌, ◌<◌, ◌≤◌, ◌^◌, [], drop, length, take, IfNone, IfOk, IfSome, IsTrue, OnErr, OnOk, OnSome};
 ghost use mathlib.Core.List.{IsPrefix};
 ghost use Rattle.gx_policy.specs.Lists.{slice};
-ghost use Rattle.gx_pass.specs.Views.{retold};
+ghost use Rattle.gx_pass.specs.Views.{with_told};
 ghost use Rattle.gx_door.specs.Acts.{IsLater};
 ghost use Rattle.gx_events.specs.{Known.known_of, Lines.{closing_line, lines_behind}};
 
@@ -23,7 +23,7 @@ const PIECE: u64 = 1_024;
 #[derive(Drop)]
 pub struct RecordLog<D: Door> {
     /// Taken out for each call of the door.
-    pass: Option<D::Ticket>,
+    pass: Option<D::Pass>,
     done: u64,
     events: EventLog,
 }
@@ -52,7 +52,7 @@ impl<D: Door> Model for RecordLog<D> {
 
 impl<D: Door> RecordLog<D> {
     /// In front of the day's first record.
-    pub fn new(pass: D::Ticket, events: EventLog) -> RecordLog<D>
+    pub fn new(pass: D::Pass, events: EventLog) -> RecordLog<D>
         requires known { events.known ≡ known_of D.policy [] }
         ensures met { result.met ≡ D.held pass }
         ensures done { result.done ≡ 0 }
@@ -67,7 +67,7 @@ impl<D: Door> RecordLog<D> {
 
     /// How many records there are: at least as many as the pass has met.
     fn length(&mut self, door: &D) -> u64
-        ensures told { self.new.met ≡ retold self.old.met result }
+        ensures told { self.new.met ≡ with_told self.old.met result }
         ensures front { length self.old.met.front ≤ result }
         ensures done { self.new.done ≡ self.old.done }
         ensures form { self.new.form ≡ self.old.form }
@@ -82,7 +82,7 @@ impl<D: Door> RecordLog<D> {
     }
 
     /// The records behind those whose lines were given, at most so many, one at least.
-    #[tactic(auto, using(gx_journal::proofs::Journal_next::are_next, crate::proofs::Giving::is_one, crate::proofs::Giving::are_few))]
+    #[tactic(auto, using(gx_journal::proofs::Journal_next::are_next, crate::proofs::Lines_next::is_one, crate::proofs::Lines_next::are_few))]
     fn fetch<R: Wait>(&mut self, rt: &R, door: &D, most: u64) -> Result<Vec<Record>, OutOfMemory>
         requires some { 0 < most }
         requires left { self.old.done < self.old.met.told }
@@ -105,7 +105,7 @@ impl<D: Door> RecordLog<D> {
     }
 
     /// The lines of the next records that the pass has met.
-    #[tactic(auto, using(crate::proofs::Giving::gives))]
+    #[tactic(auto, using(crate::proofs::Lines_next::gives))]
     fn give(&mut self, alloc: Global, records: &[Record]) -> Result<Vec<u8>, OutOfMemory>
         requires next { records.now
             ≡ take (length records.now) (drop self.old.done self.old.met.front) }
@@ -161,7 +161,7 @@ impl<D: Door> RecordLog<D> {
     /// # Errors
     ///
     /// `OutOfMemory` where memory was refused.
-    #[tactic(auto, using(crate::proofs::Giving::closes))]
+    #[tactic(auto, using(crate::proofs::Lines_next::closes))]
     pub fn close(&self, alloc: Global) -> Result<Vec<u8>, OutOfMemory>
         ensures { IfOk result (λ text. text.items
             ≡ closing_line self.now.form
@@ -172,7 +172,7 @@ impl<D: Door> RecordLog<D> {
 
     /// The lines of the records that were made since lines were given last, of so many at most; `None` where there are none.
     /// At `OutOfMemory` none was given.
-    #[tactic(auto, using(crate::proofs::Giving::between))]
+    #[tactic(auto, using(crate::proofs::Lines_next::between))]
     pub fn next_lines<R: Wait>(
         &mut self,
         rt: &R,

@@ -36,10 +36,10 @@ pub struct Board<L: Lookout> {
 }
 
 impl<L: Lookout> Model for Board<L> {
-    ghost use Rattle.gx_pass.specs.declared.view.Holds.{Holds};
+    ghost use Rattle.gx_pass.specs.declared.view.LineView.{LineView};
     ghost use Rattle.gx_board.specs.Summaries.{IsBehind};
 
-    ghost Value = { Holds };
+    ghost Value = { LineView };
 
     ghost view = { λ b. L.held b.pass };
 
@@ -52,7 +52,7 @@ impl<L: Lookout> Board<L> {
     /// # Errors
     ///
     /// `OutOfMemory` where memory was refused. The pass is let go then.
-    #[tactic(auto, using(crate::proofs::Standing::begins))]
+    #[tactic(auto, using(crate::proofs::Summary_behind::begins))]
     pub fn new(alloc: Global, policy: &Policy, pass: L::Pass) -> Result<Board<L>, OutOfMemory>
         requires policy { policy.now ≡ L.policy }
         ensures held { IfOk result (λ board. board ≡ L.held pass) }

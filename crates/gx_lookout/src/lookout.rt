@@ -13,7 +13,7 @@ use std::sync::Wait;
 /// A gate behind a lock, as a risk desk's page looks at it: nothing of it changes.
 pub trait Lookout {
     ghost use Rattle.gx_policy.specs.declared.policy.PolicyData.{PolicyData};
-    ghost use Rattle.gx_pass.specs.declared.view.Holds.{Holds};
+    ghost use Rattle.gx_pass.specs.declared.view.LineView.{LineView};
 
     /// A pass, as its holder sees it.
     type Pass: Drop;
@@ -22,7 +22,7 @@ pub trait Lookout {
     ghost policy: { PolicyData };
 
     // What the pass has met.
-    ghost held: { Self.Pass → Holds };
+    ghost held: { Self.Pass → LineView };
 
     /// Lets the summary follow at most so many of the gate's records behind those that it has followed, and once it has
     /// followed all, shows what the viewer is shown of the gate as it stands then. `None` where there are more.

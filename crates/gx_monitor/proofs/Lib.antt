@@ -1,2 +1,2 @@
-pub mod Places
-pub mod Logging
+pub mod Places_next
+pub mod Log_next

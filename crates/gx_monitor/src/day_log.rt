@@ -38,7 +38,7 @@ impl DayLog {
     /// # Errors
     ///
     /// `OutOfMemory` where memory was refused.
-    #[tactic(auto, using(crate::proofs::Logging::empty_log))]
+    #[tactic(auto, using(crate::proofs::Log_next::empty_log))]
     pub fn new(alloc: Global, form: Form, policy: &Policy) -> Result<DayLog, OutOfMemory>
         ensures form { IfOk result (λ day. day.log.form ≡ form) }
         ensures none { IfOk result (IsLogOf policy.now []) }

@@ -1,1 +1,1 @@
-pub mod Kills
+pub mod Kills_next

@@ -6,7 +6,7 @@ use Rattle.gx_ouch.specs.declared.inbound.Inbound.{Inbound}
 use Rattle.gx_soup.specs.Login.{greatest}
 use Rattle.gx_client.specs.Sending.{CarriesCommand, CarriesInbound}
 use Rattle.gx_terminal.specs.{declared.wish.Wish.Wish, Wishes.{command_of, order_of}}
-use Rattle.gx_operator.specs.declared.asked.Asked.{Asked}
+use Rattle.gx_operator.specs.declared.asked.ClientRequest.{ClientRequest}
 
 -- the digit of a number whose unit this is
 abbrev pub digit_of : ℕ → ℕ → ℕ
@@ -24,30 +24,30 @@ serial_of number =
 abbrev pub first_of : ℕ → ℕ
 first_of start = start * 1000000
 
-abbrev pub either : Option Command → Option Inbound → Option Asked
-either (Some command) order = Some (Asked.Command command)
-either None (Some order) = Some (Asked.Order order)
+abbrev pub either : Option Command → Option Inbound → Option ClientRequest
+either (Some command) order = Some (ClientRequest.Command command)
+either None (Some order) = Some (ClientRequest.Order order)
 either None None = None
 
 -- the command or the order that is wished, under the serial of this number
-abbrev pub asked_of : ℕ → Wish → Option Asked
+abbrev pub asked_of : ℕ → Wish → Option ClientRequest
 asked_of number wish =
     either (command_of (record { bytes = serial_of number }) wish) (order_of (record { bytes = serial_of number }) wish)
 
 -- a Kill of the account, under the serial of this number
-abbrev pub kill_of : ℕ → AccountName → Asked
-kill_of number account = Asked.Command (record { tag = record { bytes = serial_of number }; action = Action.Kill account })
+abbrev pub kill_of : ℕ → AccountName → ClientRequest
+kill_of number account = ClientRequest.Command (record { tag = record { bytes = serial_of number }; action = Action.Kill account })
 
 -- the serial behind this one
-abbrev pub behind : ℕ → ℕ
-behind number = min (number + 1) greatest
+abbrev pub next_serial : ℕ → ℕ
+next_serial number = min (number + 1) greatest
 
 -- a Kill of each account, in this order, the first under the serial of this number, and each under the serial behind the one before
-unfoldable pub kills_of : ℕ → List AccountName → List Asked
+unfoldable pub kills_of : ℕ → List AccountName → List ClientRequest
 kills_of number [] = []
-kills_of number (account ∷ rest) = kill_of number account ∷ kills_of (behind number) rest
+kills_of number (account ∷ rest) = kill_of number account ∷ kills_of (next_serial number) rest
 
 -- one packet, in which what was asked is read
-abbrev pub Carries : List ℕ → Asked → Type 0
-Carries bytes (Asked.Command command) = CarriesCommand bytes command
-Carries bytes (Asked.Order order) = CarriesInbound bytes order
+abbrev pub Carries : List ℕ → ClientRequest → Type 0
+Carries bytes (ClientRequest.Command command) = CarriesCommand bytes command
+Carries bytes (ClientRequest.Order order) = CarriesInbound bytes order

@@ -6,7 +6,7 @@ use Rattle.gx_ouch.specs.declared.{inbound.Inbound.Inbound, outbound.Outbound.Ou
 use Rattle.gx_history.specs.declared.report.Message.{Message}
 use Rattle.gx_text.specs.declared.form.Form.{Form}
 use Rattle.gx_lines.specs.{AnswerLines.{answer_line, earlier_answer_line}, OrderLines.{order_line, copy_line}}
-use Rattle.gx_operator.specs.{declared.asked.Asked.Asked, Asking.serial_of}
+use Rattle.gx_operator.specs.{declared.asked.ClientRequest.ClientRequest, Asking.serial_of}
 
 -- the token of the order that a message is on
 abbrev pub token_of : Outbound → Option Token
@@ -42,23 +42,23 @@ answers_order message (Inbound.Replace order) = decides order.replacement_token 
 answers_order message (Inbound.Cancel order) = cancels order.token message
 
 -- the message answers what was asked: a command by its tag
-abbrev pub answers : Message → Asked → Bool
-answers (Message.Answer answer) (Asked.Command command) = bytes_eq answer.tag.bytes command.tag.bytes
-answers (Message.Answer answer) (Asked.Order order) = false
-answers (Message.Order message) (Asked.Command command) = false
-answers (Message.Order message) (Asked.Order order) = answers_order message order
+abbrev pub answers : Message → ClientRequest → Bool
+answers (Message.Answer answer) (ClientRequest.Command command) = bytes_eq answer.tag.bytes command.tag.bytes
+answers (Message.Answer answer) (ClientRequest.Order order) = false
+answers (Message.Order message) (ClientRequest.Command command) = false
+answers (Message.Order message) (ClientRequest.Order order) = answers_order message order
 answers (Message.DropCopy copy) asked = false
 
 -- what a message answers, if it answers anything that waits
-abbrev pub answered_by : Message → List Asked → Option Asked
+abbrev pub answered_by : Message → List ClientRequest → Option ClientRequest
 answered_by message waiting = find (answers message) waiting
 
 -- what still waits for an answer behind a message
-abbrev pub still_waiting : Message → List Asked → List Asked
+abbrev pub still_waiting : Message → List ClientRequest → List ClientRequest
 still_waiting message waiting = filter (λ asked. not (answers message asked)) waiting
 
 -- the answer that a message is to what waits, if it is one
-abbrev pub own_answer : Message → List Asked → List Message
+abbrev pub own_answer : Message → List ClientRequest → List Message
 own_answer message waiting = if list_any (answers message) waiting then message ∷ [] else []
 
 -- the token is of the run with this first serial: it has the first 8 digits of that one, of which a million have them
@@ -67,24 +67,24 @@ is_own_token first None = false
 is_own_token first (Some token) = bytes_eq (take 8 token.bytes) (take 8 (serial_of first))
 
 -- the line of an answer: with what was asked, where that waits; else only for who watches
-abbrev pub shown_answer : Form → ℕ → Bool → Answer → Option Asked → Option (List ℕ)
-shown_answer form moment is_watching answer (Some (Asked.Command command)) = Some (answer_line form moment command.action answer)
-shown_answer form moment is_watching answer (Some (Asked.Order order)) = if is_watching then Some (earlier_answer_line form moment answer) else None
+abbrev pub shown_answer : Form → ℕ → Bool → Answer → Option ClientRequest → Option (List ℕ)
+shown_answer form moment is_watching answer (Some (ClientRequest.Command command)) = Some (answer_line form moment command.action answer)
+shown_answer form moment is_watching answer (Some (ClientRequest.Order order)) = if is_watching then Some (earlier_answer_line form moment answer) else None
 shown_answer form moment is_watching answer None = if is_watching then Some (earlier_answer_line form moment answer) else None
 
 -- what a client shows of itself: how it writes lines, the first serial of its run, the next one, what waits for an answer,
 -- whether it watches, and its status
-pub record Standing : Type 0 where
+pub record ClientState : Type 0 where
   pub form : Form
   pub first : ℕ
   pub next : ℕ
-  pub waiting : List Asked
+  pub waiting : List ClientRequest
   pub is_watching : Bool
   pub status : ℕ
 
 -- the line that is shown of a message of this moment, if one is: of answers to what waits, of orders of the run's own, and
 -- of all others for who watches
-abbrev pub shown_line : Standing → ℕ → Message → Option (List ℕ)
+abbrev pub shown_line : ClientState → ℕ → Message → Option (List ℕ)
 shown_line run moment (Message.Answer answer) =
     shown_answer run.form moment run.is_watching answer (answered_by (Message.Answer answer) run.waiting)
 shown_line run moment (Message.Order message) =

@@ -14,7 +14,7 @@ use std::alloc::Global;
 
 /// What is asked of the gate.
 #[derive(Clone, Copy, PartialEq, Eq)]
-pub enum Asked {
+pub enum ClientRequest {
     /// A command of an officer.
     Command(Command),
     /// A message of a trader.
@@ -22,10 +22,10 @@ pub enum Asked {
 }
 
 /// A Kill of the account, under the serial of this number.
-fn kill_of(number: u64, account: AccountName) -> Asked
+fn kill_of(number: u64, account: AccountName) -> ClientRequest
     ensures { result ≡ kill_of number account }
 {
-    Asked::Command(Command {
+    ClientRequest::Command(Command {
         tag: Tag {
             bytes: serial(number),
         },
@@ -34,15 +34,15 @@ fn kill_of(number: u64, account: AccountName) -> Asked
 }
 
 /// The command or the order that is wished, under the serial of this number; None where the wish is neither.
-pub(crate) fn asked_of(number: u64, wish: &Wish) -> Option<Asked>
+pub(crate) fn asked_of(number: u64, wish: &Wish) -> Option<ClientRequest>
     ensures { result ≡ asked_of number wish.now }
 {
     let bytes = serial(number);
     if let Some(command) = wish.command(Tag { bytes }) {
-        return Some(Asked::Command(command));
+        return Some(ClientRequest::Command(command));
     }
     let order = wish.order(Token { bytes })?;
-    Some(Asked::Order(order))
+    Some(ClientRequest::Order(order))
 }
 
 /// A Kill of each account, in this order, under the serials from this number on.
@@ -50,7 +50,7 @@ pub(crate) fn kills_of(
     alloc: Global,
     number: u64,
     accounts: &[AccountName],
-) -> Result<Vec<Asked>, OutOfMemory>
+) -> Result<Vec<ClientRequest>, OutOfMemory>
     ensures { IfOk result (λ kills. kills.items ≡ kills_of number accounts.now) }
 {
     let mut kills = Vec::new(alloc);
@@ -62,14 +62,14 @@ pub(crate) fn kills_of(
     Ok(kills)
 }
 
-impl Asked {
+impl ClientRequest {
     /// The packet that carries it.
     pub(crate) fn packet(&self, alloc: Global) -> Result<Vec<u8>, OutOfMemory>
         ensures { IfOk result (λ bytes. Carries bytes.items self.now) }
     {
         match self {
-            Asked::Command(command) => command_packet(alloc, command),
-            Asked::Order(order) => inbound_packet(alloc, order),
+            ClientRequest::Command(command) => command_packet(alloc, command),
+            ClientRequest::Order(order) => inbound_packet(alloc, order),
         }
     }
 }
@@ -106,12 +106,12 @@ fn answers_order(message: &Outbound, order: &Inbound) -> bool
 
 /// Whether the message answers what was asked: a command by its tag, a new order by its own token, a cancel by the token
 /// that it names.
-pub(crate) fn answers(message: &Message, asked: &Asked) -> bool
+pub(crate) fn answers(message: &Message, asked: &ClientRequest) -> bool
     ensures { result ≡ answers message.now asked.now }
 {
     match (message, asked) {
-        (Message::Answer(answer), Asked::Command(command)) => answer.tag == command.tag,
-        (Message::Order(message), Asked::Order(order)) => answers_order(message, order),
+        (Message::Answer(answer), ClientRequest::Command(command)) => answer.tag == command.tag,
+        (Message::Order(message), ClientRequest::Order(order)) => answers_order(message, order),
         _ => false,
     }
 }

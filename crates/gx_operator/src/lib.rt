@@ -10,6 +10,6 @@ mod operator;
 mod serial;
 mod telling;
 
-pub use asked::Asked;
+pub use asked::ClientRequest;
 pub use operator::Operator;
 pub use telling::read_message;

@@ -4,9 +4,9 @@ ghost use Rattle.std.specs.{Prelude.{◌≡◌, ◌∷◌, ◌++◌, ◌+◌, []
 ghost use Rattle.gx_soup.specs.Login.{greatest};
 ghost use Rattle.gx_history.specs.declared.report.Message.{Message};
 ghost use Rattle.gx_terminal.specs.Statuses.{status_of};
-ghost use Rattle.gx_operator.specs.{Asking.{Carries, asked_of, behind, first_of, kills_of}, Hearing.{answers, answered_by, still_waiting, own_answer, shown_line}};
+ghost use Rattle.gx_operator.specs.{Asking.{Carries, asked_of, next_serial, first_of, kills_of}, Hearing.{answers, answered_by, still_waiting, own_answer, shown_line}};
 
-use crate::asked::{Asked, answers, asked_of, kills_of};
+use crate::asked::{ClientRequest, answers, asked_of, kills_of};
 use crate::telling::{is_of_run, shown_answer, shown_copy, shown_order};
 use gx_history::report::Message;
 use gx_terminal::{Status, Wish};
@@ -22,15 +22,15 @@ pub struct Operator {
     form: Form,
     first: u64,
     next: u64,
-    waiting: Vec<Asked>,
+    waiting: Vec<ClientRequest>,
     is_watching: bool,
     status: Status,
 }
 
 impl Model for Operator {
-    ghost use Rattle.gx_operator.specs.Hearing.{Standing};
+    ghost use Rattle.gx_operator.specs.Hearing.{ClientState};
 
-    ghost Value = { Standing };
+    ghost Value = { ClientState };
 
     ghost view = { λ o. record {
       form = o.form;
@@ -67,7 +67,7 @@ impl Operator {
     }
 
     /// The command or the order that is wished, under the next serial; None where the wish is neither.
-    pub fn asked(&self, wish: &Wish) -> Option<Asked>
+    pub fn asked(&self, wish: &Wish) -> Option<ClientRequest>
         ensures { result ≡ asked_of self.now.next wish.now }
     {
         asked_of(self.next, wish)
@@ -78,7 +78,7 @@ impl Operator {
     /// # Errors
     ///
     /// `OutOfMemory` where memory was refused.
-    pub fn kills(&self, accounts: &[AccountName]) -> Result<Vec<Asked>, OutOfMemory>
+    pub fn kills(&self, accounts: &[AccountName]) -> Result<Vec<ClientRequest>, OutOfMemory>
         ensures { IfOk result (λ kills. kills.items ≡ kills_of self.now.next accounts.now) }
     {
         kills_of(self.alloc, self.next, accounts)
@@ -89,11 +89,11 @@ impl Operator {
     /// # Errors
     ///
     /// `OutOfMemory` where memory was refused; then nothing has changed.
-    pub fn ask(&mut self, asked: &Asked) -> Result<Vec<u8>, OutOfMemory>
+    pub fn ask(&mut self, asked: &ClientRequest) -> Result<Vec<u8>, OutOfMemory>
         ensures carries { IfOk result (λ bytes. Carries bytes.items asked.now) }
         ensures waits { OnOk result (self.new ≡ record self.old {
           waiting = self.old.waiting ++ asked.now ∷ [];
-          next = behind self.old.next;
+          next = next_serial self.old.next;
         }) }
         ensures unchanged { OnErr result (self.new ≡ self.old) }
     {
@@ -118,7 +118,7 @@ impl Operator {
     }
 
     /// What waits for an answer, what was asked first in front.
-    pub fn waiting(&self) -> &[Asked]
+    pub fn waiting(&self) -> &[ClientRequest]
         ensures { result.now ≡ self.now.waiting }
     {
         self.waiting.as_slice()
@@ -198,7 +198,7 @@ impl Operator {
     }
 
     /// What the message answers.
-    fn answered_by(&self, message: &Message) -> Option<Asked>
+    fn answered_by(&self, message: &Message) -> Option<ClientRequest>
         ensures { result ≡ answered_by message.now self.now.waiting }
     {
         self.waiting
@@ -236,7 +236,7 @@ impl Operator {
             → self.new.status ≡ status_of (told ++ own_answer message.now self.old.waiting) }
     {
         self.count(message);
-        let_go(&mut self.waiting, message);
+        remove_answered(&mut self.waiting, message);
     }
 
     /// Counts what answers anything.
@@ -252,7 +252,7 @@ impl Operator {
 }
 
 /// Lets go of what the message answers.
-fn let_go(waiting: &mut Vec<Asked>, message: &Message)
+fn remove_answered(waiting: &mut Vec<ClientRequest>, message: &Message)
     ensures { waiting.new.items ≡ still_waiting message.now waiting.old.items }
 {
     waiting.retain(|asked| !answers(message, asked));

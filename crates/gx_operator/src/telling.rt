@@ -6,7 +6,7 @@ ghost use Rattle.gx_client.specs.Reports.{report_bytes as told_bytes};
 ghost use Rattle.gx_operator.specs.Hearing.{token_of, is_own_token, shown_answer};
 ghost use Rattle.gx_lines.specs.{AnswerLines.earlier_answer_line, OrderLines.{order_line, copy_line}};
 
-use crate::asked::Asked;
+use crate::asked::ClientRequest;
 use crate::serial::serial;
 use gx_client::{Report as Told, Stamped, read_report};
 use gx_desk::{Answer, DropCopy};
@@ -91,13 +91,13 @@ pub(crate) fn shown_answer(
     moment: Moment,
     is_watching: bool,
     answer: &Answer,
-    asked: Option<Asked>,
+    asked: Option<ClientRequest>,
 ) -> Result<Option<Vec<u8>>, OutOfMemory>
     ensures { IfOk result (λ line. option_map (λ l. l.items) line
         ≡ shown_answer form moment is_watching answer.now asked) }
 {
     match asked {
-        Some(Asked::Command(command)) => Ok(Some(answer_line(
+        Some(ClientRequest::Command(command)) => Ok(Some(answer_line(
             alloc,
             form,
             moment,

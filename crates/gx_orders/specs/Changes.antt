@@ -4,7 +4,7 @@ use Rattle.gx_units.specs.declared.names.{Token.Token, UserName.UserName}
 use Rattle.gx_desk.specs.declared.Action.{Action}
 use Rattle.gx_history.specs.{declared.{moves.Move.{Move, TheVariants.{Denies, Adds, Sizes, Replaces, Commands, Fills, Rests, Expires}}, «record».{Asked.Asked, Request.Request}, live_order.{LiveOrder.LiveOrder, UserToken.UserToken}}, Requests.new_token, LiveOrders.{key, token_of}}
 use Rattle.gx_policy.specs.{declared.rule_name.RuleName.RuleName, RuleNames.is_answered_rule}
-use Rattle.gx_orders.specs.LiveOrders.{OrdersData, at_rest, with_order_changed, cut_at, filled_at, is_used, of_others, without}
+use Rattle.gx_orders.specs.LiveOrders.{OrdersData, at_rest, with_order_changed, cut_at, filled_at, is_used, of_others, without_number}
 
 -- the orders with another list of live ones
 abbrev pub with_live : List LiveOrder → OrdersData → OrdersData
@@ -47,9 +47,9 @@ abbrev pub orders_moved : Move → OrdersData → OrdersData
 orders_moved (Denies a rule) d = marked_by a rule d
 orders_moved (Adds new) d = with_order_entered new d
 orders_moved (Sizes cut size) d = with_live (cut_at cut.number size d.live) d
-orders_moved (Replaces old new) d = with_live (without old.number (d.live ++ new ∷ [])) (with_order_entered new d)
+orders_moved (Replaces old new) d = with_live (without_number old.number (d.live ++ new ∷ [])) (with_order_entered new d)
 orders_moved (Commands officer c) d = with_live (live_left c.action d.live) d
 orders_moved (Fills f) d = with_live (filled_at f.maker f.shares (filled_at f.taker f.shares d.live)) d
 orders_moved (Rests number) d = with_live (with_order_changed at_rest number d.live) d
-orders_moved (Expires number) d = with_live (without number d.live) d
+orders_moved (Expires number) d = with_live (without_number number d.live) d
 orders_moved other d = d

@@ -23,8 +23,8 @@ abbrev pub with_order_changed : (LiveOrder → LiveOrder) → ℕ → List LiveO
 with_order_changed change number live = map (λ (o : LiveOrder). if has_number number o then change o else o) live
 
 -- all but the order of this number, in their places
-abbrev pub without : ℕ → List LiveOrder → List LiveOrder
-without number live = filter (λ (o : LiveOrder). not (has_number number o)) live
+abbrev pub without_number : ℕ → List LiveOrder → List LiveOrder
+without_number number live = filter (λ (o : LiveOrder). not (has_number number o)) live
 
 -- the order with more shares executed
 abbrev pub with_done : ℕ → LiveOrder → LiveOrder

@@ -35,5 +35,5 @@ abbrev pub last_word : List ℕ → ℕ
 last_word bs = if nat_lt (length bs) 8 then 0 else word_at bs (length bs - 8)
 
 -- the state behind the bytes of a field
-unfoldable pub hashed : Seed → List ℕ → Seed
-hashed seed bs = record { state = folded_halves (bit_xor (first_word bs) seed.state) (bit_xor (last_word bs) seed.factor); factor = seed.factor }
+unfoldable pub seed_after : Seed → List ℕ → Seed
+seed_after seed bs = record { state = folded_halves (bit_xor (first_word bs) seed.state) (bit_xor (last_word bs) seed.factor); factor = seed.factor }

@@ -2,7 +2,7 @@
 
 ghost use Rattle.std.specs.{Prelude.{◌≡◌, ◌<◌, length, [], ◌∷◌, ◌++◌, Some, OnOk, OnErr, IfOk, IfSome, IsTrue, IsFalse}, List.filter};
 ghost use Rattle.gx_history.specs.{LiveOrders.{key, token_of, is_of_user}, Live.live_under};
-ghost use Rattle.gx_orders.specs.{Changes.{IsUnused, marked_by}, LiveOrders.{AreBelow, AreSound, HasOpen, at_rest, with_order_changed, cut_at, filled_at, first_waiting, is_used, of_account, of_others, live_numbered, resized_at, without}};
+ghost use Rattle.gx_orders.specs.{Changes.{IsUnused, marked_by}, LiveOrders.{AreBelow, AreSound, HasOpen, at_rest, with_order_changed, cut_at, filled_at, first_waiting, is_used, of_account, of_others, live_numbered, resized_at, without_number}};
 
 use crate::counts::{count_in, count_one_less, count_one_more, no_counts};
 use crate::ending::end_each;
@@ -87,7 +87,7 @@ impl Orders {
     }
 
     /// Whether the user has used the token, so that he can enter no more orders under it.
-    #[tactic(auto, using(crate::proofs::Answering::used_found))]
+    #[tactic(auto, using(crate::proofs::Tokens_table::used_found))]
     pub fn is_used(&self, user: UserName, token: Token) -> bool
         ensures { result ≡ is_used self.now.used user token }
     {
@@ -234,7 +234,7 @@ impl Orders {
 
     /// The order of this number has ended. Nothing changes where none has the number. It takes no memory.
     pub fn end(&mut self, number: u64, near: usize)
-        ensures live { self.new.live ≡ without number self.old.live }
+        ensures live { self.new.live ≡ without_number number self.old.live }
         ensures used { self.new.used ≡ self.old.used }
     {
         if let Some(order) = self.numbered(number) {

@@ -119,9 +119,9 @@ fn last_word(bytes: &[u8]) -> u64
 }
 
 impl Hasher for Seed {
-    ghost use Rattle.gx_orders.specs.Seeds.{hashed};
+    ghost use Rattle.gx_orders.specs.Seeds.{seed_after};
 
-    ghost write = { hashed };
+    ghost write = { seed_after };
 
     ghost finish = { λ seed. seed.state };
 
@@ -129,7 +129,7 @@ impl Hasher for Seed {
         self.state
     }
 
-    #[tactic(auto, unfolding(crate::specs::Seeds::hashed))]
+    #[tactic(auto, unfolding(crate::specs::Seeds::seed_after))]
     fn write(&mut self, bytes: &[u8]) {
         self.state = folded(
             first_word(bytes) ^ self.state,

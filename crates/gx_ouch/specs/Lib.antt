@@ -3,3 +3,4 @@ pub mod Messages
 pub mod Letters
 pub mod Reading
 pub mod Writing
+pub mod Terms

@@ -7,12 +7,12 @@ use std::marker::Model;
 
 /// A message as far as it is written, at most `MESSAGE_ROOM` bytes. Contracts see the list of these bytes.
 #[derive(Drop)]
-pub struct Draft {
+pub struct MessageDraft {
     room: [u8; MESSAGE_ROOM],
     used: usize,
 }
 
-impl Model for Draft {
+impl Model for MessageDraft {
     ghost use Rattle.std.specs.Prelude.{ℕ, List, take, ◌≤◌};
     ghost use Rattle.gx_ouch.specs.declared.outbound.TheConstants.{MESSAGE_ROOM};
 
@@ -23,12 +23,12 @@ impl Model for Draft {
     ghost invariant = { λ draft. draft.used ≤ MESSAGE_ROOM };
 }
 
-impl Draft {
+impl MessageDraft {
     /// A message of which nothing is written yet.
-    pub fn new() -> Draft
+    pub fn new() -> MessageDraft
         ensures { result ≡ [] }
     {
-        Draft {
+        MessageDraft {
             room: [0; MESSAGE_ROOM],
             used: 0,
         }

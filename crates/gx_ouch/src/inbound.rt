@@ -1,5 +1,9 @@
 //! Messages from a trader. Fields of one byte hold any byte.
 
+ghost use Rattle.std.specs.Prelude.{◌≡◌};
+ghost use Rattle.gx_ouch.specs.Terms.{entered_terms};
+
+use crate::outbound::OrderTerms;
 use gx_units::{Firm, Symbol, Token};
 
 /// A new order: Enter Order, `O`.
@@ -31,6 +35,28 @@ pub struct EnterOrder {
     pub cross_type: u8,
     /// The sort of customer, any byte (Customer Type).
     pub customer_type: u8,
+}
+
+impl EnterOrder {
+    /// The terms that it asks for, for an account of this firm.
+    #[inline(always)]
+    pub fn terms(&self, firm: Firm) -> OrderTerms
+        ensures { result ≡ entered_terms self.now firm }
+    {
+        OrderTerms {
+            side: self.side,
+            shares: self.shares,
+            stock: self.stock,
+            price: self.price,
+            time_in_force: self.time_in_force,
+            firm,
+            display: self.display,
+            capacity: self.capacity,
+            intermarket_sweep: self.intermarket_sweep,
+            minimum_quantity: self.minimum_quantity,
+            cross_type: self.cross_type,
+        }
+    }
 }
 
 /// An order in place of an earlier one: Replace Order, `U`.

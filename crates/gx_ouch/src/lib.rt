@@ -9,7 +9,7 @@ mod outbound;
 mod reading;
 mod writing;
 
-pub use draft::Draft;
+pub use draft::MessageDraft;
 pub use inbound::{CancelOrder, EnterOrder, Inbound, ReplaceOrder};
 pub use laws::read_messages_have_no_gaps;
 pub use letters::{CancelReason, EventCode, Liquidity, RejectReason};

@@ -4,7 +4,7 @@ ghost use Rattle.std.specs.Prelude.{◌≡◌, ◌+◌, ◌≤◌, length, take,
 ghost use Rattle.gx_ouch.specs.declared.outbound.Outbound.TheVariants as outbounds;
 ghost use Rattle.gx_ouch.specs.{Layout.{HasSizes, LiesIn, with_fields}, Messages.{order_fields, accepted_layout, replaced_layout, canceled_layout, executed_layout, rejected_layout}, Writing.{order_contents, contents_behind, outbound_contents, outbound_layout, outbound_bytes}};
 
-use crate::draft::Draft;
+use crate::draft::MessageDraft;
 use crate::outbound::{
     Accepted, Canceled, Executed, MESSAGE_ROOM, OrderTerms, Outbound, Rejected, Replaced,
 };
@@ -32,12 +32,12 @@ impl Outbound {
     /// The message's bytes, with its moment, in nanoseconds past midnight, as Timestamp.
     #[tactic(auto, unfolding(crate::specs::Writing::outbound_bytes))]
     #[inline(always)]
-    pub fn draft(&self, timestamp: u64) -> Draft
+    pub fn draft(&self, timestamp: u64) -> MessageDraft
         ensures bytes { result ≡ outbound_bytes timestamp self.now }
         ensures len { length result ≡ (outbound_layout self.now).size }
         ensures sizes { HasSizes (outbound_layout self.now) (outbound_contents timestamp self.now) }
     {
-        let mut draft = Draft::new();
+        let mut draft = MessageDraft::new();
         draft.put(&[self.kind()]);
         draft.put(&timestamp.to_be_bytes());
         match self {
@@ -69,7 +69,7 @@ impl Outbound {
 impl OrderTerms {
     /// Writes what Accepted and Replaced say alike of an order.
     #[inline(always)]
-    fn put(&self, order_reference: u64, draft: &mut Draft)
+    fn put(&self, order_reference: u64, draft: &mut MessageDraft)
         requires { length draft.old ≡ 23 }
         ensures bytes { draft.new
             ≡ with_fields draft.old (order_contents self.now order_reference) }
@@ -95,7 +95,7 @@ impl OrderTerms {
 
 impl Accepted {
     #[inline(always)]
-    fn put(&self, draft: &mut Draft)
+    fn put(&self, draft: &mut MessageDraft)
         requires { length draft.old ≡ 9 }
         ensures bytes { draft.new
             ≡ with_fields draft.old (contents_behind (outbounds.Accepted self.now)) }
@@ -111,7 +111,7 @@ impl Accepted {
 
 impl Replaced {
     #[inline(always)]
-    fn put(&self, draft: &mut Draft)
+    fn put(&self, draft: &mut MessageDraft)
         requires { length draft.old ≡ 9 }
         ensures bytes { draft.new
             ≡ with_fields draft.old (contents_behind (outbounds.Replaced self.now)) }
@@ -128,7 +128,7 @@ impl Replaced {
 
 impl Canceled {
     #[inline(always)]
-    fn put(&self, draft: &mut Draft)
+    fn put(&self, draft: &mut MessageDraft)
         requires { length draft.old ≡ 9 }
         ensures bytes { draft.new
             ≡ with_fields draft.old (contents_behind (outbounds.Canceled self.now)) }
@@ -144,7 +144,7 @@ impl Canceled {
 
 impl Executed {
     #[inline(always)]
-    fn put(&self, draft: &mut Draft)
+    fn put(&self, draft: &mut MessageDraft)
         requires { length draft.old ≡ 9 }
         ensures bytes { draft.new
             ≡ with_fields draft.old (contents_behind (outbounds.Executed self.now)) }
@@ -162,7 +162,7 @@ impl Executed {
 
 impl Rejected {
     #[inline(always)]
-    fn put(&self, draft: &mut Draft)
+    fn put(&self, draft: &mut MessageDraft)
         requires { length draft.old ≡ 9 }
         ensures bytes { draft.new
             ≡ with_fields draft.old (contents_behind (outbounds.Rejected self.now)) }

@@ -3,7 +3,7 @@ use Rattle.std.proofs.Common.{◌≡◌, Bool, true, false, cond, List, [], ◌�
 use Rattle.std.specs.{Prelude.{Some}, Map.lookup}
 use Rattle.indexmap.specs.IndexMap.{insert_entry}
 use Rattle.gx_units.specs.{Names.same_account, declared.names.AccountName.AccountName}
-use Rattle.gx_laws.proofs.Names.{account_is}
+use Rattle.gx_units.proofs.Names_equal.{account_is}
 
 pub inserted : {V : Type 0} (name account : AccountName) (v : V) (entries : List (AccountName × V))
     → lookup (same_account name) (insert_entry same_account entries account v) ≡ cond (same_account name account) (Some v) (lookup (same_account name) entries)

@@ -1,11 +1,12 @@
 -- What is known once one more order is noted.
-use Rattle.std.proofs.{Common.{◌≡◌, Bool, true, false, cond, ◌&&◌, ◌==◌, List, [], ◌∷◌, ◌++◌, refl, ap, sym, subst, ◌∙◌, true≢false}, lemmas.Bool.and_parts}
+use Rattle.std.proofs.{Common.{◌≡◌, Bool, true, false, cond, ◌&&◌, ◌==◌, List, [], ◌∷◌, ◌++◌, refl, ap, sym, subst, ◌∙◌, true≢false}, lemmas.{Bool.and_parts, Option.same_Some}}
 use Rattle.std.specs.{Prelude.{Option, Some, None, Result, Ok, Err, OnOk, find, option_map, is_some, nat_eq}, Option.{option_map_or, option_or}, List.{filter, last_or}, Map.lookup}
 use Rattle.gx_units.specs.{Names.{same_token, same_user}, declared.names.{AccountName.AccountName, UserName.UserName}}
+use Rattle.gx_units.proofs.Names_equal.{user_is}
 use Rattle.gx_ouch.specs.declared.inbound.{EnterOrder.EnterOrder, ReplaceOrder.ReplaceOrder}
 use Rattle.gx_policy.specs.{declared.policy.PolicyData.PolicyData, People.account_of}
 use Rattle.gx_history.specs.{declared.record.{RecordData.RecordData, Request.Request}, Orders.{Order, order_entered, order_numbered, order_under, orders_made, order_replacing}, Book.is_buy}
-use Rattle.gx_laws.proofs.{Adding.user_is, Order.some_same, Pushing.last_such_next}
+use Rattle.gx_laws.proofs.Lists_next.{last_such_next}
 use Rattle.gx_overview.specs.{declared.owners.{Owner.Owner, Owners.Owners}, Executed.{KnowOrders, is_key, owner_of}, Owning.{IsOneMore, Learn}}
 
 -- the first that passes, of one more
@@ -58,7 +59,7 @@ found_passes {X} test start (y ∷ ys) x first is = by (test y) refl (λ begins 
   where
     by : (b : Bool) → test y ≡ b → ((Some y ≡ Some x → test x ≡ true) → last_or (Some y) (filter test ys) ≡ Some x → test x ≡ true)
         → (last_or start (filter test ys) ≡ Some x → test x ≡ true) → last_or start (cond b (y ∷ filter test ys) (filter test ys)) ≡ Some x → test x ≡ true
-    by true passes here there found = here (λ same. subst (λ (z : X). test z ≡ true) (some_same same) passes) found
+    by true passes here there found = here (λ same. subst (λ (z : X). test z ≡ true) (same_Some _ _ same) passes) found
     by false fails here there found = there found
 
 nobody : {X : Type 0} (x : X) {P : Type 0} → None ≡ Some x → P
@@ -79,7 +80,7 @@ replaced_known policy r user m owner old new is more = λ known knows. by known 
         (found_passes (λ (p : Order). same_user p.user user && same_token p.token m.existing_token) None known o (λ none. nobody o none) at)).0 in
         one_more_known old new known (order_replacing r m o)
         (subst (λ (u : UserName). IsOneMore r.number (record { user = u; token = m.replacement_token }) (owner_of o) old new) (sym same)
-        (subst (λ (w : Owner). IsOneMore r.number (record { user = user; token = m.replacement_token }) w old new) (sym (some_same his)) more)) knows
+        (subst (λ (w : Owner). IsOneMore r.number (record { user = user; token = m.replacement_token }) w old new) (sym (same_Some _ _ his)) more)) knows
 
 -- what follows where it went well
 pub ok_then : {V E : Type 0} {P Q : Type 0} (r : Result V E) → (P → Q) → OnOk r P → OnOk r Q

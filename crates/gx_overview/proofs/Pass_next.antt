@@ -1,9 +1,9 @@
 -- What one more item makes of what a pass over a list keeps.
 use Rattle.std.proofs.{Common.{◌≡◌, ℕ, ◌+◌, ◌<◌, Bool, cond, List, [], ◌∷◌, ◌++◌, map, length, take, drop, set, get_or, ◌-◌, min, max, arith, ap, sym, ◌∙◌}, lemmas.{List.{Sums.fold-append, Edits.map_over_more, append-nil, drop_all, take_all, get_or_default, length-append, length-drop, length-map, length-take, map-append, map-id, take_more}, Simd.map-map}}
 use Rattle.std.specs.Prelude.{Option, Some, fold, slice_get}
+use Rattle.gx_units.proofs.Lists_found.{one_more_taken}
 use Rattle.gx_policy.specs.Lists.{last_such}
-use Rattle.gx_history.proofs.Unpacking.{one_more_taken}
-use Rattle.gx_laws.proofs.Pushing.{last_such_next}
+use Rattle.gx_laws.proofs.Lists_next.{last_such_next}
 
 -- the last such, of one more
 pub last_such_more : {X : Type 0} (test : X → Bool) (xs : List X) (i : ℕ) (x d : X) (old new : Option X) → i < length xs → old ≡ last_such test (take i xs)

@@ -1,1 +1,1 @@
-mod Killing
+mod Kill_call

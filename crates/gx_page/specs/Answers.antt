@@ -1,7 +1,7 @@
 -- A request is answered.
 use Rattle.std.specs.Prelude.{◌≡◌, ℕ, Bool, true, false, List, Ok, Err}
 use Rattle.gx_policy.specs.declared.policy.PolicyData.{PolicyData}
-use Rattle.gx_pass.specs.declared.view.Holds.{Holds}
+use Rattle.gx_pass.specs.declared.view.LineView.{LineView}
 use Rattle.gx_http.specs.declared.request.Request.{Request}
 use Rattle.gx_status.specs.declared.server.ServerFigures.{ServerFigures}
 use Rattle.gx_button.specs.declared.steps.Refusal.{Refusal}
@@ -27,7 +27,7 @@ IsTold true policy secret about reply text = IsResponse policy secret about repl
 IsTold false policy secret about reply text = text ≡ notice_bytes Notice.Unkept
 
 -- what becomes of the request, and what is told of it
-pub record IsAnswer (policy : PolicyData) (secret : List ℕ) (about : ServerFigures) (was is : Holds) (q : Request) (a : Answer) : Type 0 where
+pub record IsAnswer (policy : PolicyData) (secret : List ℕ) (about : ServerFigures) (was is : LineView) (q : Request) (a : Answer) : Type 0 where
   pub reply : Reply
   pub is_kept : Bool
   pub becomes : IsReply policy secret was is q reply

@@ -38,7 +38,7 @@ fn is_stranger(reply: &Reply) -> bool
 }
 
 /// What is told of a reply: nothing but that it can't be kept, where it can't.
-fn told(
+fn response_if_kept(
     alloc: Global,
     is_kept: bool,
     policy: &Policy,
@@ -64,7 +64,7 @@ fn told(
 /// `OutOfMemory` where memory was refused for the answer.
 pub(crate) fn answer_to<
     T: Drop,
-    D: Door<Ticket = T>,
+    D: Door<Pass = T>,
     L: Lookout<Pass = T>,
     R: Wait + Dial + Announces,
 >(
@@ -91,7 +91,7 @@ pub(crate) fn answer_to<
         Err(refused) => return (board, Err(refused)),
     };
     let is_kept = door.keep(rt);
-    match told(alloc, is_kept, policy, secret, about, &reply) {
+    match response_if_kept(alloc, is_kept, policy, secret, about, &reply) {
         Ok(text) => {
             let is_stranger = is_stranger(&reply);
             (board, Ok(Answer { text, is_stranger }))

@@ -21,7 +21,7 @@ const DELAY: u64 = 1_000;
 
 /// How far a connection is.
 #[derive(Clone, Copy, PartialEq, Eq)]
-enum Stage {
+enum GuestStage {
     /// Its request is not there yet.
     Reading,
     /// Its request is to be answered.
@@ -40,7 +40,7 @@ pub(crate) struct Guest {
     stream: TcpStream,
     /// The address that it came from.
     pub(crate) address: IpAddr,
-    stage: Stage,
+    stage: GuestStage,
     incoming: Incoming,
     request: Option<Request>,
     outgoing: Option<Outgoing>,
@@ -56,7 +56,7 @@ impl Guest {
         Guest {
             stream,
             address,
-            stage: Stage::Reading,
+            stage: GuestStage::Reading,
             incoming: Incoming::new(alloc),
             request: None,
             outgoing: None,
@@ -67,22 +67,22 @@ impl Guest {
 
     /// Whether it is over.
     pub(crate) fn is_over(&self) -> bool {
-        self.stage == Stage::Over
+        self.stage == GuestStage::Over
     }
 
     /// Whether nothing is owed to it: it has not asked for anything yet, or its answer is out.
     pub(crate) fn is_owed_nothing(&self) -> bool {
-        matches!(self.stage, Stage::Reading | Stage::Parting)
+        matches!(self.stage, GuestStage::Reading | GuestStage::Parting)
     }
 
     /// Hangs up on it.
     pub(crate) fn hang_up(&mut self) {
-        self.stage = Stage::Over;
+        self.stage = GuestStage::Over;
     }
 
     /// The request that is to be answered, if there is one.
     pub(crate) fn asks(&self) -> Option<Request> {
-        if self.stage == Stage::Asking {
+        if self.stage == GuestStage::Asking {
             self.request
         } else {
             None
@@ -99,12 +99,12 @@ impl Guest {
         match text {
             Ok(text) => {
                 self.outgoing = Some(Outgoing::new(text));
-                self.stage = Stage::Writing;
+                self.stage = GuestStage::Writing;
                 let delay = Duration::from_millis(if is_late { DELAY } else { 0 });
                 self.from = now.saturating_add(delay);
                 self.until = self.from.saturating_add(Duration::from_secs(PATIENCE));
             }
-            Err(_) => self.stage = Stage::Over,
+            Err(_) => self.stage = GuestStage::Over,
         }
     }
 
@@ -118,7 +118,7 @@ impl Guest {
         match self.incoming.request() {
             Ok(request) => {
                 self.request = Some(request);
-                self.stage = Stage::Asking;
+                self.stage = GuestStage::Asking;
             }
             Err(RequestFault::Unfinished) => {}
             Err(fault) => self.refuse(alloc, fault, now),
@@ -126,7 +126,7 @@ impl Guest {
     }
 
     /// Takes what is there of its request. Answers whether something was.
-    fn listen(&mut self, alloc: Global, now: Duration) -> bool {
+    fn receive(&mut self, alloc: Global, now: Duration) -> bool {
         match self.incoming.take(&mut self.stream) {
             Gulp::Came => {
                 self.read(alloc, now);
@@ -143,24 +143,24 @@ impl Guest {
     /// Its answer is out.
     fn finish(&mut self, now: Duration) {
         let _ = self.stream.shutdown(Shutdown::Write);
-        self.stage = Stage::Parting;
+        self.stage = GuestStage::Parting;
         self.until = now.saturating_add(Duration::from_millis(FAREWELL));
     }
 
     /// Sends on. Answers whether something was sent.
-    fn speak(&mut self, now: Duration) -> bool {
+    fn send_on(&mut self, now: Duration) -> bool {
         if now < self.from {
             return false;
         }
         let Some(outgoing) = &mut self.outgoing else {
-            self.stage = Stage::Over;
+            self.stage = GuestStage::Over;
             return true;
         };
         match outgoing.send(&mut self.stream) {
             Sent::All => self.finish(now),
             Sent::More => {}
             Sent::Waits if now < self.until => return false,
-            Sent::Waits | Sent::Failed => self.stage = Stage::Over,
+            Sent::Waits | Sent::Failed => self.stage = GuestStage::Over,
         }
         true
     }
@@ -172,7 +172,7 @@ impl Guest {
             Ok(count) if count > 0 && now < self.until => true,
             Err(_) if now < self.until => false,
             _ => {
-                self.stage = Stage::Over;
+                self.stage = GuestStage::Over;
                 true
             }
         }
@@ -181,10 +181,10 @@ impl Guest {
     /// Goes on as far as it can without waiting. Answers whether it did.
     pub(crate) fn go_on(&mut self, alloc: Global, now: Duration) -> bool {
         match self.stage {
-            Stage::Reading => self.listen(alloc, now),
-            Stage::Writing => self.speak(now),
-            Stage::Parting => self.part(now),
-            Stage::Asking | Stage::Over => false,
+            GuestStage::Reading => self.receive(alloc, now),
+            GuestStage::Writing => self.send_on(now),
+            GuestStage::Parting => self.part(now),
+            GuestStage::Asking | GuestStage::Over => false,
         }
     }
 }

@@ -11,7 +11,7 @@ use gx_board::View;
 use gx_button::{Deed, Refusal, Secret, kill};
 use gx_desk::Action;
 use gx_door::{Dial, Door};
-use gx_http::{Asked, Credentials, KillForm, Request};
+use gx_http::{Credentials, KillForm, Request, RequestTarget};
 use gx_lookout::{Board, Lookout};
 use gx_overview::day::DayRow;
 use gx_policy::Policy;
@@ -136,7 +136,7 @@ fn ended_of(
 }
 
 /// What is done for a kill that the caller asks for, or why nothing is. What it ended is announced.
-fn kill_for<T: Drop, D: Door<Ticket = T>, L: Lookout<Pass = T>, R: Wait + Dial + Announces>(
+fn kill_for<T: Drop, D: Door<Pass = T>, L: Lookout<Pass = T>, R: Wait + Dial + Announces>(
     rt: &R,
     door: &D,
     policy: &Policy,
@@ -166,7 +166,7 @@ fn kill_for<T: Drop, D: Door<Ticket = T>, L: Lookout<Pass = T>, R: Wait + Dial +
 /// `OutOfMemory` where memory was refused. No step was made then.
 pub(crate) fn reply_to<
     T: Drop,
-    D: Door<Ticket = T>,
+    D: Door<Pass = T>,
     L: Lookout<Pass = T>,
     R: Wait + Dial + Announces,
 >(
@@ -189,26 +189,26 @@ pub(crate) fn reply_to<
 {
     let user = viewer(rt, door, request.caller);
     match (request.asked, user) {
-        (Asked::Kill(form), _) => {
+        (RequestTarget::Kill(form), _) => {
             let caller = request.caller;
             let (board, done, announced) = kill_for(rt, door, policy, secret, board, caller, &form);
             (board, Ok(Reply::Kill(done, announced)))
         }
-        (Asked::Health, _) => {
+        (RequestTarget::Health, _) => {
             let (board, seen) = see(rt, alloc, gate, board, NOBODY);
             (board, told_health(seen))
         }
-        (Asked::State, Some(user)) => {
+        (RequestTarget::State, Some(user)) => {
             let (board, seen) = see(rt, alloc, gate, board, user);
             (board, told_state(user, seen))
         }
-        (Asked::Metrics, Some(user)) => {
+        (RequestTarget::Metrics, Some(user)) => {
             let (board, seen) = see(rt, alloc, gate, board, user);
             (board, told_metrics(user, seen))
         }
-        (Asked::Page, Some(_)) => (board, Ok(Reply::Page)),
-        (Asked::Script, Some(_)) => (board, Ok(Reply::Script)),
-        (Asked::Style, Some(_)) => (board, Ok(Reply::Style)),
+        (RequestTarget::Page, Some(_)) => (board, Ok(Reply::Page)),
+        (RequestTarget::Script, Some(_)) => (board, Ok(Reply::Script)),
+        (RequestTarget::Style, Some(_)) => (board, Ok(Reply::Style)),
         (_, None) => (board, Ok(Reply::Stranger)),
     }
 }

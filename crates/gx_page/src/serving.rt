@@ -7,7 +7,7 @@ use crate::guest::Guest;
 use gx_button::Secret;
 use gx_control::{ServerControl, ShutdownFlag};
 use gx_door::{Dial, Door};
-use gx_http::{Asked, Request};
+use gx_http::{Request, RequestTarget};
 use gx_lookout::{Board, Lookout};
 use gx_policy::Policy;
 use gx_serve::Announces;
@@ -36,7 +36,7 @@ const PAUSE: u64 = 2;
 
 /// What the page is served from. It stays the same for a run.
 #[derive(Drop)]
-pub struct PageServer<'x, T: Drop, D: Door<Ticket = T>, L: Lookout<Pass = T>> {
+pub struct PageServer<'x, T: Drop, D: Door<Pass = T>, L: Lookout<Pass = T>> {
     door: &'x D,
     gate: &'x L,
     policy: &'x Policy,
@@ -48,7 +48,7 @@ pub struct PageServer<'x, T: Drop, D: Door<Ticket = T>, L: Lookout<Pass = T>> {
     ghost same: { policy.now ≡ D.policy },
 }
 
-impl<'x, T: Drop, D: Door<Ticket = T>, L: Lookout<Pass = T>> PageServer<'x, T, D, L> {
+impl<'x, T: Drop, D: Door<Pass = T>, L: Lookout<Pass = T>> PageServer<'x, T, D, L> {
     /// A page of this gate, whose kills are made at this door: both judge by this policy. Its tokens are made of the secret.
     pub fn new(
         door: &'x D,
@@ -192,7 +192,7 @@ fn is_one_too_many<R: Wait + Clock>(
 
 /// Wakes those whom a kill concerns.
 fn tell_others<R: Wait>(rt: &R, control: &ServerControl, request: &Request) {
-    if let Asked::Kill(_) = request.asked {
+    if let RequestTarget::Kill(_) = request.asked {
         control.matcher.notify(rt);
     }
 }
@@ -200,7 +200,7 @@ fn tell_others<R: Wait>(rt: &R, control: &ServerControl, request: &Request) {
 /// Answers the first who is to be answered, unless somebody was just before.
 fn answer_next<
     T: Drop,
-    D: Door<Ticket = T>,
+    D: Door<Pass = T>,
     L: Lookout<Pass = T>,
     R: Wait + Clock + Dial + Announces,
 >(
@@ -251,7 +251,7 @@ fn rest<R: Clock>(rt: &R, guests: &Guests, moved: bool) {
 /// what is waited for are the gate's lock and, where there is a journal, that what was done is kept.
 pub fn serve_page<
     T: Drop,
-    D: Door<Ticket = T>,
+    D: Door<Pass = T>,
     L: Lookout<Pass = T>,
     R: Wait + Clock + Dial + Announces,
 >(

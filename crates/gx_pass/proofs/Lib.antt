@@ -1,4 +1,5 @@
-pub mod Fronts
-pub mod Lines
-pub mod Moves
-pub mod Tables
+pub mod Lists_prefix
+pub mod Lines_owner
+pub mod Rule_kept
+pub mod Table_word
+pub mod HighestLine_next

@@ -5,10 +5,10 @@ use mathlib.Core.List.{IsPrefix}
 use lib.ListN.{get_elem?}
 use Rattle.atomic_table.specs.Table.{Me}
 use Rattle.gx_history.specs.declared.record.RecordData.{RecordData}
-use Rattle.gx_pass.specs.{declared.view.{Keeps.Keeps, Holds.Holds, View.{View, TheVariants.{Keeping, Meeting, Holding, Spent}}}, Views.{line_in, of_line, mine, keeps, kept_of, held_of, retold}}
+use Rattle.gx_pass.specs.{declared.view.{KeeperView.KeeperView, LineView.LineView, View.{View, TheVariants.{Keeping, Meeting, Holding, Consumed}}}, Views.{line_in, of_line, mine, keeper_view, keeper_view_of, line_view_of, with_told}}
 
 -- what a pass knows is so of this history
-pub record IsMet (log : List RecordData) (h : Holds) : Type 0 where
+pub record IsMet (log : List RecordData) (h : LineView) : Type 0 where
   pub front : IsPrefix h.front log
   pub told : h.told ≤ length log
   pub mine : of_line h.line log ≡ mine h
@@ -36,14 +36,14 @@ IsNumbered issued [] = Unit {0}
 IsNumbered issued (r ∷ rs) = (line_in r ≤ issued) × IsNumbered issued rs
 
 -- what the rule says of the view of one seat
-abbrev pub Fits : Keeps → (ℕ → ℕ) → ℕ → View → Type 0
+abbrev pub Fits : KeeperView → (ℕ → ℕ) → ℕ → View → Type 0
 Fits k holder seat (Keeping c) = (seat ≡ 0) × (c ≡ k)
 Fits k holder seat (Meeting c h) = (seat ≡ 0) × (c ≡ k) × IsMet k.list h
 Fits k holder seat (Holding h) = (0 < seat) × (holder h.line ≡ seat) × (0 < h.line) × (h.line ≤ k.issued) × IsMet k.list h
-Fits k holder seat Spent = Unit {0}
+Fits k holder seat Consumed = Unit {0}
 
 -- the word is the length of the keeper's history; each pass has met a beginning of it, and no two have one line
-pub record IsKeptBy (keeper : Keeps) (words : List ℕ) (views : List View) : Type 0 where
+pub record IsKeptBy (keeper : KeeperView) (words : List ℕ) (views : List View) : Type 0 where
   pub holder : ℕ → ℕ
   pub word : words ≡ length keeper.list ∷ []
   pub each : (seat : ℕ) (v : View) → get_elem? views seat ≡ some v → Fits keeper holder seat v
@@ -51,20 +51,20 @@ pub record IsKeptBy (keeper : Keeps) (words : List ℕ) (views : List View) : Ty
   pub numbered : IsNumbered keeper.issued keeper.list
 
 abbrev pub IsKept : List ℕ → List View → Type 0
-IsKept words views = (k : Keeps) × IsKeptBy k words views
+IsKept words views = (k : KeeperView) × IsKeptBy k words views
 
 -- the pass was told n
 abbrev pub HasTold : Me ℕ View → ℕ → Me ℕ View → Type 0
-HasTold m n w = (w ≡ (Holding (retold (held_of m.0) n), m.1)) × ((held_of m.0).told ≤ n) × (length (held_of m.0).front ≤ n)
+HasTold m n w = (w ≡ (Holding (with_told (line_view_of m.0) n), m.1)) × ((line_view_of m.0).told ≤ n) × (length (line_view_of m.0).front ≤ n)
 
 -- the keeper compared the pass that it took in
 abbrev pub HasMet : Me ℕ View → Me ℕ View → Type 0
-HasMet m w = (w ≡ (Keeping (kept_of m.0), m.1)) × IsMet (kept_of m.0).list (held_of m.0) × InHand (kept_of m.0).issued (λ _. 0) (kept_of m.0).hand
+HasMet m w = (w ≡ (Keeping (keeper_view_of m.0), m.1)) × IsMet (keeper_view_of m.0).list (line_view_of m.0) × InHand (keeper_view_of m.0).issued (λ _. 0) (keeper_view_of m.0).hand
 
 -- the keeper saw that each line of the history was issued
 abbrev pub HasLooked : Me ℕ View → Me ℕ View → Type 0
-HasLooked m w = (w ≡ m) × IsNumbered (kept_of m.0).issued (kept_of m.0).list
+HasLooked m w = (w ≡ m) × IsNumbered (keeper_view_of m.0).issued (keeper_view_of m.0).list
 
 -- the history took the record
 abbrev pub HasTaken : RecordData → Me ℕ View → Me ℕ View → Type 0
-HasTaken r m w = let k = kept_of m.0 in w ≡ (Keeping (keeps (k.list ++ r ∷ []) k.hand k.issued), m.1)
+HasTaken r m w = let k = keeper_view_of m.0 in w ≡ (Keeping (keeper_view (k.list ++ r ∷ []) k.hand k.issued), m.1)

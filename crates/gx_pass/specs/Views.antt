@@ -3,7 +3,7 @@ use Rattle.std.specs.{Prelude.{ℕ, ◌+◌, ◌==◌, List, [], ◌∷◌, cond
 use Rattle.atomic_table.specs.Seated.{TableId}
 use Rattle.gx_policy.specs.declared.policy.{PolicyData.PolicyData, Lifters.TheVariants.One}
 use Rattle.gx_history.specs.{declared.record.{RecordData.RecordData, Step.Step, Verdict.Verdict}, Logins.blank_session}
-use Rattle.gx_pass.specs.declared.view.{Keeps.Keeps, Holds.Holds, View.{View, TheVariants.{Keeping, Meeting, Holding, Spent}}}
+use Rattle.gx_pass.specs.declared.view.{KeeperView.KeeperView, LineView.LineView, View.{View, TheVariants.{Keeping, Meeting, Holding, Consumed}}}
 
 -- the name of no table
 abbrev pub no_table : TableId
@@ -34,58 +34,58 @@ highest_line records = fold max 0 (map line_in records)
 abbrev pub of_line : ℕ → List RecordData → List RecordData
 of_line line log = filter (λ r. line_in r == line) log
 
-abbrev pub keeps : List RecordData → List ℕ → ℕ → Keeps
-keeps list hand issued = record { list = list; hand = hand; issued = issued }
+abbrev pub keeper_view : List RecordData → List ℕ → ℕ → KeeperView
+keeper_view list hand issued = record { list = list; hand = hand; issued = issued }
 
-abbrev pub holds : ℕ → List RecordData → ℕ → Holds
-holds line front told = record { line = line; front = front; told = told }
+abbrev pub line_view : ℕ → List RecordData → ℕ → LineView
+line_view line front told = record { line = line; front = front; told = told }
 
 -- the pass's own records
-abbrev pub mine : Holds → List RecordData
+abbrev pub mine : LineView → List RecordData
 mine h = of_line h.line h.front
 
 abbrev pub first_view : View
-first_view = Keeping (keeps [] [] 0)
+first_view = Keeping (keeper_view [] [] 0)
 
 -- what the view knows as the keeper's
-abbrev pub kept_of : View → Keeps
-kept_of (Keeping k) = k
-kept_of (Meeting k h) = k
-kept_of (Holding h) = keeps [] [] 0
-kept_of Spent = keeps [] [] 0
+abbrev pub keeper_view_of : View → KeeperView
+keeper_view_of (Keeping k) = k
+keeper_view_of (Meeting k h) = k
+keeper_view_of (Holding h) = keeper_view [] [] 0
+keeper_view_of Consumed = keeper_view [] [] 0
 
 -- what the view knows as a pass's
-abbrev pub held_of : View → Holds
-held_of (Keeping k) = holds 0 [] 0
-held_of (Meeting k h) = h
-held_of (Holding h) = h
-held_of Spent = holds 0 [] 0
+abbrev pub line_view_of : View → LineView
+line_view_of (Keeping k) = line_view 0 [] 0
+line_view_of (Meeting k h) = h
+line_view_of (Holding h) = h
+line_view_of Consumed = line_view 0 [] 0
 
 -- the lines but this one
-abbrev pub without : ℕ → List ℕ → List ℕ
-without line [] = []
-without line (l ∷ ls) = cond (l == line) ls (l ∷ without line ls)
+abbrev pub without_line : ℕ → List ℕ → List ℕ
+without_line line [] = []
+without_line line (l ∷ ls) = cond (l == line) ls (l ∷ without_line line ls)
 
 -- one more line is issued
 abbrev pub with_line_issued : View → View
-with_line_issued v = let k = kept_of v in Keeping (keeps k.list k.hand (k.issued + 1))
+with_line_issued v = let k = keeper_view_of v in Keeping (keeper_view k.list k.hand (k.issued + 1))
 
 -- the pass with that line
-abbrev pub newcomer : View → View
-newcomer v = let k = kept_of v in Holding (holds (k.issued + 1) k.list (length k.list))
+abbrev pub view_of_issued : View → View
+view_of_issued v = let k = keeper_view_of v in Holding (line_view (k.issued + 1) k.list (length k.list))
 
 -- the line goes out of the keeper's hand
-abbrev pub let_go : ℕ → View → View
-let_go line v = let k = kept_of v in Keeping (keeps k.list (without line k.hand) k.issued)
+abbrev pub view_without_line : ℕ → View → View
+view_without_line line v = let k = keeper_view_of v in Keeping (keeper_view k.list (without_line line k.hand) k.issued)
 
 -- the pass with that line
-abbrev pub goes_out : ℕ → View → View
-goes_out line v = let k = kept_of v in Holding (holds line k.list (length k.list))
+abbrev pub view_of_line : ℕ → View → View
+view_of_line line v = let k = keeper_view_of v in Holding (line_view line k.list (length k.list))
 
 -- the keeper has a pass to compare, whose line is in its hand
-abbrev pub taken_in : View → View → View
-taken_in v w = let k = kept_of v in let h = held_of w in Meeting (keeps k.list (h.line ∷ k.hand) k.issued) h
+abbrev pub view_of_meeting : View → View → View
+view_of_meeting v w = let k = keeper_view_of v in let h = line_view_of w in Meeting (keeper_view k.list (h.line ∷ k.hand) k.issued) h
 
 -- the pass was told the length
-abbrev pub retold : Holds → ℕ → Holds
-retold h n = holds h.line h.front n
+abbrev pub with_told : LineView → ℕ → LineView
+with_told h n = line_view h.line h.front n

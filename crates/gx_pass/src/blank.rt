@@ -1,6 +1,6 @@
 //! A table for passes, before it has a name.
 
-use crate::view::{Board, Place};
+use crate::view::{ViewSeat, ViewTable};
 use atomic_table::Table;
 use gx_units::OutOfMemory;
 use std::alloc::Global;
@@ -10,8 +10,8 @@ use std::sync::Arc;
 /// A table with an empty history, which has no name yet. Contracts see the table's identity.
 #[derive(Drop)]
 pub struct Blank {
-    pub(crate) table: Arc<Board, Global>,
-    pub(crate) seat: Place,
+    pub(crate) table: Arc<ViewTable, Global>,
+    pub(crate) seat: ViewSeat,
 }
 
 impl Model for Blank {

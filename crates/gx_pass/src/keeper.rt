@@ -2,12 +2,15 @@
 
 ghost use Rattle.std.specs.Prelude.{◌≡◌, ◌+◌, ◌<◌, ◌≤◌, ◌^◌, ◌++◌, ◌∷◌, [], length, IfErr, IfOk, OnErr, OnOk, Err};
 ghost use Rattle.gx_pass.specs.declared.pass.PassFault.TheVariants as faults;
-ghost use Rattle.gx_pass.specs.{declared.view.View.TheVariants.Keeping, Rules.{IsMet, IsAbsent, Has, MayNote, HasTaken}, Views.{keeps, holds, kept_of, line_in, mine, without, let_go, goes_out}};
+ghost use Rattle.gx_pass.specs.{declared.view.View.TheVariants.Keeping, Rules.{IsMet, IsAbsent, Has, MayNote, HasTaken}, Views.{keeper_view, line_view, keeper_view_of, line_in, mine, without_line, view_without_line, view_of_line}};
 
 use crate::blank::Blank;
 use crate::name::GateName;
 use crate::pass::{Entered, Pass, PassFault};
-use crate::view::{Board, Enters, Entry, Issues, Leaves, Looks, Meets, Outgoing, Place, Takes};
+use crate::view::{
+    AppendRecord, CheckLines, ComparePass, EnterLine, IssueLine, LeaveLine, LineName, RecordName,
+    ViewSeat, ViewTable,
+};
 use gx_history::record::RecordData;
 use std::alloc::Global;
 use std::marker::{Brand, Model, PhantomData};
@@ -18,33 +21,33 @@ use std::sync::Arc;
 #[derive(Drop)]
 pub struct Keeper<N: GateName> {
     issued: u16,
-    seat: Place,
-    table: Arc<Board, Global>,
+    seat: ViewSeat,
+    table: Arc<ViewTable, Global>,
     of: PhantomData<N>,
 }
 
 impl<N: GateName> Model for Keeper<N> {
     ghost use Rattle.std.specs.Prelude.{◌≡◌, []};
     ghost use Rattle.std.specs.Arc.{arc_value};
-    ghost use Rattle.gx_pass.specs.declared.view.Keeps.{Keeps};
+    ghost use Rattle.gx_pass.specs.declared.view.KeeperView.{KeeperView};
     ghost use Rattle.gx_pass.specs.declared.view.View.TheVariants.{Keeping};
-    ghost use Rattle.gx_pass.specs.Views.{kept_of};
+    ghost use Rattle.gx_pass.specs.Views.{keeper_view_of};
 
-    ghost Value = { Keeps };
+    ghost Value = { KeeperView };
 
-    ghost view = { λ k. kept_of k.seat.me.0 };
+    ghost view = { λ k. keeper_view_of k.seat.me.0 };
 
     ghost invariant = { λ k. (k.seat.table_id ≡ N.table)
         × ((arc_value k.table).shared.table_id ≡ N.table) × (N.table.words ≡ 1)
-        × (k.seat.me ≡ (Keeping (kept_of k.seat.me.0), []))
-        × (k.issued ≡ (kept_of k.seat.me.0).issued) };
+        × (k.seat.me ≡ (Keeping (keeper_view_of k.seat.me.0), []))
+        × (k.issued ≡ (keeper_view_of k.seat.me.0).issued) };
 }
 
 impl<N: GateName> Keeper<N> {
     /// The keeper of the blank's table, which has no history, no line in hand and none issued.
     pub fn open(blank: Blank) -> Keeper<N>
         requires { blank ≡ N.table }
-        ensures { result ≡ keeps [] [] 0 }
+        ensures { result ≡ keeper_view [] [] 0 }
     {
         let Blank { table, seat } = blank;
         Keeper {
@@ -69,9 +72,9 @@ impl<N: GateName> Keeper<N> {
     /// `NoLines` comes first, and only where all 65,535 lines were issued.
     pub fn issue(&mut self) -> Result<Pass<N>, PassFault>
         ensures counted { OnOk result
-            (self.new ≡ keeps self.old.list self.old.hand (self.old.issued + 1)) }
+            (self.new ≡ keeper_view self.old.list self.old.hand (self.old.issued + 1)) }
         ensures pass { IfOk result (λ p.
-            p ≡ holds (self.old.issued + 1) self.old.list (length self.old.list)) }
+            p ≡ line_view (self.old.issued + 1) self.old.list (length self.old.list)) }
         ensures own { IfOk result (λ p. mine p ≡ []) }
         ensures unchanged { OnErr result (self.new ≡ self.old) }
         ensures none_left { self.old.issued ≡ 65535 → result ≡ Err faults.NoLines }
@@ -81,8 +84,8 @@ impl<N: GateName> Keeper<N> {
             return Err(PassFault::NoLines);
         }
         let table = Arc::try_clone(&self.table)?;
-        self.table.shared.load::<Looks>(&mut self.seat, 0);
-        let seat = self.table.shared.split_seat::<Issues>(&mut self.seat);
+        self.table.shared.load::<CheckLines>(&mut self.seat, 0);
+        let seat = self.table.shared.split_seat::<IssueLine>(&mut self.seat);
         self.issued += 1;
         Ok(Pass {
             line: self.issued,
@@ -101,7 +104,7 @@ impl<N: GateName> Keeper<N> {
         ensures some { 0 < pass.line }
         ensures issued { pass.line ≤ self.old.issued }
         ensures hand { self.new
-            ≡ keeps self.old.list (pass.line ∷ self.old.hand) self.old.issued }
+            ≡ keeper_view self.old.list (pass.line ∷ self.old.hand) self.old.issued }
     {
         let Pass {
             line,
@@ -109,8 +112,10 @@ impl<N: GateName> Keeper<N> {
             table,
             of,
         } = pass;
-        self.table.shared.join_seat::<Enters>(&mut self.seat, seat);
-        self.table.shared.load::<Meets>(&mut self.seat, 0);
+        self.table
+            .shared
+            .join_seat::<EnterLine>(&mut self.seat, seat);
+        self.table.shared.load::<ComparePass>(&mut self.seat, 0);
         Entered { line, table, of }
     }
 
@@ -118,7 +123,7 @@ impl<N: GateName> Keeper<N> {
     pub fn note(&mut self, noted: RecordData)
         requires line { MayNote self.old.hand (line_in noted) }
         requires room { length self.old.list + 1 < 2 ^ 64 }
-        ensures { self.new ≡ keeps (self.old.list ++ noted ∷ []) self.old.hand self.old.issued }
+        ensures { self.new ≡ keeper_view (self.old.list ++ noted ∷ []) self.old.hand self.old.issued }
     {
         append::<Brand>(&self.table, &mut self.seat, noted);
     }
@@ -127,8 +132,8 @@ impl<N: GateName> Keeper<N> {
     pub fn leave(&mut self, entered: Entered<N>) -> Pass<N>
         requires { Has self.old.hand entered }
         ensures hand { self.new
-            ≡ keeps self.old.list (without entered self.old.hand) self.old.issued }
-        ensures pass { result ≡ holds entered self.old.list (length self.old.list) }
+            ≡ keeper_view self.old.list (without_line entered self.old.hand) self.old.issued }
+        ensures pass { result ≡ line_view entered self.old.list (length self.old.list) }
     {
         let Entered { line, table, of } = entered;
         let seat = part::<Brand>(&self.table, &mut self.seat, line);
@@ -142,30 +147,30 @@ impl<N: GateName> Keeper<N> {
 }
 
 /// The seat of a pass with the line that L names, which goes out of the keeper's hand.
-fn part<L: Outgoing>(board: &Board, seat: &mut Place, line: u16) -> Place
+fn part<L: LineName>(board: &ViewTable, seat: &mut ViewSeat, line: u16) -> ViewSeat
     requires line { line ≡ L.line }
     requires own { (seat.old.table_id ≡ board.now.shared.table_id)
         × (board.now.shared.table_id.words ≡ 1) }
-    requires keeper { seat.old.me ≡ (Keeping (kept_of seat.old.me.0), []) }
-    requires hand { Has (kept_of seat.old.me.0).hand line }
+    requires keeper { seat.old.me ≡ (Keeping (keeper_view_of seat.old.me.0), []) }
+    requires hand { Has (keeper_view_of seat.old.me.0).hand line }
     ensures own { (seat.new.table_id ≡ seat.old.table_id)
         × (result.table_id ≡ seat.old.table_id) }
-    ensures keeper { seat.new.me ≡ (let_go line seat.old.me.0, []) }
-    ensures pass { result.me ≡ (goes_out line seat.old.me.0, []) }
+    ensures keeper { seat.new.me ≡ (view_without_line line seat.old.me.0, []) }
+    ensures pass { result.me ≡ (view_of_line line seat.old.me.0, []) }
 {
-    board.shared.split_seat::<Leaves<L>>(seat)
+    board.shared.split_seat::<LeaveLine<L>>(seat)
 }
 
 /// The history takes the record that E names.
-fn append<E: Entry>(board: &Board, seat: &mut Place, noted: RecordData)
+fn append<E: RecordName>(board: &ViewTable, seat: &mut ViewSeat, noted: RecordData)
     requires entry { noted ≡ E.entry }
     requires own { (seat.old.table_id ≡ board.now.shared.table_id)
         × (board.now.shared.table_id.words ≡ 1) }
-    requires keeper { seat.old.me ≡ (Keeping (kept_of seat.old.me.0), []) }
-    requires line { MayNote (kept_of seat.old.me.0).hand (line_in noted) }
-    requires room { length (kept_of seat.old.me.0).list + 1 < 2 ^ 64 }
+    requires keeper { seat.old.me ≡ (Keeping (keeper_view_of seat.old.me.0), []) }
+    requires line { MayNote (keeper_view_of seat.old.me.0).hand (line_in noted) }
+    requires room { length (keeper_view_of seat.old.me.0).list + 1 < 2 ^ 64 }
     ensures own { seat.new.table_id ≡ seat.old.table_id }
     ensures taken { HasTaken noted seat.old.me seat.new.me }
 {
-    board.shared.fetch_add::<Takes<E>>(seat, 0, 1);
+    board.shared.fetch_add::<AppendRecord<E>>(seat, 0, 1);
 }

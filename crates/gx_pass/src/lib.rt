@@ -17,4 +17,4 @@ pub use keeper::Keeper;
 pub use line::{LAST_LINE, line_in};
 pub use name::GateName;
 pub use pass::{Entered, Pass, PassFault};
-pub use view::{Holds, Keeps};
+pub use view::{KeeperView, LineView};

@@ -1,10 +1,10 @@
 //! Passes, in their holders' hands and in the keeper's.
 
 ghost use Rattle.std.specs.Prelude.{◌≡◌, ◌≤◌, length};
-ghost use Rattle.gx_pass.specs.Views.{retold};
+ghost use Rattle.gx_pass.specs.Views.{with_told};
 
 use crate::name::GateName;
-use crate::view::{Board, Place, Tells};
+use crate::view::{LoadLength, ViewSeat, ViewTable};
 use std::alloc::{AllocError, Global};
 use std::marker::{Model, PhantomData};
 use std::sync::Arc;
@@ -37,33 +37,33 @@ impl From<AllocError> for PassFault {
 #[derive(Drop)]
 pub struct Pass<N: GateName> {
     pub(crate) line: u16,
-    pub(crate) seat: Place,
-    pub(crate) table: Arc<Board, Global>,
+    pub(crate) seat: ViewSeat,
+    pub(crate) table: Arc<ViewTable, Global>,
     pub(crate) of: PhantomData<N>,
 }
 
 impl<N: GateName> Model for Pass<N> {
     ghost use Rattle.std.specs.Prelude.{◌≡◌, []};
     ghost use Rattle.std.specs.Arc.{arc_value};
-    ghost use Rattle.gx_pass.specs.declared.view.Holds.{Holds};
+    ghost use Rattle.gx_pass.specs.declared.view.LineView.{LineView};
     ghost use Rattle.gx_pass.specs.declared.view.View.TheVariants.{Holding};
-    ghost use Rattle.gx_pass.specs.Views.{held_of};
+    ghost use Rattle.gx_pass.specs.Views.{line_view_of};
 
-    ghost Value = { Holds };
+    ghost Value = { LineView };
 
-    ghost view = { λ p. held_of p.seat.me.0 };
+    ghost view = { λ p. line_view_of p.seat.me.0 };
 
     ghost invariant = { λ p. (p.seat.table_id ≡ N.table)
         × ((arc_value p.table).shared.table_id ≡ N.table) × (N.table.words ≡ 1)
-        × (p.seat.me ≡ (Holding (held_of p.seat.me.0), []))
-        × (p.line ≡ (held_of p.seat.me.0).line) };
+        × (p.seat.me ≡ (Holding (line_view_of p.seat.me.0), []))
+        × (p.line ≡ (line_view_of p.seat.me.0).line) };
 }
 
 /// A pass that the keeper has taken in. Contracts see its line.
 #[derive(Drop)]
 pub struct Entered<N: GateName> {
     pub(crate) line: u16,
-    pub(crate) table: Arc<Board, Global>,
+    pub(crate) table: Arc<ViewTable, Global>,
     pub(crate) of: PhantomData<N>,
 }
 
@@ -88,10 +88,10 @@ impl<N: GateName> Pass<N> {
 
     /// How long the history is: at least as long as what was met, and as what was told before. It waits for nobody.
     pub fn length(&mut self) -> u64
-        ensures told { self.new ≡ retold self.old result }
+        ensures told { self.new ≡ with_told self.old result }
         ensures more { self.old.told ≤ result }
         ensures front { length self.old.front ≤ result }
     {
-        self.table.shared.load::<Tells>(&mut self.seat, 0)
+        self.table.shared.load::<LoadLength>(&mut self.seat, 0)
     }
 }

@@ -1,17 +1,10 @@
 -- Keys that are the same are equal.
-use Rattle.std.proofs.{Common.{◌≡◌, Bool, true, false, refl, ap}, lemmas.{Slice.Eq.bytes_eq-Decides, Bool.{and_parts, and_from}}}
+use Rattle.std.proofs.{Common.{◌≡◌, Bool, true, false, refl, ap}, lemmas.Bool.{and_parts, and_from}}
 use Rattle.std.specs.{Prelude.{Option, Some, None, ◌&&◌}, Bool.beq, Option.option_eq}
-use Rattle.gx_units.specs.{Names.{same_account, same_rule, same_stock}, declared.names.{RuleId.RuleId, Symbol.Symbol}}
+use Rattle.gx_units.specs.Names.{same_account, same_rule, same_stock}
+use Rattle.gx_units.proofs.Names_equal.{account_is, account_is_itself, rule_is, rule_is_itself, stock_is, stock_is_itself}
 use Rattle.gx_history.specs.declared.facts.StockSide.{StockSide}
-use Rattle.gx_laws.proofs.Names.{account_is, account_is_itself, stock_is, rule_is}
 use Rattle.gx_peaks.specs.{declared.key.PeakKey.PeakKey, Keys.{key_bytes, same_key, same_side}}
-
--- and a name is the same as itself
-pub rule_is_itself : (a : RuleId) → same_rule a a ≡ true
-rule_is_itself a = (bytes_eq-Decides a.bytes a.bytes).1 refl
-
-stock_is_itself : (a : Symbol) → same_stock a a ≡ true
-stock_is_itself a = (bytes_eq-Decides a.bytes a.bytes).1 refl
 
 -- so too of truth values
 bool_is : (a b : Bool) → beq a b ≡ true → a ≡ b

@@ -29,7 +29,7 @@ pub fn counts(rule: &FileRule, account: AccountName, side: Option<StockSide>) ->
 }
 
 /// Whether there is such a rule for the account.
-#[tactic(auto, using(crate::proofs::Sorts::counted_is))]
+#[tactic(auto, using(crate::proofs::Figure_sort::counted_is))]
 pub fn is_counted(policy: &Policy, figure: Figure) -> bool
     ensures { result ≡ is_counted policy.now figure }
 {

@@ -1,6 +1,6 @@
-pub mod Table
-pub mod Spelling
-pub mod Changing
-pub mod Entitling
-pub mod Keeping
-pub mod Room
+pub mod Persons_table
+pub mod Names_apart
+pub mod Users_stay
+pub mod Grants_next
+pub mod Users_laws
+pub mod Users_sound

@@ -30,12 +30,12 @@ abbrev pub has : List User → UserName → Power → Bool
 has users officer power = has_in_role (role_in users officer) power
 
 -- the user is an officer with the account in his scope
-abbrev pub holds : List User → UserName → AccountName → Bool
-holds users officer account = holds_in_role (role_in users officer) account
+abbrev pub holds_account : List User → UserName → AccountName → Bool
+holds_account users officer account = holds_in_role (role_in users officer) account
 
 -- the user is an officer with the power, and the account is one of his
 abbrev pub may : List User → UserName → Power → AccountName → Bool
-may users officer power account = has users officer power && holds users officer account
+may users officer power account = has users officer power && holds_account users officer account
 
 -- the user is a reader, and the account is his now
 abbrev pub sees : List User → UserName → AccountName → Bool

@@ -4,7 +4,7 @@ use Rattle.gx_units.specs.{Names.{same_user, same_account}, declared.names.{Acco
 use Rattle.gx_desk.specs.declared.{WrittenName.WrittenName, Action.Action}
 use Rattle.gx_policy.specs.{declared.policy.{PolicyData.PolicyData, User.User}, People.{account_named, account_of, account_of_role, is_officer, is_reader, is_trader, role_in, user_in}, Soundness.{is_sound, is_user_sound}}
 use Rattle.gx_history.specs.{declared.record.RecordData.RecordData, Asking.{has_power, sees_now}, InForce.is_entitled, Logins.password_is, Readers.reader_in, Requests.granted_action, Verdicts.IsLegal}
-use Rattle.gx_people.specs.Entitled.{users_after, granted_to, has, has_room, holds, holds_in_role, people_in_force, power_of, revoked_from, sees}
+use Rattle.gx_people.specs.Entitled.{users_after, granted_to, has, has_room, holds_account, holds_in_role, people_in_force, power_of, revoked_from, sees}
 
 -- who sees which account in force is who is entitled to it
 abbrev pub EntitlementsAreKept : Type 0
@@ -35,7 +35,7 @@ PowersStay = (policy : PolicyData) (history : List RecordData) (user : UserName)
 -- officers' accounts are the policy's
 abbrev pub ScopesStay : Type 0
 ScopesStay = (policy : PolicyData) (history : List RecordData) (user : UserName) (account : AccountName)
-    → holds (people_in_force policy history) user account ≡ holds_in_role (role_in policy.users user) account
+    → holds_account (people_in_force policy history) user account ≡ holds_in_role (role_in policy.users user) account
 
 -- traders are the policy's
 abbrev pub TradersStay : Type 0

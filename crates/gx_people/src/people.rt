@@ -4,9 +4,9 @@ ghost use Rattle.std.specs.Prelude.{◌≤◌, ◌<◌, ◌^◌, length, ◌≡�
 ghost use Rattle.gx_units.specs.{Names.{same_account, same_user}, declared.names.{AccountName.AccountName, UserName.UserName}};
 ghost use Rattle.gx_history.specs.{Masks.mask_by, Logins.password_is, Readers.reader_in};
 ghost use Rattle.gx_policy.specs.People.{account_of_role, is_officer, is_reader, role_in, user_in};
-ghost use Rattle.gx_people.specs.{Entitled.{granted_to, has, has_room, holds, may, revoked_from, sees, sees_after, sees_with, sees_without}, View.role_of_standing};
+ghost use Rattle.gx_people.specs.{Entitled.{granted_to, has, has_room, holds_account, may, revoked_from, sees, sees_after, sees_with, sees_without}, View.role_of_current};
 
-use crate::person::{Person, Standing};
+use crate::person::{CurrentRole, Person};
 use crate::power::Power;
 use gx_desk::WrittenName;
 use gx_index::{Near, get_near};
@@ -84,7 +84,7 @@ impl People {
         let slots = slots_of(alloc, policy)?;
         let mut by_name = IndexMap::with_capacity(alloc, policy.users().len())?;
         for user in policy.users() {
-            let standing = Standing::of(alloc, &user.role)?;
+            let standing = CurrentRole::of(alloc, &user.role)?;
             let person = Person {
                 password: user.password,
                 standing,
@@ -95,17 +95,17 @@ impl People {
         Ok(People { by_name, slots })
     }
 
-    #[tactic(auto, using(crate::proofs::Table::role_found))]
+    #[tactic(auto, using(crate::proofs::Persons_table::role_found))]
     #[inline(always)]
-    fn standing_near(&self, name: UserName, near: usize) -> Option<&Standing>
-        ensures { option_map (λ s. role_of_standing s.now) result ≡ role_in self.now name }
+    fn standing_near(&self, name: UserName, near: usize) -> Option<&CurrentRole>
+        ensures { option_map (λ s. role_of_current s.now) result ≡ role_in self.now name }
     {
         let person = get_near(&self.by_name, near, name)?;
         Some(&person.standing)
     }
 
-    fn standing(&self, name: UserName) -> Option<&Standing>
-        ensures { option_map (λ s. role_of_standing s.now) result ≡ role_in self.now name }
+    fn standing(&self, name: UserName) -> Option<&CurrentRole>
+        ensures { option_map (λ s. role_of_current s.now) result ≡ role_in self.now name }
     {
         self.standing_near(name, 0)
     }
@@ -133,7 +133,7 @@ impl People {
     }
 
     /// Whether the policy has this user.
-    #[tactic(auto, using(crate::proofs::Table::user_found))]
+    #[tactic(auto, using(crate::proofs::Persons_table::user_found))]
     pub fn knows(&self, user: UserName) -> bool
         ensures { result ≡ is_some (user_in self.now user) }
     {
@@ -146,7 +146,7 @@ impl People {
     {
         matches!(
             self.standing_near(user, near),
-            Some(Standing::Officer(_, _))
+            Some(CurrentRole::Officer(_, _))
         )
     }
 
@@ -174,13 +174,13 @@ impl People {
         ensures { result ≡ option_and_then account_of_role (role_in self.now user) }
     {
         match self.standing_near(user, near)? {
-            Standing::Trader(account) => Some(*account),
+            CurrentRole::Trader(account) => Some(*account),
             _ => None,
         }
     }
 
     /// Whether the password, in upper case, is that of the user.
-    #[tactic(auto, using(crate::proofs::Table::password_found_is))]
+    #[tactic(auto, using(crate::proofs::Persons_table::password_found_is))]
     pub fn password_is(&self, user: UserName, password: Password) -> bool
         ensures { result ≡ password_is self.now user password }
     {
@@ -195,17 +195,17 @@ impl People {
         ensures { result ≡ has self.now officer power }
     {
         match self.standing(officer) {
-            Some(Standing::Officer(powers, _)) => power.is_among(*powers),
+            Some(CurrentRole::Officer(powers, _)) => power.is_among(*powers),
             _ => false,
         }
     }
 
     /// Whether the user is an officer with the account in his scope.
     pub fn holds(&self, officer: UserName, account: AccountName) -> bool
-        ensures { result ≡ holds self.now officer account }
+        ensures { result ≡ holds_account self.now officer account }
     {
         match self.standing(officer) {
-            Some(Standing::Officer(_, scope)) => scope.covers(account),
+            Some(CurrentRole::Officer(_, scope)) => scope.covers(account),
             _ => false,
         }
     }

@@ -27,7 +27,7 @@ pub enum Power {
 
 impl Power {
     /// The power that the command asks for: a role that has it has what the rules ask of the command.
-    #[tactic(auto, using(crate::proofs::Keeping::power_for_is))]
+    #[tactic(auto, using(crate::proofs::Users_laws::power_for_is))]
     pub fn of(action: &Action) -> Power
         ensures power { result ≡ power_of action.now }
         ensures asked { (role : Option Role)

@@ -1,2 +1,3 @@
-pub mod Letters
-pub mod Names
+pub mod KindLetters_apart
+pub mod Name_whole
+pub mod Limit_stays

@@ -100,7 +100,7 @@ pub fn is_built_in(name: RuleId) -> bool
     BUILT_IN.iter().any(|rule| rule.id() == name)
 }
 
-#[tactic(auto, using(crate::proofs::Names::take_whole))]
+#[tactic(auto, using(crate::proofs::Name_whole::take_whole))]
 fn padded(name: RuleId) -> RuleId
     ensures { result.bytes ≡ take 8 (name.bytes ++ codes "        ") }
 {

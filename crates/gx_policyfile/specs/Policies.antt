@@ -44,7 +44,7 @@ users known entries = place_of 256 (λ (a b : User). same_user a.name b.name) (u
 
 -- at most 128 rules, no two of one name
 unfoldable pub rules : FileVersion → List Account → List Stock → List Members → Result (List FileRule) FaultKind
-rules version known listed entries = place_of 128 (λ (a b : FileRule). same_rule a.name b.name) (rule version known listed) entries
+rules version known stocks entries = place_of 128 (λ (a b : FileRule). same_rule a.name b.name) (rule version known stocks) entries
 
 -- what the entries of the four places say, behind the keys at the top: the accounts, the stocks, the users and the rules
 abbrev pub of_entries : FileVersion → List ℕ → Lifters → List Members → List Members → List Members → List Members → Result PolicyData FaultKind

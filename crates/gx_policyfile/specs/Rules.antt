@@ -44,13 +44,13 @@ abbrev pub count : Members → Result Count FaultKind
 count entry = choice_at (codes "count") count_words entry
 
 -- the stocks of a rule
-abbrev pub listed : List Stock → Members → Result (List Symbol) FaultKind
-listed stocks entry = value_at (codes "stocks") entry >>= known_stocks stocks
+abbrev pub stocks_of_entry : List Stock → Members → Result (List Symbol) FaultKind
+stocks_of_entry stocks entry = value_at (codes "stocks") entry >>= known_stocks stocks
 
 -- the kind of this word, with its own keys
 unfoldable pub kind : List Stock → KindName → Members → Result RuleKind FaultKind
 kind stocks (KindName.Listed why) entry = do
-  names ← listed stocks entry
+  names ← stocks_of_entry stocks entry
   Ok (RuleKind.Listed why names)
 kind stocks (KindName.Plain what) entry = Ok (RuleKind.Plain what)
 kind stocks (KindName.Order what) entry = do

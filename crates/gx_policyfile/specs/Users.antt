@@ -4,7 +4,7 @@ use Rattle.toml.specs.Data.{Data, Members, as_array}
 use Rattle.gx_units.specs.Spelling.{folded_user, folded_password}
 use Rattle.gx_policy.specs.declared.policy.{Account.Account, Powers.Powers, Role.Role, User.User}
 use Rattle.gx_policyvalues.specs.{declared.fault.{FaultKind.{FaultKind, TheVariants.BadValue}, Letters.TheVariants.Visible}, Field.{◌>>=◌, value_at, field_at, choice, choice_at, word_at, optional, each_item, only_keys}}
-use Rattle.gx_policyfile.specs.{declared.user.{RoleWord.{RoleWord, TheVariants.{Trader, Officer, Reader}}, Power.{Power, TheVariants.{Kill, Lift, Limits, Symbols, People, Close}}}, Known.{known_account, known_accounts, scope}}
+use Rattle.gx_policyfile.specs.{declared.user.{RoleWord.{RoleWord, TheVariants.{Trader, Officer, Reader}}, PowerWord.{PowerWord, TheVariants.{Kill, Lift, Limits, Symbols, People, Close}}}, Known.{known_account, known_accounts, scope}}
 
 -- the words of the key `role`
 abbrev pub role_words : List (List ℕ × RoleWord)
@@ -22,7 +22,7 @@ abbrev pub keys_of_user : Members → List (List ℕ)
 keys_of_user entry = user_keys (word_at (codes "role") role_words entry)
 
 -- the words of the key `powers`
-abbrev pub power_words : List (List ℕ × Power)
+abbrev pub power_words : List (List ℕ × PowerWord)
 power_words = (codes "kill", Kill) ∷ (codes "lift", Lift) ∷ (codes "limits", Limits) ∷ (codes "symbols", Symbols) ∷ (codes "people", People) ∷ (codes "close", Close) ∷ []
 
 -- no power at all
@@ -30,7 +30,7 @@ abbrev pub no_powers : Powers
 no_powers = record { kill = false; lift = false; limits = false; symbols = false; people = false; close = false }
 
 -- the powers and this one
-abbrev pub with_power : Powers → Power → Powers
+abbrev pub with_power : Powers → PowerWord → Powers
 with_power p Kill = record p { kill = true }
 with_power p Lift = record p { lift = true }
 with_power p Limits = record p { limits = true }

@@ -3,10 +3,11 @@
 ghost use Rattle.std.specs.{Prelude.{◌≡◌, OnOk, IfErr, ok_or}, List.list_any};
 ghost use Rattle.toml.specs.View.{view, table_view, items_view};
 ghost use Rattle.gx_units.specs.Names.{same_account, same_stock};
-ghost use Rattle.gx_policyvalues.specs.{declared.fault.FaultKind.TheVariants.{BadValue, OutOfMemory}, Field.{Gives, seen}};
+ghost use Rattle.gx_policyvalues.specs.{declared.fault.FaultKind.TheVariants.{BadValue, OutOfMemory}, Field.{Gives, seen_result}};
 ghost use Rattle.gx_policyfile.specs.Known.{is_account, is_stock, account_name, stock_name, with_account, with_stock, listed_accounts, listed_stocks, known_account, known_accounts, known_stocks, scope};
 
 use gx_policy::{Account, AccountNames, Scope, Stock};
+use gx_policytext::find;
 use gx_policyvalues::{Allowed, FaultKind, Letters, PolicyFault, field};
 use gx_units::{AccountName, Symbol};
 use std::alloc::Global;
@@ -49,7 +50,7 @@ fn has_account(names: &[AccountName], name: &AccountName) -> bool
 /// `BadValue` where it is no name, `UnknownName` where the file has no such account.
 #[tactic(auto, unfolding(crate::specs::Known::known_account))]
 pub fn known_account(accounts: &[Account], value: &Value) -> Result<AccountName, PolicyFault>
-    ensures { seen (λ n. n) result ≡ known_account accounts.now (view value.now) }
+    ensures { seen_result (λ n. n) result ≡ known_account accounts.now (view value.now) }
 {
     match account_name(value) {
         Some(name) => {
@@ -130,7 +131,7 @@ pub fn known_accounts(
 pub fn scope(alloc: Global, accounts: &[Account], entry: &Table) -> Result<Scope, PolicyFault>
     ensures { Gives (λ s. s) result (scope accounts.now (table_view entry.now)) }
 {
-    match field::find(entry, "accounts") {
+    match find(entry, "accounts") {
         Some(value) => {
             let names = known_accounts(alloc, accounts, value)?;
             Ok(Scope::Only(AccountNames::new(names)))

@@ -71,7 +71,7 @@ fn have_same_parts(alloc: Global, one: &Table, other: &Table) -> bool
 }
 
 /// Whether the second file is one of version 2 that means the policy of the first.
-#[tactic(auto, using(crate::proofs::Migrated::same_policy))]
+#[tactic(auto, using(crate::proofs::Files_same::same_policy))]
 fn is_migrated(alloc: Global, top: &Table, migrated: &Table) -> bool
     ensures version { IsTrue result → number (table_view migrated.now) ≡ Ok 2 }
     ensures policy { IsTrue result → IsOk (policy (table_view top.now))
@@ -136,7 +136,7 @@ fn migrated(alloc: Global, top: &Table) -> Result<Vec<u8>, PolicyFault>
 ///
 /// The text is read back before it is answered. A text that meant another policy would be answered by OutOfMemory;
 /// that does not come, as the text says under each key what the file says.
-#[tactic(auto, unfolding(crate::specs::Policies::means), using(crate::proofs::Giving::not_memory))]
+#[tactic(auto, unfolding(crate::specs::Policies::means), using(crate::proofs::Policy_answered::not_memory))]
 pub fn migrate(alloc: Global, bytes: &[u8]) -> Result<Vec<u8>, PolicyFault>
     ensures version { IfOk result (λ text. version_of text.items ≡ Ok 2) }
     ensures same { IfOk result (λ text. means text.items ≡ means bytes.now) }

@@ -7,7 +7,8 @@ ghost use Rattle.gx_policyfile.specs.Place.{is_taken, next, each, place_of};
 
 use crate::version::FileVersion;
 use gx_policy::{Account, Stock};
-use gx_policyvalues::{Allowed, EntryPlace, FaultKind, PolicyFault, field};
+use gx_policytext::find;
+use gx_policyvalues::{Allowed, EntryPlace, FaultKind, PolicyFault};
 use std::alloc::{AllocError, Global};
 use toml::Table;
 
@@ -47,7 +48,7 @@ pub trait Entry: Drop + Sized {
 
 /// The name of an entry as it is written, where it is a string.
 fn written_name(alloc: Global, entry: &Table) -> Result<Option<String>, AllocError> {
-    match field::find(entry, "name") {
+    match find(entry, "name") {
         Some(value) => match value.as_str() {
             Some(name) => Ok(Some(String::from_str(alloc, name)?)),
             None => Ok(None),

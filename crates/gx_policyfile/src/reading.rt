@@ -85,7 +85,7 @@ fn policy(alloc: Global, top: &Table) -> Result<PolicyData, PolicyFault>
 }
 
 /// The policy that the bytes of a file mean, or their first fault.
-#[tactic(auto, unfolding(crate::specs::Policies::means), using(crate::proofs::Giving::not_memory))]
+#[tactic(auto, unfolding(crate::specs::Policies::means), using(crate::proofs::Policy_answered::not_memory))]
 pub fn read_policy(alloc: Global, bytes: &[u8]) -> Result<Policy, PolicyFault>
     ensures policy { IfOk result (λ p. means bytes.now ≡ Ok p) }
     ensures sound { IfOk result (λ p. IsTrue (is_sound p)) }
@@ -111,7 +111,7 @@ pub fn accepted(alloc: Global, top: &Table) -> Result<(), PolicyFault>
 }
 
 /// The version of a file that means a policy, or the file's first fault.
-#[tactic(auto, unfolding(crate::specs::Policies::means, crate::specs::Policies::version_of), using(crate::proofs::Giving::not_memory))]
+#[tactic(auto, unfolding(crate::specs::Policies::means, crate::specs::Policies::version_of), using(crate::proofs::Policy_answered::not_memory))]
 pub fn read_version(alloc: Global, bytes: &[u8]) -> Result<u64, PolicyFault>
     ensures version { IfOk result (λ n. version_of bytes.now ≡ Ok n) }
     ensures policy { OnOk result (IsOk (means bytes.now)) }

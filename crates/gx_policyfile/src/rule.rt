@@ -3,8 +3,8 @@
 ghost use Rattle.std.specs.Prelude.{◌≡◌, map, codes};
 ghost use Rattle.toml.specs.View.{view, table_view};
 ghost use Rattle.gx_units.specs.Names.{same_rule};
-ghost use Rattle.gx_policyvalues.specs.{declared.fault.FaultKind.TheVariants.BadValue, Field.{Gives, seen, choice_at, word_at}};
-ghost use Rattle.gx_policyfile.specs.{Rules.{kind_words, rule_keys, rule_name, limit, count, listed, kind, rule}, Policies.rules};
+ghost use Rattle.gx_policyvalues.specs.{declared.fault.FaultKind.TheVariants.BadValue, Field.{Gives, seen_result, choice_at, word_at}};
+ghost use Rattle.gx_policyfile.specs.{Rules.{kind_words, rule_keys, rule_name, limit, count, stocks_of_entry, kind, rule}, Policies.rules};
 
 use crate::known::{STOCKS, known_stocks, scope};
 use crate::place::{Entry, entries};
@@ -54,7 +54,7 @@ fn allowed_kinds(version: FileVersion) -> Allowed {
 }
 
 fn known_kind(version: FileVersion, entry: &Table) -> Result<KindName, PolicyFault>
-    ensures { seen (λ k. k) result
+    ensures { seen_result (λ k. k) result
         ≡ choice_at (codes "kind") (kind_words version) (table_view entry.now) }
 {
     field::choice_at(entry, "kind", kind_words(version), allowed_kinds(version))
@@ -79,7 +79,7 @@ fn keys_of(word: Option<KindName>) -> &'static [&'static str]
 
 #[tactic(auto, unfolding(crate::specs::Rules::rule_name))]
 fn rule_name(value: &Value) -> Result<RuleId, PolicyFault>
-    ensures { seen (λ n. n) result ≡ rule_name (view value.now) }
+    ensures { seen_result (λ n. n) result ≡ rule_name (view value.now) }
 {
     let bad = Err(PolicyFault::at(FaultKind::BadValue, "name", RULE_NAME));
     match field::field(value, Letters::Plain) {
@@ -92,20 +92,20 @@ fn rule_name(value: &Value) -> Result<RuleId, PolicyFault>
 }
 
 fn limit(entry: &Table) -> Result<u64, PolicyFault>
-    ensures { seen (λ n. n) result ≡ limit (table_view entry.now) }
+    ensures { seen_result (λ n. n) result ≡ limit (table_view entry.now) }
 {
     field::number_at(entry, "limit", 0, GREATEST)
 }
 
 fn count(entry: &Table) -> Result<Count, PolicyFault>
-    ensures { seen (λ c. c) result ≡ count (table_view entry.now) }
+    ensures { seen_result (λ c. c) result ≡ count (table_view entry.now) }
 {
     let words = [("each", Count::Each), ("together", Count::Together)];
     field::choice_at(entry, "count", &words, COUNTS)
 }
 
-fn listed(alloc: Global, stocks: &[Stock], entry: &Table) -> Result<Symbols, PolicyFault>
-    ensures { Gives (λ s. s) result (listed stocks.now (table_view entry.now)) }
+fn stocks_of_entry(alloc: Global, stocks: &[Stock], entry: &Table) -> Result<Symbols, PolicyFault>
+    ensures { Gives (λ s. s) result (stocks_of_entry stocks.now (table_view entry.now)) }
 {
     let value = field::value_at(entry, "stocks", STOCKS)?;
     Ok(Symbols::new(known_stocks(alloc, stocks, value)?))
@@ -121,7 +121,10 @@ fn kind(
     ensures { Gives (λ k. k) result (kind stocks.now word (table_view entry.now)) }
 {
     match word {
-        KindName::Listed(kind) => Ok(RuleKind::Listed(kind, listed(alloc, stocks, entry)?)),
+        KindName::Listed(kind) => Ok(RuleKind::Listed(
+            kind,
+            stocks_of_entry(alloc, stocks, entry)?,
+        )),
         KindName::Plain(kind) => Ok(RuleKind::Plain(kind)),
         KindName::Order(kind) => Ok(RuleKind::Order(kind, limit(entry)?)),
         KindName::Exposure(kind) => {

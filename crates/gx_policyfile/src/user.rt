@@ -3,13 +3,14 @@
 ghost use Rattle.std.specs.Prelude.{◌≡◌, [], map, codes, ok_or};
 ghost use Rattle.toml.specs.View.{view, table_view, items_view};
 ghost use Rattle.gx_units.specs.Names.{same_user};
-ghost use Rattle.gx_policyvalues.specs.{declared.fault.FaultKind.TheVariants.BadValue, Field.{Gives, seen, choice, word_at, optional, each_item}};
+ghost use Rattle.gx_policyvalues.specs.{declared.fault.FaultKind.TheVariants.BadValue, Field.{Gives, seen_result, choice, word_at, optional, each_item}};
 ghost use Rattle.gx_policyfile.specs.{Known.known_accounts, Users.{role_words, user_keys, power_words, no_powers, with_power, powers, role, user}, Policies.users};
 
 use crate::known::{AN_ACCOUNT, known_account, known_accounts, scope};
 use crate::place::{Entry, entries};
 use crate::version::FileVersion;
 use gx_policy::{Account, AccountNames, Powers, Role, Stock, User};
+use gx_policytext::find;
 use gx_policyvalues::{Allowed, FaultKind, Letters, PolicyFault, field};
 use gx_units::{AccountName, Password, UserName};
 use std::alloc::Global;
@@ -28,7 +29,7 @@ pub enum RoleWord {
 
 /// One power of an officer.
 #[derive(Clone, Copy)]
-pub enum Power {
+pub enum PowerWord {
     /// Kill.
     Kill,
     /// Lift.
@@ -54,13 +55,13 @@ const ROLE_WORDS: [(&str, RoleWord); 3] = [
 const ROLES: Allowed = Allowed::Words("\"trader\", \"officer\" or \"reader\"");
 
 /// The words of the key `powers`.
-const POWER_WORDS: [(&str, Power); 6] = [
-    ("kill", Power::Kill),
-    ("lift", Power::Lift),
-    ("limits", Power::Limits),
-    ("symbols", Power::Symbols),
-    ("people", Power::People),
-    ("close", Power::Close),
+const POWER_WORDS: [(&str, PowerWord); 6] = [
+    ("kill", PowerWord::Kill),
+    ("lift", PowerWord::Lift),
+    ("limits", PowerWord::Limits),
+    ("symbols", PowerWord::Symbols),
+    ("people", PowerWord::People),
+    ("close", PowerWord::Close),
 ];
 
 /// What the key `powers` allows.
@@ -86,23 +87,23 @@ fn keys_of(word: Option<RoleWord>) -> &'static [&'static str]
     }
 }
 
-fn power_word(value: &Value) -> Option<Power>
+fn power_word(value: &Value) -> Option<PowerWord>
     ensures { ok_or result BadValue ≡ choice power_words (view value.now) }
 {
     field::choice(value, &POWER_WORDS)
 }
 
-fn with_power(powers: Powers, power: Power) -> Powers
+fn with_power(powers: Powers, power: PowerWord) -> Powers
     ensures { result ≡ with_power powers power }
 {
     let mut powers = powers;
     match power {
-        Power::Kill => powers.kill = true,
-        Power::Lift => powers.lift = true,
-        Power::Limits => powers.limits = true,
-        Power::Symbols => powers.symbols = true,
-        Power::People => powers.people = true,
-        Power::Close => powers.close = true,
+        PowerWord::Kill => powers.kill = true,
+        PowerWord::Lift => powers.lift = true,
+        PowerWord::Limits => powers.limits = true,
+        PowerWord::Symbols => powers.symbols = true,
+        PowerWord::People => powers.people = true,
+        PowerWord::Close => powers.close = true,
     }
     powers
 }
@@ -130,7 +131,7 @@ fn power_list(values: &[Value]) -> Option<Powers>
 
 #[tactic(auto, unfolding(crate::specs::Users::powers))]
 fn powers(value: &Value) -> Result<Powers, PolicyFault>
-    ensures { seen (λ p. p) result ≡ powers (view value.now) }
+    ensures { seen_result (λ p. p) result ≡ powers (view value.now) }
 {
     let bad = Err(PolicyFault::at(FaultKind::BadValue, "powers", POWERS));
     match value.as_array() {
@@ -150,7 +151,7 @@ fn reader_accounts(
     ensures { Gives (λ v. v.items) result
         (optional (codes "accounts") (known_accounts accounts.now) [] (table_view entry.now)) }
 {
-    match field::find(entry, "accounts") {
+    match find(entry, "accounts") {
         Some(value) => known_accounts(alloc, accounts, value),
         None => Ok(Vec::new(alloc)),
     }

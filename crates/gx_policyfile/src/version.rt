@@ -2,7 +2,7 @@
 
 ghost use Rattle.std.specs.Prelude.{◌≡◌, map};
 ghost use Rattle.toml.specs.View.{table_view};
-ghost use Rattle.gx_policyvalues.specs.Field.{seen};
+ghost use Rattle.gx_policyvalues.specs.Field.{seen_result};
 ghost use Rattle.gx_policyfile.specs.Version.{number, version, top_keys, lifters_of, lifters};
 
 use gx_policy::Lifters;
@@ -48,7 +48,7 @@ pub fn top_keys(version: FileVersion) -> &'static [&'static str]
 ///
 /// `MissingKey` where it gives none, `BadValue` where that is neither 1 nor 2.
 pub fn number(top: &Table) -> Result<u64, PolicyFault>
-    ensures { seen (λ n. n) result ≡ number (table_view top.now) }
+    ensures { seen_result (λ n. n) result ≡ number (table_view top.now) }
 {
     field::number_at(top, "version", 1, 2)
 }
@@ -69,7 +69,7 @@ fn lifters_of(number: u64) -> Lifters
 ///
 /// In version 2, `MissingKey` where that is not said, `BadValue` where it is neither 1 nor 2.
 pub fn lifters(version: FileVersion, top: &Table) -> Result<Lifters, PolicyFault>
-    ensures { seen (λ l. l) result ≡ lifters version (table_view top.now) }
+    ensures { seen_result (λ l. l) result ≡ lifters version (table_view top.now) }
 {
     match version {
         FileVersion::One => Ok(Lifters::One),

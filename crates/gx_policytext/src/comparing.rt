@@ -42,7 +42,7 @@ fn print_alike(alloc: Global, one: &Value, other: &Value) -> bool
     text.as_str() == other_text.as_str()
 }
 
-#[tactic(auto, using(crate::proofs::Depths::shallow_deep))]
+#[tactic(auto, using(crate::proofs::Values_depth::shallow_deep))]
 fn is_same(alloc: Global, one: &Value, other: &Value) -> bool
     ensures { IsTrue result → view one.now ≡ view other.now }
 {

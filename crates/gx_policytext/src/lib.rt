@@ -5,5 +5,5 @@ mod comparing;
 mod printing;
 mod shallow;
 
-pub use comparing::is_same_at;
+pub use comparing::{find, is_same_at};
 pub use printing::{line_at, printed};

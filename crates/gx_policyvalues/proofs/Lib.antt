@@ -1,2 +1,2 @@
-pub mod Keys
-pub mod Trees
+pub mod Keys_view
+pub mod Tree_parsed

@@ -11,9 +11,9 @@ abbrev pub ◌>>=◌ : {A B : Type 0} → Result A FaultKind → (A → Result B
 (Err e) >>= f = Err e
 
 -- what was answered: the value as it is seen, or the fault's kind
-abbrev pub seen : {X Y : Type 0} → (X → Y) → Result X PolicyFault → Result Y FaultKind
-seen view (Ok x) = Ok (view x)
-seen view (Err e) = Err e.kind
+abbrev pub seen_result : {X Y : Type 0} → (X → Y) → Result X PolicyFault → Result Y FaultKind
+seen_result view (Ok x) = Ok (view x)
+seen_result view (Err e) = Err e.kind
 
 -- memory ran out
 abbrev pub is_memory : FaultKind → Bool
@@ -65,12 +65,12 @@ abbrev pub number_at : List ℕ → ℕ → ℕ → Members → Result ℕ Fault
 number_at key least most entry = value_at key entry >>= number least most
 
 -- one to so many bytes, each such a letter
-abbrev pub spelled : Letters → ℕ → List ℕ → Result (List ℕ) FaultKind
-spelled letters most bytes = if is_in_range 1 most (length bytes) && list_all (is_letter letters) bytes then Ok bytes else Err BadValue
+abbrev pub checked_text : Letters → ℕ → List ℕ → Result (List ℕ) FaultKind
+checked_text letters most bytes = if is_in_range 1 most (length bytes) && list_all (is_letter letters) bytes then Ok bytes else Err BadValue
 
 -- a string of one to so many of these letters
 abbrev pub text : Letters → ℕ → Data → Result (List ℕ) FaultKind
-text letters most value = ok_or (as_str value) BadValue >>= spelled letters most
+text letters most value = ok_or (as_str value) BadValue >>= checked_text letters most
 
 -- such a string with spaces behind it, as a name's field holds it
 abbrev pub field : Letters → ℕ → Data → Result (List ℕ) FaultKind

@@ -3,9 +3,10 @@
 ghost use Rattle.std.specs.{Prelude.{◌≡◌, ◌≤◌, false, IfOk, IfSome, length, map, option_map, ok_or, bytes_eq, string_bytes}, List.{list_all, list_any}};
 ghost use Rattle.std.specs.BTreeMap as tree;
 ghost use Rattle.toml.specs.{Data.get_member, View.{view, table_view}};
-ghost use Rattle.gx_policyvalues.specs.{declared.fault.FaultKind.TheVariants.{UnknownKey, BadValue}, Field.{Gives, is_memory, is_letter, seen, value_at, number, number_at, text, field, field_at, has_only, only_keys, word_in, choice, choice_at, word_at}};
+ghost use Rattle.gx_policyvalues.specs.{declared.fault.FaultKind.TheVariants.{UnknownKey, BadValue}, Field.{Gives, is_memory, is_letter, seen_result, value_at, number, number_at, text, field, field_at, has_only, only_keys, word_in, choice, choice_at, word_at}};
 
 use crate::fault::{Allowed, Cause, FaultKind, Letters, PolicyFault};
+use gx_policytext::find;
 use gx_units::padded;
 use toml::{Table, Value};
 
@@ -75,13 +76,6 @@ pub fn only_keys(entry: &Table, keys: &'static [&'static str]) -> Result<(), Pol
     }
 }
 
-/// The value of a key, if it is there.
-pub fn find<'a>(entry: &'a Table, key: &str) -> Option<&'a Value>
-    ensures { option_map (λ v. view v.now) result ≡ get_member key.now (table_view entry.now) }
-{
-    entry.get(key)
-}
-
 /// The value of a key that has to be there.
 ///
 /// # Errors
@@ -92,7 +86,7 @@ pub fn value_at<'a>(
     key: &'static str,
     allowed: Allowed,
 ) -> Result<&'a Value, PolicyFault>
-    ensures { seen (λ v. view v.now) result ≡ value_at key.now (table_view entry.now) }
+    ensures { seen_result (λ v. view v.now) result ≡ value_at key.now (table_view entry.now) }
 {
     match find(entry, key) {
         Some(value) => Ok(value),
@@ -131,7 +125,7 @@ pub fn number_at(
     least: u64,
     most: u64,
 ) -> Result<u64, PolicyFault>
-    ensures value { seen (λ n. n) result ≡ number_at key.now least most (table_view entry.now) }
+    ensures value { seen_result (λ n. n) result ≡ number_at key.now least most (table_view entry.now) }
     ensures range { IfOk result (λ n. n ≤ most) }
 {
     let allowed = Allowed::Number(least, most);
@@ -181,7 +175,7 @@ pub fn field_at<const N: usize>(
     key: &'static str,
     letters: Letters,
 ) -> Result<[u8; N], PolicyFault>
-    ensures { seen (λ s. s) result ≡ field_at key.now letters N (table_view entry.now) }
+    ensures { seen_result (λ s. s) result ≡ field_at key.now letters N (table_view entry.now) }
 {
     let allowed = Allowed::Text(letters, N);
     let value = value_at(entry, key, allowed)?;
@@ -224,7 +218,7 @@ pub fn choice_at<T: Copy>(
     words: &[(&str, T)],
     allowed: Allowed,
 ) -> Result<T, PolicyFault>
-    ensures { seen (λ w. w) result
+    ensures { seen_result (λ w. w) result
         ≡ choice_at key.now (map (λ w. (w.0.now, w.1)) words.now) (table_view entry.now) }
 {
     let value = value_at(entry, key, allowed)?;

@@ -5,7 +5,7 @@ ghost use Rattle.toml.specs.View.{table_view, items_view};
 ghost use Rattle.gx_policyvalues.specs.{Field.{Gives, each_item}, Tables.{tables_at, table}};
 
 use crate::fault::{Allowed, FaultKind, PolicyFault};
-use crate::field;
+use gx_policytext::find;
 use std::alloc::Global;
 use toml::{Table, Value};
 
@@ -39,7 +39,7 @@ pub fn tables_at<'a>(
     ensures { Gives (λ v. map (λ t. table_view t.now) v.items) result
         (tables_at key.now (table_view top.now)) }
 {
-    match field::find(top, key) {
+    match find(top, key) {
         Some(value) => match value.as_array() {
             Some(values) => tables(alloc, key, values.as_slice()),
             None => Err(PolicyFault::at(FaultKind::BadValue, key, TABLES)),

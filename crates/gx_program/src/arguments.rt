@@ -1,9 +1,9 @@
 //! The arguments: read, and told of where they can't be meant.
 
-use crate::ending::{Ended, Place, tell};
+use crate::ending::{Failure, Resource, tell};
 use clap::Error;
 use clap::error::ErrorKind as UsageFault;
-use gx_command_line::{Asked, BadCall, LONGEST_WORD, first_bad_word};
+use gx_command_line::{BadCall, Invocation, LONGEST_WORD, first_bad_word};
 use gx_units::OutOfMemory;
 use std::io::ErrorKind;
 use std::process::ExitCode;
@@ -24,7 +24,7 @@ fn tell_usage(rt: &HostRuntime, error: &Error) -> ExitCode {
     }
     match error.print(rt) {
         Ok(()) => ExitCode::from(error.exit_code() as u8),
-        Err(error) => tell(rt, Ended::unwritten(Place::Output, error)),
+        Err(error) => tell(rt, Failure::unwritten(Resource::Output, error)),
     }
 }
 
@@ -41,7 +41,7 @@ pub fn tell_bad_word(rt: &HostRuntime) -> ExitCode {
 }
 
 /// Reads the arguments: what they ask for, or the status of what was told.
-pub fn asked_of<'a>(rt: &HostRuntime, words: &'a [String]) -> Result<Asked<'a>, ExitCode> {
+pub fn asked_of<'a>(rt: &HostRuntime, words: &'a [String]) -> Result<Invocation<'a>, ExitCode> {
     match gx_command_line::read(rt.alloc(), words) {
         Ok(Some(asked)) => Ok(asked),
         Ok(None) => Err(ExitCode::SUCCESS),

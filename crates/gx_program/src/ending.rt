@@ -1,8 +1,8 @@
 //! Why the program gave up, and how that is told.
 
+use gx_connection::PipeFault;
 use gx_devices::WriteFault;
 use gx_log::Log;
-use gx_pipe::PipeFault;
 use gx_server::{Device, ProgramFault};
 use gx_shortened::Shortened;
 use gx_units::OutOfMemory;
@@ -13,7 +13,7 @@ use std::{fmt, io};
 
 /// What can't be read, written or listened on.
 #[derive(Clone, Copy)]
-pub enum Place<'a> {
+pub enum Resource<'a> {
     /// The file of this name.
     File(&'a str),
     /// Standard input.
@@ -24,63 +24,67 @@ pub enum Place<'a> {
     Address,
 }
 
-impl fmt::Display for Place<'_> {
+impl fmt::Display for Resource<'_> {
     fn fmt<W: fmt::Write>(&self, f: &mut fmt::Formatter<W>) -> fmt::Result {
         match self {
-            Place::File(name) => {
+            Resource::File(name) => {
                 let name = Shortened::of(name);
                 write!(f, "{name}")
             }
-            Place::Input => f.write_str("standard input"),
-            Place::Output => f.write_str("standard output"),
-            Place::Address => f.write_str("127.0.0.1"),
+            Resource::Input => f.write_str("standard input"),
+            Resource::Output => f.write_str("standard output"),
+            Resource::Address => f.write_str("127.0.0.1"),
         }
     }
 }
 
 /// Why the program gave up, and, where the system refused something, of what and in which words.
 #[derive(Drop)]
-pub struct Ended<'a> {
+pub struct Failure<'a> {
     fault: ProgramFault,
-    place: Place<'a>,
+    resource: Resource<'a>,
     said: Option<io::Error>,
 }
 
-impl<'a> Ended<'a> {
+impl<'a> Failure<'a> {
     /// That a file can't be read.
-    pub fn unread(name: &'a str, error: io::Error) -> Ended<'a> {
-        Ended {
+    pub fn unread(name: &'a str, error: io::Error) -> Failure<'a> {
+        Failure {
             fault: ProgramFault::unread(error.kind()),
-            place: Place::File(name),
+            resource: Resource::File(name),
             said: Some(error),
         }
     }
 
     /// That a file or a device can't be written.
-    pub fn unwritten(place: Place<'a>, error: io::Error) -> Ended<'a> {
-        Ended {
+    pub fn unwritten(resource: Resource<'a>, error: io::Error) -> Failure<'a> {
+        Failure {
             fault: PipeFault::WriteFailed.into(),
-            place,
+            resource,
             said: Some(error),
         }
     }
 
     /// That an address can't be listened on.
-    pub fn no_listener(error: io::Error) -> Ended<'a> {
-        Ended {
+    pub fn no_listener(error: io::Error) -> Failure<'a> {
+        Failure {
             fault: ProgramFault::ListenFailed,
-            place: Place::Address,
+            resource: Resource::Address,
             said: Some(error),
         }
     }
 
     /// The fault of what writes there, and what the system said of it, if it said something.
-    pub fn of_writing(fault: WriteFault, place: Place<'a>, said: Option<io::Error>) -> Ended<'a> {
+    pub fn of_writing(
+        fault: WriteFault,
+        resource: Resource<'a>,
+        said: Option<io::Error>,
+    ) -> Failure<'a> {
         match fault {
             WriteFault::OutOfMemory => OutOfMemory.into(),
-            WriteFault::WriteFailed => Ended {
+            WriteFault::WriteFailed => Failure {
                 fault: PipeFault::WriteFailed.into(),
-                place,
+                resource,
                 said,
             },
         }
@@ -91,9 +95,13 @@ impl<'a> Ended<'a> {
         fault: ProgramFault,
         read: Option<io::Error>,
         written: Option<io::Error>,
-    ) -> Ended<'a> {
-        let (place, said) = said_of(fault.failed_device(), read, written);
-        Ended { fault, place, said }
+    ) -> Failure<'a> {
+        let (resource, said) = said_of(fault.failed_device(), read, written);
+        Failure {
+            fault,
+            resource,
+            said,
+        }
     }
 }
 
@@ -102,33 +110,33 @@ fn said_of<'a>(
     failed: Option<Device>,
     read: Option<io::Error>,
     written: Option<io::Error>,
-) -> (Place<'a>, Option<io::Error>) {
+) -> (Resource<'a>, Option<io::Error>) {
     match failed {
-        Some(Device::Reader) => (Place::Input, read),
-        Some(Device::Writer) => (Place::Output, written),
-        None => (Place::Output, None),
+        Some(Device::Reader) => (Resource::Input, read),
+        Some(Device::Writer) => (Resource::Output, written),
+        None => (Resource::Output, None),
     }
 }
 
-impl<'a> From<ProgramFault> for Ended<'a> {
-    fn from(fault: ProgramFault) -> Ended<'a> {
-        Ended {
+impl<'a> From<ProgramFault> for Failure<'a> {
+    fn from(fault: ProgramFault) -> Failure<'a> {
+        Failure {
             fault,
-            place: Place::Output,
+            resource: Resource::Output,
             said: None,
         }
     }
 }
 
-impl<'a> From<OutOfMemory> for Ended<'a> {
-    fn from(refused: OutOfMemory) -> Ended<'a> {
+impl<'a> From<OutOfMemory> for Failure<'a> {
+    fn from(refused: OutOfMemory) -> Failure<'a> {
         ProgramFault::from(refused).into()
     }
 }
 
 /// Writes what more there is to tell of the fault: of a policy file or of a script, where it stands; of a file or a device, what
 /// the system said.
-fn write_more<W: Write>(to: &mut W, ended: &Ended) -> io::Result<()> {
+fn write_more<W: Write>(to: &mut W, ended: &Failure) -> io::Result<()> {
     match &ended.fault {
         ProgramFault::Policy(fault) => {
             let place = fault.place();
@@ -149,14 +157,14 @@ fn write_more<W: Write>(to: &mut W, ended: &Ended) -> io::Result<()> {
         | ProgramFault::NoLines => {}
     }
     if let Some(error) = ended.said {
-        let place = ended.place;
-        writeln!(to, "{place}: {error}")?;
+        let resource = ended.resource;
+        writeln!(to, "{resource}: {error}")?;
     }
     Ok(())
 }
 
 /// Tells why the program gave up: the status that says so.
-pub fn tell(rt: &HostRuntime, ended: Ended) -> ExitCode {
+pub fn tell(rt: &HostRuntime, ended: Failure) -> ExitCode {
     let line = ended.fault.line();
     let _ = rt.stderr().write_all(line.as_slice());
     let _ = write_more(&mut io::writer(&rt.stderr()), &ended);
@@ -164,7 +172,7 @@ pub fn tell(rt: &HostRuntime, ended: Ended) -> ExitCode {
 }
 
 /// Tells in the log why a server gave up: the status that says so. Where there is no memory for all of it, a front is told.
-pub fn tell_in<R: Wait>(rt: &R, host: &HostRuntime, log: &Log, ended: Ended) -> ExitCode {
+pub fn tell_in<R: Wait>(rt: &R, host: &HostRuntime, log: &Log, ended: Failure) -> ExitCode {
     let line = ended.fault.line();
     log.tell(rt, line.as_slice());
     let mut more = Vec::new(host.alloc());
@@ -174,12 +182,12 @@ pub fn tell_in<R: Wait>(rt: &R, host: &HostRuntime, log: &Log, ended: Ended) -> 
 }
 
 /// Prints the text on standard output; nothing where there is none.
-pub fn print<'a>(rt: &HostRuntime, text: &[u8]) -> Result<(), Ended<'a>> {
+pub fn print<'a>(rt: &HostRuntime, text: &[u8]) -> Result<(), Failure<'a>> {
     if text.is_empty() {
         return Ok(());
     }
     match io::writer(rt).write_all(text) {
         Ok(()) => Ok(()),
-        Err(error) => Err(Ended::unwritten(Place::Output, error)),
+        Err(error) => Err(Failure::unwritten(Resource::Output, error)),
     }
 }

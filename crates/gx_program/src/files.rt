@@ -2,7 +2,7 @@
 
 ghost use Rattle.std.specs.Prelude.{◌-◌, ◌^◌, ◌<◌};
 
-use crate::ending::Ended;
+use crate::ending::Failure;
 use gx_devices::CallCounter;
 use gx_files::{FileIdentity, Measured, ReadFault, read_within, shared_file};
 use gx_server::{ErrorRecorder, ProgramFault};
@@ -78,7 +78,7 @@ pub fn file_named(rt: &HostRuntime, path: &str) -> Option<FileIdentity> {
 }
 
 /// Whether no two of the files are one, as far as they are there.
-pub fn tell_apart<'a>(rt: &HostRuntime, named: Named) -> Result<(), Ended<'a>> {
+pub fn tell_apart<'a>(rt: &HostRuntime, named: Named) -> Result<(), Failure<'a>> {
     let policy = named.policy.and_then(|path| file_named(rt, path));
     let journal = named.journal.and_then(|path| file_named(rt, path));
     let audit = named.audit.and_then(|path| file_named(rt, path));
@@ -89,12 +89,12 @@ pub fn tell_apart<'a>(rt: &HostRuntime, named: Named) -> Result<(), Ended<'a>> {
 }
 
 /// That a file is refused, in these words.
-pub fn refused<'a>(path: &'a str, why: &str) -> Ended<'a> {
-    Ended::unread(path, Error::new(ErrorKind::InvalidData, why))
+pub fn refused<'a>(path: &'a str, why: &str) -> Failure<'a> {
+    Failure::unread(path, Error::new(ErrorKind::InvalidData, why))
 }
 
 /// Whether a file of this kind and length may be read.
-fn look_at<'a>(path: &'a str, content: Content, found: &Metadata) -> Result<(), Ended<'a>> {
+fn look_at<'a>(path: &'a str, content: Content, found: &Metadata) -> Result<(), Failure<'a>> {
     if !found.is_file() {
         return Err(refused(path, NOT_REGULAR));
     }
@@ -106,7 +106,11 @@ fn look_at<'a>(path: &'a str, content: Content, found: &Metadata) -> Result<(), 
 
 /// Whether the file of this name may be read, where there is one: it is looked at before it is opened, since to open a pipe
 /// waits for its other end.
-pub fn look_before<'a>(rt: &HostRuntime, path: &'a str, content: Content) -> Result<(), Ended<'a>> {
+pub fn look_before<'a>(
+    rt: &HostRuntime,
+    path: &'a str,
+    content: Content,
+) -> Result<(), Failure<'a>> {
     match fs::metadata(rt, path) {
         Ok(found) => look_at(path, content, &found),
         Err(_) => Ok(()),
@@ -128,14 +132,14 @@ pub fn read_file<'a, R: Read + Drop>(
     content: Content,
     file: R,
     expected: usize,
-) -> Result<Vec<u8>, Ended<'a>> {
+) -> Result<Vec<u8>, Failure<'a>> {
     let mut reader = CallCounter::new(ErrorRecorder::new(file));
     match read_within(rt.alloc(), &mut reader, content.most(), expected) {
         Ok(bytes) => Ok(bytes),
         Err(ReadFault::OutOfMemory) => Err(OutOfMemory.into()),
         Err(ReadFault::TooLong) => Err(refused(path, content.too_long())),
         Err(ReadFault::ReadFailed) => match reader.into_inner().cause {
-            Some(error) => Err(Ended::unread(path, error)),
+            Some(error) => Err(Failure::unread(path, error)),
             None => Err(ProgramFault::Unread.into()),
         },
     }
@@ -146,13 +150,13 @@ pub fn bytes_of<'a>(
     rt: &HostRuntime,
     path: &'a str,
     content: Content,
-) -> Result<Vec<u8>, Ended<'a>> {
+) -> Result<Vec<u8>, Failure<'a>> {
     look_before(rt, path, content)?;
     match File::open(rt, path) {
         Ok(file) => {
             let expected = expected_of(&file);
             read_file(rt, path, content, file, expected)
         }
-        Err(error) => Err(Ended::unread(path, error)),
+        Err(error) => Err(Failure::unread(path, error)),
     }
 }

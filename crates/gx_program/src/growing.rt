@@ -2,7 +2,7 @@
 
 ghost use Rattle.std.specs.Prelude.{◌≤◌, IfOk, length};
 
-use crate::ending::Ended;
+use crate::ending::Failure;
 use crate::files::{file_named, identity_of};
 use gx_devices::CallCounter;
 use std::fs::File;
@@ -15,20 +15,20 @@ pub const PIECE: usize = 65_536;
 pub const MOVED: &str = "another file has its name, or none";
 
 /// Goes to this place of the file.
-pub fn go_to<'a>(path: &'a str, file: &mut File, place: u64) -> Result<(), Ended<'a>> {
+pub fn go_to<'a>(path: &'a str, file: &mut File, place: u64) -> Result<(), Failure<'a>> {
     match file.seek(SeekFrom::Start(place)) {
         Ok(_) => Ok(()),
-        Err(error) => Err(Ended::unread(path, error)),
+        Err(error) => Err(Failure::unread(path, error)),
     }
 }
 
 /// Reads once: how many bytes came.
-pub fn read_once<'a>(path: &'a str, file: &mut File, room: &mut [u8]) -> Result<usize, Ended<'a>>
+pub fn read_once<'a>(path: &'a str, file: &mut File, room: &mut [u8]) -> Result<usize, Failure<'a>>
     ensures few { IfOk result (λ n. n ≤ length room.new) }
 {
     match CallCounter::new(file).read(room) {
         Ok(count) => Ok(count),
-        Err(error) => Err(Ended::unread(path, error)),
+        Err(error) => Err(Failure::unread(path, error)),
     }
 }
 
@@ -37,10 +37,10 @@ pub fn length_named<'a>(
     host: &HostRuntime,
     path: &'a str,
     file: &File,
-) -> Result<Option<u64>, Ended<'a>> {
+) -> Result<Option<u64>, Failure<'a>> {
     match file.metadata() {
         Ok(found) if identity_of(&found) == file_named(host, path) => Ok(Some(found.len())),
         Ok(_) => Ok(None),
-        Err(error) => Err(Ended::unread(path, error)),
+        Err(error) => Err(Failure::unread(path, error)),
     }
 }

@@ -18,7 +18,7 @@ mod policies;
 mod streams;
 
 pub use arguments::{asked_of, tell_bad_word, words_of};
-pub use ending::{Ended, Place, print, tell, tell_in};
+pub use ending::{Failure, Resource, print, tell, tell_in};
 pub use files::{
     Content, Named, bytes_of, expected_of, file_named, identity_of, look_before, read_file,
     refused, tell_apart,

@@ -67,7 +67,7 @@ impl NoLine {
 pub struct Lines<D: Door, I: Issuer<D> + Drop> {
     issuer: I,
     last: u16,
-    of: PhantomData<D::Ticket>,
+    of: PhantomData<D::Pass>,
 }
 
 impl<D: Door, I: Issuer<D> + Drop> Model for Lines<D, I> {
@@ -99,7 +99,7 @@ impl<D: Door, I: Issuer<D> + Drop> Lines<D, I> {
     ///
     /// `Kept` exactly where a trader comes once the last of the traders' lines was given; else what the issuer answers:
     /// `NoLines` only where the last line was given that there is, 65,535.
-    pub fn give<R: Wait>(&mut self, rt: &R, door: &D, caller: Caller) -> Result<D::Ticket, NoLine>
+    pub fn give<R: Wait>(&mut self, rt: &R, door: &D, caller: Caller) -> Result<D::Pass, NoLine>
         ensures legal { IfOk result (λ p. IsLegal D.policy (D.held p).front) }
         ensures own { IfOk result (λ p. mine (D.held p) ≡ []) }
         ensures adds_none { IfOk result (λ p. D.added p ≡ 0) }

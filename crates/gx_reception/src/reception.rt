@@ -2,7 +2,7 @@
 
 ghost use Rattle.std.specs.Prelude.{◌≡◌, ◌≢◌, IfOk};
 ghost use Rattle.gx_units.specs.declared.names.LoginRejection.TheVariants as rejections;
-ghost use Rattle.gx_answers.specs.declared.outcome.LoginAnswer.TheVariants as answers;
+ghost use Rattle.gx_access_gate.specs.declared.outcome.LoginAnswer.TheVariants as answers;
 ghost use Rattle.gx_door.specs.Callers.{caller_of};
 ghost use Rattle.gx_door.specs.declared.caller.Caller.TheVariants as callers;
 ghost use Rattle.gx_reception.specs.Admissions.{IsAdmitted};
@@ -28,7 +28,7 @@ pub enum Admission<T: Drop> {
 /// Where those who come to a door of this kind are given lines, as whoever serves them sees it.
 pub trait Admits<D: Door> {
     /// What comes of a login, before its user has a line. No step is made.
-    fn admit<R: Wait>(&self, rt: &R, door: &D, login: &LoginRequest) -> Admission<D::Ticket>
+    fn admit<R: Wait>(&self, rt: &R, door: &D, login: &LoginRequest) -> Admission<D::Pass>
         ensures { IsAdmitted D.policy D.held login.now result };
 
     /// Makes the step of a login that is denied for its password. At `Err` none was made, and it is not answered.
@@ -74,7 +74,7 @@ impl<D: Door, I: Issuer<D> + Drop> Reception<D, I> {
         door: &D,
         login: &LoginRequest,
         caller: Caller,
-    ) -> Admission<D::Ticket>
+    ) -> Admission<D::Pass>
         requires caller { caller ≡ caller_of D.policy login.now.user login.now.password }
         requires known { caller ≢ callers.Stranger }
         ensures { IsAdmitted D.policy D.held login.now result }
@@ -87,7 +87,7 @@ impl<D: Door, I: Issuer<D> + Drop> Reception<D, I> {
     }
 
     /// Gives a line to a trader, unless the records that are left are kept for others.
-    fn give_trader<R: Wait>(&self, rt: &R, door: &D, login: &LoginRequest) -> Admission<D::Ticket>
+    fn give_trader<R: Wait>(&self, rt: &R, door: &D, login: &LoginRequest) -> Admission<D::Pass>
         requires caller { caller_of D.policy login.now.user login.now.password ≡ callers.Trader }
         ensures { IsAdmitted D.policy D.held login.now result }
     {
@@ -100,7 +100,7 @@ impl<D: Door, I: Issuer<D> + Drop> Reception<D, I> {
 }
 
 impl<D: Door, I: Issuer<D> + Drop> Admits<D> for Reception<D, I> {
-    fn admit<R: Wait>(&self, rt: &R, door: &D, login: &LoginRequest) -> Admission<D::Ticket> {
+    fn admit<R: Wait>(&self, rt: &R, door: &D, login: &LoginRequest) -> Admission<D::Pass> {
         match door.caller(rt, login.user, login.password) {
             Caller::Trader => self.give_trader(rt, door, login),
             Caller::Staff => self.give(rt, door, login, Caller::Staff),

@@ -2,14 +2,14 @@
 
 ghost use Rattle.std.specs.Prelude.{◌≡◌, ◌≤◌, ◌<◌, ◌+◌, [], length, IfOk, IsTrue, OnErr, OnOk, is_some};
 ghost use Rattle.gx_units.specs.declared.names.LoginRejection.TheVariants as rejections;
-ghost use Rattle.gx_answers.specs.declared.outcome.LoginAnswer.TheVariants as answers;
+ghost use Rattle.gx_access_gate.specs.declared.outcome.LoginAnswer.TheVariants as answers;
 ghost use Rattle.gx_pass.specs.Views.{mine};
 ghost use Rattle.gx_door.specs.{Acts.history_met, Callers.caller_of};
 ghost use Rattle.gx_door.specs.declared.caller.Caller.TheVariants as callers;
 ghost use Rattle.gx_reception.specs.Denials.{are_denied};
 
 use crate::reserve::{LAST_TRADERS_RECORD, MOST_DENIALS};
-use gx_answers::{LoginAnswer, StepFault};
+use gx_access_gate::{LoginAnswer, StepFault};
 use gx_door::{Dial, Door};
 use gx_soup::LoginRequest;
 use gx_units::Moment;
@@ -23,7 +23,7 @@ pub struct Denial {
 }
 
 impl Model for Denial {
-    ghost use Rattle.gx_answers.specs.declared.outcome.LoginAnswer.{LoginAnswer};
+    ghost use Rattle.gx_access_gate.specs.declared.outcome.LoginAnswer.{LoginAnswer};
 
     ghost Value = { LoginAnswer };
 
@@ -53,7 +53,7 @@ pub enum Undenied {
 #[derive(Drop)]
 pub struct Strangers<D: Door> {
     /// Taken out for each call of the gate.
-    pass: Option<D::Ticket>,
+    pass: Option<D::Pass>,
     count: u32,
     ghost has_pass: { IsTrue (is_some pass) },
     ghost denied: { IsTrue (are_denied (mine (history_met D.held pass))) },
@@ -71,7 +71,7 @@ impl<D: Door> Model for Strangers<D> {
 
 impl<D: Door> Strangers<D> {
     /// On a new line.
-    pub fn new(pass: D::Ticket) -> Strangers<D>
+    pub fn new(pass: D::Pass) -> Strangers<D>
         requires own { mine (D.held pass) ≡ [] }
         ensures none { result ≡ 0 }
     {

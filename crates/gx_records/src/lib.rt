@@ -7,7 +7,7 @@ mod watching;
 
 ghost use Rattle.std.specs.Prelude.{◌≡◌};
 
-use gx_answers::AccessGate;
+use gx_access_gate::AccessGate;
 use gx_history::records::Records;
 pub use state::ShowsState;
 pub use watching::{NoWatch, Watches};

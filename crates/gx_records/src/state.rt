@@ -5,7 +5,7 @@ ghost use Rattle.gx_history.specs.{Asking.{has_stock, rule_in_force}, InForce.{i
 ghost use Rattle.gx_records.specs.State.{gross_used, limit_in_force, net_used, of_user};
 ghost use Rattle.gx_slab.specs.Slabs.{of_account};
 
-use gx_answers::AccessGate;
+use gx_access_gate::AccessGate;
 use gx_history::facts::StockSide;
 use gx_history::live_order::LiveOrder;
 use gx_slab::live::LiveOrders;

@@ -3,7 +3,7 @@
 ghost use Rattle.std.specs.Prelude.{◌≡◌, ◌++◌, [], ◌∷◌, OnOk};
 ghost use Rattle.gx_records.specs.Watching.{earlier_of};
 
-use gx_answers::AccessGate;
+use gx_access_gate::AccessGate;
 use gx_history::record::RecordData;
 use gx_units::OutOfMemory;
 

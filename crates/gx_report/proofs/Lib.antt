@@ -1,1 +1,1 @@
-pub mod Taking
+pub mod Samples_next

@@ -99,7 +99,7 @@ fn first_of_replace(facts: &Facts, m: &ReplaceOrder) -> Option<RuleName>
     if facts.token_is_used {
         return Some(RuleName::I1);
     }
-    let Some(order) = facts.named else {
+    let Some(order) = facts.target_order else {
         return Some(RuleName::I2);
     };
     if facts.day_is_closed {

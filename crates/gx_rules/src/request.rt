@@ -63,7 +63,7 @@ pub fn proposed(facts: &Facts, request: &Request) -> Option<ProposedOrder>
             is_new: true,
         }),
         Request::Replace(m) => {
-            let order = facts.named?;
+            let order = facts.target_order?;
             Some(ProposedOrder {
                 side: order.terms.side,
                 stock: order.terms.stock,

@@ -173,7 +173,7 @@ fn first_of_file<F: TellsFigures>(
     }
 }
 
-#[tactic(auto, using(crate::proofs::Parts::first_in_parts))]
+#[tactic(auto, using(crate::proofs::RuleOrder_parts::first_in_parts))]
 fn first_in_order<F: TellsFigures>(
     rules: &IndexMap<RuleId, BookRule>,
     by_account: &IndexMap<AccountName, RulePlaces>,
@@ -286,7 +286,7 @@ impl RuleBook {
 
     /// The first rule of the written order that forbids the request, by the figures told for each rule of the file as it is
     /// asked; None where no rule does.
-    #[tactic(auto, using(gx_laws::proofs::Order::is_first_forbidding, gx_laws::proofs::Order::none_forbids))]
+    #[tactic(auto, using(gx_laws::proofs::Rules_first::is_first_forbidding, gx_laws::proofs::Rules_first::none_forbids))]
     pub fn first_forbidding<F: TellsFigures>(
         &self,
         facts: &Facts,

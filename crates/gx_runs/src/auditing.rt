@@ -6,7 +6,7 @@ use gx_audit::write_audit;
 use gx_audit_bytes::AuditVersion;
 use gx_devices::CallCounter;
 use gx_files::FileIdentity;
-use gx_program::{Ended, Named, Place, file_named, identity_of, tell_apart};
+use gx_program::{Failure, Named, Resource, file_named, identity_of, tell_apart};
 use gx_records::ShowsRecords;
 use gx_server::{ErrorRecorder, ProgramFault};
 use gx_units::OutOfMemory;
@@ -46,8 +46,8 @@ struct Beside {
 }
 
 /// That the audit's file can't be written.
-fn unwritten<'a>(path: &'a str, error: Error) -> Ended<'a> {
-    Ended::unwritten(Place::File(path), error)
+fn unwritten<'a>(path: &'a str, error: Error) -> Failure<'a> {
+    Failure::unwritten(Resource::File(path), error)
 }
 
 /// Opens a file to be written, as it is.
@@ -58,7 +58,7 @@ fn open_to_write(rt: &HostRuntime, path: &str, create: bool) -> io::Result<File>
 }
 
 /// Locks the file for this program alone.
-fn lock<'a>(path: &'a str, file: File) -> Result<File, Ended<'a>> {
+fn lock<'a>(path: &'a str, file: File) -> Result<File, Failure<'a>> {
     match file.try_lock() {
         Ok(()) => Ok(file),
         Err(TryLockError::WouldBlock) => Err(ProgramFault::AuditInUse.into()),
@@ -67,7 +67,7 @@ fn lock<'a>(path: &'a str, file: File) -> Result<File, Ended<'a>> {
 }
 
 /// What stands in the audit's place, locked; `None` where nothing does.
-fn claim<'a>(rt: &HostRuntime, path: &'a str) -> Result<Option<File>, Ended<'a>> {
+fn claim<'a>(rt: &HostRuntime, path: &'a str) -> Result<Option<File>, Failure<'a>> {
     match open_to_write(rt, path, false) {
         Ok(file) => Ok(Some(lock(path, file)?)),
         Err(error) if error.kind() == ErrorKind::NotFound => Ok(None),
@@ -105,7 +105,7 @@ fn open_beside<'a>(
     named: Named<'a>,
     path: &'a str,
     name: &str,
-) -> Result<File, Ended<'a>> {
+) -> Result<File, Failure<'a>> {
     if is_odd(rt, name) {
         return Err(unwritten(path, Error::new(ErrorKind::InvalidData, NOT_REGULAR)));
     }
@@ -128,7 +128,7 @@ fn open_beside<'a>(
 }
 
 /// The audit's file where a regular file stands or nothing does.
-fn way_beside<'a>(rt: &HostRuntime, named: Named<'a>, path: &'a str) -> Result<Way, Ended<'a>> {
+fn way_beside<'a>(rt: &HostRuntime, named: Named<'a>, path: &'a str) -> Result<Way, Failure<'a>> {
     let standing = claim(rt, path)?;
     let name = name_beside(rt, path)?;
     let file = open_beside(rt, named, path, name.as_str())?;
@@ -140,7 +140,7 @@ fn way_beside<'a>(rt: &HostRuntime, named: Named<'a>, path: &'a str) -> Result<W
 }
 
 /// The audit's file where something else stands.
-fn way_through<'a>(rt: &HostRuntime, path: &'a str) -> Result<Way, Ended<'a>> {
+fn way_through<'a>(rt: &HostRuntime, path: &'a str) -> Result<Way, Failure<'a>> {
     if let Ok(found) = fs::metadata(rt, path) {
         if found.file_type().is_fifo() {
             return Ok(Way::Pipe);
@@ -158,17 +158,17 @@ fn write_records<'a, G: ShowsRecords, W: Write + Drop>(
     version: AuditVersion,
     gate: &G,
     device: W,
-    place: Place<'a>,
-) -> Result<(), Ended<'a>> {
+    place: Resource<'a>,
+) -> Result<(), Failure<'a>> {
     let mut writer = CallCounter::new(ErrorRecorder::new(device));
     match write_audit(version, gate, &mut writer) {
         Ok(()) => Ok(()),
-        Err(failed) => Err(Ended::of_writing(failed.into(), place, writer.into_inner().cause)),
+        Err(failed) => Err(Failure::of_writing(failed.into(), place, writer.into_inner().cause)),
     }
 }
 
 /// Cuts off what a file has, where it is a regular one.
-fn cut<'a>(path: &'a str, file: &File) -> Result<(), Ended<'a>> {
+fn cut<'a>(path: &'a str, file: &File) -> Result<(), Failure<'a>> {
     if identity(file).is_none() {
         return Ok(());
     }
@@ -184,9 +184,9 @@ fn write_through<'a, G: ShowsRecords>(
     gate: &G,
     path: &'a str,
     file: &File,
-) -> Result<(), Ended<'a>> {
+) -> Result<(), Failure<'a>> {
     cut(path, file)?;
-    write_records(version, gate, file, Place::File(path))
+    write_records(version, gate, file, Resource::File(path))
 }
 
 /// Writes the gate's audit into a named pipe.
@@ -195,16 +195,16 @@ fn write_pipe<'a, G: ShowsRecords>(
     version: AuditVersion,
     gate: &G,
     path: &'a str,
-) -> Result<(), Ended<'a>> {
+) -> Result<(), Failure<'a>> {
     match open_to_write(rt, path, false) {
-        Ok(file) => write_records(version, gate, file, Place::File(path)),
+        Ok(file) => write_records(version, gate, file, Resource::File(path)),
         Err(error) => Err(unwritten(path, error)),
     }
 }
 
 impl Beside {
     /// Whether what stands in the audit's place is what stood there, or else is no one's.
-    fn hold_place<'a>(&self, rt: &HostRuntime, path: &'a str) -> Result<Option<File>, Ended<'a>> {
+    fn hold_place<'a>(&self, rt: &HostRuntime, path: &'a str) -> Result<Option<File>, Failure<'a>> {
         let held = self.standing.as_ref().and_then(|file| identity(file));
         if held.is_some() && held == file_named(rt, path) {
             return Ok(None);
@@ -221,7 +221,7 @@ impl Beside {
     }
 
     /// Puts the file in its place.
-    fn put<'a>(&self, rt: &HostRuntime, path: &'a str) -> Result<(), Ended<'a>> {
+    fn put<'a>(&self, rt: &HostRuntime, path: &'a str) -> Result<(), Failure<'a>> {
         let _held = self.hold_place(rt, path)?;
         let put = self
             .take_mode()
@@ -241,7 +241,11 @@ fn is_new(path: &str, error: &Error) -> bool {
 
 impl<'a> AuditFile<'a> {
     /// Opens the file that the audit is to go to, and leaves it as it is.
-    fn open(rt: &HostRuntime, named: Named<'a>, path: &'a str) -> Result<AuditFile<'a>, Ended<'a>> {
+    fn open(
+        rt: &HostRuntime,
+        named: Named<'a>,
+        path: &'a str,
+    ) -> Result<AuditFile<'a>, Failure<'a>> {
         let way = match fs::symlink_metadata(rt, path) {
             Ok(found) if found.is_file() => way_beside(rt, named, path)?,
             Ok(_) => way_through(rt, path)?,
@@ -257,7 +261,7 @@ impl<'a> AuditFile<'a> {
         rt: &HostRuntime,
         version: AuditVersion,
         gate: &G,
-    ) -> Result<(), Ended<'a>> {
+    ) -> Result<(), Failure<'a>> {
         let AuditFile { path, way } = self;
         match way {
             Way::Through(file) => write_through(version, gate, path, &file),
@@ -281,7 +285,7 @@ impl<'a> AuditFile<'a> {
 pub fn open_audit<'a>(
     rt: &HostRuntime,
     named: Named<'a>,
-) -> Result<Option<AuditFile<'a>>, Ended<'a>> {
+) -> Result<Option<AuditFile<'a>>, Failure<'a>> {
     match named.audit {
         Some(path) => Ok(Some(AuditFile::open(rt, named, path)?)),
         None => Ok(None),
@@ -294,7 +298,7 @@ pub fn close_audited<'a, G: ShowsRecords>(
     version: AuditVersion,
     gate: G,
     audit: Option<AuditFile<'a>>,
-) -> Result<(), Ended<'a>> {
+) -> Result<(), Failure<'a>> {
     let kept = match audit {
         Some(file) => file.write(rt, version, &gate),
         None => Ok(()),

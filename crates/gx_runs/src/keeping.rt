@@ -2,7 +2,7 @@
 
 ghost use Rattle.std.specs.Prelude.{◌-◌, ◌^◌, ◌<◌};
 
-use gx_answers::AccessGate;
+use gx_access_gate::AccessGate;
 use gx_audit::{Resumed, resume};
 use gx_audit_bytes::{AuditVersion, write_header_in};
 use gx_command_line::JournalFile;
@@ -10,7 +10,7 @@ use gx_devices::{CallCounter, write_whole};
 use gx_files::Watched;
 use gx_log::Log;
 use gx_policy::Policy;
-use gx_program::{Content, Ended, Place, expected_of, look_before, read_file};
+use gx_program::{Content, Failure, Resource, expected_of, look_before, read_file};
 use gx_server::{ErrorRecorder, ProgramFault};
 use std::fs::{File, OpenOptions, TryLockError};
 use std::io::Write;
@@ -52,27 +52,27 @@ pub struct Day<G> {
 }
 
 /// Opens the file of a journal, to be read and written, and leaves it as it is. Where there is none it is made, or refused.
-pub fn open_file<'a>(rt: &HostRuntime, path: &'a str, is_made: bool) -> Result<File, Ended<'a>> {
+pub fn open_file<'a>(rt: &HostRuntime, path: &'a str, is_made: bool) -> Result<File, Failure<'a>> {
     look_before(rt, path, Content::Records)?;
     let mut options = OpenOptions::new();
     options.read(true).append(true).create(is_made);
     match options.open(rt, path) {
         Ok(file) => Ok(file),
-        Err(error) => Err(Ended::unwritten(Place::File(path), error)),
+        Err(error) => Err(Failure::unwritten(Resource::File(path), error)),
     }
 }
 
 /// Whether the file of a journal is this program's alone, from now on: no other one keeps it.
-pub(crate) fn is_ours<'a>(path: &'a str, file: &File) -> Result<bool, Ended<'a>> {
+pub(crate) fn is_ours<'a>(path: &'a str, file: &File) -> Result<bool, Failure<'a>> {
     match file.try_lock() {
         Ok(()) => Ok(true),
         Err(TryLockError::WouldBlock) => Ok(false),
-        Err(TryLockError::Error(error)) => Err(Ended::unwritten(Place::File(path), error)),
+        Err(TryLockError::Error(error)) => Err(Failure::unwritten(Resource::File(path), error)),
     }
 }
 
 /// Opens the file of a journal, for this program alone, and leaves it as it is.
-pub fn open_journal<'a>(rt: &HostRuntime, path: &'a str) -> Result<File, Ended<'a>> {
+pub fn open_journal<'a>(rt: &HostRuntime, path: &'a str) -> Result<File, Failure<'a>> {
     let file = open_file(rt, path, true)?;
     if is_ours(path, &file)? {
         Ok(file)
@@ -98,7 +98,7 @@ fn read_day<'a, G: AccessGate>(
     path: &'a str,
     file: &File,
     asked: AuditVersion,
-) -> Result<Found<G>, Ended<'a>> {
+) -> Result<Found<G>, Failure<'a>> {
     let bytes = read_file(rt, path, Content::Records, file, expected_of(file))?;
     match resume(rt.alloc(), policy, bytes.as_slice()) {
         Ok(resumed) => Ok(Found {
@@ -130,20 +130,20 @@ fn prepare<'a>(
     path: &'a str,
     kept: u64,
     device: &mut CallCounter<ErrorRecorder<JournalDevice>>,
-) -> Result<(), Ended<'a>>
+) -> Result<(), Failure<'a>>
     requires { device.old.failed < 2 ^ 64 - 1 }
 {
     if let Err(error) = device.device().device.watched.file.set_len(kept) {
-        return Err(Ended::unwritten(Place::File(path), error));
+        return Err(Failure::unwritten(Resource::File(path), error));
     }
     if kept > 0 {
         return Ok(());
     }
     match write_whole(device, &write_header_in(version, policy)) {
         Ok(()) => Ok(()),
-        Err(failed) => Err(Ended::of_writing(
+        Err(failed) => Err(Failure::of_writing(
             failed.into(),
-            Place::File(path),
+            Resource::File(path),
             device.device().cause,
         )),
     }
@@ -157,7 +157,7 @@ fn prepare_named<'a>(
     journal: JournalFile<'a>,
     kept: u64,
     device: &mut CallCounter<ErrorRecorder<JournalDevice>>,
-) -> Result<(), Ended<'a>>
+) -> Result<(), Failure<'a>>
     requires { device.old.failed < 2 ^ 64 - 1 }
 {
     prepare(policy, version, journal.path, kept, device)?;
@@ -166,7 +166,7 @@ fn prepare_named<'a>(
     }
     match sync_folder(rt, journal.path) {
         Ok(()) => Ok(()),
-        Err(error) => Err(Ended::unwritten(Place::File(journal.path), error)),
+        Err(error) => Err(Failure::unwritten(Resource::File(journal.path), error)),
     }
 }
 
@@ -178,7 +178,7 @@ pub fn take_up<'a, G: AccessGate>(
     journal: JournalFile<'a>,
     file: File,
     asked: AuditVersion,
-) -> Result<Day<G>, Ended<'a>> {
+) -> Result<Day<G>, Failure<'a>> {
     let found = read_day(rt, policy, journal.path, &file, asked)?;
     go_on_from(rt, policy, journal, file, found)
 }
@@ -190,7 +190,7 @@ pub(crate) fn go_on_from<'a, G: AccessGate>(
     journal: JournalFile<'a>,
     file: File,
     found: Found<G>,
-) -> Result<Day<G>, Ended<'a>> {
+) -> Result<Day<G>, Failure<'a>> {
     let Found {
         resumed,
         version,
@@ -216,10 +216,10 @@ pub(crate) fn go_on_from<'a, G: AccessGate>(
 }
 
 /// Whether a journal is as it was left: another program may have changed it behind the last write.
-pub fn look_back<'a>(path: &'a str, device: &JournalDevice) -> Result<(), Ended<'a>> {
+pub fn look_back<'a>(path: &'a str, device: &JournalDevice) -> Result<(), Failure<'a>> {
     match device.watched.check() {
         Ok(()) => Ok(()),
-        Err(error) => Err(Ended::unwritten(Place::File(path), error)),
+        Err(error) => Err(Failure::unwritten(Resource::File(path), error)),
     }
 }
 

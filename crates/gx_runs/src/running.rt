@@ -7,11 +7,11 @@ use crate::starts::Start;
 use gx_audit_bytes::AuditVersion;
 use gx_clock::UtcOffset;
 use gx_command_line::RunFiles;
+use gx_connection::run_pipe;
 use gx_devices::CallCounter;
-use gx_pipe::run_pipe;
-use gx_program::{Ended, Named, Place, held_back, policy_file, tell_apart};
+use gx_program::{Failure, Named, Resource, held_back, policy_file, tell_apart};
 use gx_records::ShowsRecords;
-use gx_scripting::run_script;
+use gx_script_run::run_script;
 use gx_server::{ErrorRecorder, ProgramFault, open_gate};
 use std::alloc::Global;
 use std::io;
@@ -47,10 +47,10 @@ fn run_input<G: ShowsRecords, R: Read, W: Write>(
 }
 
 /// Writes what is held back still.
-fn write_rest<'a, W: Write>(writer: &mut CallCounter<W>) -> Result<(), Ended<'a>> {
+fn write_rest<'a, W: Write>(writer: &mut CallCounter<W>) -> Result<(), Failure<'a>> {
     match writer.flush() {
         Ok(()) => Ok(()),
-        Err(error) => Err(Ended::unwritten(Place::Output, error)),
+        Err(error) => Err(Failure::unwritten(Resource::Output, error)),
     }
 }
 
@@ -59,12 +59,12 @@ fn follow<'a, G: ShowsRecords>(
     rt: &HostRuntime,
     input: Input,
     gate: &mut G,
-) -> Result<(), Ended<'a>> {
+) -> Result<(), Failure<'a>> {
     let mut reader = CallCounter::new(ErrorRecorder::new(rt.reader()));
     let mut writer = held_back(rt.alloc(), io::writer(rt))?;
     let ended = match run_input(rt.alloc(), input, gate, &mut reader, &mut writer) {
         Ok(()) => Ok(()),
-        Err(fault) => Err(Ended::of_run(fault, reader.device().cause, writer.device().cause)),
+        Err(fault) => Err(Failure::of_run(fault, reader.device().cause, writer.device().cause)),
     };
     ended.and(write_rest(&mut writer))
 }
@@ -76,7 +76,7 @@ fn follow_audited<'a, G: ShowsRecords>(
     version: AuditVersion,
     gate: G,
     audit: Option<AuditFile<'a>>,
-) -> Result<(), Ended<'a>> {
+) -> Result<(), Failure<'a>> {
     let mut gate = gate;
     let followed = follow(rt, input, &mut gate);
     let kept = close_audited(rt, version, gate, audit);
@@ -90,7 +90,7 @@ fn follow_under<'a, G: ShowsRecords>(
     version: AuditVersion,
     file: Option<&[u8]>,
     named: Named<'a>,
-) -> Result<(), Ended<'a>> {
+) -> Result<(), Failure<'a>> {
     let gate: G = open_gate(rt.alloc(), file)?;
     match open_audit(rt, named) {
         Ok(audit) => follow_audited(rt, input, version, gate, audit),
@@ -106,7 +106,7 @@ pub fn names_of<'a>(
     rt: &HostRuntime,
     files: RunFiles<'a>,
     journal: Option<&'a str>,
-) -> Result<Named<'a>, Ended<'a>> {
+) -> Result<Named<'a>, Failure<'a>> {
     let named = Named {
         policy: files.policy,
         journal,
@@ -121,7 +121,7 @@ pub fn run_files<'a, G: ShowsRecords>(
     rt: &HostRuntime,
     input: Input,
     files: RunFiles<'a>,
-) -> Result<(), Ended<'a>> {
+) -> Result<(), Failure<'a>> {
     let start = Start::of_run(rt, files.version, UtcOffset::UTC);
     let named = names_of(rt, files, None)?;
     let file = policy_file(rt, files.policy)?;

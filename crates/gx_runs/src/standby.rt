@@ -3,7 +3,7 @@
 use crate::ends::{Awaited, awaited_of, tell_why};
 use crate::keeping::{Day, Found, go_on_from, is_ours};
 use crate::starts::Start;
-use gx_answers::AccessGate;
+use gx_access_gate::AccessGate;
 use gx_audit::AuditFault;
 use gx_audit_bytes::{AuditVersion, RECORD_SIZE};
 use gx_clock::DayClock;
@@ -11,7 +11,7 @@ use gx_command_line::{JournalFile, Serving, Standby};
 use gx_follower::Follower;
 use gx_log::Log;
 use gx_policy::Policy;
-use gx_program::{Content, Ended, MOVED, PIECE, go_to, length_named, read_once, refused};
+use gx_program::{Content, Failure, MOVED, PIECE, go_to, length_named, read_once, refused};
 use gx_records::NoWatch;
 use gx_server::ProgramFault;
 use gx_shortened::Shortened;
@@ -59,7 +59,7 @@ fn take<'a, G: AccessGate>(
     path: &'a str,
     follower: &mut Follower<G>,
     bytes: &[u8],
-) -> Result<(), Ended<'a>> {
+) -> Result<(), Failure<'a>> {
     if !follower.has_room(bytes.len()) {
         return Err(refused(path, Content::Records.too_long()));
     }
@@ -79,7 +79,7 @@ fn follow_once<'a, G: AccessGate>(
     file: &mut File,
     follower: &mut Follower<G>,
     room: &mut [u8],
-) -> Result<bool, Ended<'a>> {
+) -> Result<bool, Failure<'a>> {
     go_to(path, file, follower.whole())?;
     let count = read_once(path, file, room)?;
     let whole = count - count % RECORD_SIZE;
@@ -93,7 +93,7 @@ fn follow_rest<'a, G: AccessGate>(
     file: &mut File,
     follower: &mut Follower<G>,
     room: &mut [u8],
-) -> Result<(), Ended<'a>> {
+) -> Result<(), Failure<'a>> {
     go_to(path, file, follower.whole())?;
     for _ in 0..u64::MAX {
         let count = read_once(path, file, room)?;
@@ -121,7 +121,7 @@ fn await_turn<'a, R: Wait + Clock, G: AccessGate>(
     file: &mut File,
     follower: &mut Follower<G>,
     room: &mut [u8],
-) -> Result<bool, Ended<'a>> {
+) -> Result<bool, Failure<'a>> {
     for _ in rt.forever() {
         let is_long = follow_once(looking.path, file, follower, room)?;
         if let Some(why) = looking.awaited.why(host, &looking.clock) {
@@ -144,7 +144,7 @@ fn look_at_end<'a>(
     path: &'a str,
     file: &File,
     read: u64,
-) -> Result<u64, Ended<'a>> {
+) -> Result<u64, Failure<'a>> {
     let Some(length) = length_named(host, path, file)? else {
         return Err(refused(path, MOVED));
     };
@@ -162,7 +162,7 @@ fn follow<'a, R: Wait + Clock, G: AccessGate>(
     looking: &Looking<'a, '_>,
     file: &mut File,
     follower: &mut Follower<G>,
-) -> Result<Option<u64>, Ended<'a>> {
+) -> Result<Option<u64>, Failure<'a>> {
     let mut room = Vec::new(host.alloc());
     if room.resize(PIECE, 0u8).is_err() {
         return Err(OutOfMemory.into());
@@ -181,7 +181,7 @@ fn found_of<'a, G: AccessGate>(
     follower: Follower<G>,
     length: u64,
     asked: AuditVersion,
-) -> Result<Found<G>, Ended<'a>> {
+) -> Result<Found<G>, Failure<'a>> {
     let version = follower.version().unwrap_or(asked);
     match follower.into_resumed() {
         Ok(resumed) => Ok(Found {
@@ -246,7 +246,7 @@ fn followed<'a, R: Wait + Clock, G: AccessGate>(
     policy: &Policy,
     looking: &Looking<'a, '_>,
     file: &mut File,
-) -> Result<Option<(Follower<G>, u64)>, Ended<'a>> {
+) -> Result<Option<(Follower<G>, u64)>, Failure<'a>> {
     let mut follower: Follower<G> = Follower::open(host.alloc(), policy)?;
     match follow(rt, host, looking, file, &mut follower) {
         Ok(Some(length)) => Ok(Some((follower, length))),
@@ -273,7 +273,7 @@ pub fn take_over<'a, R: Wait + Clock, G: AccessGate>(
     file: File,
     start: Start,
     log: &Log,
-) -> Result<Option<TakenOver<G>>, Ended<'a>> {
+) -> Result<Option<TakenOver<G>>, Failure<'a>> {
     let mut file = file;
     let looking = begin_looking(host, serving, standby, journal.path, start, log)?;
     tell_begin(rt, host, &looking);

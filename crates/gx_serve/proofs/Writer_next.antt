@@ -3,10 +3,10 @@ use Rattle.std.proofs.{Common.{◌≡◌, ℕ, Bool, true, false, inl, inr, Opti
 use Rattle.std.specs.{Prelude.codes, List.flat_map, Io.KnownBytes.Appends}
 use Rattle.gx_units.specs.declared.names.{SessionName.SessionName, UserName.UserName}
 use Rattle.gx_policy.specs.declared.policy.PolicyData.{PolicyData}
-use Rattle.gx_answers.specs.declared.outcome.LoginAnswer.{LoginAnswer}
+use Rattle.gx_access_gate.specs.declared.outcome.LoginAnswer.{LoginAnswer}
 use Rattle.gx_devices.specs.Devices.{IsFront}
 use Rattle.gx_session.specs.{declared.event.{Control.Control, Sign.Sign}, Sending.{control_bytes, reports_text}}
-use Rattle.gx_devices.proofs.Known.{front_behind, front_longer}
+use Rattle.gx_devices.proofs.Parts_written.{front_behind, front_longer}
 use Rattle.gx_serve.specs.declared.state.outgoing.{NextWrite.NextWrite, LoginOutcome.LoginOutcome}
 use Rattle.gx_serve.specs.Speech
 
@@ -17,8 +17,8 @@ goes_on policy user from mid to (Speech.Beat ∷ parts) more at next = goes_on p
 goes_on policy user from mid to (Speech.Shown pulled ∷ parts) more (shown, at) next = (shown, goes_on policy user pulled.next mid to parts more at next)
 
 -- what is spoken, and more
-spoken_on : (policy : PolicyData) (user : UserName) (from mid to : ℕ) (text more : List ℕ) → Speech.IsSpoken policy user from text mid → Speech.IsSpoken policy user mid more to → Speech.IsSpoken policy user from (text ++ more) to
-spoken_on policy user from mid to text more s t = record {
+spoken_on : {policy : PolicyData} (user : UserName) (from mid to : ℕ) (text more : List ℕ) → Speech.IsSpoken policy user from text mid → Speech.IsSpoken policy user mid more to → Speech.IsSpoken policy user from (text ++ more) to
+spoken_on {policy} user from mid to text more s t = record {
   parts = s.parts ++ t.parts;
   go_on = goes_on policy user from mid to s.parts t.parts s.go_on t.go_on;
   whole = ap (λ x. x ++ more) s.whole ∙ ap (λ x. flat_map Speech.part_text s.parts ++ x) t.whole ∙ sym (flat_map-append Speech.part_text s.parts t.parts);
@@ -49,10 +49,10 @@ pub record Says (policy : PolicyData) (user : UserName) (from to : ℕ) (before 
   pub speech : Speech.IsSpoken policy user from spoken to
   pub written : Appends before after spoken
 
-says_more : (policy : PolicyData) (user : UserName) (from to : ℕ) (before mid after : Option (List ℕ)) (due : NextWrite) → Speech.IsDue policy user to due → Speech.is_last due ≡ false → Says policy user from to before mid → Appends mid after (Speech.due_text due) → Says policy user from (Speech.next_after due to) before after
-says_more policy user from to before mid after due d e s w = record {
+says_more : {policy : PolicyData} (user : UserName) (from to : ℕ) (before mid after : Option (List ℕ)) (due : NextWrite) → Speech.IsDue policy user to due → Speech.is_last due ≡ false → Says policy user from to before mid → Appends mid after (Speech.due_text due) → Says policy user from (Speech.next_after due to) before after
+says_more {policy} user from to before mid after due d e s w = record {
   spoken = s.spoken ++ Speech.due_text due;
-  speech = spoken_on policy user from to (Speech.next_after due to) s.spoken (Speech.due_text due) s.speech (due_spoken policy user to due d e);
+  speech = spoken_on user from to (Speech.next_after due to) s.spoken (Speech.due_text due) s.speech (due_spoken policy user to due d e);
   written = Appends-trans before mid after s.spoken (Speech.due_text due) s.written w;
 }
 
@@ -61,8 +61,8 @@ behind : (whole : Bool) (front text : List ℕ) (before mid after : Option (List
 behind true front text before mid after f w = Appends-trans before mid after front text f w
 behind false front text before mid after f w = front_behind front text before mid after f w
 
-says_last : (whole : Bool) (policy : PolicyData) (user : UserName) (from to : ℕ) (before mid after : Option (List ℕ)) (due : NextWrite) → Speech.is_last due ≡ true → Says policy user from to before mid → Speech.Writes whole mid after (Speech.due_text due) → Speech.WasSpoken whole policy user from before after
-says_last whole policy user from to before mid after due e s w = record {
+says_last : (whole : Bool) {policy : PolicyData} (user : UserName) (from to : ℕ) (before mid after : Option (List ℕ)) (due : NextWrite) → Speech.is_last due ≡ true → Says policy user from to before mid → Speech.Writes whole mid after (Speech.due_text due) → Speech.WasSpoken whole policy user from before after
+says_last whole user from to before mid after due e s w = record {
   to = to;
   spoken = s.spoken;
   speech = s.speech;
@@ -77,19 +77,19 @@ says_last whole policy user from to before mid after due e s w = record {
 pub due_still : (policy : PolicyData) (user user' : UserName) (from : ℕ) (due : NextWrite) → user' ≡ user → Speech.IsDue policy user' from due → Speech.IsDue policy user from due
 due_still policy user user' from due same d = subst (λ u. Speech.IsDue policy u from due) same d
 
-pub goes_further : (policy : PolicyData) (user : UserName) (from to next : ℕ) (before mid after : Option (List ℕ)) (due : NextWrite) (last : Bool) → Speech.IsDue policy user to due → last ≡ Speech.is_last due → last ≡ false → next ≡ Speech.next_after due to → Says policy user from to before mid → Appends mid after (Speech.due_text due) → Says policy user from next before after
-goes_further policy user from to next before mid after due last d l e n s w = subst (λ k. Says policy user from k before after) (sym n) (says_more policy user from to before mid after due d (sym l ∙ e) s w)
+pub goes_further : {policy : PolicyData} (user : UserName) (from to next : ℕ) (before mid after : Option (List ℕ)) (due : NextWrite) (last : Bool) → Speech.IsDue policy user to due → last ≡ Speech.is_last due → last ≡ false → next ≡ Speech.next_after due to → Says policy user from to before mid → Appends mid after (Speech.due_text due) → Says policy user from next before after
+goes_further {policy} user from to next before mid after due last d l e n s w = subst (λ k. Says policy user from k before after) (sym n) (says_more user from to before mid after due d (sym l ∙ e) s w)
 
-pub ends_there : (policy : PolicyData) (user : UserName) (from to : ℕ) (before mid after : Option (List ℕ)) (due : NextWrite) (last : Bool) → last ≡ Speech.is_last due → last ≡ true → Says policy user from to before mid → Appends mid after (Speech.due_text due) → Speech.WasSpoken true policy user from before after
-ends_there policy user from to before mid after due last l e s w = says_last true policy user from to before mid after due (sym l ∙ e) s w
+pub ends_there : {policy : PolicyData} (user : UserName) (from to : ℕ) (before mid after : Option (List ℕ)) (due : NextWrite) (last : Bool) → last ≡ Speech.is_last due → last ≡ true → Says policy user from to before mid → Appends mid after (Speech.due_text due) → Speech.WasSpoken true policy user from before after
+ends_there user from to before mid after due last l e s w = says_last true user from to before mid after due (sym l ∙ e) s w
 
-pub is_cut_off : (policy : PolicyData) (user : UserName) (from to : ℕ) (before mid after : Option (List ℕ)) (due : NextWrite) → Speech.IsDue policy user to due → Says policy user from to before mid → IsFront mid after (Speech.due_text due) → Speech.WasSpoken false policy user from before after
-is_cut_off policy user from to before mid after due d s f = elim (Speech.is_last due) as (λ b. Speech.is_last due ≡ b → Speech.WasSpoken false policy user from before after) [
-  | true ↦ λ e. says_last false policy user from to before mid after due e s f
+pub is_cut_off : {policy : PolicyData} (user : UserName) (from to : ℕ) (before mid after : Option (List ℕ)) (due : NextWrite) → Speech.IsDue policy user to due → Says policy user from to before mid → IsFront mid after (Speech.due_text due) → Speech.WasSpoken false policy user from before after
+is_cut_off {policy} user from to before mid after due d s f = elim (Speech.is_last due) as (λ b. Speech.is_last due ≡ b → Speech.WasSpoken false policy user from before after) [
+  | true ↦ λ e. says_last false user from to before mid after due e s f
   | false ↦ λ e. record {
     to = Speech.next_after due to;
     spoken = s.spoken ++ Speech.due_text due;
-    speech = spoken_on policy user from to (Speech.next_after due to) s.spoken (Speech.due_text due) s.speech (due_spoken policy user to due d e);
+    speech = spoken_on user from to (Speech.next_after due to) s.spoken (Speech.due_text due) s.speech (due_spoken policy user to due d e);
     ending = [];
     ends = inl refl;
     written = front_longer (s.spoken ++ Speech.due_text due) [] before after (front_behind s.spoken (Speech.due_text due) before mid after s.written f);
@@ -126,8 +126,8 @@ answer_said policy (LoginAnswer.Accepted session next) = inr (inr (record {
 pub answer_cut : (policy : PolicyData) (before after : Option (List ℕ)) → Speech.IsGreeted before after LoginOutcome.Cut → Speech.WasSaid false policy before after
 answer_cut policy before after (answer, f) = record { text = control_bytes (Control.Answer answer); said = answer_said policy answer; written = f }
 
-welcome : (policy : PolicyData) (user : UserName) (session : SessionName) (first to : ℕ) (spoken ending : List ℕ) → Speech.IsSpoken policy user first spoken to → Speech.IsEnding ending → Speech.IsConversation policy (control_bytes (Control.Answer (LoginAnswer.Accepted session first)) ++ (spoken ++ ending))
-welcome policy user session first to spoken ending s e = inr (inr (record {
+welcome : {policy : PolicyData} (user : UserName) (session : SessionName) (first to : ℕ) (spoken ending : List ℕ) → Speech.IsSpoken policy user first spoken to → Speech.IsEnding ending → Speech.IsConversation policy (control_bytes (Control.Answer (LoginAnswer.Accepted session first)) ++ (spoken ++ ending))
+welcome user session first to spoken ending s e = inr (inr (record {
   user = user;
   session = session;
   first = first;
@@ -139,10 +139,10 @@ welcome policy user session first to spoken ending s e = inr (inr (record {
   whole = sym (append_assoc (control_bytes (Control.Answer (LoginAnswer.Accepted session first))) spoken ending);
 }))
 
-pub rest_said : (whole : Bool) (policy : PolicyData) (user : UserName) (first : ℕ) (before mid after : Option (List ℕ)) → ((session : SessionName) × Appends before mid (control_bytes (Control.Answer (LoginAnswer.Accepted session first)))) → Speech.WasSpoken whole policy user first mid after → Speech.WasSaid whole policy before after
-rest_said whole policy user first before mid after (session, g) s = record {
+pub rest_said : (whole : Bool) {policy : PolicyData} (user : UserName) (first : ℕ) (before mid after : Option (List ℕ)) → ((session : SessionName) × Appends before mid (control_bytes (Control.Answer (LoginAnswer.Accepted session first)))) → Speech.WasSpoken whole policy user first mid after → Speech.WasSaid whole policy before after
+rest_said whole user first before mid after (session, g) s = record {
   text = control_bytes (Control.Answer (LoginAnswer.Accepted session first)) ++ (s.spoken ++ s.ending);
-  said = welcome policy user session first s.to s.spoken s.ending s.speech s.ends;
+  said = welcome user session first s.to s.spoken s.ending s.speech s.ends;
   written = behind whole (control_bytes (Control.Answer (LoginAnswer.Accepted session first))) (s.spoken ++ s.ending) before mid after g s.written;
 }
 

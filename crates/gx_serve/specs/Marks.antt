@@ -1,7 +1,7 @@
 -- What a connection's state gives its writer: whose reports he sends, an answer, reports.
 use Rattle.std.specs.Prelude.{ℕ, length, nat_le}
 use Rattle.gx_units.specs.declared.names.UserName.{UserName}
-use Rattle.gx_answers.specs.declared.{outcome.LoginAnswer.LoginAnswer, pulled.Pulled.Pulled}
+use Rattle.gx_access_gate.specs.declared.{outcome.LoginAnswer.LoginAnswer, pulled.Pulled.Pulled}
 use Rattle.gx_control.specs.PullCursors.{pull_cursor, PullCursorData}
 
 -- the user whose reports are sent, when he asked to log in, and the number of the next

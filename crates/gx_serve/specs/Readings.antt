@@ -1,7 +1,7 @@
 -- What a piece of a connection's bytes leaves of its session.
 use Rattle.std.specs.{Prelude.{◌≡◌, ◌<◌, ℕ, ◌⊎◌, List, ◌++◌, Option, Some, None}, Io.KnownBytes.{Consumes, IsAtEnd}}
 use Rattle.gx_soup.specs.{Feeding.{Held, HasRead}, Packets.packets_of, declared.packet.SoupFault.SoupFault}
-use Rattle.gx_answers.specs.declared.outcome.StepFault.{StepFault}
+use Rattle.gx_access_gate.specs.declared.outcome.StepFault.{StepFault}
 use Rattle.gx_session.specs.Happenings.{Happening}
 use Rattle.gx_session.specs.Happenings as happens
 use Rattle.gx_serve.specs.declared.reading.{Cut.Cut, Left.Left}

@@ -3,15 +3,15 @@ use Rattle.std.specs.{Prelude.{◌≡◌, ◌≢◌, ◌⊎◌, ℕ, List, [], O
 use Rattle.gx_units.specs.declared.names.LoginRejection.{LoginRejection}
 use Rattle.gx_policy.specs.declared.policy.PolicyData.{PolicyData}
 use Rattle.gx_history.specs.Verdicts.{IsLegal}
-use Rattle.gx_answers.specs.declared.outcome.LoginAnswer.{LoginAnswer}
+use Rattle.gx_access_gate.specs.declared.outcome.LoginAnswer.{LoginAnswer}
 use Rattle.gx_devices.specs.Devices.{IsFront}
-use Rattle.gx_pass.specs.{declared.view.Holds.Holds, Views.mine}
+use Rattle.gx_pass.specs.{declared.view.LineView.LineView, Views.mine}
 use Rattle.gx_session.specs.{declared.event.Control.Control, Sending.control_bytes}
 use Rattle.gx_door.specs.{Callers.caller_of, declared.caller.Caller.Caller}
 use Rattle.gx_serve.specs.declared.receiving.{Gone.Gone, Received.Received}
 
 -- a user with the right password has a new line, and it is known who he is; whoever has none is known to have none
-abbrev pub WasReceived : {T : Type 0} → PolicyData → (T → Holds) → Received T → Type 0
+abbrev pub WasReceived : {T : Type 0} → PolicyData → (T → LineView) → Received T → Type 0
 WasReceived policy held (Received.Admitted pass caller opening) =
     (caller ≡ caller_of policy opening.login.user opening.login.password) × (caller ≢ Caller.Stranger) × (mine (held pass) ≡ []) × IsLegal policy (held pass).front
 WasReceived policy held (Received.Stranger login) = caller_of policy login.user login.password ≡ Caller.Stranger

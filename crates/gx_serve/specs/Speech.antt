@@ -3,7 +3,7 @@ use Rattle.std.specs.{Prelude.{◌≡◌, ◌⊎◌, ℕ, Bool, true, false, IsT
 use Rattle.gx_units.specs.{declared.names.{LoginRejection.LoginRejection, SessionName.SessionName, UserName.UserName}, Spelling.folded_user}
 use Rattle.gx_policy.specs.declared.policy.PolicyData.{PolicyData}
 use Rattle.gx_history.specs.{declared.record.RecordData.RecordData, InForce.line_of, Verdicts.IsLegal}
-use Rattle.gx_answers.specs.declared.{outcome.LoginAnswer.LoginAnswer, pulled.Pulled.Pulled}
+use Rattle.gx_access_gate.specs.declared.{outcome.LoginAnswer.LoginAnswer, pulled.Pulled.Pulled}
 use Rattle.gx_devices.specs.Devices.{IsFront}
 use Rattle.gx_session.specs.{declared.event.{Control.Control, Sign.Sign}, Sending.{control_bytes, reports_text}}
 use Rattle.gx_door.specs.Acts.{gate_at, most_pulled, IsPulled}

@@ -1,7 +1,7 @@
 -- What a session was told, as those see it who do not see the session.
 use Rattle.gx_devices.specs.declared.fault.WriteFault.{WriteFault}
 use Rattle.std.specs.Prelude.{Bool, false, length, Option}
-use Rattle.gx_answers.specs.declared.{outcome.StepFault.StepFault, pulled.Pulled.Pulled}
+use Rattle.gx_access_gate.specs.declared.{outcome.StepFault.StepFault, pulled.Pulled.Pulled}
 use Rattle.gx_session.specs.Happenings.{Happening}
 use Rattle.gx_serve.specs.declared.announcing.EndedOrders.{EndedOrders}
 use Rattle.gx_session.specs.Happenings as happens

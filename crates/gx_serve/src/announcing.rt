@@ -5,9 +5,9 @@ ghost use Rattle.gx_units.specs.Spelling.{folded_user};
 ghost use Rattle.gx_history.specs.Requests.{is_granted};
 ghost use Rattle.gx_serve.specs.Announcements.{announced_by, announced_of, ended_by};
 
-use gx_answers::Outcome;
+use gx_access_gate::Outcome;
 use gx_desk::Action;
-use gx_door::Ended;
+use gx_door::EndedTotals;
 use gx_history::record::{Request, Verdict};
 use gx_units::{AccountName, Moment, UserName};
 use std::marker::Model;
@@ -33,7 +33,7 @@ pub struct EndedOrders {
     /// The moment of its record.
     pub moment: Moment,
     /// How many orders, and how many of their shares were open.
-    pub ended: Ended,
+    pub ended: EndedTotals,
 }
 
 /// A runtime that announces what commands ended, as a log does.
@@ -89,7 +89,7 @@ fn is_granted(verdict: &Verdict) -> bool
 pub fn announced_by(
     user: UserName,
     outcome: &Outcome,
-    ended: Ended,
+    ended: EndedTotals,
     action: &Action,
 ) -> Option<EndedOrders>
     ensures { result ≡ announced_by (folded_user user) outcome.now ended action.now }
@@ -112,7 +112,7 @@ pub(crate) fn announced_of(
     user: UserName,
     request: &Request,
     outcome: &Outcome,
-    ended: Ended,
+    ended: EndedTotals,
 ) -> Option<EndedOrders>
     ensures { result ≡ announced_of (folded_user user) request.now outcome.now ended }
 {

@@ -58,7 +58,7 @@ fn run_writer<'x, D: Door, O: Write + Drop, H: HangUp, R: Wait + Clock + Dial>(
     shutdown: &ShutdownFlag,
     wakeup: &WriterWakeup,
     times: &AnswerTimes,
-    shared: &SharedConnection<D::Ticket>,
+    shared: &SharedConnection<D::Pass>,
     writer: O,
     line: &'x H,
 ) -> HungUp<'x, H> {
@@ -104,7 +104,7 @@ fn run_reader<D: Door, I: Read + Drop, R: Wait + Clock + Dial + Announces>(
     rt: &R,
     door: &D,
     wakeups: Wakeups<'_>,
-    shared: &SharedConnection<D::Ticket>,
+    shared: &SharedConnection<D::Pass>,
     opening: Opening,
     reader: CallCounter<I>,
 ) -> Heard {
@@ -118,7 +118,7 @@ fn run_reader<D: Door, I: Read + Drop, R: Wait + Clock + Dial + Announces>(
 pub fn run_connection<
     'x,
     T: Drop + Send,
-    D: Door<Ticket = T> + Sync,
+    D: Door<Pass = T> + Sync,
     I: Read + Drop + Send,
     O: Write + Drop,
     H: HangUp + Sync,

@@ -27,6 +27,6 @@ pub use connection::{HangUp, Listening, run_connection};
 pub use keeping::keep_on;
 pub use matching::match_on;
 pub use reading::{Cut, read_on};
-pub use receiving::{Gone, Received, let_go_of, receive, turn_away};
+pub use receiving::{Gone, Received, read_to_end, receive, turn_away};
 pub use shared_connection::{Farewell, SharedConnection};
 pub use writing::write_on;

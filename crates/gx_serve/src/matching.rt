@@ -10,7 +10,7 @@ use std::time::{Clock, Duration};
 const BETWEEN_WAKEUPS_MILLIS: u64 = 1;
 
 /// Makes matching steps until no order waits, or one is refused.
-fn settle<D: Door, R: Wait + Clock + Dial>(rt: &R, door: &D, mut pass: D::Ticket) -> D::Ticket {
+fn settle<D: Door, R: Wait + Clock + Dial>(rt: &R, door: &D, mut pass: D::Pass) -> D::Pass {
     for _ in rt.forever() {
         let (back, found) = door.match_one(rt, pass, rt.moment());
         pass = back;
@@ -42,8 +42,8 @@ pub fn match_on<D: Door, R: Wait + Clock + Dial>(
     rt: &R,
     door: &D,
     control: &ServerControl,
-    mut pass: D::Ticket,
-) -> D::Ticket {
+    mut pass: D::Pass,
+) -> D::Pass {
     let mut again = false;
     for _ in rt.forever() {
         let woken = control.matcher.wait(rt, again);

@@ -9,8 +9,8 @@ use crate::announcing::{Announces, announce};
 use crate::conduct::Exclusion;
 use crate::shared_connection::{SharedConnection, is_farewell};
 use crate::state::taking::Taken;
-use crate::state::{Break, BrokenOff, Ended, Over};
-use gx_answers::StepFault;
+use crate::state::{Break, BrokenOff, Over, ReaderEnded};
+use gx_access_gate::StepFault;
 use gx_control::{Notified, Wakeups};
 use gx_devices::CallCounter;
 use gx_door::{Dial, Door};
@@ -55,7 +55,7 @@ pub enum Cut {
 #[derive(Drop)]
 pub struct Heard {
     left: Left,
-    _ended: Ended,
+    _ended: ReaderEnded,
 }
 
 impl Model for Heard {
@@ -84,7 +84,7 @@ fn break_off<D: Door, R: Wait + Clock + Dial>(
     rt: &R,
     door: &D,
     wakeups: &Wakeups<'_>,
-    shared: &SharedConnection<D::Ticket>,
+    shared: &SharedConnection<D::Pass>,
     fault: Option<SoupFault>,
 ) -> Left
     ensures { IsCut fault result }
@@ -125,7 +125,7 @@ fn settle<D: Door, R: Wait + Clock + Dial>(
     rt: &R,
     door: &D,
     wakeups: &Wakeups<'_>,
-    shared: &SharedConnection<D::Ticket>,
+    shared: &SharedConnection<D::Pass>,
     group: &[ClientPacket],
 ) {
     if !is_asking(group) {
@@ -141,7 +141,7 @@ fn take_group<D: Door, R: Wait + Clock + Dial + Announces>(
     rt: &R,
     door: &D,
     wakeups: &Wakeups<'_>,
-    shared: &SharedConnection<D::Ticket>,
+    shared: &SharedConnection<D::Pass>,
     group: &[ClientPacket],
 ) -> Left
     ensures { IsKept result }
@@ -174,7 +174,7 @@ fn take_packets<D: Door, R: Wait + Clock + Dial + Announces>(
     rt: &R,
     door: &D,
     wakeups: &Wakeups<'_>,
-    shared: &SharedConnection<D::Ticket>,
+    shared: &SharedConnection<D::Pass>,
     packets: &[ClientPacket],
 ) -> Left
     ensures { IsKept result }
@@ -197,7 +197,7 @@ fn take_all<D: Door, R: Wait + Clock + Dial + Announces>(
     rt: &R,
     door: &D,
     wakeups: &Wakeups<'_>,
-    shared: &SharedConnection<D::Ticket>,
+    shared: &SharedConnection<D::Pass>,
     packets: &[ClientPacket],
     fault: Option<SoupFault>,
 ) -> Left
@@ -214,7 +214,7 @@ fn take_piece<D: Door, R: Wait + Clock + Dial + Announces>(
     rt: &R,
     door: &D,
     wakeups: &Wakeups<'_>,
-    shared: &SharedConnection<D::Ticket>,
+    shared: &SharedConnection<D::Pass>,
     feeder: &mut Feeder,
     piece: &[u8],
 ) -> Left
@@ -237,7 +237,7 @@ fn hear_piece<D: Door, R: Wait + Clock + Dial + Announces>(
     rt: &R,
     door: &D,
     wakeups: &Wakeups<'_>,
-    shared: &SharedConnection<D::Ticket>,
+    shared: &SharedConnection<D::Pass>,
     feeder: &mut Feeder,
     left: Left,
     piece: &[u8],
@@ -259,7 +259,7 @@ fn take_opening<D: Door, R: Wait + Clock + Dial + Announces>(
     rt: &R,
     door: &D,
     wakeups: &Wakeups<'_>,
-    shared: &SharedConnection<D::Ticket>,
+    shared: &SharedConnection<D::Pass>,
     opening: &Opening,
 ) -> Left
     ensures { IsLeft opening.now.fault result }
@@ -280,7 +280,7 @@ pub fn read_on<D: Door, I: Read, R: Wait + Clock + Dial + Announces>(
     rt: &R,
     door: &D,
     wakeups: &Wakeups<'_>,
-    shared: &SharedConnection<D::Ticket>,
+    shared: &SharedConnection<D::Pass>,
     opening: Opening,
     reader: &mut CallCounter<I>,
 ) -> Heard

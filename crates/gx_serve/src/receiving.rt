@@ -2,7 +2,7 @@
 
 ghost use Rattle.std.specs.Prelude.{◌≡◌, ◌-◌, ◌^◌, ◌<◌};
 ghost use Rattle.gx_units.specs.declared.names.LoginRejection.TheVariants as rejections;
-ghost use Rattle.gx_answers.specs.declared.outcome.LoginAnswer.TheVariants as answers;
+ghost use Rattle.gx_access_gate.specs.declared.outcome.LoginAnswer.TheVariants as answers;
 ghost use Rattle.gx_door.specs.Callers.{caller_of};
 ghost use Rattle.gx_door.specs.declared.caller.Caller.TheVariants as callers;
 ghost use Rattle.gx_serve.specs.Receptions.{WasReceived, WasTurnedAway, WasTurnedOff};
@@ -51,7 +51,7 @@ fn admit<D: Door, A: Admits<D>, R: Wait>(
     door: &D,
     reception: &A,
     opening: Opening,
-) -> Received<D::Ticket>
+) -> Received<D::Pass>
     ensures { WasReceived D.policy D.held result }
 {
     let login = opening.login();
@@ -69,7 +69,7 @@ pub fn receive<D: Door, A: Admits<D>, N: Read, R: Wait>(
     door: &D,
     reception: &A,
     reader: &mut CallCounter<N>,
-) -> Received<D::Ticket>
+) -> Received<D::Pass>
     ensures { WasReceived D.policy D.held result }
 {
     match await_login(rt, alloc, reader) {
@@ -122,7 +122,7 @@ pub fn turn_away<D: Door, A: Admits<D>, O: Write, R: Wait + Dial>(
 }
 
 /// Reads on until the input ends or fails, and lets go of what comes.
-pub fn let_go_of<N: Read, R: Wait>(rt: &R, reader: &mut CallCounter<N>) {
+pub fn read_to_end<N: Read, R: Wait>(rt: &R, reader: &mut CallCounter<N>) {
     let mut buffer = [0u8; 4096];
     for _ in rt.forever() {
         match reader.read(&mut buffer) {

@@ -5,7 +5,7 @@ ghost use Rattle.gx_serve.specs.{Breaks.break_of, Takings.IsTakenIn, Marks.mark_
 
 use crate::state::outgoing::{Answered, Bookmark, Fetched, Finished, NextWrite};
 use crate::state::taking::Taken;
-use crate::state::{Break, BrokenOff, ConnectionState, Ended};
+use crate::state::{Break, BrokenOff, ConnectionState, ReaderEnded};
 use gx_control::{AnswersNoted, ShutdownFlag, WriterWakeup};
 use gx_door::{Caller, Dial, Door};
 use gx_soup::ClientPacket;
@@ -135,7 +135,7 @@ impl<T: Drop> SharedConnection<T> {
     }
 
     /// Takes a packet, unless its user is put out; a logout only once the user was told of his steps.
-    pub fn take<'a, D: Door<Ticket = T>, R: Wait + Clock + Dial>(
+    pub fn take<'a, D: Door<Pass = T>, R: Wait + Clock + Dial>(
         &self,
         rt: &R,
         door: &D,
@@ -152,7 +152,7 @@ impl<T: Drop> SharedConnection<T> {
 
     /// Makes the matching steps that those of the last packet left, until no order waits or so many were made. Answers
     /// whether none waited then.
-    pub fn settle<D: Door<Ticket = T>, R: Wait + Clock + Dial>(&self, rt: &R, door: &D) -> bool {
+    pub fn settle<D: Door<Pass = T>, R: Wait + Clock + Dial>(&self, rt: &R, door: &D) -> bool {
         for _ in 0..ROUNDS {
             if self.state.lock(rt).settle(rt, door, rt.moment()) {
                 return true;
@@ -162,7 +162,7 @@ impl<T: Drop> SharedConnection<T> {
     }
 
     /// Tells the session of what breaks it off.
-    pub fn break_off<D: Door<Ticket = T>, R: Wait + Clock + Dial>(
+    pub fn break_off<D: Door<Pass = T>, R: Wait + Clock + Dial>(
         &self,
         rt: &R,
         door: &D,
@@ -176,7 +176,7 @@ impl<T: Drop> SharedConnection<T> {
 
     /// These reports were sent, and it was counted how long they took: tells the session so, and goes on behind them. Answers
     /// so many nanoseconds that the writer may rest then, unless he is woken; 0 where there may be more to send.
-    pub fn sent<D: Door<Ticket = T>, R: Wait + Clock + Dial>(
+    pub fn sent<D: Door<Pass = T>, R: Wait + Clock + Dial>(
         &self,
         rt: &R,
         door: &D,
@@ -195,7 +195,7 @@ impl<T: Drop> SharedConnection<T> {
     }
 
     /// The reader has ended: its input has no more. The user is told of his steps before.
-    pub fn end<D: Door<Ticket = T>, R: Wait + Clock + Dial>(&self, rt: &R, door: &D) -> Ended {
+    pub fn end<D: Door<Pass = T>, R: Wait + Clock + Dial>(&self, rt: &R, door: &D) -> ReaderEnded {
         self.await_look(rt);
         self.note(rt, Farewell::Left);
         let ended = self.state.lock(rt).end(rt, door, rt.moment());
@@ -205,7 +205,7 @@ impl<T: Drop> SharedConnection<T> {
 
     /// What the writer does before the login is answered: the answer that it sends, or that the session is over; `None` for
     /// nothing for now. The session is told of the server's end, where that was asked for.
-    fn greet<D: Door<Ticket = T>, R: Wait + Clock + Dial>(
+    fn greet<D: Door<Pass = T>, R: Wait + Clock + Dial>(
         &self,
         rt: &R,
         door: &D,
@@ -219,7 +219,7 @@ impl<T: Drop> SharedConnection<T> {
 
     /// Waits until the login is answered, for the answer, woken by this; `Err` once the session is over, which it is soon after the
     /// server's end was asked for.
-    pub fn await_answer<D: Door<Ticket = T>, R: Wait + Clock + Dial>(
+    pub fn await_answer<D: Door<Pass = T>, R: Wait + Clock + Dial>(
         &self,
         rt: &R,
         door: &D,
@@ -251,7 +251,7 @@ impl<T: Drop> SharedConnection<T> {
     /// session is told of the server's end, where that was asked for. Where the session may have packets
     /// unread, its reader is given time to take them.
     #[tactic(auto, using(crate::proofs::Session_call::sought_is_due))]
-    fn look<D: Door<Ticket = T>, R: Wait + Clock + Dial>(
+    fn look<D: Door<Pass = T>, R: Wait + Clock + Dial>(
         &self,
         rt: &R,
         door: &D,
@@ -277,7 +277,7 @@ impl<T: Drop> SharedConnection<T> {
 
     /// Waits, woken by this, until the writer has something to do for the bookmark's user, or the session is over, which it is soon
     /// after the server's end was asked for.
-    pub fn await_next_write<D: Door<Ticket = T>, R: Wait + Clock + Dial>(
+    pub fn await_next_write<D: Door<Pass = T>, R: Wait + Clock + Dial>(
         &self,
         rt: &R,
         door: &D,

@@ -8,7 +8,7 @@ ghost use Rattle.gx_session.specs.{Events.{is_over, CanAsk}, Happenings.happenin
 ghost use Rattle.gx_session.specs.Happenings as happens;
 ghost use Rattle.gx_door.specs.Acts.{asked_on, gate_met, history_met};
 ghost use Rattle.gx_serve.specs.{States.{user_after, Follows, Heeds, WasAnswered, WasLoggedOut, WasRefused, WasTaken, WasTold, WasToldRefusal, WasTurned}, Announcements.{Announces, WasAnnounced}, Breaks.break_of, Tellings.is_idle_event};
-ghost use Rattle.gx_answers.specs.Matches.{matching_of};
+ghost use Rattle.gx_access_gate.specs.Matches.{matching_of};
 
 pub mod outgoing;
 pub mod resting;
@@ -17,7 +17,7 @@ pub mod taking;
 
 use crate::announcing::{Announced, EndedOrders, announced_of};
 use crate::conduct::Conduct;
-use gx_answers::StepFault;
+use gx_access_gate::StepFault;
 use gx_control::{Notified, PullCursor, ShutdownAsked};
 use gx_door::{Caller, Dial, Door};
 use gx_history::record::Request;
@@ -120,13 +120,13 @@ impl Told<'_> {
 
 /// That a session was told of the server's end, where it was asked for. A [`ConnectionState`] alone makes one, at each look.
 #[derive(Drop)]
-pub struct Heeded {
+pub struct ShutdownNoted {
     _told: (),
 }
 
 /// That a session was told of the end of its input, and that its reader has ended. A [`ConnectionState`] alone makes one.
 #[derive(Drop)]
-pub struct Ended {
+pub struct ReaderEnded {
     _told: (),
 }
 
@@ -192,7 +192,7 @@ impl<T: Drop> ConnectionState<T> {
 
     /// Makes the request's step, and the matching steps that it asks for, unless they are many. Answers what is to be
     /// announced.
-    fn act<D: Door<Ticket = T>, R: Wait + Dial>(
+    fn ask_gate<D: Door<Pass = T>, R: Wait + Dial>(
         &mut self,
         rt: &R,
         door: &D,
@@ -236,7 +236,7 @@ impl<T: Drop> ConnectionState<T> {
 
     /// Makes a logout step. The session is over by now: where the step is refused, nothing more can
     /// be done. The gate refuses none that it grants.
-    fn log_out<D: Door<Ticket = T>, R: Wait + Dial>(&mut self, rt: &R, door: &D, moment: Moment)
+    fn log_out<D: Door<Pass = T>, R: Wait + Dial>(&mut self, rt: &R, door: &D, moment: Moment)
         requires clock { R.shown moment }
         ensures out { WasLoggedOut D.policy self.old.user moment
             (history_met D.held self.old.pass) (history_met D.held self.new.pass) }
@@ -254,7 +254,7 @@ impl<T: Drop> ConnectionState<T> {
     }
 
     /// Tells the session that a step was refused, which ends it.
-    fn refuse<D: Door<Ticket = T>, R: Wait + Dial>(
+    fn refuse<D: Door<Pass = T>, R: Wait + Dial>(
         &mut self,
         rt: &R,
         door: &D,
@@ -277,7 +277,7 @@ impl<T: Drop> ConnectionState<T> {
     }
 
     /// Makes the step that a session asks for. Where it is refused, the session is told so. Answers what is to be announced.
-    fn follow<D: Door<Ticket = T>, R: Wait + Dial>(
+    fn follow<D: Door<Pass = T>, R: Wait + Dial>(
         &mut self,
         rt: &R,
         door: &D,
@@ -298,7 +298,7 @@ impl<T: Drop> ConnectionState<T> {
         ensures cursor { self.new.cursor ≡ self.old.cursor }
     {
         match next {
-            Next::Act(request) => match self.act(rt, door, request, moment) {
+            Next::Act(request) => match self.ask_gate(rt, door, request, moment) {
                 Ok(ended) => ended,
                 Err(fault) => {
                     self.refuse(rt, door, fault, moment);
@@ -315,7 +315,7 @@ impl<T: Drop> ConnectionState<T> {
 
     /// Tells the session of an event, makes the step that it asks for, and leaves what it asks to
     /// send. Answers what it asks for, and what is to be announced.
-    pub fn tell<D: Door<Ticket = T>, R: Wait + Dial>(
+    pub fn tell<D: Door<Pass = T>, R: Wait + Dial>(
         &mut self,
         rt: &R,
         door: &D,
@@ -347,7 +347,7 @@ impl<T: Drop> ConnectionState<T> {
     }
 
     /// Tells the session of what breaks it off, and does what it asks for.
-    pub fn break_off<D: Door<Ticket = T>, R: Wait + Dial>(
+    pub fn break_off<D: Door<Pass = T>, R: Wait + Dial>(
         &mut self,
         rt: &R,
         door: &D,
@@ -370,13 +370,13 @@ impl<T: Drop> ConnectionState<T> {
 
     /// Tells the session of the server's end, where it was asked for.
     #[tactic(auto, using(crate::proofs::Session_call::ends_leave_nothing))]
-    pub fn heed<D: Door<Ticket = T>, R: Wait + Dial>(
+    pub fn heed<D: Door<Pass = T>, R: Wait + Dial>(
         &mut self,
         rt: &R,
         door: &D,
         asked: ShutdownAsked,
         moment: Moment,
-    ) -> Heeded
+    ) -> ShutdownNoted
         requires clock { R.shown moment }
         ensures told { Heeds asked D.policy self.old.user moment
             self.old.session (history_met D.held self.old.pass)
@@ -388,17 +388,17 @@ impl<T: Drop> ConnectionState<T> {
         if asked.is_yes() {
             self.tell(rt, door, Event::End, moment);
         }
-        Heeded { _told: () }
+        ShutdownNoted { _told: () }
     }
 
     /// The reader has ended: its input has no more, and the session is told so.
     #[tactic(auto, using(crate::proofs::Session_call::ends_leave_nothing))]
-    pub fn end<D: Door<Ticket = T>, R: Wait + Dial>(
+    pub fn end<D: Door<Pass = T>, R: Wait + Dial>(
         &mut self,
         rt: &R,
         door: &D,
         moment: Moment,
-    ) -> Ended
+    ) -> ReaderEnded
         requires clock { R.shown moment }
         ensures reader_done { self.new.reader_done ≡ true }
         ensures told { WasTold D.policy self.old.user happens.End moment
@@ -410,10 +410,10 @@ impl<T: Drop> ConnectionState<T> {
     {
         self.tell(rt, door, Event::End, moment);
         self.reader_done = true;
-        Ended { _told: () }
+        ReaderEnded { _told: () }
     }
 
-    fn log_in<D: Door<Ticket = T>, R: Wait + Dial>(
+    fn log_in<D: Door<Pass = T>, R: Wait + Dial>(
         &mut self,
         rt: &R,
         door: &D,
@@ -451,7 +451,7 @@ impl<T: Drop> ConnectionState<T> {
     }
 
     /// Tells the session of a packet, and does what it asks for. Answers what is to be announced.
-    fn serve<D: Door<Ticket = T>, R: Wait + Dial>(
+    fn serve<D: Door<Pass = T>, R: Wait + Dial>(
         &mut self,
         rt: &R,
         door: &D,
@@ -482,7 +482,7 @@ impl<T: Drop> ConnectionState<T> {
     }
 
     /// Takes a packet: tells the session of it, and does what it asks for. What is given tells what is to be announced.
-    pub fn take<'a, D: Door<Ticket = T>, R: Wait + Dial>(
+    pub fn take<'a, D: Door<Pass = T>, R: Wait + Dial>(
         &mut self,
         rt: &R,
         door: &D,

@@ -9,7 +9,7 @@ use crate::shared_connection::SharedConnection;
 use crate::state::Break;
 use crate::state::outgoing::{Bookmark, Fetched, Finished, LoginOutcome, NextWrite};
 use crate::timing::times_of;
-use gx_answers::{LoginAnswer, StepFault};
+use gx_access_gate::{LoginAnswer, StepFault};
 use gx_control::{AnswerTimes, AnswersNoted, ShutdownFlag, WriterWakeup};
 use gx_devices::{CallCounter, WriteFault};
 use gx_door::{Dial, Door};
@@ -140,7 +140,7 @@ fn go_on<D: Door, R: Wait + Clock + Dial>(
     door: &D,
     wakeup: &WriterWakeup,
     times: &AnswerTimes,
-    shared: &SharedConnection<D::Ticket>,
+    shared: &SharedConnection<D::Pass>,
     due: NextWrite,
     bookmark: &mut Bookmark,
 ) -> Option<Finished>
@@ -171,7 +171,7 @@ fn write_answer<D: Door, O: Write, R: Wait + Clock + Dial>(
     door: &D,
     shutdown: &ShutdownFlag,
     wakeup: &WriterWakeup,
-    shared: &SharedConnection<D::Ticket>,
+    shared: &SharedConnection<D::Pass>,
     writer: &mut CallCounter<O>,
 ) -> LoginOutcome
     requires { writer.old.failed < 2 ^ 64 - 1 }
@@ -201,7 +201,7 @@ fn write_reports<D: Door, O: Write, R: Wait + Clock + Dial>(
     shutdown: &ShutdownFlag,
     wakeup: &WriterWakeup,
     times: &AnswerTimes,
-    shared: &SharedConnection<D::Ticket>,
+    shared: &SharedConnection<D::Pass>,
     bookmark: Bookmark,
     writer: &mut CallCounter<O>,
 ) -> Option<Finished>
@@ -235,7 +235,7 @@ pub fn write_on<D: Door, O: Write, R: Wait + Clock + Dial>(
     shutdown: &ShutdownFlag,
     wakeup: &WriterWakeup,
     times: &AnswerTimes,
-    shared: &SharedConnection<D::Ticket>,
+    shared: &SharedConnection<D::Pass>,
     writer: &mut CallCounter<O>,
 ) -> Option<Finished>
     requires { writer.old.failed < 2 ^ 64 - 1 }

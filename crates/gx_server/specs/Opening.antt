@@ -3,7 +3,7 @@ use Rattle.std.specs.Prelude.{◌≡◌, ℕ, List, Option, Some, None, Result, 
 use Rattle.gx_policy.specs.declared.policy.PolicyData.{PolicyData}
 use Rattle.gx_policyvalues.specs.declared.fault.FaultKind.{FaultKind}
 use Rattle.gx_policyfile.specs.{Policies.means, Sample.sample}
-use Rattle.gx_pipe.specs.declared.fault.PipeFault.{PipeFault}
+use Rattle.gx_connection.specs.declared.fault.PipeFault.{PipeFault}
 use Rattle.gx_server.specs.{declared.program_fault.ProgramFault.{ProgramFault, TheVariants.{Pipe, Policy}}, Policies.policy_line}
 
 -- the policy to open on: what the file means, or else the sample policy

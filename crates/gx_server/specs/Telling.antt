@@ -3,9 +3,9 @@ use Rattle.std.specs.Prelude.{ℕ, List, Option, Some, None, ◌++◌, codes, de
 use Rattle.gx_audit.specs.declared.fault.AuditFault.{AuditFault}
 use Rattle.gx_files.specs.declared.identity.SharedFile.{SharedFile}
 use Rattle.gx_policyvalues.specs.{declared.fault.FaultKind.FaultKind, Field.is_memory, Telling.kind_words}
-use Rattle.gx_script.specs.Printing.{line_end}
-use Rattle.gx_pipe.specs.{Faults.fault_words, declared.fault.PipeFault.PipeFault}
-use Rattle.gx_scripting.specs.declared.script_fault.ScriptFault.{ScriptFault}
+use Rattle.gx_script_text.specs.Printing.{line_end}
+use Rattle.gx_connection.specs.{Faults.fault_words, declared.fault.PipeFault.PipeFault}
+use Rattle.gx_script_run.specs.declared.script_fault.ScriptFault.{ScriptFault}
 use Rattle.gx_server.specs.declared.program_fault.{Device.{Device, TheVariants.{Reader, Writer}}, ProgramFault.{ProgramFault, TheVariants.{Pipe, Script, Unread, Policy, ListenFailed, Journal, JournalInUse, AuditInUse, OneFile, NoLines}}}
 
 -- memory ran out

@@ -6,7 +6,7 @@ ghost use Rattle.gx_server.specs.{Opening.{policy_for, line_for, IsFaultOf}, Tel
 
 use crate::policies::{policy_line, sample_policy};
 use crate::program_fault::ProgramFault;
-use gx_answers::AccessGate;
+use gx_access_gate::AccessGate;
 use gx_policy::Policy;
 use gx_policyfile::{migrate, read_policy, read_version};
 use std::alloc::Global;

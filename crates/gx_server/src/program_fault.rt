@@ -4,15 +4,15 @@ ghost use Rattle.std.specs.Prelude.{◌≡◌, ◌≢◌, ◌+◌, ◌≤◌, �
 ghost use Rattle.arrayvec.specs.ArrayVec.{array_vec_len};
 ghost use Rattle.gx_policyvalues.specs.Field.{is_memory};
 ghost use Rattle.gx_server.specs.declared.program_fault.ProgramFault.TheVariants as faults;
-ghost use Rattle.gx_pipe.specs.Faults.{fault_words};
+ghost use Rattle.gx_connection.specs.Faults.{fault_words};
 ghost use Rattle.gx_server.specs.Telling.{out_of_memory, script_words, policy_words, gate_line, fault_line, script_status, status_of, journal_fault, journal_status, journal_words, script_device, device_of, shared_words};
 
 use arrayvec::ArrayVec;
 use gx_audit::AuditFault;
+use gx_connection::PipeFault;
 use gx_files::SharedFile;
-use gx_pipe::PipeFault;
 use gx_policyvalues::{FaultKind, PolicyFault};
-use gx_scripting::{Explained, ScriptFault};
+use gx_script_run::{Explained, ScriptFault};
 use gx_units::OutOfMemory;
 use itoa::Buffer;
 use std::io::ErrorKind;

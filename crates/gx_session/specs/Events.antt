@@ -2,7 +2,7 @@
 use Rattle.std.specs.Prelude.{ℕ, Bool, true, false, ◌&&◌, not, is_none, Option, Some, None, List, [], ◌∷◌, IsTrue}
 use Rattle.gx_soup.specs.declared.packet.{ClientPacket.ClientPacket, LoginRequest.LoginRequest}
 use Rattle.gx_history.specs.Showing.{has_its_first}
-use Rattle.gx_answers.specs.declared.outcome.LoginAnswer.{LoginAnswer}
+use Rattle.gx_access_gate.specs.declared.outcome.LoginAnswer.{LoginAnswer}
 use Rattle.gx_session.specs.{Happenings.Happening, declared.{event.{Next.{Next, TheVariants.{Idle, Login, Act, Logout, Close}}, Reply.Reply}, session.Phase.{Phase, TheVariants.{On, Abandoned, Done}}}, Table.{SessionData, turn}}
 use Rattle.gx_session.specs.Happenings as happens
 

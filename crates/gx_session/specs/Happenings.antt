@@ -1,7 +1,7 @@
 -- What happens to a session, as its table sees it.
 use Rattle.std.specs.Prelude.{ℕ, Bool}
 use Rattle.gx_soup.specs.declared.packet.ClientPacket.{ClientPacket}
-use Rattle.gx_answers.specs.declared.outcome.{LoginAnswer.LoginAnswer, StepFault.StepFault}
+use Rattle.gx_access_gate.specs.declared.outcome.{LoginAnswer.LoginAnswer, StepFault.StepFault}
 use Rattle.gx_session.specs.declared.event.Event.{Event}
 
 -- a packet, the answer to a login, a refused step, reports pulled and sent (so many; whether there will be no more), time

@@ -1,7 +1,7 @@
 -- How reports, and packets of the session's own, are written.
 use Rattle.std.specs.{Prelude.{ℕ, Option, Some, None, List, []}, List.flat_map}
 use Rattle.gx_soup.specs.{declared.packet.ServerPacket.ServerPacket, Writing.server_bytes}
-use Rattle.gx_answers.specs.declared.outcome.LoginAnswer.{LoginAnswer}
+use Rattle.gx_access_gate.specs.declared.outcome.LoginAnswer.{LoginAnswer}
 use Rattle.gx_history.specs.{declared.report.Report.Report, ReportBytes.report_bytes}
 use Rattle.gx_session.specs.declared.event.{Control.Control, Sign.Sign}
 

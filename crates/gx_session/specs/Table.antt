@@ -2,7 +2,7 @@
 use Rattle.std.specs.Prelude.{ℕ, ◌-◌, max, min, nat_lt, nat_le, Bool, ◌||◌, if◌then◌else◌, Option, Some, None, is_some}
 use Rattle.gx_soup.specs.declared.packet.ClientPacket.{ClientPacket}
 use Rattle.gx_history.specs.Payloads.{request_of}
-use Rattle.gx_answers.specs.declared.outcome.LoginAnswer.{LoginAnswer}
+use Rattle.gx_access_gate.specs.declared.outcome.LoginAnswer.{LoginAnswer}
 use Rattle.gx_session.specs.{declared.{event.{Control.Control, Sign.Sign, Next.{Next, TheVariants.{Idle, Login, Act, Logout, Close}}, Reply.Reply}, session.{Phase.{Phase, TheVariants.{Fresh, Waiting, On, Abandoned, Done}}, Row.Row}}, Happenings.Happening}
 use Rattle.gx_session.specs.Happenings as happens
 

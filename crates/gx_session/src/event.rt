@@ -1,6 +1,6 @@
 //! What happens to a session, and what follows.
 
-use gx_answers::{LoginAnswer, StepFault};
+use gx_access_gate::{LoginAnswer, StepFault};
 use gx_history::record::Request;
 use gx_soup::ClientPacket;
 

@@ -4,7 +4,7 @@ ghost use Rattle.std.specs.Prelude.{◌≡◌};
 ghost use Rattle.gx_session.specs.Outboxes.{empty, left_after};
 
 use crate::event::{Control, Sign};
-use gx_answers::LoginAnswer;
+use gx_access_gate::LoginAnswer;
 
 /// What a session asked to send and the writer has not taken.
 #[derive(Clone, Copy)]

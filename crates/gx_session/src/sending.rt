@@ -5,7 +5,7 @@ ghost use Rattle.std.specs.{Prelude.{◌≡◌, ◌-◌, ◌^◌, ◌<◌, [], �
 ghost use Rattle.gx_session.specs.{Sending.{control_bytes, report_packet, reports_text}};
 
 use crate::event::{Control, Sign};
-use gx_answers::{LoginAnswer, Pulled};
+use gx_access_gate::{LoginAnswer, Pulled};
 use gx_devices::{CallCounter, WriteFault, write_flushing, write_whole};
 use gx_history::report::Report;
 use gx_ouch::MESSAGE_ROOM;

@@ -6,7 +6,7 @@ ghost use Rattle.gx_soup.specs.declared.packet.ClientPacket.TheVariants.{Data};
 ghost use Rattle.gx_session.specs.{Happenings.Happening.{Packet, Pulled}, declared.event.Next.TheVariants.{Idle, Act}, Table.{is_silent, fresh_packet, fresh_row, waiting_row, on_packet, on_row, abandoned_row, row, row_at, is_sending, heard_after, sent_after, turn, new_session, rest_of}, Happenings.happening_of, Events.{is_on, is_over, CanAsk}};
 
 use crate::event::{Control, Event, Next, Reply, Sign};
-use gx_answers::LoginAnswer;
+use gx_access_gate::LoginAnswer;
 use gx_history::record::Request;
 use gx_soup::{ClientPacket, Payload};
 use std::marker::Model;

@@ -2,13 +2,14 @@
 use Rattle.std.proofs.{Common.{◌≡◌, ◌≤◌, Bool, true, false, List, [], ◌∷◌, length, ◌⊎◌, inl, inr, ℕ, refl, ap, arith, ◌∙◌}, lemmas.Bool.not-false}
 use Rattle.std.specs.{Prelude.{Option, Some, None, option_and_then, if◌then◌else◌}, List.filter, Option.option_map_or}
 use Rattle.gx_units.specs.declared.names.{AccountName.AccountName, RuleId.RuleId, Symbol.Symbol}
+use Rattle.gx_units.proofs.Lists_found.{few_pass}
 use Rattle.gx_desk.specs.declared.{Action.Action, WrittenName.WrittenName}
 use Rattle.gx_policy.specs.{declared.{policy.{PolicyData.PolicyData, Role.Role}, rule_name.RuleName.TheVariants.G2}, People.{is_officer, role_in}}
 use Rattle.gx_history.specs.{declared.{live_order.LiveOrder.LiveOrder, «record».{Asked.Asked, RecordData.RecordData, Request.Request, Step.Step, Verdict.Verdict}}, Asking.{facts, fits_role}, Live.live, Requests.{action_of, is_granted}, Verdicts.{IsLegal, day_limit, next}}
-use Rattle.gx_laws.proofs.{Granting.is_no_bar, Sound.live_are_few, Small.few_pass}
+use Rattle.gx_laws.proofs.{Requests_judged.is_no_bar, Positions_sound.live_are_few}
 use Rattle.gx_slab.specs.Slabs.{of_account}
-use Rattle.gx_answers.specs.{declared.outcome.Outcome.Outcome, Gates.left_by}
-use Rattle.gx_door.specs.{declared.ended.Ended.Ended, Endings.{ended_among, ended_by, sums_of}}
+use Rattle.gx_access_gate.specs.{declared.outcome.Outcome.Outcome, Gates.left_by}
+use Rattle.gx_door.specs.{declared.ended.EndedTotals.EndedTotals, Endings.{ended_among, ended_by, sums_of}}
 use Rattle.gx_shared.specs.Endings.{ends_of}
 
 all_pass : {X : Type 0} (xs : List X) → filter (λ (x : X). true) xs ≡ xs
@@ -87,7 +88,7 @@ is_granted_by (Verdict.Rested number) h = cc
 is_granted_by (Verdict.Expired number) h = cc
 
 -- what was counted in front of the step is what its record ended, where that grants the request, and else it ended nothing
-pub told_so : (policy : PolicyData) (earlier : List RecordData) (a : Asked) (o : Outcome) (ends told : Ended)
+pub told_so : (policy : PolicyData) (earlier : List RecordData) (a : Asked) (o : Outcome) (ends told : EndedTotals)
     → ends ≡ sums_of (ends_of policy earlier a) → told ≡ (if is_granted o.verdict then ends else sums_of [])
     → next policy earlier (Step.Asked a) ≡ Some (left_by a o) → told ≡ sums_of (ended_by policy earlier (left_by a o))
 told_so policy earlier a o ends told counted once e = once ∙ by (is_granted o.verdict) refl

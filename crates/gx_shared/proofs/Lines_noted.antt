@@ -1,15 +1,15 @@
 -- The lines of records that were there before, in the keeper's hand.
-use Rattle.std.proofs.{Common.{◌≡◌, ◌≢◌, ℕ, zero, suc, ◌+◌, ◌<◌, ◌≤◌, max, List, [], ◌∷◌, ◌++◌, take, drop, refl, sym, ap, ◌∙◌, subst, inl, inr, arith, fold, map}, Math.Seq.take-add, lemmas.List.{Sums.fold-append, map-append}}
+use Rattle.std.proofs.{Common.{◌≡◌, ◌≢◌, ℕ, zero, suc, ◌+◌, ◌<◌, ◌≤◌, max, List, [], ◌∷◌, ◌++◌, take, drop, refl, sym, ap, ◌∙◌, subst, inl, inr, arith}, Math.Seq.take-add}
 use mathlib.Core.Logic.{dite}
 use native.Mathlib.Decide.{ℕ_discrete}
 use Rattle.gx_history.specs.declared.record.RecordData.{RecordData}
 use Rattle.gx_policy.specs.Lists.{slice}
-use Rattle.gx_pass.specs.{declared.view.Keeps.Keeps, Rules.{Has, MayNote}, Views.{keeps, highest_line, line_in}}
+use Rattle.gx_pass.specs.{declared.view.KeeperView.KeeperView, Rules.{Has, MayNote}, Views.keeper_view}
 use Rattle.gx_shared.specs.Lines.{IsResuming, lines_to}
 use Rattle.gx_journal.proofs.Journal_next.{before_next}
 
 -- a keeper that has nothing yet
-pub begins : (k : Keeps) → k ≡ keeps [] [] 0 → IsResuming k
+pub begins : (k : KeeperView) → k ≡ keeper_view [] [] 0 → IsResuming k
 begins k is = subst IsResuming (sym is) (record { issued = refl; hand = refl })
 
 next_line : (n : ℕ) → (n + 1) ∷ lines_to n ≡ lines_to (n + 1)
@@ -30,12 +30,6 @@ has_line (suc n) line some few =
 may_note_up_to : (issued line : ℕ) → line ≤ issued → MayNote (lines_to issued) line
 may_note_up_to issued zero few = inl refl
 may_note_up_to issued (suc line) few = inr (has_line issued (suc line) (omega arith) few)
-
--- the highest line of one more record
-pub highest_more : (records : List RecordData) (r : RecordData) → highest_line (records ++ r ∷ []) ≡ max (highest_line records) (line_in r)
-highest_more records r =
-    ap (fold max 0) (map-append line_in records (r ∷ []))
-    ∙ fold-append max 0 (map line_in records) (line_in r ∷ [])
 
 -- a record of such a line may be noted
 pub may_note : (issued line was : ℕ) (hand : List ℕ) → hand ≡ lines_to issued → issued ≡ max was line → MayNote hand line

@@ -2,7 +2,7 @@
 use Rattle.std.proofs.{Common.{◌≡◌, ℕ, Option, Some, None, refl, sym}, lemmas.Option.none-some}
 use Rattle.std.specs.Prelude.{option_map}
 use Rattle.gx_history.specs.{Matching.matching, Verdicts.{next, step_verdict}}
-use Rattle.gx_answers.specs.{Gates.GateData, Matches.{matching_of, next_match}}
+use Rattle.gx_access_gate.specs.{Gates.GateData, Matches.{matching_of, next_match}}
 
 none_mapped : {X Y : Type 0} (f : X → Y) (o : Option X) → option_map f o ≡ None → o ≡ None
 none_mapped f None e = refl

@@ -3,9 +3,9 @@ use Rattle.std.proofs.{Common.{◌≡◌, ℕ, ◌+◌, ◌<◌, ◌≤◌, map,
 use Rattle.std.specs.Prelude.{◌==◌}
 use mathlib.Core.List.{IsPrefix}
 use Rattle.gx_history.specs.declared.record.RecordData.{RecordData}
-use Rattle.gx_answers.specs.{declared.outcome.Outcome.Outcome, Gates.{GateData, matched_by}, Matches.with_match}
-use Rattle.gx_pass.specs.{declared.view.Holds.Holds, Rules.IsMet, Views.{line_in, of_line}}
-use Rattle.gx_pass.proofs.{Fronts.{prefix_trans, prefix_length}, Lines.of_line_other}
+use Rattle.gx_access_gate.specs.{declared.outcome.Outcome.Outcome, Gates.{GateData, matched_by}, Matches.with_match}
+use Rattle.gx_pass.specs.{declared.view.LineView.LineView, Rules.IsMet, Views.{line_in, of_line}}
+use Rattle.gx_pass.proofs.{Lists_prefix.{prefix_trans, prefix_length}, Lines_owner.of_line_other}
 use Rattle.gx_door.specs.Matching.{AddsMatches}
 
 pub none_made : (moment : ℕ) (records : List RecordData) → AddsMatches moment 0 records records
@@ -36,8 +36,8 @@ of_no_line moment line some (o ∷ outcomes) =
     ∙ of_no_line moment line some outcomes
 
 -- whoever had met the earlier records has met so much of the later ones, and none of these is his own
-pub still_met : (moment made : ℕ) (h : Holds) (earlier later : List RecordData) → 0 < h.line → IsMet earlier h → AddsMatches moment made earlier later → IsMet later h
-still_met moment made h earlier later some met added =
+pub still_met : (moment made : ℕ) (h : LineView) {earlier later : List RecordData} → 0 < h.line → IsMet earlier h → AddsMatches moment made earlier later → IsMet later h
+still_met moment made h {earlier} {later} some met added =
     let more = map (matched_by moment) added.outcomes in
     let begins : IsPrefix earlier later = (more, sym added.behind) in
     let longer = prefix_length earlier later begins in

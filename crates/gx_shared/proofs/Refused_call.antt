@@ -2,7 +2,7 @@
 use Rattle.std.proofs.Common.{◌≡◌, Bool, true, false, Result, Ok, Err, IfErr, OnErr, is_ok, refl, ap, subst}
 use Rattle.gx_policy.specs.declared.policy.PolicyData.{PolicyData}
 use Rattle.gx_history.specs.declared.record.Asked.{Asked}
-use Rattle.gx_answers.specs.{declared.outcome.StepFault.StepFault, Gates.GateData, Steps.{IsFull, never_refuses}}
+use Rattle.gx_access_gate.specs.{declared.outcome.StepFault.StepFault, Gates.GateData, Steps.{IsFull, never_refuses}}
 use Rattle.gx_door.specs.Acts.{IsToldFull, MayBeRefused, gate_at}
 
 -- it is no granted Kill or Logout

@@ -2,4 +2,4 @@ pub mod Endings
 pub mod GoingOn
 pub mod Lines
 pub mod Permits
-pub mod Tickets
+pub mod CountedPasses

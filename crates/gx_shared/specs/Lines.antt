@@ -1,6 +1,6 @@
 -- What a keeper has of records that were there before it.
 use Rattle.std.specs.Prelude.{◌≡◌, ℕ, zero, suc, List, [], ◌∷◌}
-use Rattle.gx_pass.specs.{declared.view.Keeps.Keeps, Views.highest_line}
+use Rattle.gx_pass.specs.{declared.view.KeeperView.KeeperView, Views.highest_line}
 
 -- the lines up to this one, the last first
 abbrev pub lines_to : ℕ → List ℕ
@@ -8,6 +8,6 @@ lines_to zero = []
 lines_to (suc n) = suc n ∷ lines_to n
 
 -- the lines up to the highest of the records' were issued, and are in hand
-pub record IsResuming (k : Keeps) : Type 0 where
+pub record IsResuming (k : KeeperView) : Type 0 where
   pub issued : k.issued ≡ highest_line k.list
   pub hand : k.hand ≡ lines_to k.issued

@@ -3,10 +3,10 @@
 ghost use Rattle.std.specs.Prelude.{◌≡◌, ◌+◌, ◌<◌, ◌≤◌, ◌^◌, ◌++◌, ◌∷◌, [], length, IfErr, IfOk, OnErr, OnOk};
 ghost use Rattle.gx_shared.specs.Permits.{all_parts};
 ghost use Rattle.gx_pass.specs.declared.pass.PassFault.TheVariants as faults;
-ghost use Rattle.gx_pass.specs.{Rules.{IsMet, IsAbsent, Has, MayNote}, Views.{keeps, holds, line_in, mine, without}};
+ghost use Rattle.gx_pass.specs.{Rules.{IsMet, IsAbsent, Has, MayNote}, Views.{keeper_view, line_view, line_in, mine, without_line}};
 
+use crate::counted_pass::CountedPass;
 use crate::permit::{BlankLedgers, LinesOf, Permits};
-use crate::ticket::Ticket;
 use gx_history::record::RecordData;
 use gx_pass::{Entered, GateName, Keeper, Pass, PassFault};
 use std::marker::Model;
@@ -23,9 +23,9 @@ pub struct CountingKeeper<N: GateName> {
 
 impl<N: GateName> Model for CountingKeeper<N> {
     ghost use Rattle.std.specs.Prelude.{◌≡◌, length};
-    ghost use Rattle.gx_pass.specs.declared.view.Keeps.{Keeps};
+    ghost use Rattle.gx_pass.specs.declared.view.KeeperView.{KeeperView};
 
-    ghost Value = { Keeps };
+    ghost Value = { KeeperView };
 
     ghost view = { λ c. c.keeper };
 
@@ -75,10 +75,10 @@ impl<N: GateName> CountingKeeper<N> {
     /// # Errors
     ///
     /// Where it gives none, the permits are as they were.
-    pub fn issue(&mut self, permits: &mut Permits<N>) -> Result<Ticket<N>, PassFault>
+    pub fn issue(&mut self, permits: &mut Permits<N>) -> Result<CountedPass<N>, PassFault>
         ensures list { self.new.list ≡ self.old.list }
         ensures pass { IfOk result (λ p.
-            p.held ≡ holds (self.old.issued + 1) self.old.list (length self.old.list)) }
+            p.held ≡ line_view (self.old.issued + 1) self.old.list (length self.old.list)) }
         ensures own { IfOk result (λ p. mine p.held ≡ []) }
         ensures none_added { IfOk result (λ p. p.added ≡ 0) }
         ensures line { IfOk result (λ p. p.held.line ≡ permits.new.issued) }
@@ -92,7 +92,7 @@ impl<N: GateName> CountingKeeper<N> {
     {
         permits.audit_lines(&mut self.lines);
         let pass = self.keeper.issue()?;
-        Ok(Ticket::new(pass, permits.take(&mut self.lines)))
+        Ok(CountedPass::new(pass, permits.take(&mut self.lines)))
     }
 
     /// Takes a pass in, and compares it with the history, as [`Keeper::enter`] does.
@@ -103,7 +103,7 @@ impl<N: GateName> CountingKeeper<N> {
         ensures some { 0 < pass.line }
         ensures issued { pass.line ≤ self.old.issued }
         ensures hand { self.new
-            ≡ keeps self.old.list (pass.line ∷ self.old.hand) self.old.issued }
+            ≡ keeper_view self.old.list (pass.line ∷ self.old.hand) self.old.issued }
     {
         self.keeper.enter(pass)
     }
@@ -114,7 +114,7 @@ impl<N: GateName> CountingKeeper<N> {
         requires line { MayNote self.old.hand (line_in noted) }
         requires room { length self.old.list + 1 < 2 ^ 64 }
         ensures keeper { self.new
-            ≡ keeps (self.old.list ++ noted ∷ []) self.old.hand self.old.issued }
+            ≡ keeper_view (self.old.list ++ noted ∷ []) self.old.hand self.old.issued }
         ensures counted { share.new.amount ≡ share.old.amount + 1 }
         ensures parts { share.new.parts ≡ share.old.parts }
     {
@@ -126,8 +126,8 @@ impl<N: GateName> CountingKeeper<N> {
     pub fn leave(&mut self, entered: Entered<N>) -> Pass<N>
         requires { Has self.old.hand entered }
         ensures hand { self.new
-            ≡ keeps self.old.list (without entered self.old.hand) self.old.issued }
-        ensures pass { result ≡ holds entered self.old.list (length self.old.list) }
+            ≡ keeper_view self.old.list (without_line entered self.old.hand) self.old.issued }
+        ensures pass { result ≡ line_view entered self.old.list (length self.old.list) }
     {
         self.keeper.leave(entered)
     }

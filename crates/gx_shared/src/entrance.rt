@@ -4,10 +4,10 @@ ghost use Rattle.std.specs.Prelude.{◌≡◌, ◌+◌, [], IfOk, OnErr, OnOk};
 ghost use Rattle.gx_history.specs.Verdicts.{IsLegal};
 ghost use Rattle.gx_pass.specs.Views.{mine};
 
+use crate::counted_pass::CountedPass;
 use crate::permit::Permits;
 use crate::shared::SharedGate;
-use crate::ticket::Ticket;
-use gx_answers::AccessGate;
+use gx_access_gate::AccessGate;
 use gx_door::Issuer;
 use gx_journal::{JournalName, Journaled};
 use gx_pass::{GateName, PassFault};
@@ -34,7 +34,7 @@ impl<G: ShowsState, N: GateName> Issuer<SharedGate<G, N>> for Entrance<'_, G, N>
 
     ghost last = { λ e. e.permits.issued };
 
-    fn issue<R: Wait>(&mut self, rt: &R) -> Result<Ticket<N>, PassFault> {
+    fn issue<R: Wait>(&mut self, rt: &R) -> Result<CountedPass<N>, PassFault> {
         self.gate.issue(rt, &mut self.permits)
     }
 }
@@ -46,7 +46,7 @@ impl<G: ShowsState, N: GateName, W: Write, J: JournalName> Issuer<
 
     ghost last = { λ e. e.permits.issued };
 
-    fn issue<R: Wait>(&mut self, rt: &R) -> Result<Ticket<N>, PassFault> {
+    fn issue<R: Wait>(&mut self, rt: &R) -> Result<CountedPass<N>, PassFault> {
         self.gate.issue(rt, &mut self.permits)
     }
 }

@@ -5,7 +5,7 @@ ghost use mathlib.Core.List.{IsPrefix};
 ghost use Rattle.gx_units.specs.Spelling.{folded_user};
 ghost use Rattle.gx_history.specs.{InForce.line_of, Showing.has_its_first, Verdicts.IsLegal};
 ghost use Rattle.gx_policy.specs.Lists.{slice};
-ghost use Rattle.gx_answers.specs.{Gates.{left_by, matched_by}, Matches.matching_of};
+ghost use Rattle.gx_access_gate.specs.{Gates.{left_by, matched_by}, Matches.matching_of};
 ghost use Rattle.gx_pass.specs.declared.pass.PassFault.TheVariants as pass_faults;
 ghost use Rattle.gx_pass.specs.Views.{highest_line, mine, of_line};
 ghost use Rattle.gx_door.specs.declared.fault.PullFault.TheVariants as pull_faults;
@@ -13,13 +13,13 @@ ghost use Rattle.gx_door.specs.{Acts.{asked_on, gate_at, gate_met, login_on, Add
 ghost use Rattle.gx_board.specs.{Summaries.IsBehind, Views.IsView};
 ghost use Rattle.gx_shared.specs.Permits.{all_parts};
 
+use crate::counted_pass::CountedPass;
 use crate::counting::CountingKeeper;
 use crate::looking::look;
 use crate::permit::{BlankLedgers, Permits};
 use crate::resuming::resume;
-use crate::steps::{asked_on, leave, match_one, match_some, pull, step, turn};
-use crate::ticket::Ticket;
-use gx_answers::{AccessGate, LoginAnswer, Outcome, Pulled, StepFault};
+use crate::steps::{asked_on, leave, match_and_note, match_some, pull, step_and_note, turn};
+use gx_access_gate::{AccessGate, LoginAnswer, Outcome, Pulled, StepFault};
 use gx_board::{Summary, View};
 use gx_door::{Caller, Matched, PullFault, Turned};
 use gx_history::record::{Record, Request};
@@ -122,7 +122,7 @@ impl<G: AccessGate, N: GateName> GuardedGate<G, N> {
     /// # Errors
     ///
     /// Where it gives none, the permits are as they were.
-    pub fn issue(&mut self, permits: &mut Permits<N>) -> Result<Ticket<N>, PassFault>
+    pub fn issue(&mut self, permits: &mut Permits<N>) -> Result<CountedPass<N>, PassFault>
         ensures same { self.new ≡ self.old }
         ensures front { IfOk result (λ p. p.held.front ≡ self.old) }
         ensures legal { IfOk result (λ p. IsLegal N.policy p.held.front) }
@@ -163,7 +163,7 @@ impl<G: AccessGate, N: GateName> GuardedGate<G, N> {
         ensures parts { share.new.parts ≡ share.old.parts }
     {
         let request = self.gate.login_request(user, password, session, wanted);
-        let (pass, result) = self.act(pass, share, user, request, moment);
+        let (pass, result) = self.act_with_pass(pass, share, user, request, moment);
         match result {
             Ok(outcome) => {
                 let answer = self
@@ -176,7 +176,7 @@ impl<G: AccessGate, N: GateName> GuardedGate<G, N> {
     }
 
     /// A request on the pass's line. Its record is counted in the share.
-    pub fn act(
+    pub fn act_with_pass(
         &mut self,
         pass: Pass<N>,
         share: &mut Share<N>,
@@ -204,7 +204,7 @@ impl<G: AccessGate, N: GateName> GuardedGate<G, N> {
         let line = pass.line();
         let entered = self.keeper.enter(pass);
         let asked = asked_on(line, user, request, moment);
-        let result = step(&mut self.gate, &mut self.keeper, share, asked);
+        let result = step_and_note(&mut self.gate, &mut self.keeper, share, asked);
         (leave(&self.gate, &mut self.keeper, entered), result)
     }
 
@@ -235,7 +235,7 @@ impl<G: AccessGate, N: GateName> GuardedGate<G, N> {
         ensures parts { share.new.parts ≡ share.old.parts }
     {
         let entered = self.keeper.enter(pass);
-        let result = match_one(&mut self.gate, &mut self.keeper, share, moment);
+        let result = match_and_note(&mut self.gate, &mut self.keeper, share, moment);
         (leave(&self.gate, &mut self.keeper, entered), result)
     }
 

@@ -7,12 +7,12 @@ ghost use Rattle.gx_history.specs.Verdicts.{IsLegal};
 ghost use Rattle.gx_shared.specs.{Permits.all_parts, GoingOn.GoesOn};
 ghost use Rattle.gx_journal.specs.Journals.{journal_bytes, IsGrown};
 
+use crate::counted_pass::CountedPass;
 use crate::entrance::Entrance;
 use crate::logging::day_log;
 use crate::permit::{BlankLedgers, Permits};
 use crate::rest::put_rest;
 use crate::shared::SharedGate;
-use crate::ticket::Ticket;
 use gx_audit_bytes::AuditVersion;
 use gx_control::{ServerControl, Tallied};
 use gx_devices::WriteFault;
@@ -46,7 +46,7 @@ pub struct Kept<G, W> {
 pub fn close_kept<G: ShowsState, N: GateName, J: JournalName, W: Write + Drop>(
     shared: SharedGate<G, N>,
     journal: Journal<SharedGate<G, N>, W, J>,
-) -> (Kept<G, W>, Ticket<N>, Total<N>)
+) -> (Kept<G, W>, CountedPass<N>, Total<N>)
     ensures policy { (G.seen result.0.gate).policy ≡ N.policy }
     ensures legal { IsLegal N.policy (G.seen result.0.gate).records }
     ensures front { IsPrefix J.earlier (G.seen result.0.gate).records }
@@ -99,7 +99,7 @@ fn serve_kept<
     alloc: Global,
     shared: SharedGate<G, N>,
     permits: Permits<N>,
-    pass: Ticket<N>,
+    pass: CountedPass<N>,
     version: AuditVersion,
     count: u64,
     device: W,
@@ -109,7 +109,7 @@ fn serve_kept<
     page: Option<PagePort>,
     listener: TcpListener,
     connections: u64,
-) -> (Kept<G, W>, Ticket<N>, Total<N>, Ending)
+) -> (Kept<G, W>, CountedPass<N>, Total<N>, Ending)
     requires known { IfSome log (λ l. l.events.known ≡ known_of N.policy []) }
     requires policy { policy.now ≡ N.policy }
     requires version { version ≡ J.version }

@@ -13,7 +13,7 @@
 //! - `guarded_gate`: what lies under the lock, a gate and the keeper of its history, whose records are the same;
 //! - `entrance`: where passes are issued, an [`Issuer`](gx_door::Issuer);
 //! - `permit`: what passes are issued for, each with a part of a ledger, and how many lines were issued;
-//! - `ticket`: a pass, and how many records were added with it;
+//! - `counted_pass`: a pass, and how many records were added with it;
 //! - `counting`: the keeper, and the books in which each record and each line is counted;
 //! - `steps`: each step is one call of the gate, and the keeper notes its record before the lock is let go;
 //! - `looking`: a summary follows the records, and a viewer is shown what is his: no step is made;
@@ -25,6 +25,7 @@
 //! - `rest`: what the journal lacks at the end of the day, taken from the closed gate.
 #![tactic(auto)]
 
+mod counted_pass;
 mod counting;
 mod ending;
 mod entrance;
@@ -38,11 +39,10 @@ mod resuming;
 mod serving;
 mod shared;
 mod steps;
-mod ticket;
 
+pub use counted_pass::CountedPass;
 pub use entrance::Entrance;
 pub use keeping::{Kept, close_kept, serve_journaled};
 pub use permit::{BlankLedgers, Permits};
 pub use serving::{Served, serve};
 pub use shared::SharedGate;
-pub use ticket::Ticket;

@@ -3,7 +3,7 @@
 ghost use Rattle.std.specs.{Prelude.{◌≡◌, ◌+◌, ◌<◌, ◌≤◌, ◌^◌, drop, length, take, None, IsTrue, IsFalse}, Io.KnownBytes.Appends};
 ghost use Rattle.gx_journal.specs.Journals.{is_broken, journal_bytes};
 
-use gx_answers::AccessGate;
+use gx_access_gate::AccessGate;
 use gx_devices::WriteFault;
 use gx_journal::JournalWriter;
 use std::io::Write;

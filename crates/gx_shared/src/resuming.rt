@@ -4,7 +4,7 @@ ghost use Rattle.std.specs.Prelude.{◌≡◌, ◌+◌, ◌<◌, ◌^◌, ◌++�
 ghost use Rattle.gx_pass.specs.Views.{highest_line};
 ghost use Rattle.gx_shared.specs.Lines.{lines_to, IsResuming};
 
-use gx_answers::AccessGate;
+use gx_access_gate::AccessGate;
 use gx_history::record::{Record, RecordData};
 use gx_pass::{Blank, GateName, Keeper, PassFault, line_in};
 use gx_units::OutOfMemory;
@@ -45,7 +45,7 @@ fn hold_up_to<N: GateName>(keeper: &mut Keeper<N>, line: u16) -> Result<(), OutO
 }
 
 /// Notes a record that was there before.
-#[tactic(auto, using(crate::proofs::Lines_noted::may_note, crate::proofs::Lines_noted::highest_more))]
+#[tactic(auto, using(crate::proofs::Lines_noted::may_note, gx_pass::proofs::HighestLine_next::highest_more))]
 fn note_one<N: GateName>(keeper: &mut Keeper<N>, earlier: RecordData) -> Result<(), OutOfMemory>
     requires stands { IsResuming keeper.old }
     requires room { length keeper.old.list + 1 < 2 ^ 64 }

@@ -4,11 +4,11 @@ ghost use Rattle.std.specs.Prelude.{◌≡◌, length, IfOk};
 ghost use Rattle.gx_history.specs.Verdicts.{IsLegal};
 ghost use Rattle.gx_shared.specs.Permits.{all_parts};
 
+use crate::counted_pass::CountedPass;
 use crate::entrance::Entrance;
 use crate::logging::day_log;
 use crate::permit::BlankLedgers;
 use crate::shared::SharedGate;
-use crate::ticket::Ticket;
 use gx_control::ServerControl;
 use gx_listen::{Ending, PagePort, ServeFault, serve_door};
 use gx_pass::{Blank, GateName};
@@ -45,7 +45,7 @@ fn serve_shared<
     page: Option<PagePort>,
     listener: TcpListener,
     connections: u64,
-) -> Result<(Served<G>, Ticket<N>, Total<N>), ServeFault>
+) -> Result<(Served<G>, CountedPass<N>, Total<N>), ServeFault>
     requires policy { policy.now ≡ N.policy }
     requires blank { blank ≡ N.table }
     requires records { ledgers.records ≡ N.name }

@@ -6,7 +6,7 @@ ghost use Rattle.gx_units.specs.Spelling.{folded_user};
 ghost use Rattle.gx_history.specs.declared.record.Request.TheVariants as requests;
 ghost use Rattle.gx_history.specs.{InForce.line_of, Showing.has_its_first, Verdicts.IsLegal};
 ghost use Rattle.gx_policy.specs.Lists.{slice};
-ghost use Rattle.gx_answers.specs.{Gates.{left_by, matched_by}, Matches.matching_of};
+ghost use Rattle.gx_access_gate.specs.{Gates.{left_by, matched_by}, Matches.matching_of};
 ghost use Rattle.gx_pass.specs.declared.pass.PassFault.TheVariants as pass_faults;
 ghost use Rattle.gx_pass.specs.Views.{highest_line, mine, of_line};
 ghost use Rattle.gx_door.specs.declared.fault.PullFault.TheVariants as pull_faults;
@@ -14,10 +14,10 @@ ghost use Rattle.gx_door.specs.{Acts.{asked_on, gate_met, login_on, AddsOwn, End
 ghost use Rattle.gx_board.specs.{Summaries.IsBehind, Views.IsView};
 ghost use Rattle.gx_shared.specs.Permits.{all_parts};
 
+use crate::counted_pass::CountedPass;
 use crate::guarded_gate::GuardedGate;
 use crate::permit::{BlankLedgers, Permits};
-use crate::ticket::Ticket;
-use gx_answers::{AccessGate, LoginAnswer, Outcome, Pulled, StepFault};
+use gx_access_gate::{AccessGate, LoginAnswer, Outcome, Pulled, StepFault};
 use gx_board::{Summary, View};
 use gx_door::{Caller, Dial, Door, Matched, PullFault, Turned};
 use gx_history::record::{Record, Request};
@@ -90,7 +90,7 @@ impl<G: AccessGate, N: GateName> SharedGate<G, N> {
         gate: G,
         blank: Blank,
         ledgers: BlankLedgers,
-    ) -> Result<(SharedGate<G, N>, Permits<N>, Ticket<N>), PassFault>
+    ) -> Result<(SharedGate<G, N>, Permits<N>, CountedPass<N>), PassFault>
         requires policy { (G.seen gate).policy ≡ N.policy }
         requires blank { blank ≡ N.table }
         requires records { ledgers.records ≡ N.name }
@@ -138,7 +138,7 @@ impl<G: AccessGate, N: GateName> SharedGate<G, N> {
         &self,
         rt: &R,
         permits: &mut Permits<N>,
-    ) -> Result<Ticket<N>, PassFault>
+    ) -> Result<CountedPass<N>, PassFault>
         ensures legal { IfOk result (λ p. IsLegal N.policy p.held.front) }
         ensures own { IfOk result (λ p. mine p.held ≡ []) }
         ensures adds_none { IfOk result (λ p. p.added ≡ 0) }
@@ -155,7 +155,7 @@ impl<G: AccessGate, N: GateName> SharedGate<G, N> {
 
     /// The gate, the pass, which has met all its records, and how many these are. It has all that the pass had met, and of
     /// the pass's line its own records.
-    pub fn close(self, pass: Ticket<N>) -> (G, Ticket<N>, Total<N>)
+    pub fn close(self, pass: CountedPass<N>) -> (G, CountedPass<N>, Total<N>)
         ensures policy { (G.seen result.0).policy ≡ N.policy }
         ensures legal { IsLegal N.policy (G.seen result.0).records }
         ensures front { IsPrefix pass.held.front (G.seen result.0).records }
@@ -166,9 +166,9 @@ impl<G: AccessGate, N: GateName> SharedGate<G, N> {
         ensures total { result.2.amount ≡ length (G.seen result.0).records }
     {
         let SharedGate { guarded } = self;
-        let Ticket { pass, share } = pass;
+        let CountedPass { pass, share } = pass;
         let (gate, pass, total) = guarded.into_inner().close(pass);
-        (gate, Ticket { pass, share }, total)
+        (gate, CountedPass { pass, share }, total)
     }
 
     /// The gate, where no pass is at hand. If all permits are left, so that none was issued, it has as many records as are
@@ -191,7 +191,7 @@ impl<G: AccessGate, N: GateName> SharedGate<G, N> {
 }
 
 impl<G: ShowsState, N: GateName> Door for SharedGate<G, N> {
-    type Ticket = Ticket<N>;
+    type Pass = CountedPass<N>;
 
     ghost policy = { N.policy };
 
@@ -199,7 +199,7 @@ impl<G: ShowsState, N: GateName> Door for SharedGate<G, N> {
 
     ghost added = { λ p. p.added };
 
-    fn line_of(&self, pass: &Ticket<N>) -> u16 {
+    fn line_of(&self, pass: &CountedPass<N>) -> u16 {
         pass.line()
     }
 
@@ -210,135 +210,140 @@ impl<G: ShowsState, N: GateName> Door for SharedGate<G, N> {
     fn login<R: Wait + Dial>(
         &self,
         rt: &R,
-        pass: Ticket<N>,
+        pass: CountedPass<N>,
         user: UserName,
         password: Password,
         session: SessionName,
         wanted: u64,
         moment: Moment,
-    ) -> (Ticket<N>, Result<LoginAnswer, StepFault>) {
-        let Ticket { pass, mut share } = pass;
+    ) -> (CountedPass<N>, Result<LoginAnswer, StepFault>) {
+        let CountedPass { pass, mut share } = pass;
         let (pass, result) = self
             .guarded(rt)
             .login(pass, &mut share, user, password, session, wanted, moment);
-        (Ticket { pass, share }, result)
+        (CountedPass { pass, share }, result)
     }
 
     fn act<R: Wait + Dial>(
         &self,
         rt: &R,
-        pass: Ticket<N>,
+        pass: CountedPass<N>,
         user: UserName,
         request: Request,
         moment: Moment,
-    ) -> (Ticket<N>, Result<Outcome, StepFault>) {
-        let Ticket { pass, mut share } = pass;
+    ) -> (CountedPass<N>, Result<Outcome, StepFault>) {
+        let CountedPass { pass, mut share } = pass;
         let (pass, result) = self
             .guarded(rt)
-            .act(pass, &mut share, user, request, moment);
-        (Ticket { pass, share }, result)
+            .act_with_pass(pass, &mut share, user, request, moment);
+        (CountedPass { pass, share }, result)
     }
 
     fn match_one<R: Wait + Dial>(
         &self,
         rt: &R,
-        pass: Ticket<N>,
+        pass: CountedPass<N>,
         moment: Moment,
-    ) -> (Ticket<N>, Result<Option<Outcome>, StepFault>) {
-        let Ticket { pass, mut share } = pass;
+    ) -> (CountedPass<N>, Result<Option<Outcome>, StepFault>) {
+        let CountedPass { pass, mut share } = pass;
         let (pass, result) = self.guarded(rt).match_one(pass, &mut share, moment);
-        (Ticket { pass, share }, result)
+        (CountedPass { pass, share }, result)
     }
 
     fn match_some<R: Wait + Dial>(
         &self,
         rt: &R,
-        pass: Ticket<N>,
+        pass: CountedPass<N>,
         moment: Moment,
         most: u64,
-    ) -> (Ticket<N>, Matched) {
-        let Ticket { pass, mut share } = pass;
+    ) -> (CountedPass<N>, Matched) {
+        let CountedPass { pass, mut share } = pass;
         let (pass, matched) = self.guarded(rt).match_some(pass, &mut share, moment, most);
-        (Ticket { pass, share }, matched)
+        (CountedPass { pass, share }, matched)
     }
 
     fn turn<R: Wait + Dial>(
         &self,
         rt: &R,
-        pass: Ticket<N>,
+        pass: CountedPass<N>,
         user: UserName,
         request: Request,
         moment: Moment,
         most: u64,
-    ) -> (Ticket<N>, Result<Turned, StepFault>) {
-        let Ticket { pass, mut share } = pass;
+    ) -> (CountedPass<N>, Result<Turned, StepFault>) {
+        let CountedPass { pass, mut share } = pass;
         let (pass, result) = self
             .guarded(rt)
             .turn(pass, &mut share, user, request, moment, most);
-        (Ticket { pass, share }, result)
+        (CountedPass { pass, share }, result)
     }
 
     fn pull<R: Wait>(
         &self,
         rt: &R,
-        pass: Ticket<N>,
+        pass: CountedPass<N>,
         user: UserName,
         from: u64,
         most: u64,
-    ) -> (Ticket<N>, Result<Pulled, PullFault>) {
-        let Ticket { pass, share } = pass;
+    ) -> (CountedPass<N>, Result<Pulled, PullFault>) {
+        let CountedPass { pass, share } = pass;
         let (pass, result) = self.guarded(rt).pull(pass, user, from, most);
-        (Ticket { pass, share }, result)
+        (CountedPass { pass, share }, result)
     }
 
     fn logout<R: Wait + Dial>(
         &self,
         rt: &R,
-        pass: Ticket<N>,
+        pass: CountedPass<N>,
         user: UserName,
         moment: Moment,
-    ) -> (Ticket<N>, Result<Outcome, StepFault>) {
+    ) -> (CountedPass<N>, Result<Outcome, StepFault>) {
         self.act(rt, pass, user, Request::Logout, moment)
     }
 
     fn records<R: Wait>(
         &self,
         rt: &R,
-        pass: Ticket<N>,
+        pass: CountedPass<N>,
         from: u64,
         most: u64,
-    ) -> (Ticket<N>, Result<Vec<Record>, OutOfMemory>) {
-        let Ticket { pass, share } = pass;
+    ) -> (CountedPass<N>, Result<Vec<Record>, OutOfMemory>) {
+        let CountedPass { pass, share } = pass;
         let (pass, result) = self.guarded(rt).records(pass, from, most);
-        (Ticket { pass, share }, result)
+        (CountedPass { pass, share }, result)
     }
 
     fn keep<R: Wait>(&self, _rt: &R) -> bool {
         true
     }
 
-    fn meet<R: Wait>(&self, rt: &R, one: Ticket<N>, other: Ticket<N>) -> (Ticket<N>, Ticket<N>) {
-        let Ticket { pass, share } = one;
-        let Ticket {
+    fn meet<R: Wait>(
+        &self,
+        rt: &R,
+        one: CountedPass<N>,
+        other: CountedPass<N>,
+    ) -> (CountedPass<N>, CountedPass<N>) {
+        let CountedPass { pass, share } = one;
+        let CountedPass {
             pass: other,
             share: others,
         } = other;
         let (pass, other) = self.guarded(rt).meet(pass, other);
-        let first = Ticket { pass, share };
-        let second = Ticket {
+        let first = CountedPass { pass, share };
+        let second = CountedPass {
             pass: other,
             share: others,
         };
         (first, second)
     }
 
-    fn length(&self, pass: &mut Ticket<N>) -> u64 {
+    fn length(&self, pass: &mut CountedPass<N>) -> u64 {
         pass.length()
     }
 }
 
 impl<G: ShowsRecords + ShowsState, N: GateName> Lookout for SharedGate<G, N> {
-    type Pass = Ticket<N>;
+    type Pass = CountedPass<N>;
 
     ghost policy = { N.policy };
 
@@ -348,13 +353,13 @@ impl<G: ShowsRecords + ShowsState, N: GateName> Lookout for SharedGate<G, N> {
         &self,
         rt: &R,
         alloc: Global,
-        pass: Ticket<N>,
+        pass: CountedPass<N>,
         summary: &mut Summary,
         viewer: UserName,
         most: usize,
-    ) -> (Ticket<N>, Result<Option<View>, OutOfMemory>) {
-        let Ticket { pass, share } = pass;
+    ) -> (CountedPass<N>, Result<Option<View>, OutOfMemory>) {
+        let CountedPass { pass, share } = pass;
         let (pass, found) = self.guarded(rt).look(alloc, pass, summary, viewer, most);
-        (Ticket { pass, share }, found)
+        (CountedPass { pass, share }, found)
     }
 }

@@ -3,14 +3,14 @@
 ghost use Rattle.std.specs.Prelude.{◌≡◌, ◌≢◌, ◌↔◌, ◌+◌, ◌<◌, length, IsTrue, IfErr, IfNone, IfOk, IfSome, OnErr, OnOk, Some, None, is_some};
 ghost use Rattle.gx_units.specs.Spelling.{folded_user};
 ghost use Rattle.gx_history.specs.{InForce.line_of, Showing.{has_its_first, is_askable}, Verdicts.IsLegal};
-ghost use Rattle.gx_answers.specs.{Matches.{matching_of, with_match}, Gates.left_by, Steps.{next_of, with_record}};
-ghost use Rattle.gx_pass.specs.{Rules.Has, Views.{holds, keeps, without}};
+ghost use Rattle.gx_access_gate.specs.{Matches.{matching_of, with_match}, Gates.left_by, Steps.{next_of, with_record}};
+ghost use Rattle.gx_pass.specs.{Rules.Has, Views.{line_view, keeper_view, without_line}};
 ghost use Rattle.gx_door.specs.declared.fault.PullFault.TheVariants as pull_faults;
 ghost use Rattle.gx_door.specs.{Acts.{asked_on, IsPulled, IsToldFull, MayBeRefused}, Endings.{ended_by, sums_of}, Matching.{AddsMatches, EndsSo}};
 
 use crate::counting::CountingKeeper;
 use crate::ending::{ends_of, if_granted};
-use gx_answers::{AccessGate, Outcome, Pulled, StepFault, record_of, record_of_match};
+use gx_access_gate::{AccessGate, Outcome, Pulled, StepFault, record_of, record_of_match};
 use gx_door::{MatchEnd, Matched, PullFault, Turned};
 use gx_history::record::{Asked, Request};
 use gx_pass::{Entered, GateName, Pass};
@@ -40,7 +40,7 @@ pub fn asked_on(line: u16, user: UserName, request: Request, handed: Moment) -> 
 ///
 /// A granted Kill or Logout is never refused.
 #[tactic(auto, using(crate::proofs::Refused_call::is_no_granted_end, crate::proofs::Refused_call::is_told_full))]
-pub fn step<G: AccessGate, N: GateName>(
+pub fn step_and_note<G: AccessGate, N: GateName>(
     gate: &mut G,
     keeper: &mut CountingKeeper<N>,
     share: &mut Share<N>,
@@ -58,7 +58,7 @@ pub fn step<G: AccessGate, N: GateName>(
     ensures never_refused { OnErr result (MayBeRefused (G.seen gate.new) asked) }
     ensures full { IfErr result (IsToldFull (G.seen gate.new)) }
     ensures keeper { keeper.new
-        ≡ keeps (G.seen gate.new).records keeper.old.hand keeper.old.issued }
+        ≡ keeper_view (G.seen gate.new).records keeper.old.hand keeper.old.issued }
     ensures adds_one { OnOk result (share.new.amount ≡ share.old.amount + 1) }
     ensures adds_none { OnErr result (share.new.amount ≡ share.old.amount) }
     ensures parts { share.new.parts ≡ share.old.parts }
@@ -72,7 +72,7 @@ pub fn step<G: AccessGate, N: GateName>(
 
 /// Makes a matching step, if an order waits. The keeper notes the record, if there is one, and it is counted in the share.
 #[tactic(auto, using(crate::proofs::Match_idle::none_is_next))]
-pub fn match_one<G: AccessGate, N: GateName>(
+pub fn match_and_note<G: AccessGate, N: GateName>(
     gate: &mut G,
     keeper: &mut CountingKeeper<N>,
     share: &mut Share<N>,
@@ -88,7 +88,7 @@ pub fn match_one<G: AccessGate, N: GateName>(
     ensures refused { OnErr result (G.seen gate.new ≡ G.seen gate.old) }
     ensures full { IfErr result (IsToldFull (G.seen gate.new)) }
     ensures keeper { keeper.new
-        ≡ keeps (G.seen gate.new).records keeper.old.hand keeper.old.issued }
+        ≡ keeper_view (G.seen gate.new).records keeper.old.hand keeper.old.issued }
     ensures adds_one { IfOk result (λ found. IfSome found (λ _.
         share.new.amount ≡ share.old.amount + 1)) }
     ensures adds_none_idle { IfOk result (λ found. IfNone found
@@ -122,13 +122,13 @@ pub fn match_some<G: AccessGate, N: GateName>(
         (G.seen gate.old).records (G.seen gate.new).records }
     ensures ended { EndsSo result.end (G.seen gate.new) result.made most }
     ensures keeper { keeper.new
-        ≡ keeps (G.seen gate.new).records keeper.old.hand keeper.old.issued }
+        ≡ keeper_view (G.seen gate.new).records keeper.old.hand keeper.old.issued }
     ensures adds { share.new.amount ≡ share.old.amount + result.made }
     ensures parts { share.new.parts ≡ share.old.parts }
 {
     let mut made = 0;
     while made < most {
-        match match_one(gate, keeper, share, handed) {
+        match match_and_note(gate, keeper, share, handed) {
             Ok(Some(_)) => made += 1,
             Ok(None) => return Matched {
                 made,
@@ -172,14 +172,14 @@ pub fn turn<G: ShowsState, N: GateName>(
     ensures never_refused { OnErr result (MayBeRefused (G.seen gate.new) asked) }
     ensures full { IfErr result (IsToldFull (G.seen gate.new)) }
     ensures keeper { keeper.new
-        ≡ keeps (G.seen gate.new).records keeper.old.hand keeper.old.issued }
+        ≡ keeper_view (G.seen gate.new).records keeper.old.hand keeper.old.issued }
     ensures adds { IfOk result (λ t.
         share.new.amount ≡ share.old.amount + 1 + t.matched.made) }
     ensures adds_none { OnErr result (share.new.amount ≡ share.old.amount) }
     ensures parts { share.new.parts ≡ share.old.parts }
 {
     let ends = ends_of(gate, &asked);
-    let outcome = step(gate, keeper, share, asked)?;
+    let outcome = step_and_note(gate, keeper, share, asked)?;
     let ended = if_granted(ends, &outcome.verdict);
     let matched = match_some(gate, keeper, share, asked.handed, most);
     Ok(Turned {
@@ -217,10 +217,10 @@ pub fn leave<G: AccessGate, N: GateName>(
     requires hand { Has keeper.old.hand entered }
     requires history { keeper.old.list ≡ (G.seen gate.now).records }
     ensures pass { result
-        ≡ holds entered (G.seen gate.now).records (length (G.seen gate.now).records) }
+        ≡ line_view entered (G.seen gate.now).records (length (G.seen gate.now).records) }
     ensures legal { IsLegal (G.seen gate.now).policy (G.seen gate.now).records }
     ensures keeper { keeper.new
-        ≡ keeps (G.seen gate.now).records (without entered keeper.old.hand) keeper.old.issued }
+        ≡ keeper_view (G.seen gate.now).records (without_line entered keeper.old.hand) keeper.old.issued }
 {
     gate.is_legal();
     keeper.leave(entered)

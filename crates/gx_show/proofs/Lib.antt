@@ -1,4 +1,4 @@
-pub mod KnownNext
-pub mod ChosenNext
-pub mod Finding
-pub mod Pieces
+pub mod KnownOrders_next
+pub mod ChosenRecords_next
+pub mod FoundOrders_next
+pub mod Audit_walk

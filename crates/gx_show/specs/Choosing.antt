@@ -4,7 +4,7 @@ use Rattle.gx_units.specs.{declared.names.{AccountName.AccountName, RuleId.RuleI
 use Rattle.gx_desk.specs.declared.Action.{Action}
 use Rattle.gx_policy.specs.{declared.policy.{FileRule.FileRule, PolicyData.PolicyData}, Lists.{each_with_earlier, where_true}, People.{account_of, covers, rule_in}, RuleNames.rule_id}
 use Rattle.gx_history.specs.{declared.record.{Asked.Asked, RecordData.RecordData, Request.Request, Verdict.Verdict}, Requests.{action_of, asked_of, named_token}}
-use Rattle.gx_show.specs.{declared.{choice.{Choice.Choice, OrderLife.OrderLife}, known_order.KnownOrder.KnownOrder}, Known.{has_number, known_orders, order_made, known_numbered, under}}
+use Rattle.gx_show.specs.{declared.{choice.{Choice.Choice, OrderLife.OrderLife}, known_order.KnownOrder.KnownOrder}, Known.{has_number, known_orders, order_made, known_numbered, known_order_under}}
 
 -- there is an order, and it passes the test
 abbrev pub is_such : (KnownOrder → Bool) → Option KnownOrder → Bool
@@ -12,7 +12,7 @@ is_such test order = option_map_or test order false
 
 -- the order that a Replace or a Cancel names
 abbrev pub order_named : List KnownOrder → RecordData → Option KnownOrder
-order_named known r = option_and_then (λ (a : Asked). option_and_then (under known a.user) (named_token a.request)) (asked_of r.step)
+order_named known r = option_and_then (λ (a : Asked). option_and_then (known_order_under known a.user) (named_token a.request)) (asked_of r.step)
 
 -- an order that was matched passes the test: of a fill either side
 abbrev pub is_matched : List KnownOrder → (KnownOrder → Bool) → Verdict → Bool
@@ -127,5 +127,5 @@ abbrev pub is_chosen : PolicyData → Choice → List RecordData → RecordData 
 is_chosen policy choice earlier r = is_asked_for policy choice (known_orders policy earlier) r
 
 -- the chosen records of a day, in their order
-unfoldable pub chosen : PolicyData → Choice → List RecordData → List RecordData
-chosen policy choice records = filter_map (λ (entry : List RecordData × RecordData). where_true (is_chosen policy choice entry.0 entry.1) entry.1) (each_with_earlier records)
+unfoldable pub records_chosen : PolicyData → Choice → List RecordData → List RecordData
+records_chosen policy choice records = filter_map (λ (entry : List RecordData × RecordData). where_true (is_chosen policy choice entry.0 entry.1) entry.1) (each_with_earlier records)

@@ -26,8 +26,8 @@ abbrev pub known_numbered : List KnownOrder → ℕ → Option KnownOrder
 known_numbered known number = find (has_number number) known
 
 -- the last order of the user under the token
-abbrev pub under : List KnownOrder → UserName → Token → Option KnownOrder
-under known user token = last_such (is_under user token) known
+abbrev pub known_order_under : List KnownOrder → UserName → Token → Option KnownOrder
+known_order_under known user token = last_such (is_under user token) known
 
 -- the order that a granted request makes, where these were made before
 abbrev pub made_by : PolicyData → List KnownOrder → ℕ → UserName → Request → Option KnownOrder
@@ -35,7 +35,7 @@ made_by policy known number user (Request.Enter m) =
     option_map (λ (account : AccountName). record { number = number; user = user; account = account; token = m.token; stock = m.stock }) (account_of policy user)
 made_by policy known number user (Request.Replace m) =
     option_map (λ (o : KnownOrder). record { number = number; user = o.user; account = o.account; token = m.replacement_token; stock = o.stock })
-    (under known user m.existing_token)
+    (known_order_under known user m.existing_token)
 made_by policy known number user other = None
 
 -- the order that the record makes

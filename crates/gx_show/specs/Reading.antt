@@ -3,7 +3,7 @@ use Rattle.std.specs.{Prelude.{◌≡◌, ℕ, ◌+◌, ◌<◌, ◌≤◌, List
 use Rattle.gx_policy.specs.declared.policy.PolicyData.{PolicyData}
 use Rattle.gx_history.specs.declared.record.RecordData.{RecordData}
 use Rattle.gx_audit_bytes.specs.{declared.version.AuditVersion.AuditVersion, Audits.{all_bytes, record_size}, Reading.record_of, Records.record_bytes, Versions.version_of}
-use Rattle.gx_show.specs.{declared.choice.Choice.Choice, Choosing.chosen}
+use Rattle.gx_show.specs.{declared.choice.Choice.Choice, Choosing.records_chosen}
 
 -- how many bytes stand in front of the records: a header's, where there is one
 abbrev pub front_size : AuditVersion → ℕ
@@ -35,4 +35,4 @@ pub record IsRead (audit : List ℕ) (records : List RecordData) (bad : Option �
 pub record IsFound (policy : PolicyData) (choice : Choice) (audit : List ℕ) (found : List RecordData) (bad : Option ℕ) : Type 0 where
   pub records : List RecordData
   pub read : IsRead audit records bad
-  pub found_are : found ≡ chosen policy choice records
+  pub found_are : found ≡ records_chosen policy choice records

@@ -2,7 +2,7 @@
 use Rattle.std.specs.{Prelude.{◌≡◌, ℕ, ◌&&◌, List, nat_eq, Bool, Some, if◌then◌else◌}, Option.option_or, Map.lookup}
 use Rattle.gx_units.specs.{declared.names.{Token.Token, UserName.UserName}, Names.{same_user, same_token}}
 use Rattle.gx_history.specs.{declared.live_order.UserToken.UserToken, LiveOrders.key}
-use Rattle.gx_show.specs.{declared.known_order.KnownOrder.KnownOrder, Known.{has_number, is_under, known_numbered, under}}
+use Rattle.gx_show.specs.{declared.known_order.KnownOrder.KnownOrder, Known.{has_number, is_under, known_numbered, known_order_under}}
 use Rattle.gx_policy.specs.Lists.{where_true}
 
 -- two tokens of users are the same
@@ -12,7 +12,7 @@ same_user_token a b = same_user a.user b.user && same_token a.token b.token
 -- each order that is looked for is found, by its number and by its token
 pub record AreFound (known : List KnownOrder) (by_number : List (ℕ × KnownOrder)) (by_token : List (UserToken × KnownOrder)) : Type 0 where
   pub numbers : (number : ℕ) → lookup (nat_eq number) by_number ≡ known_numbered known number
-  pub tokens : (user : UserName) (token : Token) → lookup (same_user_token (key user token)) by_token ≡ under known user token
+  pub tokens : (user : UserName) (token : Token) → lookup (same_user_token (key user token)) by_token ≡ known_order_under known user token
 
 -- the order is found by its number, unless another was; what is found by other numbers stays
 abbrev pub FindsNumber : KnownOrder → (before after : List (ℕ × KnownOrder)) → Type 0

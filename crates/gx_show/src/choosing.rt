@@ -1,7 +1,7 @@
 //! The records of a day that are asked for.
 
 ghost use Rattle.std.specs.Prelude.{◌≡◌, IfOk, OnOk, [], ◌∷◌, ◌++◌, option_to_list, if◌then◌else◌};
-ghost use Rattle.gx_show.specs.{Known.order_made, Choosing.{chosen, concerns_account, concerns_order, concerns_rule, concerns_stock, concerns_user, denies_by, is_asked_for, is_in_span, is_in_stock, is_of_account, is_wanted, trades_for}};
+ghost use Rattle.gx_show.specs.{Known.order_made, Choosing.{records_chosen, concerns_account, concerns_order, concerns_rule, concerns_stock, concerns_user, denies_by, is_asked_for, is_in_span, is_in_stock, is_of_account, is_wanted, trades_for}};
 
 use crate::choice::{Choice, OrderLife};
 use crate::commands::{action_of, acts_on, is_on_rule, lists};
@@ -261,7 +261,7 @@ pub fn chosen_records(
     choice: &Choice,
     records: &[Record],
 ) -> Result<Vec<Record>, OutOfMemory>
-    ensures { IfOk result (λ found. found.items ≡ chosen policy.now choice.now records.now) }
+    ensures { IfOk result (λ found. found.items ≡ records_chosen policy.now choice.now records.now) }
 {
     let mut known = KnownOrders::new(alloc);
     let mut found = Vec::new(alloc);

@@ -2,7 +2,7 @@
 
 ghost use Rattle.std.specs.Prelude.{◌≡◌, ◌<◌, [], ◌∷◌, ◌++◌, IsOk, OnOk, OnErr};
 ghost use Rattle.indexmap.specs.IndexMap.{spare};
-ghost use Rattle.gx_show.specs.{Known.{known_numbered, under}, Tables.{FindsNumber, FindsToken}};
+ghost use Rattle.gx_show.specs.{Known.{known_numbered, known_order_under}, Tables.{FindsNumber, FindsToken}};
 
 use crate::known_order::KnownOrder;
 use gx_history::live_order::UserToken;
@@ -54,7 +54,7 @@ impl KnownOrders {
 
     /// The user's last order under the token.
     pub fn under(&self, user: UserName, token: Token) -> Option<KnownOrder>
-        ensures { result ≡ under self.now user token }
+        ensures { result ≡ known_order_under self.now user token }
     {
         self.by_token.get(&UserToken { user, token }).copied()
     }

@@ -10,7 +10,7 @@ use gx_endings::endings::Ending;
 use gx_fields::{EndedOrders, csv_names, reason_of, reject_of};
 use gx_history::record::{Asked, Login, Record, RecordData, Request, Step, Unreadable, Verdict};
 use gx_policy::{Policy, RuleName};
-use gx_script::{ScriptLine, ScriptStep, append, append_number, outcome_line};
+use gx_script_text::{ScriptLine, ScriptStep, append, append_number, outcome_line};
 use gx_text::{Decimals, append_moment};
 use gx_units::{OutOfMemory, Password, unpadded};
 use std::alloc::Global;

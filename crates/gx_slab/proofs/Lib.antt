@@ -1,6 +1,6 @@
-pub mod Finding
-pub mod Going
-pub mod Waiting
-pub mod Putting
-pub mod Writing
-pub mod Sweeping
+pub mod Order_found
+pub mod Rows_walk
+pub mod Waiting_first
+pub mod Order_put
+pub mod Order_written
+pub mod EndedOrders_swept

@@ -33,8 +33,8 @@ abbrev pub first_waiting : List LiveOrder → Option LiveOrder
 first_waiting live = find (λ (o : LiveOrder). o.waits) live
 
 -- the live orders with this one in the place of the one of its number, if that lives; it is gone where nothing of it is open
-abbrev pub written : LiveOrder → List LiveOrder → List LiveOrder
-written o live = open_ones (map (λ (x : LiveOrder). if has_number o.number x then o else x) live)
+abbrev pub live_with : LiveOrder → List LiveOrder → List LiveOrder
+live_with o live = open_ones (map (λ (x : LiveOrder). if has_number o.number x then o else x) live)
 
 -- the order stands in the book: it waits no more
 abbrev pub at_rest : LiveOrder → LiveOrder

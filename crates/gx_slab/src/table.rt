@@ -1,7 +1,7 @@
 //! The table.
 
 ghost use Rattle.std.specs.{Option.option_map_or, Prelude.{◌≡◌, ◌<◌, ◌^◌, [], ◌∷◌, ◌++◌, length, None, option_copied, IsTrue, IfOk, OnOk, OnErr}};
-ghost use Rattle.gx_slab.specs.Slabs.{at_rest, first_waiting, is_open, live_numbered, numbered_of, order_of, written};
+ghost use Rattle.gx_slab.specs.Slabs.{at_rest, first_waiting, is_open, live_numbered, numbered_of, order_of, live_with};
 
 use crate::live::LiveOrders;
 use crate::places::{make_room, order_of, place_of, thin_out};
@@ -132,7 +132,7 @@ impl Table {
     /// It takes no memory.
     #[inline(always)]
     pub fn write(&mut self, order: LiveOrder)
-        ensures { self.new ≡ written order self.old }
+        ensures { self.new ≡ live_with order self.old }
     {
         let Some(place) = place_of(&self.places, &self.rows, order.number) else {
             return;
@@ -145,7 +145,7 @@ impl Table {
 
     /// The live order of this number waits no more. Nothing changes where none has the number. It takes no memory.
     pub fn rest(&mut self, number: u64)
-        ensures { self.new ≡ option_map_or (λ o. written (at_rest o) self.old)
+        ensures { self.new ≡ option_map_or (λ o. live_with (at_rest o) self.old)
             (live_numbered self.old number) self.old }
     {
         let Some(place) = place_of(&self.places, &self.rows, number) else {

@@ -1,6 +1,6 @@
-pub mod Soup
-pub mod Steps
-pub mod Numbers
-pub mod Written
-pub mod Bounds
-pub mod PacketLaws
+pub mod Packets_next
+pub mod Feeder_call
+pub mod Number_read
+pub mod Packet_read
+pub mod Rest_bounds
+pub mod Packets_laws

@@ -139,13 +139,13 @@ EndedAndAnswerAreTold = (policy : PolicyData) (before after : List RecordData) (
     → stream policy after user ≡ stream policy before user ++ map (report_of r) (ended_of (live policy before) action user ++ to_user officer user answers))
     → TellsAll policy before after r (end_messages (live policy before) action ++ map (λ (m : Message). (officer, m)) answers)
 
--- where what is shown is what was told, and one message is told to one user: so it is once that is put in his kept place
+-- where what is shown is what was told, and one message is told to one user: so it is once that is put in his reserved place
 abbrev pub StaysToldByOne : Type 0
 StaysToldByOne = (policy : PolicyData) (before after : List RecordData) (r : RecordData) (streams : AllStreams) (receiver : UserName) (message : Message)
     → shown_streams streams ≡ reports_after policy before → TellsOne policy before after r receiver (message ∷ [])
     → shown_streams (on_list_of receiver (with_reserved_last (report_of r message)) streams) ≡ reports_after policy after
 
--- where messages are told to many: once each is put in its user's kept place, in turn
+-- where messages are told to many: once each is put in its user's reserved place, in turn
 abbrev pub StaysToldByAll : Type 0
 StaysToldByAll = (policy : PolicyData) (before after : List RecordData) (r : RecordData) (streams : AllStreams) (told : List (UserName × Message))
     → shown_streams streams ≡ reports_after policy before → TellsAll policy before after r told
@@ -164,32 +164,32 @@ UsersStay = (streams : AllStreams) (user : UserName) (change : ReservedList Repo
 -- a change of one user's list leaves the places of all others
 abbrev pub OthersKeepPlaces : Type 0
 OthersKeepPlaces = (streams : AllStreams) (user : UserName) (change : ReservedList Report → ReservedList Report) (other : UserName)
-    → IsFalse (same_user user other) → reserved_in (on_list_of user change streams).told other ≡ reserved_in streams.told other
+    → IsFalse (same_user user other) → reserved_in (on_list_of user change streams).lists other ≡ reserved_in streams.lists other
 
 -- a report in a place of its own takes none
 abbrev pub NoPlaceIsTaken : Type 0
 NoPlaceIsTaken = (streams : AllStreams) (user : UserName) (report : Report) (other : UserName)
-    → reserved_in (on_list_of user (with_last report) streams).told other ≡ reserved_in streams.told other
+    → reserved_in (on_list_of user (with_last report) streams).lists other ≡ reserved_in streams.lists other
 
--- a report in a kept place takes one of its user
+-- a report in a reserved place takes one of its user
 abbrev pub OnePlaceIsTaken : Type 0
 OnePlaceIsTaken = (streams : AllStreams) (user : UserName) (report : Report)
-    → reserved_in (on_list_of user (with_reserved_last report) streams).told user ≡ reserved_in streams.told user - 1
+    → reserved_in (on_list_of user (with_reserved_last report) streams).lists user ≡ reserved_in streams.lists user - 1
 
--- at least as many places are kept as were asked for
+-- at least as many places are reserved as were asked for
 abbrev pub PlacesAreKept : Type 0
 PlacesAreKept = (streams : AllStreams) (user : UserName) (places : ℕ)
-    → IsTrue (has_own_stream streams user) → reserved_in (on_list_of user (with_reserved places) streams).told user ≡ max (reserved_in streams.told user) places
+    → IsTrue (has_own_stream streams user) → reserved_in (on_list_of user (with_reserved places) streams).lists user ≡ max (reserved_in streams.lists user) places
 
 -- reports told in turn take as many places of each user as are for him
 abbrev pub OwedTakePlaces : Type 0
 OwedTakePlaces = (streams : AllStreams) (owed : List (UserName × Report)) (user : UserName)
-    → reserved_in (with_all_reports owed streams).told user ≡ reserved_in streams.told user - length (reports_to owed user)
+    → reserved_in (with_all_reports owed streams).lists user ≡ reserved_in streams.lists user - length (reports_to owed user)
 
 -- where a user has a place for each that is for him, there is one when its turn comes
 abbrev pub EachHasAPlace : Type 0
 EachHasAPlace = (streams : AllStreams) (before : List (UserName × Report)) (o : UserName × Report) (behind : List (UserName × Report))
-    → length (reports_to (before ++ o ∷ behind) o.0) ≤ reserved_in streams.told o.0 → 0 < reserved_in (with_all_reports before streams).told o.0
+    → length (reports_to (before ++ o ∷ behind) o.0) ≤ reserved_in streams.lists o.0 → 0 < reserved_in (with_all_reports before streams).lists o.0
 
 -- nobody whom the policy does not know is told anything
 abbrev pub OnlyKnownAreTold : Type 0

@@ -1,7 +1,7 @@
 -- Which reports the records tell: the Accepted of an order is its record once more, so that it is not kept twice.
 use Rattle.std.specs.Prelude.{◌≡◌, ℕ, ◌-◌, List, Option, Some, None, option_and_then, option_map, slice_get, unwrap_or}
 use Rattle.gx_units.specs.declared.names.{Firm.Firm, UserName.UserName}
-use Rattle.gx_ouch.specs.declared.{inbound.EnterOrder.EnterOrder, outbound.Outbound.Outbound}
+use Rattle.gx_ouch.specs.{Terms.entered_terms, declared.{inbound.EnterOrder.EnterOrder, outbound.Outbound.Outbound}}
 use Rattle.gx_policy.specs.{declared.policy.{Account.Account, PolicyData.PolicyData}, People.{account_named, account_of}}
 use Rattle.gx_history.specs.{declared.{«record».{Asked.Asked, RecordData.RecordData, Request.Request}, report.{Message.Message, Report.Report}}, Requests.asked_of}
 
@@ -24,19 +24,7 @@ accepted_from house number moment m = record {
   timestamp = moment;
   message = Message.Order (Outbound.Accepted (record {
     token = m.token;
-    terms = record {
-      side = m.side;
-      shares = m.shares;
-      stock = m.stock;
-      price = m.price;
-      time_in_force = m.time_in_force;
-      firm = unwrap_or house m.firm;
-      display = m.display;
-      capacity = m.capacity;
-      intermarket_sweep = m.intermarket_sweep;
-      minimum_quantity = m.minimum_quantity;
-      cross_type = m.cross_type;
-    };
+    terms = entered_terms m (unwrap_or house m.firm);
     order_reference = number;
   }));
 }

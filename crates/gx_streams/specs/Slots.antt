@@ -20,7 +20,7 @@ no_details = record { canceled = []; others = [] }
 -- such lists, and of how many more entries they can take what is long without memory
 pub record KeptDetails : Type 0 where
   pub lists : DetailLists
-  pub spare : ℕ
+  pub reserved : ℕ
 
 -- the Accepted
 abbrev pub accepted_report : AcceptedAt → Report
@@ -63,7 +63,7 @@ pub record Widens (before after : DetailLists) : Type 0 where
   pub there : (s : Slot) → IsThere before s → IsThere after s
   pub same : (s : Slot) → IsThere before s → entry_in after s ≡ entry_in before s
 
--- what each slot names is there, and there is room for the slots of those entries that places are kept for
+-- what each slot names is there, and there is room for the slots of those entries that places are reserved for
 pub record AreKept (kept : KeptDetails) (slots : List Slot) (used capacity : ℕ) : Type 0 where
   pub there : AllThere kept.lists slots
-  pub room : used + kept.spare ≤ capacity
+  pub room : used + kept.reserved ≤ capacity

@@ -18,12 +18,12 @@ next_of [] current = current
 next_of (s ∷ later) current = s
 
 -- the items from one place up to another
-abbrev pub between : {X : Type 0} → ℕ → ℕ → List X → List X
-between from until items = take (until - from) (drop from items)
+abbrev pub items_between : {X : Type 0} → ℕ → ℕ → List X → List X
+items_between from until items = take (until - from) (drop from items)
 
 -- the drop copies of a span, which ends where the next begins
 abbrev pub copies_before : List ReportedFill → Span → List Span → Span → List Report
-copies_before fills s later current = copies_of_all s.mask (between s.first_fill (next_of later current).first_fill fills)
+copies_before fills s later current = copies_of_all s.mask (items_between s.first_fill (next_of later current).first_fill fills)
 
 -- the drop copies of the earlier spans, and those of the current one
 abbrev pub copies_in : List ReportedFill → List Span → Span → List Report

@@ -1,4 +1,4 @@
--- Streams: the reports of each user, the places kept for more, and the mask in force of each reader.
+-- Streams: the reports of each user, the places reserved for more, and the mask in force of each reader.
 use Rattle.std.specs.{Prelude.{ℕ, Bool, ◌&&◌, not, is_some, List, [], ◌∷◌, ◌++◌, Option, Some, map, option_map, if◌then◌else◌}, Option.option_map_or, List.{find, flat_map}}
 use Rattle.gx_units.specs.{Names.same_user, declared.names.UserName.UserName}
 use Rattle.gx_policy.specs.{declared.policy.{PolicyData.PolicyData, User.User}, People.is_reader}
@@ -12,12 +12,12 @@ pub record ReaderMask : Type 0 where
 
 -- the lists of all users, and the masks of the readers among them
 pub record AllStreams : Type 0 where
-  pub told : List (UserList Report)
+  pub lists : List (UserList Report)
   pub readers : List ReaderMask
 
 -- the user's reports; none of a user who is not known
 abbrev pub reports_in : AllStreams → UserName → List Report
-reports_in streams user = items_in streams.told user
+reports_in streams user = items_in streams.lists user
 
 -- the mask of the reader of this name
 abbrev pub mask_in : List ReaderMask → UserName → Option ℕ
@@ -29,11 +29,11 @@ mask_of streams user = mask_in streams.readers user
 
 -- the user is known and no reader: reports are put into his stream one by one
 abbrev pub has_own_stream : AllStreams → UserName → Bool
-has_own_stream streams user = is_known streams.told user && not (is_some (mask_of streams user))
+has_own_stream streams user = is_known streams.lists user && not (is_some (mask_of streams user))
 
 -- one user's list changed, and all else as it was
 abbrev pub on_list_of : UserName → (ReservedList Report → ReservedList Report) → AllStreams → AllStreams
-on_list_of user change streams = record { told = on_user user change streams.told; readers = streams.readers }
+on_list_of user change streams = record { lists = on_user user change streams.lists; readers = streams.readers }
 
 -- what a fill tells a user: a reader the drop copies by his mask, any other the reports of his sides
 abbrev pub fill_reports : List ReaderMask → ReportedFill → UserName → List Report
@@ -41,11 +41,11 @@ fill_reports readers f user = option_map_or (λ (mask : ℕ). copies_of mask f) 
 
 -- a user's list with what the fill tells him last
 abbrev pub with_fill_reports : List ReaderMask → ReportedFill → UserList Report → UserList Report
-with_fill_reports readers f l = record { user = l.user; kept = record { items = l.kept.items ++ fill_reports readers f l.user; spare = l.kept.spare } }
+with_fill_reports readers f l = record { user = l.user; kept = record { items = l.kept.items ++ fill_reports readers f l.user; reserved = l.kept.reserved } }
 
 -- the fill told to each user
 abbrev pub with_fill : ReportedFill → AllStreams → AllStreams
-with_fill f streams = record { told = map (with_fill_reports streams.readers f) streams.told; readers = streams.readers }
+with_fill f streams = record { lists = map (with_fill_reports streams.readers f) streams.lists; readers = streams.readers }
 
 -- the reader gets the later fills of these accounts
 abbrev pub with_mask : ℕ → ReaderMask → ReaderMask
@@ -54,7 +54,7 @@ with_mask mask r = record { user = r.user; mask = mask }
 -- one reader gets the later fills of these accounts; no list changes
 abbrev pub with_reader_entitled : UserName → ℕ → AllStreams → AllStreams
 with_reader_entitled user mask streams = record {
-  told = streams.told;
+  lists = streams.lists;
   readers = at_first (λ (r : ReaderMask). same_user user r.user) (with_mask mask) streams.readers;
 }
 
@@ -64,4 +64,4 @@ no_mask u = if is_reader (Some u.role) then (record { user = u.name; mask = 0 })
 
 -- the policy's users, whom nothing was told, and its readers, who get nothing yet
 abbrev pub empty_streams : PolicyData → AllStreams
-empty_streams policy = record { told = empty_lists policy; readers = flat_map no_mask policy.users }
+empty_streams policy = record { lists = empty_lists policy; readers = flat_map no_mask policy.users }

@@ -29,11 +29,11 @@ IsThere count (StoredReport.Filled place party) = place < count
 
 -- the reports that entries stand for
 abbrev pub kept_reports : List ReportedFill → ReservedList StoredReport → ReservedList Report
-kept_reports fills kept = record { items = map (report_of fills) kept.items; spare = kept.spare }
+kept_reports fills kept = record { items = map (report_of fills) kept.items; reserved = kept.reserved }
 
--- the drop copies that a reader's spans stand for; no place is kept for him
+-- the drop copies that a reader's spans stand for; no place is reserved for him
 abbrev pub kept_copies : List ReportedFill → ReaderSpans → ReservedList Report
-kept_copies fills r = record { items = copies_in fills r.earlier r.current; spare = 0 }
+kept_copies fills r = record { items = copies_in fills r.earlier r.current; reserved = 0 }
 
 -- what a user was told: a reader his drop copies, any other what his entries stand for
 abbrev pub list_shown : List ReportedFill → List ReaderSpans → UserList StoredReport → UserList Report
@@ -45,7 +45,7 @@ reader_mask r = record { user = r.user; mask = r.current.mask }
 
 -- the streams that fills, entries and spans stand for
 abbrev pub streams_of : List ReportedFill → List (UserList StoredReport) → List ReaderSpans → AllStreams
-streams_of fills told readers = record { told = map (list_shown fills readers) told; readers = map reader_mask readers }
+streams_of fills lists readers = record { lists = map (list_shown fills readers) lists; readers = map reader_mask readers }
 
 -- each entry's fill is there; each reader's spans are sound, and he is one of the users, and has no entry
 pub record IsSoundTable (fills : List ReportedFill) (told : List (UserList StoredReport)) (readers : List ReaderSpans) : Type 0 where

@@ -18,7 +18,7 @@ shown_list l = record { user = l.user; reports = l.kept.items }
 
 -- the streams without the places
 unfoldable pub shown_streams : AllStreams → List UserReports
-shown_streams streams = map shown_list streams.told
+shown_streams streams = map shown_list streams.lists
 
 -- all that the records tell the user
 abbrev pub reports_of_user : PolicyData → List RecordData → User → UserReports

@@ -13,8 +13,8 @@ abbrev pub window : ℕ → ℕ → Taken
 window skip most = record { skip = skip; most = most; taken = [] }
 
 -- these passed by
-abbrev pub after : List Report → Taken → Taken
-after passed w = record { skip = w.skip - length passed; most = w.most; taken = w.taken ++ take (w.most - length w.taken) (drop w.skip passed) }
+abbrev pub taken_after : List Report → Taken → Taken
+taken_after passed w = record { skip = w.skip - length passed; most = w.most; taken = w.taken ++ take (w.most - length w.taken) (drop w.skip passed) }
 
 -- nothing that passes by is taken any more
 abbrev pub is_full : Taken → Bool

@@ -13,12 +13,12 @@ use gx_units::OutOfMemory;
 use std::alloc::Global;
 use std::marker::Model;
 
-/// What is long in a user's entries, each kind in their order, and places kept for more.
+/// What is long in a user's entries, each kind in their order, and places reserved for more.
 #[derive(Drop)]
 pub(crate) struct Details {
     canceled: Vec<CanceledAt>,
     others: Vec<Report>,
-    spare: usize,
+    reserved: usize,
 }
 
 impl Model for Details {
@@ -27,10 +27,10 @@ impl Model for Details {
 
     ghost Value = { KeptDetails };
 
-    ghost view = { λ l. record { lists = record { canceled = l.canceled.items; others = l.others.items }; spare = l.spare } };
+    ghost view = { λ l. record { lists = record { canceled = l.canceled.items; others = l.others.items }; reserved = l.reserved } };
 
-    ghost invariant = { λ l. (vec_len l.canceled + l.spare ≤ vec_capacity l.canceled)
-        × (vec_len l.others + l.spare ≤ vec_capacity l.others) };
+    ghost invariant = { λ l. (vec_len l.canceled + l.reserved ≤ vec_capacity l.canceled)
+        × (vec_len l.others + l.reserved ≤ vec_capacity l.others) };
 }
 
 /// Makes room for so many more items in a list without it: it becomes four times as long, so that its items are moved
@@ -67,64 +67,64 @@ pub(crate) fn make_room<T>(items: &mut Vec<T>, more: usize) -> Result<(), OutOfM
 }
 
 impl Details {
-    /// None, and no place kept, with room for those of so many entries.
+    /// None, and no place reserved, with room for those of so many entries.
     pub(crate) fn new(alloc: Global, room: usize) -> Result<Details, OutOfMemory>
         ensures lists { IfOk result (λ details. details.lists ≡ no_details) }
-        ensures spare { IfOk result (λ details. details.spare ≡ 0) }
+        ensures reserved { IfOk result (λ details. details.reserved ≡ 0) }
     {
         Ok(Details {
             canceled: Vec::with_capacity(alloc, room)?,
             others: Vec::with_capacity(alloc, room)?,
-            spare: 0,
+            reserved: 0,
         })
     }
 
     /// The entries that `put` has places for.
     #[inline(always)]
-    pub(crate) fn spare(&self) -> usize
-        ensures { result ≡ self.now.spare }
+    pub(crate) fn reserved(&self) -> usize
+        ensures { result ≡ self.now.reserved }
     {
-        self.spare
+        self.reserved
     }
 
-    /// Keeps places for those of so many entries.
+    /// Reserves places for those of so many entries.
     #[inline(always)]
     pub(crate) fn reserve(&mut self, places: usize) -> Result<(), OutOfMemory>
-        requires { self.old.spare ≤ places }
-        ensures ok { OnOk result (self.new ≡ record self.old { spare = places }) }
+        requires { self.old.reserved ≤ places }
+        ensures ok { OnOk result (self.new ≡ record self.old { reserved = places }) }
         ensures err { OnErr result (self.new ≡ self.old) }
     {
         make_room(&mut self.canceled, places)?;
         make_room(&mut self.others, places)?;
-        self.spare = places;
+        self.reserved = places;
         Ok(())
     }
 
     /// Notes the Accepted of the order of this number.
     #[inline(always)]
     fn put_accepted(&mut self, report: &Report, number: u64) -> Slot
-        requires room { 0 < self.old.spare }
+        requires room { 0 < self.old.reserved }
         requires accepted { reference_in report.now ≡ Some number }
         ensures kept { Widens self.old.lists self.new.lists }
-        ensures spare { self.new.spare + 1 ≡ self.old.spare }
+        ensures reserved { self.new.reserved + 1 ≡ self.old.reserved }
         ensures entry { entry_in self.new.lists result ≡ StoredReport.Typed report.now }
         ensures there { IsThere self.new.lists result }
     {
-        self.spare -= 1;
+        self.reserved -= 1;
         Slot::Accepted(AcceptedAt::of(report, number))
     }
 
     /// Puts the Canceled with this timestamp last.
     #[inline(always)]
     fn put_canceled(&mut self, canceled: CanceledAt) -> Slot
-        requires room { 0 < self.old.spare }
+        requires room { 0 < self.old.reserved }
         ensures kept { Widens self.old.lists self.new.lists }
-        ensures spare { self.new.spare + 1 ≡ self.old.spare }
+        ensures reserved { self.new.reserved + 1 ≡ self.old.reserved }
         ensures entry { entry_in self.new.lists result
             ≡ StoredReport.Typed (canceled_report canceled) }
         ensures there { IsThere self.new.lists result }
     {
-        self.spare -= 1;
+        self.reserved -= 1;
         let place = self.canceled.len();
         self.canceled.push_reserved(canceled);
         Slot::Canceled(place)
@@ -133,13 +133,13 @@ impl Details {
     /// Puts a report of another kind last.
     #[inline(always)]
     fn put_other(&mut self, report: Report) -> Slot
-        requires room { 0 < self.old.spare }
+        requires room { 0 < self.old.reserved }
         ensures kept { Widens self.old.lists self.new.lists }
-        ensures spare { self.new.spare + 1 ≡ self.old.spare }
+        ensures reserved { self.new.reserved + 1 ≡ self.old.reserved }
         ensures entry { entry_in self.new.lists result ≡ StoredReport.Typed report }
         ensures there { IsThere self.new.lists result }
     {
-        self.spare -= 1;
+        self.reserved -= 1;
         let place = self.others.len();
         self.others.push_reserved(report);
         Slot::Other(place)
@@ -148,13 +148,13 @@ impl Details {
     /// Names the side of a fill, which lies elsewhere.
     #[inline(always)]
     fn put_side(&mut self, place: usize, party: FillRole) -> Slot
-        requires room { 0 < self.old.spare }
+        requires room { 0 < self.old.reserved }
         ensures kept { Widens self.old.lists self.new.lists }
-        ensures spare { self.new.spare + 1 ≡ self.old.spare }
+        ensures reserved { self.new.reserved + 1 ≡ self.old.reserved }
         ensures entry { entry_in self.new.lists result ≡ StoredReport.Filled place party }
         ensures there { IsThere self.new.lists result }
     {
-        self.spare -= 1;
+        self.reserved -= 1;
         match party {
             FillRole::Taker => Slot::Taker(place),
             FillRole::Maker => Slot::Maker(place),
@@ -164,9 +164,9 @@ impl Details {
     /// Puts the report last in the list of its kind.
     #[inline(always)]
     fn put_report(&mut self, report: Report) -> Slot
-        requires room { 0 < self.old.spare }
+        requires room { 0 < self.old.reserved }
         ensures kept { Widens self.old.lists self.new.lists }
-        ensures spare { self.new.spare + 1 ≡ self.old.spare }
+        ensures reserved { self.new.reserved + 1 ≡ self.old.reserved }
         ensures entry { entry_in self.new.lists result ≡ StoredReport.Typed report }
         ensures there { IsThere self.new.lists result }
     {
@@ -185,9 +185,9 @@ impl Details {
     /// Puts what is long in the entry last, and names it by its place. What was there is named as before.
     #[inline(always)]
     pub(crate) fn put(&mut self, entry: StoredReport) -> Slot
-        requires room { 0 < self.old.spare }
+        requires room { 0 < self.old.reserved }
         ensures kept { Widens self.old.lists self.new.lists }
-        ensures spare { self.new.spare + 1 ≡ self.old.spare }
+        ensures reserved { self.new.reserved + 1 ≡ self.old.reserved }
         ensures entry { entry_in self.new.lists result ≡ entry }
         ensures there { IsThere self.new.lists result }
     {

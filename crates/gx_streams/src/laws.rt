@@ -43,7 +43,7 @@ pub fn owed_is_told()
     ensures answered { EndedAndAnswerAreTold }
 {}
 
-/// What a change of one user's list does to the places that are kept.
+/// What a change of one user's list does to the reserved places.
 pub fn places_are_taken()
     ensures users { UsersStay }
     ensures others { OthersKeepPlaces }

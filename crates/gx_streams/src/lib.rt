@@ -1,4 +1,4 @@
-//! What each user is told: his reports in order, with places kept for more, so that reports that
+//! What each user is told: his reports in order, with places reserved for more, so that reports that
 //! are owed can always be put there; and each fill once, for all who are told of it.
 #![tactic(auto)]
 

@@ -6,7 +6,7 @@ ghost use Rattle.gx_streams.specs.Recorded.{accepted_at, accepted_from, enter_of
 use gx_history::record::{Asked, Request};
 use gx_history::records::Records;
 use gx_history::report::{Message, Report};
-use gx_ouch::{Accepted, EnterOrder, OrderTerms, Outbound};
+use gx_ouch::{Accepted, EnterOrder, Outbound};
 use gx_units::{Firm, Moment};
 
 /// What the Accepted of a user's orders are read from.
@@ -27,19 +27,7 @@ fn accepted_from(house: Option<Firm>, number: u64, moment: Moment, m: &EnterOrde
         timestamp: moment,
         message: Message::Order(Outbound::Accepted(Accepted {
             token: m.token,
-            terms: OrderTerms {
-                side: m.side,
-                shares: m.shares,
-                stock: m.stock,
-                price: m.price,
-                time_in_force: m.time_in_force,
-                firm: house.unwrap_or(m.firm),
-                display: m.display,
-                capacity: m.capacity,
-                intermarket_sweep: m.intermarket_sweep,
-                minimum_quantity: m.minimum_quantity,
-                cross_type: m.cross_type,
-            },
+            terms: m.terms(house.unwrap_or(m.firm)),
             order_reference: number,
         })),
     }

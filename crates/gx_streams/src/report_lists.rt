@@ -16,7 +16,7 @@ use std::marker::Model;
 /// So many entries have room from the first on, as many for each user: a list that grows moves all that it holds.
 const FIRST_ENTRIES: usize = 32_768;
 
-/// What is kept of what each user of the policy was told, in order, and places kept for more.
+/// What is kept of what each user of the policy was told, in order, and places reserved for more.
 #[derive(Drop)]
 pub(crate) struct ReportLists {
     by_user: IndexMap<UserName, Stream>,
@@ -43,7 +43,7 @@ impl Model for ReportLists {
 }
 
 impl ReportLists {
-    /// The policy's users, whom nothing was told, and no place kept.
+    /// The policy's users, whom nothing was told, and no place reserved.
     pub(crate) fn new(alloc: Global, policy: &Policy) -> Result<ReportLists, OutOfMemory>
         ensures { IfOk result (λ told. told ≡ empty_lists policy.now) }
     {
@@ -59,14 +59,14 @@ impl ReportLists {
     }
 
     /// Whether the user is one of the policy. Takes no memory.
-    #[tactic(auto, using(crate::proofs::Users::known_found))]
+    #[tactic(auto, using(crate::proofs::Users_table::known_found))]
     pub(crate) fn knows(&self, user: UserName) -> bool
         ensures { result ≡ is_known self.now user }
     {
         self.by_user.contains_key(&user)
     }
 
-    /// Puts the entry last in the user's stream, in a place of its own: those that are kept stay kept. Here and below, the
+    /// Puts the entry last in the user's stream, in a place of its own: those that are reserved stay so. Here and below, the
     /// user is looked for at this place of the policy's users first.
     ///
     /// `OutOfMemory`: the stream could not grow, and nothing has changed.
@@ -100,7 +100,7 @@ impl ReportLists {
     /// Puts one entry last in the first user's list, and then the other in the second's.
     ///
     /// `OutOfMemory`: one of them could not grow, and nothing has changed.
-    #[tactic(auto, using(crate::proofs::Users::known_after, crate::proofs::Users::taken_back))]
+    #[tactic(auto, using(crate::proofs::Users_table::known_after, crate::proofs::Users_table::taken_back))]
     pub(crate) fn append_both(
         &mut self,
         first: UserName,
@@ -126,7 +126,7 @@ impl ReportLists {
         }
     }
 
-    /// Keeps at least so many places for the user. Places that are kept already count.
+    /// Reserves at least so many places for the user. Places that are reserved already count.
     ///
     /// `OutOfMemory`: the stream could not grow, and nothing has changed.
     #[inline(always)]
@@ -147,7 +147,7 @@ impl ReportLists {
         stream.reserve(places)
     }
 
-    /// Puts the entry last in the user's stream, in a place that is kept. Takes no memory.
+    /// Puts the entry last in the user's stream, in a reserved place. Takes no memory.
     #[inline(always)]
     pub(crate) fn append_reserved(&mut self, user: UserName, near: usize, entry: StoredReport)
         requires { 0 < reserved_in self.old user }
@@ -161,7 +161,7 @@ impl ReportLists {
 
     /// The user's entries; none of a user who is not known.
     #[inline(always)]
-    #[tactic(auto, using(crate::proofs::Users::items_found))]
+    #[tactic(auto, using(crate::proofs::Users_table::items_found))]
     pub(crate) fn find(&self, user: UserName, near: usize) -> Found<'_>
         ensures { result.entries ≡ items_in self.now user }
     {

@@ -11,7 +11,7 @@ use gx_units::OutOfMemory;
 use std::alloc::Global;
 use std::marker::Model;
 
-/// The reports to one user, in order, and places kept for more.
+/// The reports to one user, in order, and places reserved for more.
 #[derive(Drop)]
 pub(crate) struct Stream {
     slots: Vec<Slot>,
@@ -24,13 +24,13 @@ impl Model for Stream {
 
     ghost Value = { ReservedList StoredReport };
 
-    ghost view = { λ s. record { items = entries_in s.details.lists s.slots.items; spare = s.details.spare } };
+    ghost view = { λ s. record { items = entries_in s.details.lists s.slots.items; reserved = s.details.reserved } };
 
     ghost invariant = { λ s. AreKept s.details s.slots.items (vec_len s.slots) (vec_capacity s.slots) };
 }
 
 impl Stream {
-    /// Nothing, and no place kept, with room for so many entries.
+    /// Nothing, and no place reserved, with room for so many entries.
     pub(crate) fn new(alloc: Global, room: usize) -> Result<Stream, OutOfMemory>
         ensures { IfOk result (λ stream. stream ≡ empty_list) }
     {
@@ -40,45 +40,45 @@ impl Stream {
         })
     }
 
-    /// Keeps so many places.
-    fn keep(&mut self, places: usize) -> Result<(), OutOfMemory>
-        requires { self.old.spare ≤ places }
-        ensures ok { OnOk result (self.new ≡ record self.old { spare = places }) }
+    /// Reserves so many places.
+    fn reserve_exactly(&mut self, places: usize) -> Result<(), OutOfMemory>
+        requires { self.old.reserved ≤ places }
+        ensures ok { OnOk result (self.new ≡ record self.old { reserved = places }) }
         ensures err { OnErr result (self.new ≡ self.old) }
     {
         make_room(&mut self.slots, places)?;
         self.details.reserve(places)
     }
 
-    /// Puts the entry last, in a place of its own: those that are kept stay kept.
+    /// Puts the entry last, in a place of its own: those that are reserved stay so.
     #[inline(always)]
     pub(crate) fn push(&mut self, entry: StoredReport) -> Result<(), OutOfMemory>
         ensures ok { OnOk result (self.new ≡ with_last entry self.old) }
         ensures err { OnErr result (self.new ≡ self.old) }
     {
-        let spare = self.details.spare();
-        self.keep(spare + 1)?;
+        let reserved = self.details.reserved();
+        self.reserve_exactly(reserved + 1)?;
         self.push_reserved(entry);
         Ok(())
     }
 
-    /// Keeps at least so many places for `push_reserved`.
+    /// Reserves at least so many places for `push_reserved`.
     #[inline(always)]
     pub(crate) fn reserve(&mut self, places: usize) -> Result<(), OutOfMemory>
         ensures ok { OnOk result (self.new ≡ with_reserved places self.old) }
-        ensures enough { places ≤ self.old.spare → IsOk result }
+        ensures enough { places ≤ self.old.reserved → IsOk result }
         ensures err { OnErr result (self.new ≡ self.old) }
     {
-        if self.details.spare() < places {
-            self.keep(places)?;
+        if self.details.reserved() < places {
+            self.reserve_exactly(places)?;
         }
         Ok(())
     }
 
-    /// Puts the entry last, in a place that is kept. Takes no memory.
+    /// Puts the entry last, in a reserved place. Takes no memory.
     #[inline(always)]
     pub(crate) fn push_reserved(&mut self, entry: StoredReport)
-        requires { 0 < self.old.spare }
+        requires { 0 < self.old.reserved }
         ensures { self.new ≡ with_reserved_last entry self.old }
     {
         let slot = self.details.put(entry);

@@ -36,13 +36,13 @@ pub struct Owed {
     pub place: usize,
 }
 
-/// What each user of the policy was told, in order, places kept for more, and whose later fills
+/// What each user of the policy was told, in order, places reserved for more, and whose later fills
 /// each reader gets.
 #[derive(Drop)]
 pub struct Streams {
     alloc: Global,
     fills: Vec<ReportedFill>,
-    told: ReportLists,
+    lists: ReportLists,
     readers: Readers,
 }
 
@@ -53,9 +53,9 @@ impl Model for Streams {
 
     ghost use Rattle.gx_streams.specs.Table.{streams_of, IsSoundTable};
 
-    ghost view = { λ s. streams_of s.fills.items s.told s.readers };
+    ghost view = { λ s. streams_of s.fills.items s.lists s.readers };
 
-    ghost invariant = { λ s. IsSoundTable s.fills.items s.told s.readers };
+    ghost invariant = { λ s. IsSoundTable s.fills.items s.lists s.readers };
 }
 
 /// The reader of this name, who has these entries. A reader has none, so whoever has some is not
@@ -71,7 +71,7 @@ fn reader_of<'a>(readers: &'a Readers, user: UserName, entries: &Entries<'_>) ->
     readers.find(user)
 }
 
-#[tactic(auto, using(crate::proofs::Reading::taken_is))]
+#[tactic(auto, using(crate::proofs::Streams_read::taken_is))]
 fn copies(
     alloc: Global,
     fills: &[ReportedFill],
@@ -89,22 +89,22 @@ fn copies(
 }
 
 impl Streams {
-    /// The policy's users, whom nothing was told, no place kept, and no reader with an account.
+    /// The policy's users, whom nothing was told, no place reserved, and no reader with an account.
     ///
     /// # Errors
     ///
     /// `OutOfMemory` where memory was refused.
-    #[tactic(auto, using(crate::proofs::Opened::opened))]
+    #[tactic(auto, using(crate::proofs::Streams_first::opened))]
     pub fn new(alloc: Global, policy: &Policy) -> Result<Streams, OutOfMemory>
         ensures { IfOk result (λ streams. streams ≡ empty_streams policy.now) }
     {
         let fills = Vec::with_capacity(alloc, FIRST_FILLS)?;
-        let told = ReportLists::new(alloc, policy)?;
+        let lists = ReportLists::new(alloc, policy)?;
         let readers = Readers::new(alloc, policy)?;
         Ok(Streams {
             alloc,
             fills,
-            told,
+            lists,
             readers,
         })
     }
@@ -113,7 +113,7 @@ impl Streams {
     pub fn is_told(&self, user: UserName) -> bool
         ensures { result ≡ has_own_stream self.now user }
     {
-        self.told.knows(user) && self.readers.find(user).is_none()
+        self.lists.knows(user) && self.readers.find(user).is_none()
     }
 
     /// Puts the report last in the user's stream, in a place of its own: those that are kept stay
@@ -126,10 +126,10 @@ impl Streams {
         ensures ok { OnOk result (self.new ≡ on_list_of user (with_last report) self.old) }
         ensures err { OnErr result (self.new ≡ self.old) }
     {
-        self.told.append(user, 0, StoredReport::Typed(report))
+        self.lists.append(user, 0, StoredReport::Typed(report))
     }
 
-    /// Keeps at least so many places for the user, who is looked for at this place of the policy's users first. Places
+    /// Reserves at least so many places for the user, who is looked for at this place of the policy's users first. Places
     /// that are kept already count.
     ///
     /// `OutOfMemory`: the stream could not grow, and nothing has changed.
@@ -137,20 +137,20 @@ impl Streams {
     pub fn reserve(&mut self, user: UserName, near: usize, places: usize) -> Result<(), OutOfMemory>
         requires told { IsTrue (has_own_stream self.old user) }
         ensures ok { OnOk result (self.new ≡ on_list_of user (with_reserved places) self.old) }
-        ensures enough { places ≤ reserved_in self.old.told user → IsOk result }
+        ensures enough { places ≤ reserved_in self.old.lists user → IsOk result }
         ensures err { OnErr result (self.new ≡ self.old) }
     {
-        self.told.reserve(user, near, places)
+        self.lists.reserve(user, near, places)
     }
 
-    /// Puts the report last in the user's stream, in a place that is kept. He is looked for at this place of the policy's
+    /// Puts the report last in the user's stream, in a reserved place. He is looked for at this place of the policy's
     /// users first. Takes no memory.
     #[inline(always)]
     pub fn append_reserved(&mut self, user: UserName, near: usize, report: Report)
-        requires { 0 < reserved_in self.old.told user }
+        requires { 0 < reserved_in self.old.lists user }
         ensures { self.new ≡ on_list_of user (with_reserved_last report) self.old }
     {
-        self.told
+        self.lists
             .append_reserved(user, near, StoredReport::Typed(report));
     }
 
@@ -193,7 +193,7 @@ impl Streams {
         self.fills.reserve(1)?;
         let taker = StoredReport::Filled(place, FillRole::Taker);
         let maker = StoredReport::Filled(place, FillRole::Maker);
-        self.told.append_both(
+        self.lists.append_both(
             fill.taker.user,
             near_taker,
             taker,
@@ -272,7 +272,7 @@ impl Streams {
         ensures few { IfOk result (λ o. o.count < 2 ^ 63) }
     {
         let fills = self.fills.as_slice();
-        let Found { entries, place } = self.told.find(user, near);
+        let Found { entries, place } = self.lists.find(user, near);
         match reader_of(&self.readers, user, &entries) {
             Some(reader) => {
                 *reports = copies(self.alloc, fills, reader, from, most)?;
@@ -323,7 +323,7 @@ impl Streams {
         let _ = self.fills.as_slice();
         match self.readers.find(user) {
             Some(reader) => reader.count(),
-            None => self.told.find(user, 0).entries.len(),
+            None => self.lists.find(user, 0).entries.len(),
         }
     }
 

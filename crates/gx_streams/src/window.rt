@@ -1,7 +1,7 @@
 //! Reports that are asked for, among those that pass by.
 
 ghost use Rattle.std.specs.Prelude.{◌≡◌, [], ◌∷◌, ◌&&◌, ◌==◌, nat_le, length, OnOk};
-ghost use Rattle.gx_streams.specs.{Fills.{copies_of, copies_of_all, copy_of}, Spans.{copies_in, next_of, AreNumbered}, Windows.{after, is_full, window}};
+ghost use Rattle.gx_streams.specs.{Fills.{copies_of, copies_of_all, copy_of}, Spans.{copies_in, next_of, AreNumbered}, Windows.{taken_after, is_full, window}};
 
 use crate::fill::{FillRole, ReportedFill};
 use crate::span::Span;
@@ -57,7 +57,7 @@ impl Window {
 
     /// One report passes by.
     fn see(&mut self, report: Report) -> Result<(), OutOfMemory>
-        ensures { OnOk result (self.new ≡ after (report ∷ []) self.old) }
+        ensures { OnOk result (self.new ≡ taken_after (report ∷ []) self.old) }
     {
         if self.skip > 0 {
             self.skip -= 1;
@@ -73,7 +73,7 @@ impl Window {
         fill: &ReportedFill,
         party: FillRole,
     ) -> Result<(), OutOfMemory>
-        ensures { OnOk result (self.new ≡ after (copy_of mask fill.now party) self.old) }
+        ensures { OnOk result (self.new ≡ taken_after (copy_of mask fill.now party) self.old) }
     {
         if fill.concerns(mask, party) {
             self.see(fill.copy(party))
@@ -82,9 +82,9 @@ impl Window {
         }
     }
 
-    #[tactic(auto, using(crate::proofs::Windows::after_both))]
+    #[tactic(auto, using(crate::proofs::Windows_passed::after_both))]
     fn see_fill(&mut self, mask: u64, fill: &ReportedFill) -> Result<(), OutOfMemory>
-        ensures { OnOk result (self.new ≡ after (copies_of mask fill.now) self.old) }
+        ensures { OnOk result (self.new ≡ taken_after (copies_of mask fill.now) self.old) }
     {
         self.see_side(mask, fill, FillRole::Taker)?;
         self.see_side(mask, fill, FillRole::Maker)
@@ -92,7 +92,7 @@ impl Window {
 
     /// The drop copies of fills pass by. None is looked at any more once the window is full.
     fn see_fills(&mut self, mask: u64, fills: &[ReportedFill]) -> Result<(), OutOfMemory>
-        ensures { OnOk result (self.new ≡ after (copies_of_all mask fills.now) self.old) }
+        ensures { OnOk result (self.new ≡ taken_after (copies_of_all mask fills.now) self.old) }
     {
         for fill in fills {
             if self.is_full() {
@@ -111,7 +111,7 @@ impl Window {
         fills: &[ReportedFill],
     ) -> Result<(), OutOfMemory>
         requires { count ≡ length (copies_of_all mask fills.now) }
-        ensures { OnOk result (self.new ≡ after (copies_of_all mask fills.now) self.old) }
+        ensures { OnOk result (self.new ≡ taken_after (copies_of_all mask fills.now) self.old) }
     {
         if count <= self.skip {
             self.skip -= count;
@@ -130,7 +130,7 @@ impl Window {
     ) -> Result<(), OutOfMemory>
         requires { AreNumbered fills.now 1 spans.now current }
         ensures { OnOk result (self.new
-            ≡ after (copies_in fills.now spans.now current) self.old) }
+            ≡ taken_after (copies_in fills.now spans.now current) self.old) }
     {
         for (i, span) in spans.iter().enumerate() {
             let next = next_span(past(spans, i + 1), current);

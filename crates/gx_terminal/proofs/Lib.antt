@@ -1,2 +1,2 @@
-pub mod Between
-pub mod Typed
+pub mod Words_cut
+pub mod Price_read

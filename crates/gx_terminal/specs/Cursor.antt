@@ -1,6 +1,6 @@
 -- The words of a line, taken one after the other.
 use Rattle.std.specs.Prelude.{ℕ, ◌+◌, not, List, [], ◌∷◌, filter, Option, Some, None, Result, Ok, Err, ◌≡◌}
-use Rattle.gx_script.specs.Words.{words_of, is_empty}
+use Rattle.gx_script_text.specs.Words.{words_of, is_empty}
 use Rattle.gx_terminal.specs.declared.wrong.{ExpectedInput.{ExpectedInput, TheVariants.End}, Wrong.Wrong}
 
 -- what stands between the spaces of a line, one or more of them

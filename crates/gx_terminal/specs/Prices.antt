@@ -1,6 +1,6 @@
 -- Prices as a person writes them: dollars, with at most four decimals.
 use Rattle.std.specs.Prelude.{ℕ, ◌+◌, ◌*◌, ◌-◌, ◌^◌, Bool, ◌==◌, nat_lt, nat_le, if◌then◌else◌, List, length, take, drop, position, Option, Some, None, option_map}
-use Rattle.gx_script.specs.Words.{◌>>=◌, number_of}
+use Rattle.gx_script_text.specs.Words.{◌>>=◌, number_of}
 
 abbrev pub is_point : ℕ → Bool
 is_point byte = byte == 46

@@ -4,7 +4,7 @@ use Rattle.gx_units.specs.declared.names.{AccountName.AccountName, RuleId.RuleId
 use Rattle.gx_desk.specs.declared.{Action.Action, Command.Command, Tag.Tag, WrittenName.WrittenName}
 use Rattle.gx_ouch.specs.declared.inbound.{EnterOrder.EnterOrder, ReplaceOrder.ReplaceOrder, Inbound.Inbound}
 use Rattle.gx_history.specs.OuchValues.{side_buy, side_sell, immediate_or_cancel, system_hours}
-use Rattle.gx_script.specs.{Words.{name_of, number_of}, ScriptLines.{without_cr, plain_order, plain_replace}}
+use Rattle.gx_script_text.specs.{Words.{name_of, number_of}, ScriptLines.{without_cr, plain_order, plain_replace}}
 use Rattle.gx_terminal.specs.{declared.{wrong.{ExpectedInput.ExpectedInput, Wrong.Wrong}, wish.{Side.Side, Lifetime.Lifetime, NewOrder.NewOrder, NewTerms.NewTerms, Wish.Wish}}, Cursor.{Left, left_of, words_between, wrong_at, ◌>>=◌, next, next_or, value_at_end}, Prices.price_of}
 
 -- `--all`, or an account

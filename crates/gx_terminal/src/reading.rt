@@ -1,7 +1,7 @@
 //! A line of a terminal, read.
 
 ghost use Rattle.std.specs.Prelude.{◌≡◌, ◌+◌, [], bytes_eq, MatchResult};
-ghost use Rattle.gx_script.specs.{ScriptLines.without_cr, Words.{name_of, number_of, itself}};
+ghost use Rattle.gx_script_text.specs.{ScriptLines.without_cr, Words.{name_of, number_of, itself}};
 ghost use Rattle.gx_terminal.specs.{Cursor.{Reads, next, next_or, value_at_end, wrong_at, word_meaning}, Prices.price_of, Wishes.{killed_of, kill_form, lift_form, limit_form, stock_form, reader_form, close_of, close_form, command_form, lifetime_of, enter_form, replace_form, cancel_form, order_form, wish_form, is_comment, wish_of}, declared.wish.Lifetime.TheVariants.Day};
 ghost use Rattle.gx_terminal.specs.declared.wrong.ExpectedInput.TheVariants as places;
 

@@ -2,7 +2,7 @@
 
 ghost use Rattle.std.specs.{Prelude.{◌≡◌, ◌+◌, ◌≤◌, ◌^◌, length, ◌∷◌, [], IsFalse, slice_index, position, MatchOption}, List.list_all, Char.is_ascii_digit};
 ghost use Rattle.gx_units.specs.Spelling.{is_space};
-ghost use Rattle.gx_script.specs.Words.{is_visible, is_name, is_number, name_of, number_of};
+ghost use Rattle.gx_script_text.specs.Words.{is_visible, is_name, is_number, name_of, number_of};
 ghost use Rattle.gx_terminal.specs.Cursor.{words_between, left_of};
 
 use gx_soup::spelled_value;

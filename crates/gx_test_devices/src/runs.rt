@@ -4,7 +4,7 @@ use crate::devices::DeviceLimits;
 use crate::paced::PacedTurn;
 use crate::texts::OutputText;
 use gx_history::record::Record;
-use gx_script::outcome_line;
+use gx_script_text::outcome_line;
 use std::alloc::Global;
 use std::fmt::Display;
 use std::io;

@@ -1,7 +1,7 @@
 //! Sessions without a gate: the events of one, and what it answers to each.
 
 use crate::texts::{OutputText, decode_hex, halves};
-use gx_answers::{LoginAnswer, StepFault};
+use gx_access_gate::{LoginAnswer, StepFault};
 use gx_session::{Control, Event, Next, Reply, Session, Sign};
 use gx_soup::{ClientPacket, LoginRequest, Payload};
 use gx_units::{LoginRejection, OutOfMemory, Password, SessionName, UserName};

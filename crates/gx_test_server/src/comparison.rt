@@ -2,7 +2,7 @@
 
 use crate::connection::first_packet;
 use crate::scenario::{Scenario, ScenarioPeer};
-use gx_answers::AccessGate;
+use gx_access_gate::AccessGate;
 use gx_history::report::Report;
 use gx_ouch::MESSAGE_ROOM;
 use gx_test_devices::OutputText;

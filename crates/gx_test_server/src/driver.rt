@@ -58,7 +58,7 @@ pub(crate) struct NewConnection<'x, D, A, R> {
     pub(crate) connection: &'x MemoryConnection,
 }
 
-impl<'x, T: Drop, D: Door<Ticket = T>, A, R: Wait + Clock> ScenarioRun<'x, D, A, R> {
+impl<'x, T: Drop, D: Door<Pass = T>, A, R: Wait + Clock> ScenarioRun<'x, D, A, R> {
     /// Opens the connection of the peer of this name; `None` where there is no such peer.
     fn connect(&self, name: &str) -> Option<NewConnection<'x, D, A, R>> {
         let fixture = self.fixture;

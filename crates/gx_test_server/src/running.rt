@@ -70,7 +70,7 @@ impl<'x, D: Door, A, R: Wait + Clock> ScenarioRun<'x, D, A, R> {
     }
 
     /// Whether what is waited for has come.
-    fn has_come(&self, pass: &mut D::Ticket, condition: &WaitCondition<'_>) -> bool {
+    fn has_come(&self, pass: &mut D::Pass, condition: &WaitCondition<'_>) -> bool {
         match condition {
             WaitCondition::Read(connection) => connection.is_read(self.fixture.rt),
             WaitCondition::ClockRead(connection, least) => has_read_clock(connection, *least),
@@ -83,7 +83,7 @@ impl<'x, D: Door, A, R: Wait + Clock> ScenarioRun<'x, D, A, R> {
     }
 
     /// Waits for it, for so long at most. Answers whether it has come.
-    fn wait(&self, pass: &mut D::Ticket, condition: WaitCondition<'_>) -> bool {
+    fn wait(&self, pass: &mut D::Pass, condition: WaitCondition<'_>) -> bool {
         for _ in 0..MOST_POLLS {
             if self.has_come(pass, &condition) {
                 return true;
@@ -94,7 +94,7 @@ impl<'x, D: Door, A, R: Wait + Clock> ScenarioRun<'x, D, A, R> {
     }
 
     /// Waits until the server has read all that each peer sent and waits for more.
-    pub(crate) fn all_read(&self, pass: &mut D::Ticket) -> bool {
+    pub(crate) fn all_read(&self, pass: &mut D::Pass) -> bool {
         for peer in &self.scenario.peers {
             if peer.connection.is_open()
                 && !self.wait(pass, WaitCondition::Read(&peer.connection))
@@ -106,7 +106,7 @@ impl<'x, D: Door, A, R: Wait + Clock> ScenarioRun<'x, D, A, R> {
     }
 
     /// Waits until the threads of a connection have done what they do at this moment.
-    fn settle(&self, pass: &mut D::Ticket, connection: &MemoryConnection) -> bool {
+    fn settle(&self, pass: &mut D::Pass, connection: &MemoryConnection) -> bool {
         let least = connection
             .clock_reads
             .moments()
@@ -115,7 +115,7 @@ impl<'x, D: Door, A, R: Wait + Clock> ScenarioRun<'x, D, A, R> {
     }
 
     /// Sets the clock, and waits until each connection has done what it does at this moment.
-    fn set_clock(&self, pass: &mut D::Ticket, moment: Moment) -> bool {
+    fn set_clock(&self, pass: &mut D::Pass, moment: Moment) -> bool {
         self.fixture.clock.set(moment);
         for peer in &self.scenario.peers {
             if peer.connection.begun.is_raised() && !self.settle(pass, &peer.connection) {
@@ -156,7 +156,7 @@ impl<'x, D: Door, A, R: Wait + Clock> ScenarioRun<'x, D, A, R> {
     /// Two peers send the bytes of the hex at once; waits until the server has read both.
     fn send_both(
         &self,
-        pass: &mut D::Ticket,
+        pass: &mut D::Pass,
         one: &MemoryConnection,
         other: &MemoryConnection,
         hex: &str,
@@ -168,19 +168,14 @@ impl<'x, D: Door, A, R: Wait + Clock> ScenarioRun<'x, D, A, R> {
     }
 
     /// Waits until a peer was sent so many packets, and the server has done what follows.
-    fn await_packets(
-        &self,
-        pass: &mut D::Ticket,
-        connection: &MemoryConnection,
-        count: u64,
-    ) -> bool {
+    fn await_packets(&self, pass: &mut D::Pass, connection: &MemoryConnection, count: u64) -> bool {
         self.wait(pass, WaitCondition::Received(connection, count)) && self.settle(pass, connection)
     }
 
     /// Runs a step on a peer's connection.
     fn run_on_connection(
         &self,
-        pass: &mut D::Ticket,
+        pass: &mut D::Pass,
         step: &ScenarioStep<'_>,
         connection: &MemoryConnection,
     ) -> bool {
@@ -205,7 +200,7 @@ impl<'x, D: Door, A, R: Wait + Clock> ScenarioRun<'x, D, A, R> {
     }
 
     /// Runs a step on the connection of the peer of this name.
-    fn run_for_peer(&self, pass: &mut D::Ticket, step: &ScenarioStep<'_>, name: &str) -> bool {
+    fn run_for_peer(&self, pass: &mut D::Pass, step: &ScenarioStep<'_>, name: &str) -> bool {
         match self.scenario.peer(name) {
             Some(peer) => self.run_on_connection(pass, step, &peer.connection),
             None => false,
@@ -213,7 +208,7 @@ impl<'x, D: Door, A, R: Wait + Clock> ScenarioRun<'x, D, A, R> {
     }
 
     /// Runs the step of two peers who send at once.
-    fn run_for_both(&self, pass: &mut D::Ticket, one: &str, other: &str, hex: &str) -> bool {
+    fn run_for_both(&self, pass: &mut D::Pass, one: &str, other: &str, hex: &str) -> bool {
         match (self.scenario.peer(one), self.scenario.peer(other)) {
             (Some(one), Some(other)) => self.send_both(
                 pass,
@@ -232,7 +227,7 @@ impl<'x, D: Door, A, R: Wait + Clock> ScenarioRun<'x, D, A, R> {
     }
 
     /// Runs a step. Answers whether what it waits for came.
-    pub(crate) fn run_step(&self, pass: &mut D::Ticket, step: &ScenarioStep<'_>) -> bool {
+    pub(crate) fn run_step(&self, pass: &mut D::Pass, step: &ScenarioStep<'_>) -> bool {
         match step {
             ScenarioStep::Clock(moment) => self.set_clock(pass, *moment),
             ScenarioStep::Both(one, other, hex) => self.run_for_both(pass, one, other, hex),
@@ -254,7 +249,7 @@ impl<'x, D: Door, A, R: Wait + Clock> ScenarioRun<'x, D, A, R> {
 
     /// Ends the input of each peer in turn, and waits until the threads of that connection have ended. Answers the place
     /// of the first peer whose threads did not.
-    pub(crate) fn end_all(&self, pass: &mut D::Ticket) -> Option<usize> {
+    pub(crate) fn end_all(&self, pass: &mut D::Pass) -> Option<usize> {
         for (place, peer) in self.scenario.peers.iter().enumerate() {
             peer.connection.end(self.fixture.rt);
             if peer.connection.begun.is_raised()

@@ -1,7 +1,7 @@
 //! A door at which a peer's requests wait while the scenario says so.
 
 use crate::connection::MemoryConnection;
-use gx_answers::{LoginAnswer, Outcome, Pulled, StepFault};
+use gx_access_gate::{LoginAnswer, Outcome, Pulled, StepFault};
 use gx_door::{Caller, Dial, Door, Matched, PullFault, Turned};
 use gx_history::record::{Record, Request};
 use gx_units::{Moment, OutOfMemory, Password, SessionName, UserName};
@@ -41,7 +41,7 @@ impl<D, C> Drop for StallingDoor<'_, D, C> {
 }
 
 impl<D: Door, C: Wait + Clock> Door for StallingDoor<'_, D, C> {
-    type Ticket = D::Ticket;
+    type Pass = D::Pass;
 
     ghost policy = { D.policy };
 
@@ -49,7 +49,7 @@ impl<D: Door, C: Wait + Clock> Door for StallingDoor<'_, D, C> {
 
     ghost added = { D.added };
 
-    fn line_of(&self, pass: &D::Ticket) -> u16 {
+    fn line_of(&self, pass: &D::Pass) -> u16 {
         self.door.line_of(pass)
     }
 
@@ -60,13 +60,13 @@ impl<D: Door, C: Wait + Clock> Door for StallingDoor<'_, D, C> {
     fn login<R: Wait + Dial>(
         &self,
         rt: &R,
-        pass: D::Ticket,
+        pass: D::Pass,
         user: UserName,
         password: Password,
         session: SessionName,
         wanted: u64,
         moment: Moment,
-    ) -> (D::Ticket, Result<LoginAnswer, StepFault>) {
+    ) -> (D::Pass, Result<LoginAnswer, StepFault>) {
         self.door
             .login(rt, pass, user, password, session, wanted, moment)
     }
@@ -74,11 +74,11 @@ impl<D: Door, C: Wait + Clock> Door for StallingDoor<'_, D, C> {
     fn act<R: Wait + Dial>(
         &self,
         rt: &R,
-        pass: D::Ticket,
+        pass: D::Pass,
         user: UserName,
         request: Request,
         moment: Moment,
-    ) -> (D::Ticket, Result<Outcome, StepFault>) {
+    ) -> (D::Pass, Result<Outcome, StepFault>) {
         self.connection
             .wait_while_paused(self.clock, &self.connection.request_pause);
         self.door.act(rt, pass, user, request, moment)
@@ -87,31 +87,31 @@ impl<D: Door, C: Wait + Clock> Door for StallingDoor<'_, D, C> {
     fn match_one<R: Wait + Dial>(
         &self,
         rt: &R,
-        pass: D::Ticket,
+        pass: D::Pass,
         moment: Moment,
-    ) -> (D::Ticket, Result<Option<Outcome>, StepFault>) {
+    ) -> (D::Pass, Result<Option<Outcome>, StepFault>) {
         self.door.match_one(rt, pass, moment)
     }
 
     fn match_some<R: Wait + Dial>(
         &self,
         rt: &R,
-        pass: D::Ticket,
+        pass: D::Pass,
         moment: Moment,
         most: u64,
-    ) -> (D::Ticket, Matched) {
+    ) -> (D::Pass, Matched) {
         self.door.match_some(rt, pass, moment, most)
     }
 
     fn turn<R: Wait + Dial>(
         &self,
         rt: &R,
-        pass: D::Ticket,
+        pass: D::Pass,
         user: UserName,
         request: Request,
         moment: Moment,
         most: u64,
-    ) -> (D::Ticket, Result<Turned, StepFault>) {
+    ) -> (D::Pass, Result<Turned, StepFault>) {
         self.connection
             .wait_while_paused(self.clock, &self.connection.request_pause);
         self.door.turn(rt, pass, user, request, moment, most)
@@ -120,31 +120,31 @@ impl<D: Door, C: Wait + Clock> Door for StallingDoor<'_, D, C> {
     fn pull<R: Wait>(
         &self,
         rt: &R,
-        pass: D::Ticket,
+        pass: D::Pass,
         user: UserName,
         from: u64,
         most: u64,
-    ) -> (D::Ticket, Result<Pulled, PullFault>) {
+    ) -> (D::Pass, Result<Pulled, PullFault>) {
         self.door.pull(rt, pass, user, from, most)
     }
 
     fn logout<R: Wait + Dial>(
         &self,
         rt: &R,
-        pass: D::Ticket,
+        pass: D::Pass,
         user: UserName,
         moment: Moment,
-    ) -> (D::Ticket, Result<Outcome, StepFault>) {
+    ) -> (D::Pass, Result<Outcome, StepFault>) {
         self.door.logout(rt, pass, user, moment)
     }
 
     fn records<R: Wait>(
         &self,
         rt: &R,
-        pass: D::Ticket,
+        pass: D::Pass,
         from: u64,
         most: u64,
-    ) -> (D::Ticket, Result<Vec<Record>, OutOfMemory>) {
+    ) -> (D::Pass, Result<Vec<Record>, OutOfMemory>) {
         self.door.records(rt, pass, from, most)
     }
 
@@ -152,11 +152,11 @@ impl<D: Door, C: Wait + Clock> Door for StallingDoor<'_, D, C> {
         self.door.keep(rt)
     }
 
-    fn meet<R: Wait>(&self, rt: &R, one: D::Ticket, other: D::Ticket) -> (D::Ticket, D::Ticket) {
+    fn meet<R: Wait>(&self, rt: &R, one: D::Pass, other: D::Pass) -> (D::Pass, D::Pass) {
         self.door.meet(rt, one, other)
     }
 
-    fn length(&self, pass: &mut D::Ticket) -> u64 {
+    fn length(&self, pass: &mut D::Pass) -> u64 {
         self.door.length(pass)
     }
 }

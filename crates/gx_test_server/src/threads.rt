@@ -12,7 +12,7 @@ use gx_devices::CallCounter;
 use gx_door::{Caller, Dial, Door, Issuer};
 use gx_reception::{Admits, Opening, Reception};
 use gx_serve::{
-    Announces, Cut, Gone, HangUp, Received, SharedConnection, let_go_of, match_on, receive,
+    Announces, Cut, Gone, HangUp, Received, SharedConnection, match_on, read_to_end, receive,
     run_connection, turn_away,
 };
 use std::alloc::Global;
@@ -34,12 +34,12 @@ fn serve_user<
     rt: &C,
     fixture: &ServerFixture<'_, D, A, R>,
     connection: &MemoryConnection,
-    pass: D::Ticket,
+    pass: D::Pass,
     caller: Caller,
     opening: Opening,
 ) -> Option<Cut>
 where
-    D::Ticket: Send,
+    D::Pass: Send,
 {
     let wakeup = WriterWakeup::new(fixture.alloc, WRITER_REST).ok()?;
     let shared = SharedConnection::new(rt, pass, caller);
@@ -67,7 +67,7 @@ fn serve_peer<D: Door + Sync, A: Admits<D>, R: Threads + Wait + Clock + Sync>(
     connection: &MemoryConnection,
 ) -> Option<Cut>
 where
-    D::Ticket: Send,
+    D::Pass: Send,
 {
     let rt = &ClockedRuntime::new(fixture.rt, &fixture.clock, &connection.clock_reads);
     let mut reader = CallCounter::new(MemoryReader::new(fixture.rt, connection));
@@ -92,7 +92,7 @@ where
         Received::Gone(gone) => gone,
     };
     connection.finish();
-    let_go_of(fixture.rt, &mut reader);
+    read_to_end(fixture.rt, &mut reader);
     match gone {
         Gone::Cut(cut) => Some(cut),
         Gone::NoLine(_) | Gone::Denied | Gone::Spared | Gone::Quietly => None,
@@ -104,7 +104,7 @@ fn serve<D: Door + Sync, A: Admits<D>, R: Threads + Wait + Clock + Sync>(
     opened: NewConnection<'_, D, A, R>,
 )
 where
-    D::Ticket: Send,
+    D::Pass: Send,
 {
     let NewConnection {
         fixture,
@@ -119,7 +119,7 @@ where
 fn run_connections<
     'x,
     T: Drop + Send,
-    D: Door<Ticket = T> + Sync,
+    D: Door<Pass = T> + Sync,
     A: Admits<D> + Sync,
     R: Threads + Wait + Clock + Sync,
 >(run: &'x ScenarioRun<'x, D, A, R>, driver: ScenarioDriver<T>) -> ScenarioFailure {
@@ -139,7 +139,7 @@ fn run_connections<
 fn make_matches<
     'x,
     T: Drop + Send,
-    D: Door<Ticket = T> + Sync,
+    D: Door<Pass = T> + Sync,
     A: Sync,
     R: Threads + Wait + Clock + Sync,
 >(fixture: &'x ServerFixture<'x, D, A, R>, pass: T) -> T {
@@ -152,7 +152,7 @@ fn make_matches<
 fn run_with_matcher<
     'x,
     T: Drop + Send,
-    D: Door<Ticket = T> + Sync,
+    D: Door<Pass = T> + Sync,
     A: Admits<D> + Sync,
     R: Threads + Wait + Clock + Sync,
 >(
@@ -175,7 +175,7 @@ fn run_with_matcher<
 /// Runs a scenario at this door and this reception, with these passes for the matcher and for the driver.
 fn run_at<
     T: Drop + Send,
-    D: Door<Ticket = T> + Sync,
+    D: Door<Pass = T> + Sync,
     A: Admits<D> + Sync,
     R: Threads + Wait + Clock + Sync,
 >(
@@ -200,7 +200,7 @@ fn run_at<
 /// was no pass.
 pub fn run_scenario<
     T: Drop + Send,
-    D: Door<Ticket = T> + Sync,
+    D: Door<Pass = T> + Sync,
     I: Issuer<D> + Drop + Send,
     R: Threads + Wait + Clock + Sync,
 >(rt: &R, alloc: Global, door: &D, issuer: I, scenario: &Scenario<'_>) -> Option<ScenarioFailure> {

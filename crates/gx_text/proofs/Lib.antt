@@ -1,2 +1,2 @@
-pub mod Visible
-mod Ending
+pub mod Shown_visible
+mod JsonString_end

@@ -1,3 +1,3 @@
-pub mod Table
-pub mod Going
-pub mod Answering
+pub mod Status_table
+pub mod Status_next
+pub mod Status_answers

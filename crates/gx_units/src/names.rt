@@ -47,7 +47,7 @@ impl PartialEq for Token {
 
     ghost laws = { Prim.search (comparing, rules) };
 
-    #[tactic(auto, using(crate::proofs::Words::as_overlapping))]
+    #[tactic(auto, using(crate::proofs::Names_compared::as_overlapping))]
     fn eq(&self, other: &Self) -> bool {
         let (one, other) = (self.bytes, other.bytes);
         are_same(first_eight(one), first_eight(other))
@@ -182,7 +182,7 @@ impl PartialEq for UserName {
 
     ghost laws = { Prim.search (comparing, rules) };
 
-    #[tactic(auto, using(crate::proofs::Words::as_widened))]
+    #[tactic(auto, using(crate::proofs::Names_compared::as_widened))]
     fn eq(&self, other: &Self) -> bool {
         are_same(widened(self.bytes), widened(other.bytes))
     }
@@ -204,7 +204,7 @@ impl Hash for UserName {
 
 impl UserName {
     /// The name in upper case.
-    #[tactic(auto, using(crate::proofs::Folding::folded_has_no_lower_case))]
+    #[tactic(auto, using(crate::proofs::Text_folded::folded_has_no_lower_case))]
     pub fn folded(self) -> UserName
         ensures folded { result ≡ folded_user self }
         ensures upper_case { IsTrue (has_no_lower_case result.bytes) }

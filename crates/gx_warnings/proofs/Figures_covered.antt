@@ -2,13 +2,13 @@
 use Rattle.std.proofs.{Common.{◌≡◌, ℕ, Bool, true, false, cond, inl, inr, List, [], ◌∷◌, ◌++◌, map, refl, sym, ap, subst, ◌∙◌}, lemmas.{List.Concat.flat_map-cons, Bool.and_parts}}
 use Rattle.std.specs.{Prelude.{Option, Some, ◌&&◌, ◌==◌, is_some}, List.{AllByRecursion, filter}, Map.lookup, Option.option_map_or}
 use Rattle.gx_units.specs.{Names.same_rule, declared.names.{AccountName.AccountName, RuleId.RuleId}}
+use Rattle.gx_units.proofs.Names_equal.{rule_is, rule_is_itself}
 use Rattle.gx_policy.specs.{declared.policy.{FileRule.FileRule, PolicyData.PolicyData}, People.{account_named, rule_in}}
 use Rattle.gx_history.specs.declared.{facts.StockSide.StockSide, «record».RecordData.RecordData}
-use Rattle.gx_peaks.specs.{declared.{figure.Figure.Figure, key.PeakKey.PeakKey}, Figures.counts, Keys.key_of, Noting.{IsOfAccount, IsSame}, Same.rule_is_itself}
-use Rattle.gx_peaks.proofs.Sorts.{counted_is}
+use Rattle.gx_peaks.specs.{declared.{figure.Figure.Figure, key.PeakKey.PeakKey}, Figures.counts, Keys.key_of, Noting.{IsOfAccount, IsSame}}
+use Rattle.gx_peaks.proofs.Figure_sort.{counted_is}
 use Rattle.gx_warnings.specs.{declared.{mark.Mark.Mark, warning.Warning.Warning}, Keeping.IsEntry, Marks.{mark_of, same_mark}, Moving.{figure_under, figures_among, figures_under, set_figure}}
 use Rattle.gx_warnings.proofs.Warnings_call.{Covers, mark_is}
-use Rattle.gx_laws.proofs.Names.{rule_is}
 
 pub covers_left : (policy : PolicyData) (f : Figure) (gs hs : List Figure) → Covers policy gs f → Covers policy (gs ++ hs) f
 covers_left policy f [] hs h = absurd h

@@ -5,10 +5,10 @@ use Rattle.std.specs.{Prelude.{Option, Some, None, option_and_then}, Option.opti
 use Rattle.gx_units.specs.{Names.same_rule, declared.names.RuleId.RuleId}
 use Rattle.gx_desk.specs.declared.Action.{Action}
 use Rattle.gx_history.specs.{declared.record.RecordData.RecordData, InForce.{change_rule, rules_after, rules_in_force}, Requests.granted_action}
-use Rattle.gx_laws.proofs.NextInForce.{rules_in_force_next}
+use Rattle.gx_laws.proofs.InForce_next.{rules_in_force_next}
 use Rattle.gx_records.specs.State.{limit_in_force}
 use Rattle.gx_peaks.specs.Touching.{set_by, sets_limit}
-use Rattle.gx_peaks.proofs.Settings.{limit_is_kept}
+use Rattle.gx_peaks.proofs.Limit_kept.{limit_is_kept}
 
 abbrev limit_among : List FileRule → RuleId → Option ℕ
 limit_among rules name = option_and_then (λ (rule : FileRule). limit_of rule.kind) (rule_in rules name)

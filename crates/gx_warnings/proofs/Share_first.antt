@@ -4,7 +4,7 @@ use Rattle.std.specs.Prelude.{Option, Some, None, ◌&&◌, nat_le}
 use Rattle.gx_policy.specs.declared.policy.PolicyData.{PolicyData}
 use Rattle.gx_history.specs.declared.record.RecordData.{RecordData}
 use Rattle.gx_peaks.specs.declared.figure.Figure.{Figure}
-use Rattle.gx_peaks.proofs.Rising.{front, whole}
+use Rattle.gx_peaks.proofs.OnePeak_next.{front, whole}
 use Rattle.gx_warnings.specs.{declared.warning.Warning.Warning, Keeping.IsKnown, Warnings.{IsFirstPassed, is_passed, passes}}
 
 -- what is 0 passes nothing

@@ -1,12 +1,13 @@
 -- How the table of warnings is brought from the records but the last to all of them: a warning is put where it is due.
 use Rattle.std.proofs.{Common.{◌≡◌, ℕ, ◌+◌, ◌-◌, ◌≤◌, Bool, true, false, cond, not, ◌⊎◌, inl, inr, List, [], ◌∷◌, ◌++◌, length, refl, sym, ap, subst, ◌∙◌, arith}, lemmas.{Bool.{eq-eqb, eqb-true, and_parts}, List.{Elements.All-from_recursion, Sorted.IsNonDecreasingBy-push}}}
 use Rattle.std.specs.{Prelude.{Option, Some, None, ◌&&◌, ◌||◌, ◌==◌, is_some, fold, unwrap_or}, List.{AllByRecursion, count_by, list_any, Sorted.IsNonDecreasingBy}, Map.lookup, Option.option_map_or}
+use Rattle.gx_units.proofs.Lists_hold.{all_weaker, all_next}
 use Rattle.gx_policy.specs.declared.policy.PolicyData.{PolicyData}
 use Rattle.gx_history.specs.declared.record.RecordData.{RecordData}
-use Rattle.gx_laws.proofs.{Numbers.all_weaker, Apart.all_members, Pushing.all_next}
+use Rattle.gx_laws.proofs.Keys_differ.{all_members}
 use Rattle.gx_records.specs.State.{limit_in_force}
 use Rattle.gx_peaks.specs.{declared.{figure.Figure.Figure, key.PeakKey.PeakKey, peak.Reading.Reading}, Figures.{amount, is_counted, used_of}, Keys.{key_of, same_key}, Noting.IsSame, Raising.reading_of, Same.{key_is, key_is_itself}}
-use Rattle.gx_peaks.proofs.{Rising.whole, Sameness.amounts_same, Sorts.is_some_always}
+use Rattle.gx_peaks.proofs.{OnePeak_next.whole, Figures_same.amounts_same, Figure_sort.is_some_always}
 use Rattle.gx_warnings.specs.{declared.{mark.Mark.Mark, warning.Warning.Warning}, Keeping.{IsEntry, IsKnown}, Marks.{mark_of, same_mark}, Noting.{with_figure, with_figures, with_share, with_warning}, Warnings.{IsFirstPassed, is_passed, passes}}
 use Rattle.gx_warnings.proofs.{Entries_next.{found_elsewhere, found_last, none_counts, one_more_counts}, Share_first.{begins, first_stays, known_goes_on, never_now}}
 

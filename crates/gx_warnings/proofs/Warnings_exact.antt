@@ -1,9 +1,9 @@
 -- What is kept are exactly the warnings.
 use Rattle.std.proofs.{Common.{◌≡◌, ℕ, ◌+◌, ◌≤◌, ◌<◌, true, false, cond, List, [], ◌∷◌, length, map, take, get_or, refl, sym, subst, ◌∙◌, arith}, lemmas.List.{get_or-map, length-map}}
 use Rattle.std.specs.{Prelude.{Option, Some, None, ◌==◌}, List.{AllByRecursion, count_by, list_any, Sorted.IsNonDecreasingBy}, Map.lookup}
+use Rattle.gx_units.proofs.Lists_hold.{all_weaker}
 use Rattle.gx_policy.specs.declared.policy.PolicyData.{PolicyData}
 use Rattle.gx_history.specs.declared.record.RecordData.{RecordData}
-use Rattle.gx_laws.proofs.Numbers.{all_weaker}
 use Rattle.gx_peaks.specs.{declared.figure.Figure.Figure, Figures.is_counted}
 use Rattle.gx_warnings.specs.{declared.{mark.Mark.Mark, warning.Warning.Warning}, Keeping.{IsEntry, IsKnown, Keeps}, Marks.{mark_of, same_mark}, Warnings.{AreWarnings, IsWarning, is_of, is_passed}}
 use Rattle.gx_warnings.proofs.Entries_next.{counts_first, one_counts}
@@ -33,8 +33,8 @@ counts_told policy shares records f s (e ∷ entries) h =
     ∙ (λ i. cond (same_mark (mark_of policy f s) (sym h.0.has_mark i)) 1 0 + counts_told policy shares records f s entries h.1 i)
     ∙ sym (counts_first (λ (e : Mark × Warning). same_mark (mark_of policy f s) e.0) e entries)
 
-pub exactly : (policy : PolicyData) (shares : List ℕ) (records : List RecordData) (entries : List (Mark × Warning)) → Keeps policy shares records entries → AreWarnings policy shares records (map (λ (e : Mark × Warning). e.1) entries)
-exactly policy shares records entries keeps = record {
+pub exactly : {policy : PolicyData} (shares : List ℕ) {records : List RecordData} (entries : List (Mark × Warning)) → Keeps policy shares records entries → AreWarnings policy shares records (map (λ (e : Mark × Warning). e.1) entries)
+exactly {policy} shares {records} entries keeps = record {
   each =
       each_told (IsWarning policy shares records) entries
       (all_weaker (IsEntry policy shares records) (λ (e : Mark × Warning). IsWarning policy shares records e.1) (λ e is. is.is_warning) entries keeps.each);

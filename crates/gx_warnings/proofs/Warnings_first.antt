@@ -5,7 +5,7 @@ use Rattle.gx_policy.specs.declared.policy.PolicyData.{PolicyData}
 use Rattle.gx_history.specs.declared.record.RecordData.{RecordData}
 use Rattle.gx_records.specs.State.{limit_in_force}
 use Rattle.gx_peaks.specs.{declared.figure.Figure.Figure, Figures.{amount, is_counted}}
-use Rattle.gx_peaks.proofs.Beginning.{amount_none}
+use Rattle.gx_peaks.proofs.Peaks_first.{amount_none}
 use Rattle.gx_warnings.specs.{declared.{mark.Mark.Mark, warning.Warning.Warning, warnings.Warnings.Warnings}, Keeping.{AreKept, Keeps}, Warnings.is_passed}
 use Rattle.gx_warnings.proofs.Share_first.{none_short}
 

@@ -2,12 +2,13 @@
 use Rattle.std.proofs.{Common.{◌≡◌, ℕ, ◌*◌, ◌≤◌, Bool, true, false, ◌⊎◌, inl, inr, List, [], ◌∷◌, ◌++◌, refl, sym, ap, subst, ◌∙◌, arith}, lemmas.Bool.{leb-true, le-leb, lt-ltb, ltb-false, ltb-true}}
 use Rattle.std.specs.{Prelude.{Option, Some, None, ◌&&◌, ◌==◌, nat_le, nat_lt}, List.{list_any}, Map.lookup, Option.option_map_or}
 use Rattle.gx_units.specs.{Names.same_rule, declared.names.{AccountName.AccountName, RuleId.RuleId}}
+use Rattle.gx_units.proofs.Lists_hold.{all_weaker}
 use Rattle.gx_policy.specs.{declared.policy.PolicyData.PolicyData, Soundness.is_sound}
 use Rattle.gx_history.specs.{declared.{live_order.LiveOrder.LiveOrder, «record».RecordData.RecordData}, Live.{live, live_numbered}, Verdicts.{Follows, IsLegal}}
-use Rattle.gx_laws.proofs.{NextReports.legal_before, Numbers.all_weaker}
+use Rattle.gx_laws.proofs.Streams_next.{legal_before}
 use Rattle.gx_records.specs.State.{limit_in_force}
 use Rattle.gx_peaks.specs.{declared.figure.Figure.Figure, Figures.{amount, is_counted}, Noting.{IsOfAccount, side_of}, Raising.reading_of, Touching.{gains_of, set_in, sets_limit}}
-use Rattle.gx_peaks.proofs.{Holding.gainer_is_known, Newest.account_is_known, Quiet.{counts_gain, counts_order, no_rise}, Rising.front, Sameness.{counts_it, counts_its_gain}, Settings.limit_is_kept, Sorts.{Sort, amount_is, has_sort, sort_of}}
+use Rattle.gx_peaks.proofs.{Peaks_next.gainer_is_known, NewOrder_live.account_is_known, Figures_unraised.{counts_gain, counts_order, no_rise}, OnePeak_next.front, Figures_same.{counts_it, counts_its_gain}, Limit_kept.limit_is_kept, Figure_sort.{Sort, amount_is, has_sort, sort_of}}
 use Rattle.gx_warnings.specs.{declared.{mark.Mark.Mark, warning.Warning.Warning}, Keeping.{IsEntry, IsKnown, Keeps}, Marks.{mark_of, same_mark}, Moving.{figures_among, figures_of_gain, figures_of_order, figures_of_setting, warnings_after}, Noting.with_figures, Warnings.{is_passed, passes}}
 use Rattle.gx_warnings.proofs.{Figures_covered.{account_covers, covers_left, covers_right, setting_covers}, Share_first.{first_stays, never_goes_on, never_now, none_short}, Limit_none.none_stays, Warnings_call.{Covers, Goes, Lags, Now, Step, figures_put}}
 
@@ -47,8 +48,8 @@ settled policy f s earlier r None never still = never_goes_on policy f s earlier
 settled policy f s earlier r (Some w) is still = first_stays policy f s earlier r w.reading.number is
 
 -- a warning of the earlier records is one of all
-entry_stays : (policy : PolicyData) (shares : List ℕ) (earlier : List RecordData) (r : RecordData) (e : Mark × Warning) → IsEntry policy shares earlier e → IsEntry policy shares (earlier ++ r ∷ []) e
-entry_stays policy shares earlier r e is = record {
+entry_stays : {policy : PolicyData} (shares : List ℕ) {earlier : List RecordData} (r : RecordData) (e : Mark × Warning) → IsEntry policy shares earlier e → IsEntry policy shares (earlier ++ r ∷ []) e
+entry_stays {policy} shares {earlier} r e is = record {
   has_mark = is.has_mark;
   is_warning = record {
     is_counted = is.is_warning.is_counted;
@@ -72,12 +73,12 @@ module _ (policy : PolicyData) (shares : List ℕ) (sound : is_sound policy ≡ 
   last = with_figures policy records shares es figures
 
   parts : IsLegal policy earlier × Follows policy (earlier, r)
-  parts = legal_before policy earlier r legal
+  parts = legal_before earlier r legal
 
   start : Goes policy shares earlier r es
   start = record {
     lags = λ f c s a. inl (keeps.known f c s a);
-    each = all_weaker (IsEntry policy shares earlier) (IsEntry policy shares records) (entry_stays policy shares earlier r) es keeps.each;
+    each = all_weaker (IsEntry policy shares earlier) (IsEntry policy shares records) (entry_stays shares r) es keeps.each;
     in_order = keeps.in_order;
     once = keeps.once;
   }
@@ -140,7 +141,7 @@ module _ (policy : PolicyData) (shares : List ℕ) (sound : is_sound policy ≡ 
         covers_left policy f (figures_of_order policy (live_numbered (live policy records) r.number) ++ figures_of_gain policy (gains_of policy earlier r)) (figures_of_setting (set_in r) es)
         (covers_right policy f (figures_of_order policy (live_numbered (live policy records) r.number)) (figures_of_gain policy (gains_of policy earlier r))
         (subst (λ (a : Option AccountName). Covers policy (figures_of_gain policy a) f) (sym e)
-        (account_covers policy account None f (counts_its_gain policy f s account is (gainer_is_known policy earlier account sound parts.0 r.verdict e) k))))
+        (account_covers policy account None f (counts_its_gain policy f s account is (gainer_is_known account sound parts.0 r.verdict e) k))))
 
     by_gain : option_map_or (counts_order s) (live_numbered (live policy records) r.number) false ≡ false → (found : Option AccountName) → gains_of policy earlier r ≡ found
         → Now policy shares earlier r last f share
@@ -155,7 +156,7 @@ module _ (policy : PolicyData) (shares : List ℕ) (sound : is_sound policy ≡ 
     order_covers o e k =
         covers_left policy f (figures_of_order policy (live_numbered (live policy records) r.number) ++ figures_of_gain policy (gains_of policy earlier r)) (figures_of_setting (set_in r) es)
         (covers_left policy f (figures_of_order policy (live_numbered (live policy records) r.number)) (figures_of_gain policy (gains_of policy earlier r))
-        (subst (λ (x : Option LiveOrder). Covers policy (figures_of_order policy x) f) (sym e) (either (counts_it policy f s o is (account_is_known policy records r.number o sound legal e) k))))
+        (subst (λ (x : Option LiveOrder). Covers policy (figures_of_order policy x) f) (sym e) (either (counts_it policy f s o is (account_is_known r.number o sound legal e) k))))
       where
         either : IsOfAccount policy o.account None f ⊎ IsOfAccount policy o.account (Some (side_of o)) f → Covers policy (figures_among o.account None policy.rules ++ figures_among o.account (Some (side_of o)) policy.rules) f
         either (inl gross) = covers_left policy f (figures_among o.account None policy.rules) (figures_among o.account (Some (side_of o)) policy.rules) (account_covers policy o.account None f gross)
@@ -181,10 +182,10 @@ module _ (policy : PolicyData) (shares : List ℕ) (sound : is_sound policy ≡ 
   }
 
 -- once the figures are read that the last record can have raised, and those whose limit it set
-pub all_carried : (policy : PolicyData) (shares : List ℕ) (records earlier : List RecordData) (r : RecordData) (seller : Option AccountName) (figures : List Figure) (old new : List (Mark × Warning)) → is_sound policy ≡ true
+pub all_carried : {policy : PolicyData} (shares : List ℕ) {records earlier : List RecordData} (r : RecordData) (seller : Option AccountName) (figures : List Figure) (old new : List (Mark × Warning)) → is_sound policy ≡ true
     → IsLegal policy records → list_any (λ (asked : ℕ). asked == 0) shares ≡ true → records ≡ earlier ++ r ∷ [] → Keeps policy shares earlier old → seller ≡ gains_of policy earlier r
     → figures ≡ warnings_after policy records r seller old → new ≡ with_figures policy records shares old figures → Keeps policy shares records new
-all_carried policy shares records earlier r seller figures old new sound legal first_uses is keeps sells lists puts =
+all_carried {policy} shares {records} {earlier} r seller figures old new sound legal first_uses is keeps sells lists puts =
     let P : List RecordData → Type 0 = λ h. IsLegal policy h → figures ≡ warnings_after policy h r (gains_of policy earlier r) old → new ≡ with_figures policy h shares old figures → Keeps policy shares h new in
     subst P (sym is)
     (λ legal lists puts.

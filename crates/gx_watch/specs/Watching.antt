@@ -3,7 +3,7 @@ use Rattle.std.specs.Prelude.{◌≡◌, ℕ, List, length, Option, None}
 use Rattle.gx_policy.specs.declared.policy.PolicyData.{PolicyData}
 use Rattle.gx_history.specs.declared.record.RecordData.{RecordData}
 use Rattle.gx_text.specs.declared.form.Form.{Form}
-use Rattle.gx_events.specs.Lines.{Standing}
+use Rattle.gx_events.specs.Lines.{LogState}
 use Rattle.gx_audit.specs.declared.fault.AuditFault.{AuditFault}
 use Rattle.gx_follower.specs.Followers.{FollowerData}
 use Rattle.gx_warnings.specs.{declared.warning.Warning.Warning, Keeping.AreKept}
@@ -19,7 +19,7 @@ pub record WatchData : Type 0 where
   pub whole : ℕ
   pub fault : Option AuditFault
   pub form : Form
-  pub log : Standing
+  pub log : LogState
   pub lines : List ℕ
   pub shares : List ℕ
   pub warnings : List Warning

@@ -1,6 +1,6 @@
-pub mod Awaited
-pub mod Further
-pub mod Followed
-pub mod Same
-pub mod Counted
-pub mod Worked
+pub mod Waiting_next
+pub mod OtherDay_next
+pub mod Watcher_next
+pub mod OwnPolicy_same
+pub mod Counts_next
+pub mod Days_computed

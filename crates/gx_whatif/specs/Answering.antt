@@ -3,16 +3,16 @@ use Rattle.std.specs.Prelude.{◌≡◌, ◌≤◌, ℕ, List, length, Err}
 use Rattle.gx_policy.specs.declared.policy.PolicyData.{PolicyData}
 use Rattle.gx_history.specs.{declared.record.RecordData.RecordData, Verdicts.{day_limit, IsLegal}}
 use Rattle.gx_audit.specs.{Auditing.IsAnswer, Endings.IsOfDay}
-use Rattle.gx_whatif.specs.{declared.{change.Change.Change, fault.WhatIfFault.WhatIfFault, heading.HeadingRow.HeadingRow}, Differing.changes, Headings.heading_rows, Redone.under}
+use Rattle.gx_whatif.specs.{declared.{change.Change.Change, fault.WhatIfFault.WhatIfFault, heading.HeadingRow.HeadingRow}, Differing.changes, Headings.heading_rows, Redone.redone_under}
 
 -- the day that the new policy makes has as many records as a day may have, but for granted Kills and Logouts
 abbrev pub IsFilled : PolicyData → PolicyData → List RecordData → Type 0
-IsFilled old new records = day_limit ≤ length (under old new records).records
+IsFilled old new records = day_limit ≤ length (redone_under old new records).records
 
 -- the day has so many records, the new policy makes a legal day of their steps, and these are the changes
 pub record IsCompared (old new : PolicyData) (count : ℕ) (found : List Change) (records : List RecordData) : Type 0 where
   pub count_is : count ≡ length records
-  pub made_legal : IsLegal new (under old new records).records
+  pub made_legal : IsLegal new (redone_under old new records).records
   pub changes_are : found ≡ changes old new records
 
 -- so it is of the audit's day

@@ -3,7 +3,7 @@ use Rattle.std.specs.{Prelude.{ℕ, Bool, true, false, ◌&&◌, ◌==◌, List,
 use Rattle.gx_units.specs.{Names.same_rule, declared.names.UserName.UserName}
 use Rattle.gx_policy.specs.{declared.policy.PolicyData.PolicyData, Lists.each_with_earlier, RuleNames.rule_id}
 use Rattle.gx_history.specs.{declared.record.{Fill.Fill, RecordData.RecordData, Step.Step, Verdict.Verdict}, Verdicts.next}
-use Rattle.gx_whatif.specs.{declared.change.Change.Change, Redone.{Redone, under}}
+use Rattle.gx_whatif.specs.{declared.change.Change.Change, Redone.{Redone, redone_under}}
 
 -- the number that the order of this one has in the day: that of the record whose step it came of
 abbrev pub source_of : List ℕ → ℕ → ℕ
@@ -24,7 +24,7 @@ told_behind new day step = option_map (λ (r : RecordData). in_day day.sources r
 
 -- what the new policy tells of a record that stands behind these
 abbrev pub told_of : PolicyData → PolicyData → List RecordData → RecordData → Option Verdict
-told_of old new earlier r = told_behind new (under old new earlier) r.step
+told_of old new earlier r = told_behind new (redone_under old new earlier) r.step
 
 -- the same orders, as many shares and the same price
 abbrev pub same_fill : Fill → Fill → Bool

@@ -2,8 +2,8 @@
 use Rattle.std.specs.{Prelude.{◌≡◌, ◌==◌, ℕ, Bool, true, false, IsTrue, List, Option, Some}, List.{AllByRecursion, list_any}, Option.option_map_or}
 use Rattle.gx_policy.specs.declared.policy.PolicyData.{PolicyData}
 use Rattle.gx_history.specs.{declared.{live_order.LiveOrder.LiveOrder, «record».RecordData.RecordData}, Live.{live_numbered, waiting}}
-use Rattle.gx_answers.specs.Gates.{GateData}
-use Rattle.gx_whatif.specs.{declared.change.Change.Change, Answering.IsFilled, Differing.changes, Redone.under}
+use Rattle.gx_access_gate.specs.Gates.{GateData}
+use Rattle.gx_whatif.specs.{declared.change.Change.Change, Answering.IsFilled, Differing.changes, Redone.redone_under}
 
 -- the live order of this number waits
 abbrev pub waits_numbered : List LiveOrder → ℕ → Bool
@@ -15,8 +15,8 @@ AreAllOf policy records numbers = AllByRecursion (λ (o : LiveOrder). IsTrue (li
 
 -- the gate and the sources are the day that the gate's policy makes of the steps of these records, and these are the changes
 pub record AreRedone (old : PolicyData) (gate : GateData) (sources : List ℕ) (found : List Change) (records : List RecordData) : Type 0 where
-  pub records_are : gate.records ≡ (under old gate.policy records).records
-  pub sources_are : sources ≡ (under old gate.policy records).sources
+  pub records_are : gate.records ≡ (redone_under old gate.policy records).records
+  pub sources_are : sources ≡ (redone_under old gate.policy records).sources
   pub changes_are : found ≡ changes old gate.policy records
 
 -- so far, unless the day under the gate's policy is full

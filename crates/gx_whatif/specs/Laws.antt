@@ -2,11 +2,11 @@
 use Rattle.std.specs.Prelude.{◌≡◌, List, []}
 use Rattle.gx_policy.specs.declared.policy.PolicyData.{PolicyData}
 use Rattle.gx_history.specs.{declared.record.RecordData.RecordData, Verdicts.IsLegal}
-use Rattle.gx_whatif.specs.{Redone.under, Differing.changes}
+use Rattle.gx_whatif.specs.{Redone.redone_under, Differing.changes}
 
 -- under its own policy a legal day is made again, and none of its verdicts changes
 pub record NothingDiffers (policy : PolicyData) (records : List RecordData) : Type 0 where
-  pub same_day : (under policy policy records).records ≡ records
+  pub same_day : (redone_under policy policy records).records ≡ records
   pub no_change : changes policy policy records ≡ []
 
 abbrev pub NothingDiffersUnderItsOwn : Type 0

@@ -2,7 +2,7 @@
 use Rattle.std.specs.Prelude.{◌≡◌, ℕ, List, [], ◌∷◌, codes, map, Option, Some, None}
 use Rattle.gx_policy.specs.declared.policy.PolicyData.{PolicyData}
 use Rattle.gx_history.specs.{declared.record.{Step.Step, Verdict.Verdict}, Verdicts.run}
-use Rattle.gx_rows.specs.Sample.{alice, bob, sample, with_rules, login, buys, sells, matches, granted, denied_by, filled}
+use Rattle.gx_worked_examples.specs.Sample.{alice, bob, sample, with_rules, login, buys, sells, matches, granted, denied_by, filled}
 use Rattle.gx_whatif.specs.{declared.change.Change.Change, Differing.changes}
 
 -- a change by its number, and the two verdicts

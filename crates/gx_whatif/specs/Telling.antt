@@ -2,7 +2,7 @@
 use Rattle.std.specs.Prelude.{ℕ, List, [], ◌∷◌, ◌++◌, codes, decimal, flat_map, length, Option, Some, None}
 use Rattle.gx_history.specs.declared.record.Verdict.{Verdict}
 use Rattle.gx_json.specs.Parts.{first_member, member}
-use Rattle.gx_script.specs.Printing.{line_end, verdict_text}
+use Rattle.gx_script_text.specs.Printing.{line_end, verdict_text}
 use Rattle.gx_text.specs.Shown.{json_name, json_string, shown_name}
 use Rattle.gx_whatif.specs.declared.{change.Change.Change, heading.{Heading.Heading, HeadingRow.HeadingRow}}
 

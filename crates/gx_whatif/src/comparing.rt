@@ -77,7 +77,7 @@ fn compare<G: ShowsRecords + ShowsState>(
 }
 
 /// The changes under the policy that `N` means.
-#[tactic(auto, using(crate::proofs::Followed::made_legal))]
+#[tactic(auto, using(crate::proofs::Watcher_next::made_legal))]
 fn compare_under<G: ShowsRecords + ShowsState, N: MeansPolicy>(
     alloc: Global,
     policy: &Policy,

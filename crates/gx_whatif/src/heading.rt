@@ -171,7 +171,7 @@ fn count_all(
 /// # Errors
 ///
 /// `OutOfMemory` where the rows were refused their memory.
-#[tactic(auto, using(crate::proofs::Counted::rows_are))]
+#[tactic(auto, using(crate::proofs::Counts_next::rows_are))]
 pub(crate) fn heading_rows(
     alloc: Global,
     policy: &Policy,

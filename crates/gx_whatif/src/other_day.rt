@@ -1,7 +1,7 @@
 //! The day made again under another policy, while the records of its audit are.
 
 ghost use Rattle.std.specs.Prelude.{◌≡◌, ◌++◌, ◌∷◌, ◌≤◌, [], IfErr, IfOk, OnOk, None, Some, length};
-ghost use Rattle.gx_answers.specs.declared.outcome.StepFault.TheVariants as faults;
+ghost use Rattle.gx_access_gate.specs.declared.outcome.StepFault.TheVariants as faults;
 ghost use Rattle.gx_audit_bytes.specs.Reading.{IsAskableStep};
 ghost use Rattle.gx_endings.specs.Endings.{Grows};
 ghost use Rattle.gx_history.specs.Verdicts.{day_limit, IsLegal};
@@ -11,7 +11,7 @@ ghost use Rattle.gx_whatif.specs.{Differing.{change_where, told_behind}, Redone.
 use crate::change::{Change, change_where};
 use crate::stepping::{add_more, make_step, settle_where, told_in_day};
 use crate::waiting::note_waiting;
-use gx_answers::{AccessGate, StepFault};
+use gx_access_gate::{AccessGate, StepFault};
 use gx_history::record::{RecordData, Verdict};
 use gx_policy::Policy;
 use gx_records::{ShowsRecords, ShowsState, Watches};

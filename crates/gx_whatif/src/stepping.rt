@@ -1,13 +1,13 @@
 //! A step of the day on a gate under another policy.
 
 ghost use Rattle.std.specs.Prelude.{◌≡◌, ◌≤◌, IfErr, IfOk, OnOk, length, option_map};
-ghost use Rattle.gx_answers.specs.declared.outcome.StepFault.TheVariants as faults;
+ghost use Rattle.gx_access_gate.specs.declared.outcome.StepFault.TheVariants as faults;
 ghost use Rattle.gx_audit_bytes.specs.Reading.{IsAskableStep};
-ghost use Rattle.gx_history.specs.{declared.record.RecordData.RecordData, Settling.settled, Verdicts.{after_step, day_limit, next}};
+ghost use Rattle.gx_history.specs.{declared.record.RecordData.RecordData, Settling.settled_records, Verdicts.{after_step, day_limit, next}};
 ghost use Rattle.gx_whatif.specs.{Differing.in_day, Redone.{settled_where, with_more}};
 
 use crate::change::in_day;
-use gx_answers::{AccessGate, StepFault};
+use gx_access_gate::{AccessGate, StepFault};
 use gx_history::record::{Step, Verdict};
 use gx_units::{Moment, OutOfMemory};
 
@@ -59,9 +59,9 @@ pub(crate) fn settle_where<G: AccessGate>(
 fn settle<G: AccessGate>(gate: &mut G, moment: Moment) -> Result<(), StepFault>
     ensures policy { (G.seen gate.new).policy ≡ (G.seen gate.old).policy }
     ensures records { OnOk result ((G.seen gate.new).records
-        ≡ settled (G.seen gate.old).policy (G.seen gate.old).records moment) }
+        ≡ settled_records (G.seen gate.old).policy (G.seen gate.old).records moment) }
     ensures day_full { IfErr result (λ e. e ≡ faults.DayFull → day_limit
-        ≤ length (settled (G.seen gate.old).policy (G.seen gate.old).records moment)) }
+        ≤ length (settled_records (G.seen gate.old).policy (G.seen gate.old).records moment)) }
 {
     loop {
         match gate.match_one(moment) {

@@ -15,7 +15,7 @@ use gx_history::record::Verdict;
 use gx_json::{
     append_first_key, append_first_name, append_first_number, append_key, append_number_member,
 };
-use gx_script::append_verdict;
+use gx_script_text::append_verdict;
 use gx_text::{append, append_json_string, append_name, append_number};
 use gx_units::OutOfMemory;
 use std::alloc::Global;

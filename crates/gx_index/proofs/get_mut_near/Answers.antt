@@ -1,5 +1,5 @@
 use Rattle.std.proofs.Common.{refl, sym, ◌∙◌}
-use Rattle.gx_index.proofs.Distinct.{nothing_found, writes_nothing, writes_through}
+use Rattle.gx_index.proofs.Keys_only.{nothing_found, writes_nothing, writes_through}
 use Rattle.gx_index.proofs.get_mut_near.Goals as goal
 
 pub returns-in-Some : goal.returns-in-Some

@@ -3,15 +3,15 @@
 ghost use Rattle.std.specs.Prelude.{◌≡◌, ◌≢◌, ◌↔◌, IfErr, IfOk, Some, None, is_some};
 ghost use Rattle.gx_units.specs.Spelling.{folded_user};
 ghost use Rattle.gx_history.specs.InForce.{line_of};
-ghost use Rattle.gx_pass.specs.Views.{retold};
+ghost use Rattle.gx_pass.specs.Views.{with_told};
 ghost use Rattle.gx_door.specs.declared.fault.PullFault.TheVariants as pull_faults;
 ghost use Rattle.gx_door.specs.Acts.{IsLater, history_met};
 ghost use Rattle.gx_session.specs.{Events.is_over, Outboxes.left_after, Table.turn};
 ghost use Rattle.gx_session.specs.Happenings as happens;
 ghost use Rattle.gx_serve.specs.{Marks.{mark_sent, cursor_sent}, States.{HasLooked, WasTold}, Seeking.{due_of, cursor_after, IsQuiet, Seeks, WasGreeted, WasPulled, WasSought, WasWatched}, Speech.{is_ending, Begins, IsDue, IsShown}, Tellings.sent_of};
 
-use crate::state::{ConnectionState, Heeded};
-use gx_answers::{LoginAnswer, Pulled, StepFault};
+use crate::state::{ConnectionState, ShutdownNoted};
+use gx_access_gate::{LoginAnswer, Pulled, StepFault};
 use gx_control::PullCursor;
 use gx_door::{Dial, Door, PullFault};
 use gx_session::{Event, Sign};
@@ -197,7 +197,7 @@ fn due_of(fetched: Fetched, cursor: &mut PullCursor) -> NextWrite
 impl<T: Drop> ConnectionState<T> {
     /// Tells the session of the time. It asks for no answer to a login.
     #[tactic(auto, using(crate::proofs::Session_call::ticks_answer_nothing))]
-    fn tick<D: Door<Ticket = T>, R: Wait + Dial>(
+    fn tick<D: Door<Pass = T>, R: Wait + Dial>(
         &mut self,
         rt: &R,
         door: &D,
@@ -222,11 +222,11 @@ impl<T: Drop> ConnectionState<T> {
     /// What the writer does before the login is answered: it answers it, or looks at the time. Answers what it is to send,
     /// or that the session is over; `None` for nothing for now. The session was told of the server's end, where that was
     /// asked for.
-    pub fn greet<D: Door<Ticket = T>, R: Wait + Dial>(
+    pub fn greet<D: Door<Pass = T>, R: Wait + Dial>(
         &mut self,
         rt: &R,
         door: &D,
-        _heeded: Heeded,
+        _heeded: ShutdownNoted,
         moment: Moment,
     ) -> Option<Result<Answered, Finished>>
         requires clock { R.shown moment }
@@ -254,9 +254,9 @@ impl<T: Drop> ConnectionState<T> {
     }
 
     /// How many records there are.
-    pub(super) fn length<D: Door<Ticket = T>>(&mut self, door: &D) -> u64
+    pub(super) fn length<D: Door<Pass = T>>(&mut self, door: &D) -> u64
         ensures told { history_met D.held self.new.pass
-            ≡ retold (history_met D.held self.old.pass) result }
+            ≡ with_told (history_met D.held self.old.pass) result }
         ensures user { self.new.user ≡ self.old.user }
         ensures session { self.new.session ≡ self.old.session }
         ensures outbox { self.new.outbox ≡ self.old.outbox }
@@ -271,7 +271,7 @@ impl<T: Drop> ConnectionState<T> {
     }
 
     /// The user's reports from the bookmark on.
-    fn reports<D: Door<Ticket = T>, R: Wait + Dial>(
+    fn reports<D: Door<Pass = T>, R: Wait + Dial>(
         &mut self,
         rt: &R,
         door: &D,
@@ -300,7 +300,7 @@ impl<T: Drop> ConnectionState<T> {
 
     /// The user's reports from the bookmark on, where there are more records than were seen.
     #[tactic(auto, using(crate::proofs::Session_call::was_idle, crate::proofs::Session_call::was_fetched, crate::proofs::Session_call::was_refused, crate::proofs::Session_call::was_not_on))]
-    fn pull<D: Door<Ticket = T>, R: Wait + Dial>(
+    fn pull<D: Door<Pass = T>, R: Wait + Dial>(
         &mut self,
         rt: &R,
         door: &D,
@@ -335,7 +335,7 @@ impl<T: Drop> ConnectionState<T> {
     }
 
     /// What there is for the writer where the session asks to send nothing.
-    fn seek<D: Door<Ticket = T>, R: Wait + Dial>(
+    fn seek<D: Door<Pass = T>, R: Wait + Dial>(
         &mut self,
         rt: &R,
         door: &D,
@@ -360,7 +360,7 @@ impl<T: Drop> ConnectionState<T> {
 
     /// What the writer does as time passes: what the session then asks to send, or else new reports.
     #[tactic(auto, using(crate::proofs::Session_call::was_watched))]
-    fn watch_on<D: Door<Ticket = T>, R: Wait + Dial>(
+    fn watch_on<D: Door<Pass = T>, R: Wait + Dial>(
         &mut self,
         rt: &R,
         door: &D,
@@ -384,11 +384,11 @@ impl<T: Drop> ConnectionState<T> {
     /// What the writer does for this user, whose next report has this number: first what the session
     /// asked to send, then what it asks for as time passes, then new reports. The session was told of the server's
     /// end, where that was asked for.
-    pub fn due<D: Door<Ticket = T>, R: Wait + Dial>(
+    pub fn due<D: Door<Pass = T>, R: Wait + Dial>(
         &mut self,
         rt: &R,
         door: &D,
-        _heeded: Heeded,
+        _heeded: ShutdownNoted,
         bookmark: &Bookmark,
         moment: Moment,
     ) -> NextWrite
@@ -412,7 +412,7 @@ impl<T: Drop> ConnectionState<T> {
     }
 
     /// These reports were sent: tells the session so, and goes on behind them.
-    pub fn sent<D: Door<Ticket = T>, R: Wait + Dial>(
+    pub fn sent<D: Door<Pass = T>, R: Wait + Dial>(
         &mut self,
         rt: &R,
         door: &D,

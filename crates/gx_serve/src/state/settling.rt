@@ -1,7 +1,7 @@
 //! Matching steps that are made with a connection's pass.
 
 ghost use Rattle.std.specs.Prelude.{◌≡◌, None, IsFalse, IsTrue};
-ghost use Rattle.gx_answers.specs.Matches.{matching_of};
+ghost use Rattle.gx_access_gate.specs.Matches.{matching_of};
 ghost use Rattle.gx_pass.specs.Views.{mine};
 ghost use Rattle.gx_door.specs.Acts.{gate_met, history_met};
 ghost use Rattle.gx_serve.specs.States.{WasMatched};
@@ -14,7 +14,7 @@ use std::sync::Wait;
 impl<T: Drop> ConnectionState<T> {
     /// Makes a few matching steps with the pass, unless no order waited behind the last of its steps. Answers whether none
     /// waits then. The session is told nothing.
-    pub fn settle<D: Door<Ticket = T>, R: Wait + Dial>(
+    pub fn settle<D: Door<Pass = T>, R: Wait + Dial>(
         &mut self,
         rt: &R,
         door: &D,

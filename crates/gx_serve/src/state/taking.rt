@@ -21,7 +21,7 @@ pub enum Taken<'a> {
 
 impl<T: Drop> ConnectionState<T> {
     /// Why the user is put out, if he is.
-    fn exclusion<D: Door<Ticket = T>>(&mut self, door: &D) -> Option<Exclusion>
+    fn exclusion<D: Door<Pass = T>>(&mut self, door: &D) -> Option<Exclusion>
         ensures user { self.new.user ≡ self.old.user }
         ensures session { self.new.session ≡ self.old.session }
         ensures outbox { self.new.outbox ≡ self.old.outbox }
@@ -32,7 +32,7 @@ impl<T: Drop> ConnectionState<T> {
     }
 
     /// Takes a packet, unless its user is put out: nothing more is taken of him then, and the session is told that it ends.
-    pub fn take_in<'a, D: Door<Ticket = T>, R: Wait + Dial>(
+    pub fn take_in<'a, D: Door<Pass = T>, R: Wait + Dial>(
         &mut self,
         rt: &R,
         door: &D,

@@ -2,7 +2,7 @@ use Rattle.std.proofs.Common.{◌∙◌}
 use Rattle.std.specs.Prelude.{map}
 use Rattle.gx_policy.specs.declared.policy.Account.{Account}
 use Rattle.gx_activity.specs.Noting.{row_in, so_far}
-use Rattle.gx_activity.proofs.Standing.{rows_stand}
+use Rattle.gx_activity.proofs.Counts_bounds.{rows_stand}
 use Rattle.gx_activity.proofs.activity.activity_rows.Goals as goal
 
 pub returns : goal.returns

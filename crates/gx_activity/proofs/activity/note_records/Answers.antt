@@ -1,9 +1,9 @@
 use Rattle.std.proofs.{Common.{arith, List, ap, ◌∙◌}, lemmas.List.take_all}
-use Rattle.gx_history.proofs.Unpacking.{item_at}
 use Rattle.gx_units.specs.declared.names.AccountName.{AccountName}
+use Rattle.gx_units.proofs.Lists_found.{item_at}
 use Rattle.gx_history.specs.declared.record.RecordData.{RecordData}
 use Rattle.gx_activity.specs.{declared.activity.ActivityRow.ActivityRow, Noting.{row_in, so_far}}
-use Rattle.gx_activity.proofs.Knowing.{known_further, noted_further, nothing_known, nothing_noted}
+use Rattle.gx_activity.proofs.Known_next.{known_further, noted_further, nothing_known, nothing_noted}
 use Rattle.gx_activity.proofs.activity.note_records.Goals as goal
 
 pub loop-place-init : goal.loop-place-init

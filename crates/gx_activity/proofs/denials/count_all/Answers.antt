@@ -1,6 +1,6 @@
 use Rattle.std.proofs.Common.{arith}
-use Rattle.gx_history.proofs.Unpacking.{item_at}
-use Rattle.gx_activity.proofs.Denied.{denials_further}
+use Rattle.gx_units.proofs.Lists_found.{item_at}
+use Rattle.gx_activity.proofs.Denials_next.{denials_further}
 use Rattle.gx_activity.proofs.denials.count_all.Goals as goal
 
 pub loop-place-preserved : goal.loop-place-preserved

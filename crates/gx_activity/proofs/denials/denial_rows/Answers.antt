@@ -1,6 +1,6 @@
 use Rattle.std.proofs.Common.{◌≡◌, ◌∙◌, map}
 use Rattle.gx_activity.specs.{declared.denials.{Denial.Denial, DenialRow.DenialRow}, Denials.{denial_row, denial_rows, denials, row_of}}
-use Rattle.gx_activity.proofs.{Denied.{each_is, rows_are}, Tables.of_items}
+use Rattle.gx_activity.proofs.{Denials_next.{each_is, rows_are}, Table_next.of_items}
 use Rattle.gx_activity.proofs.denials.denial_rows.Goals as goal
 
 pub returns : goal.returns

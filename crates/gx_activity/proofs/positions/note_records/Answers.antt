@@ -1,6 +1,6 @@
 use Rattle.std.proofs.Common.{arith, ◌∙◌}
-use Rattle.gx_history.proofs.Unpacking.{item_at}
-use Rattle.gx_activity.proofs.{Knowing.nothing_known, Trading.{positions_further, positions_known, positions_none}}
+use Rattle.gx_units.proofs.Lists_found.{item_at}
+use Rattle.gx_activity.proofs.{Known_next.nothing_known, Positions_next.{positions_further, positions_known, positions_none}}
 use Rattle.gx_activity.proofs.positions.note_records.Goals as goal
 
 pub loop-place-init : goal.loop-place-init

@@ -1,7 +1,7 @@
 use Rattle.std.proofs.Common.{◌≡◌, ◌∙◌, map}
 use Rattle.gx_history.specs.Executions.{executions}
 use Rattle.gx_activity.specs.{declared.positions.{Position.Position, PositionRow.PositionRow}, Positions.{position_row, position_rows, row_of}}
-use Rattle.gx_activity.proofs.{Tables.of_items, Trading.{each_is, rows_are}}
+use Rattle.gx_activity.proofs.{Table_next.of_items, Positions_next.{each_is, rows_are}}
 use Rattle.gx_activity.proofs.positions.position_rows.Goals as goal
 
 pub returns : goal.returns

@@ -1,9 +1,9 @@
 use Rattle.std.proofs.{Common.{◌∙◌, List, ap, arith}, lemmas.List.take_all}
 use Rattle.std.specs.Prelude.{Some}
-use Rattle.gx_history.proofs.Unpacking.{item_at}
+use Rattle.gx_units.proofs.Lists_found.{item_at}
 use Rattle.gx_history.specs.declared.record.RecordData.{RecordData}
 use Rattle.gx_activity.specs.{declared.spans.SpanRow.SpanRow, Spanning.span_so_far}
-use Rattle.gx_activity.proofs.Timing.{span_fits, span_further}
+use Rattle.gx_activity.proofs.Spans_next.{span_fits, span_further}
 use Rattle.gx_activity.proofs.spans.note_all.Goals as goal
 
 pub loop-place-preserved : goal.loop-place-preserved

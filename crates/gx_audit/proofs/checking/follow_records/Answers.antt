@@ -15,15 +15,15 @@ loop-at-preserved g c = record {
   within = omega arith;
   policy = c.in-Ok.ensures.policy ∙ c.loop-at.invariant.policy;
   shown =
-      shown_further c.args.version (g.G.AccessGate.seen c.loop-at.gate).records (g.G.AccessGate.seen c.check_record.new.gate).records c.record_at.result c.loop-at.invariant.shown c.in-Ok.ensures.ok;
+      shown_further c.args.version c.record_at.result c.loop-at.invariant.shown c.in-Ok.ensures.ok;
   bytes =
-      bytes_further c.args.version (g.G.AccessGate.seen c.args.gate.now).policy (g.G.AccessGate.seen c.loop-at.gate).records (g.G.AccessGate.seen c.check_record.new.gate).records c.record_at.result c.args.bytes.now c.loop-at.at
+      bytes_further c.args.version (g.G.AccessGate.seen c.args.gate.now).policy c.record_at.result c.args.bytes.now c.loop-at.at
       c.loop-at.invariant.bytes c.in-Ok.ensures.ok c.record_at.ensures;
 }
 
 pub returns-in-Err-clause-fault : goal.returns-in-Err-clause-fault
 returns-in-Err-clause-fault g c =
-    fault_told c.args.version (g.G.AccessGate.seen c.args.gate.now).policy (g.G.AccessGate.seen c.loop-at.gate).policy (g.G.AccessGate.seen c.loop-at.gate).records c.record_at.result c.args.bytes.now c.loop-at.at c.in-Err.fault
+    fault_told c.args.version (g.G.AccessGate.seen c.args.gate.now).policy c.record_at.result c.args.bytes.now c.loop-at.at c.in-Err.fault
     c.loop-at.invariant.policy c.requires.version c.check_record.ensures.legal c.loop-at.invariant.shown c.loop-at.invariant.bytes (omega arith)
     c.record_at.ensures c.in-Err.ensures.fault
 

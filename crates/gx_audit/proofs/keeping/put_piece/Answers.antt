@@ -1,6 +1,6 @@
 use Rattle.std.proofs.Common.{◌∙◌, sym, arith}
-use Rattle.gx_history.proofs.Unpacking.{item_at}
-use Rattle.gx_audit_bytes.proofs.Joined.{bytes_on, no_bytes}
+use Rattle.gx_units.proofs.Lists_found.{item_at}
+use Rattle.gx_audit_bytes.proofs.Records_next.{bytes_on, no_bytes}
 use Rattle.gx_audit.proofs.keeping.put_piece.Goals as goal
 
 pub loop-place-init : goal.loop-place-init

@@ -1,5 +1,5 @@
 use Rattle.std.proofs.Common.{◌∙◌, refl, arith}
-use Rattle.gx_devices.proofs.Known.{on_err}
+use Rattle.gx_units.proofs.Results_hold.{on_err}
 use Rattle.gx_audit.proofs.Audit_next.{none_written, piece_cut, piece_written}
 use Rattle.gx_audit.proofs.keeping.write_records.Goals as goal
 

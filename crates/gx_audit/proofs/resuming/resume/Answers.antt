@@ -6,4 +6,4 @@ pub size_of-kept-requires : goal.size_of-kept-requires
 size_of-kept-requires g c = omega (arith, c.in-Ok.ensures.size, c.length.ensures.count, c.type_inv.file)
 
 pub returns-in-Ok-clause-stands : goal.returns-in-Ok-clause-stands
-returns-in-Ok-clause-stands g c = is_day c.args.policy.now c.args.file.now (g.G.AccessGate.seen c.in-Ok.gate).records c.size_of-kept.result c.length.result c.in-Ok.ensures.records c.length.ensures.count c.size_of-kept.ensures
+returns-in-Ok-clause-stands g c = is_day c.args.file.now c.size_of-kept.result c.length.result c.in-Ok.ensures.records c.length.ensures.count c.size_of-kept.ensures

@@ -1,5 +1,5 @@
 use Rattle.std.proofs.Common.{◌∙◌}
-use Rattle.gx_audit_bytes.proofs.HeaderParts.{parts_lie}
+use Rattle.gx_audit_bytes.proofs.Header_parts.{parts_lie}
 use Rattle.gx_audit_bytes.proofs.header.write_header.Goals as goal
 
 pub returns-clause-fields : goal.returns-clause-fields

@@ -1,5 +1,5 @@
 use Rattle.std.proofs.Common.{◌∙◌}
-use Rattle.gx_audit_bytes.proofs.HeaderParts.{dated_lie}
+use Rattle.gx_audit_bytes.proofs.Header_parts.{dated_lie}
 use Rattle.gx_audit_bytes.proofs.header.write_header_3.Goals as goal
 
 pub returns-clause-fields : goal.returns-clause-fields

@@ -1,7 +1,7 @@
 use Rattle.std.proofs.Common.{rules, ◌≡◌, IsTrue, sym, ap, ◌∙◌, subst, Bool}
 use Rattle.gx_history.specs.Showing.{is_rule_shown}
 use Rattle.gx_units.specs.declared.names.RuleId.{RuleId}
-use Rattle.gx_audit_bytes.proofs.Rules.{one_rule}
+use Rattle.gx_audit_bytes.proofs.Verdict_read.{one_rule}
 use Rattle.gx_audit_bytes.proofs.reading.shows_rule.Goals as goal
 
 pub returns-then-eq-clause-same : goal.returns-then-eq-clause-same

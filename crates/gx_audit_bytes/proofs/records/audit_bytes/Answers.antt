@@ -1,4 +1,4 @@
-use Rattle.gx_audit_bytes.proofs.Joined.{bytes_on, shown_on}
+use Rattle.gx_audit_bytes.proofs.Records_next.{bytes_on, shown_on}
 use Rattle.gx_audit_bytes.proofs.records.audit_bytes.Goals as goal
 
 pub loop-given-preserved : goal.loop-given-preserved

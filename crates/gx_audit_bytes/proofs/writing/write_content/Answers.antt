@@ -1,5 +1,5 @@
 use Rattle.std.proofs.Common.{◌∙◌}
-use Rattle.gx_audit_bytes.proofs.ReadBack.{fields_lie}
+use Rattle.gx_audit_bytes.proofs.Record_read.{fields_lie}
 use Rattle.gx_audit_bytes.proofs.writing.write_content.Goals as goal
 
 pub returns-clause-fields : goal.returns-clause-fields

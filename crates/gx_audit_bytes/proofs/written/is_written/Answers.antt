@@ -1,4 +1,4 @@
-use Rattle.gx_audit_bytes.proofs.Standing.{parts_tell, has_places}
+use Rattle.gx_audit_bytes.proofs.Record_parts.{parts_tell, has_places}
 use Rattle.gx_audit_bytes.proofs.written.is_written.Goals as goal
 
 pub returns-clause-bytes : goal.returns-clause-bytes

@@ -17,4 +17,4 @@ returns g c =
     in
     c.loop-user.invariant
     ∙ ap (λ (users : List User). capped_count (sum_by (orders_of_trader (live policy records) c.args.account) users)) (take_all c.loop-user.user-index policy.users seen)
-    ∙ ap capped_count (traders_orders policy records c.args.account sound c.is_legal.ensures.legal)
+    ∙ ap capped_count (traders_orders c.args.account sound c.is_legal.ensures.legal)

@@ -1,4 +1,4 @@
-use Rattle.gx_button.proofs.Stepping.{asks_and_leaves}
+use Rattle.gx_button.proofs.Step_call.{asks_and_leaves}
 use Rattle.gx_button.proofs.steps.ask_and_leave.Goals as goal
 
 pub returns-clause-steps : goal.returns-clause-steps

@@ -1,5 +1,5 @@
 use Rattle.std.proofs.Common.{rules, nat_eq, ap, ◌∙◌}
-use Rattle.gx_button.proofs.Comparing.{none_differs}
+use Rattle.gx_button.proofs.Bytes_compared.{none_differs}
 use Rattle.gx_button.proofs.token.same_token.Goals as goal
 
 -- src/token.rt:46:1

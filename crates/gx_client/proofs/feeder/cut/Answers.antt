@@ -1,5 +1,5 @@
 use Rattle.std.proofs.Common.{sym, ◌∙◌, arith}
-use Rattle.gx_client.proofs.{ServerSteps.{cut_short, cut_faulty, cut_end, cut_whole, cut_takes}, ServerBounds.rest_bounded}
+use Rattle.gx_client.proofs.{Feeder_call.{cut_short, cut_faulty, cut_end, cut_whole, cut_takes}, Rest_bounds.rest_bounded}
 use Rattle.gx_client.proofs.feeder.cut.Goals as goal
 
 pub returns-in-Short-clause-packets : goal.returns-in-Short-clause-packets

@@ -1,4 +1,4 @@
-use Rattle.gx_client.proofs.ToldApart.{no_answer, no_drop_copy, no_officers}
+use Rattle.gx_client.proofs.Messages_apart.{no_answer, no_drop_copy, no_officers}
 use Rattle.gx_client.proofs.laws.kinds_are_told_apart.Goals as goal
 
 pub returns : goal.returns

@@ -1,4 +1,4 @@
-use Rattle.gx_client.proofs.PacketLaws.{little_is_held_back}
+use Rattle.gx_client.proofs.Packets_laws.{little_is_held_back}
 use Rattle.gx_client.proofs.laws.little_is_held_back.Goals as goal
 
 pub returns : goal.returns

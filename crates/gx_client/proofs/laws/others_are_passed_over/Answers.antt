@@ -1,4 +1,4 @@
-use Rattle.gx_client.proofs.ServerWritten.{debug_read, unsequenced_read}
+use Rattle.gx_client.proofs.Packet_read.{debug_read, unsequenced_read}
 use Rattle.gx_client.proofs.laws.others_are_passed_over.Goals as goal
 
 pub returns : goal.returns

@@ -1,4 +1,4 @@
-use Rattle.gx_client.proofs.PacketLaws.{packets_grow}
+use Rattle.gx_client.proofs.Packets_laws.{packets_grow}
 use Rattle.gx_client.proofs.laws.packets_grow.Goals as goal
 
 pub returns : goal.returns

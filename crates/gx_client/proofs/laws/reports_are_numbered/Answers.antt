@@ -1,4 +1,4 @@
-use Rattle.gx_client.proofs.Hearing.{reports_are_numbered}
+use Rattle.gx_client.proofs.Session_next.{reports_are_numbered}
 use Rattle.gx_client.proofs.laws.reports_are_numbered.Goals as goal
 
 pub returns : goal.returns

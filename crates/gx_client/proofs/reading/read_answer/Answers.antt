@@ -1,7 +1,7 @@
 use Rattle.std.proofs.Common.{◌∙◌}
 use Rattle.gx_desk.specs.Writing.{answer_bytes}
 use Rattle.gx_client.specs.{Messages.{IsAnswer, ReadsBack}, Reading.answer_shown}
-use Rattle.gx_client.proofs.{ReadBack.{written, none_read}, OfficersBack.answer_back}
+use Rattle.gx_client.proofs.{Messages_read.{written, none_read}, OfficerMessages_read.answer_back}
 use Rattle.gx_client.proofs.reading.read_answer.Goals as goal
 
 pub returns : goal.returns

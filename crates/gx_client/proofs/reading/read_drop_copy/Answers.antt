@@ -1,7 +1,7 @@
 use Rattle.std.proofs.Common.{◌∙◌}
 use Rattle.gx_desk.specs.Writing.{drop_copy_bytes}
 use Rattle.gx_client.specs.{Messages.{IsDropCopy, ReadsBack}, Reading.drop_copy_shown}
-use Rattle.gx_client.proofs.{ReadBack.{written, none_read}, OfficersBack.drop_copy_back}
+use Rattle.gx_client.proofs.{Messages_read.{written, none_read}, OfficerMessages_read.drop_copy_back}
 use Rattle.gx_client.proofs.reading.read_drop_copy.Goals as goal
 
 pub returns : goal.returns

@@ -1,7 +1,7 @@
 use Rattle.std.proofs.Common.{◌∙◌}
 use Rattle.gx_ouch.specs.Writing.{outbound_bytes}
 use Rattle.gx_client.specs.{Messages.{IsOutbound, ReadsBack}, Reading.outbound_shown}
-use Rattle.gx_client.proofs.ReadBack.{written, none_read, outbound_back}
+use Rattle.gx_client.proofs.Messages_read.{written, none_read, outbound_back}
 use Rattle.gx_client.proofs.reading.read_outbound.Goals as goal
 
 pub returns : goal.returns

@@ -1,5 +1,5 @@
 use Rattle.std.proofs.Common.{◌≢◌, ◌∙◌, length, arith}
-use Rattle.gx_client.proofs.ReportsBack.{order_read, answer_read, drop_copy_read}
+use Rattle.gx_client.proofs.Reports_read.{order_read, answer_read, drop_copy_read}
 use Rattle.gx_client.proofs.report.report_in.Goals as goal
 
 pub returns-in-34-clause-read_back : goal.returns-in-34-clause-read_back

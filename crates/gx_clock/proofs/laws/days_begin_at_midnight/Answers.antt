@@ -1,4 +1,4 @@
-use Rattle.gx_clock.proofs.Going.{local_day}
+use Rattle.gx_clock.proofs.Clock_moments.{local_day}
 use Rattle.gx_clock.proofs.laws.days_begin_at_midnight.Goals as goal
 
 pub returns : goal.returns

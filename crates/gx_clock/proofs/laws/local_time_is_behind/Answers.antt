@@ -1,4 +1,4 @@
-use Rattle.gx_clock.proofs.Going.{behind}
+use Rattle.gx_clock.proofs.Clock_moments.{behind}
 use Rattle.gx_clock.proofs.laws.local_time_is_behind.Goals as goal
 
 pub returns : goal.returns

@@ -1,4 +1,4 @@
-use Rattle.gx_clock.proofs.Going.{goes_on}
+use Rattle.gx_clock.proofs.Clock_moments.{goes_on}
 use Rattle.gx_clock.proofs.laws.moments_go_on.Goals as goal
 
 pub returns : goal.returns

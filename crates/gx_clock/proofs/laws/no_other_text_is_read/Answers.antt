@@ -1,4 +1,4 @@
-use Rattle.gx_clock.proofs.Reading.{text_is}
+use Rattle.gx_clock.proofs.Offset_read.{text_is}
 use Rattle.gx_clock.proofs.laws.no_other_text_is_read.Goals as goal
 
 pub returns : goal.returns

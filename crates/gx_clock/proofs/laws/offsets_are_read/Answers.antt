@@ -1,4 +1,4 @@
-use Rattle.gx_clock.proofs.Reading.{offset_read}
+use Rattle.gx_clock.proofs.Offset_read.{offset_read}
 use Rattle.gx_clock.proofs.laws.offsets_are_read.Goals as goal
 
 pub returns : goal.returns

@@ -1,6 +1,6 @@
 use Rattle.std.proofs.Common.{◌∙◌, ap}
 use Rattle.gx_history.specs.{Rules.first_forbidding, Verdicts.verdict_by}
-use Rattle.gx_decide.proofs.Joining.{asker_known, none_asked, some_asked}
+use Rattle.gx_decide.proofs.Rules_figures.{asker_known, none_asked, some_asked}
 use Rattle.gx_decide.proofs.judging.judged.Goals as goal
 
 pub returns-in_default : goal.returns-in_default

@@ -1,5 +1,5 @@
 use Rattle.std.proofs.Common.{refl, ◌∙◌}
-use Rattle.gx_ouch.proofs.Places.{known_to_lie}
+use Rattle.gx_ouch.proofs.Fields_placed.{known_to_lie}
 use Rattle.gx_desk.specs.{Messages.answer, Writing.{answer_contents, answer_bytes}}
 use Rattle.gx_desk.proofs.Answer.write.Goals as goal
 

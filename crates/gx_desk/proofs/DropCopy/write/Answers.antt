@@ -1,5 +1,5 @@
 use Rattle.std.proofs.Common.{refl, ◌∙◌}
-use Rattle.gx_ouch.proofs.Places.{known_to_lie}
+use Rattle.gx_ouch.proofs.Fields_placed.{known_to_lie}
 use Rattle.gx_desk.specs.{Messages.drop_copy, Writing.{drop_copy_contents, drop_copy_bytes}}
 use Rattle.gx_desk.proofs.DropCopy.write.Goals as goal
 

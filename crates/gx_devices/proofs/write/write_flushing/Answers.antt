@@ -1,5 +1,5 @@
 use Rattle.std.proofs.Common.{◌∙◌, ◌-◌, length, drop, arith, length-take, length-drop}
-use Rattle.gx_devices.proofs.Known.{written_more, front_kept, front_still}
+use Rattle.gx_devices.proofs.Parts_written.{written_more, front_kept, front_still}
 use Rattle.gx_devices.proofs.write.write_flushing.Goals as goal
 
 pub loop-done-preserved : goal.loop-done-preserved

@@ -2,7 +2,7 @@ use Rattle.std.proofs.Common.{List, codes, subst}
 use Rattle.gx_policy.specs.declared.policy.{Account.Account, Stock.Stock, User.User, FileRule.FileRule, Lifters.Lifters}
 use Rattle.gx_units.specs.declared.names.SessionName.{SessionName}
 use Rattle.gx_digest.specs.{Hashing.TakesIn, PolicyText.{policy_text, lifters_text, list_text, account_text, stock_text, user_text, rule_text}}
-use Rattle.gx_digest.proofs.Taking.{seven}
+use Rattle.gx_digest.proofs.Digest_next.{seven}
 use Rattle.gx_digest.proofs.digest.put_policy.Goals as goal
 
 pub returns : goal.returns

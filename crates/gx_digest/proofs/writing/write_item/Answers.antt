@@ -1,6 +1,6 @@
 use Rattle.std.proofs.Common.{[], ◌∷◌, sym, subst}
 use Rattle.gx_digest.specs.Hashing.{TakesIn}
-use Rattle.gx_digest.proofs.Taking.{two, one_item}
+use Rattle.gx_digest.proofs.Digest_next.{two, one_item}
 use Rattle.gx_digest.proofs.writing.write_item.Goals as goal
 
 pub returns : goal.returns

@@ -1,4 +1,4 @@
-use Rattle.gx_digest.proofs.Taking.{next_item, nothing}
+use Rattle.gx_digest.proofs.Digest_next.{next_item, nothing}
 use Rattle.gx_digest.proofs.writing.write_items.Goals as goal
 
 pub loop-item-init : goal.loop-item-init

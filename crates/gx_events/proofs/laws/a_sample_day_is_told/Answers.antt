@@ -1,4 +1,4 @@
-use Rattle.gx_events.proofs.Sampling.{commands_are_told, commands_are_told_in_json, full_days_are_told, people_are_told, people_are_told_in_json}
+use Rattle.gx_events.proofs.Sample_computed.{commands_are_told, commands_are_told_in_json, full_days_are_told, people_are_told, people_are_told_in_json}
 use Rattle.gx_events.proofs.laws.a_sample_day_is_told.Goals as goal
 
 pub returns : goal.returns

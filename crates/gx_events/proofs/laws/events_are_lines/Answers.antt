@@ -1,4 +1,4 @@
-use Rattle.gx_events.proofs.Lining.{events_are_lines}
+use Rattle.gx_events.proofs.Event_line.{events_are_lines}
 use Rattle.gx_events.proofs.laws.events_are_lines.Goals as goal
 
 pub returns : goal.returns

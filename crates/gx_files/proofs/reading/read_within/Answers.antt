@@ -1,5 +1,5 @@
 use Rattle.std.proofs.Common.{arith}
-use Rattle.gx_files.proofs.Taking.{taken_on}
+use Rattle.gx_files.proofs.Pieces_next.{taken_on}
 use Rattle.gx_files.proofs.reading.read_within.Goals as goal
 
 pub returns-in_err-read_more-clause-bounded : goal.returns-in_err-read_more-clause-bounded

@@ -1,5 +1,5 @@
 use Rattle.std.proofs.Common.{sym, ◌∙◌}
-use Rattle.gx_follower.proofs.Standing.{is_bare}
+use Rattle.gx_follower.proofs.Reading_stands.{is_bare}
 use Rattle.gx_follower.proofs.piece.kept_of.Goals as goal
 
 pub returns-else-has_header-clause-fault : goal.returns-else-has_header-clause-fault

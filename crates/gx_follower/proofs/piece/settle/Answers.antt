@@ -1,5 +1,5 @@
 use Rattle.std.proofs.Common.{◌∙◌}
-use Rattle.gx_follower.proofs.Settling.{told_on}
+use Rattle.gx_follower.proofs.Reading_next.{told_on}
 use Rattle.gx_follower.proofs.piece.settle.Goals as goal
 
 pub returns-in-Err-clause-fault : goal.returns-in-Err-clause-fault

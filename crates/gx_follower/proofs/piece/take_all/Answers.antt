@@ -1,6 +1,6 @@
 use Rattle.std.proofs.Common.{arith, ◌++◌, length-append, refl}
 use Rattle.gx_follower.specs.Readings.{read_of}
-use Rattle.gx_follower.proofs.Settling.{answered_on, filled_on}
+use Rattle.gx_follower.proofs.Reading_next.{answered_on, filled_on}
 use Rattle.gx_follower.proofs.piece.take_all.Goals as goal
 
 pub settle-requires-clause-reading : goal.settle-requires-clause-reading

@@ -2,7 +2,7 @@ use Rattle.std.proofs.Common.{subst}
 use Rattle.std.specs.Prelude.{Option}
 use Rattle.gx_audit_bytes.specs.declared.version.AuditVersion.{AuditVersion}
 use Rattle.gx_follower.specs.Readings.{HasBegun}
-use Rattle.gx_follower.proofs.Standing.{version_behind}
+use Rattle.gx_follower.proofs.Reading_stands.{version_behind}
 use Rattle.gx_follower.proofs.piece.take_block.Goals as goal
 
 pub take_record-requires-clause-version : goal.take_record-requires-clause-version

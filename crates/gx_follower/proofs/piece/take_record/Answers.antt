@@ -1,4 +1,4 @@
-use Rattle.gx_follower.proofs.Taking.{known_on}
+use Rattle.gx_follower.proofs.Audit_next.{known_on}
 use Rattle.gx_follower.proofs.piece.take_record.Goals as goal
 
 pub returns-in-Ok-clause-known : goal.returns-in-Ok-clause-known

@@ -5,11 +5,11 @@ use Rattle.gx_gate_state.proofs.apply.apply_asked.Goals as goal
 
 pub unreachable-requires : goal.unreachable-requires
 unreachable-requires c =
-    no_other_move c.args.next.policy.now c.args.next.history.now.records c.args.a.now c.args.next.moves.now c.args.next.data.now c.requires.takes.does c.requires.asks
+    no_other_move c.args.a.now c.args.next.moves.now c.args.next.data.now c.requires.takes.does c.requires.asks
     c.in_default.not-Denies c.in_default.not-PutsOn c.in_default.not-Adds c.in_default.not-Sizes c.in_default.not-Replaces c.in_default.not-Commands
 
 pub returns-in-PutsOn-clause-ok : goal.returns-in-PutsOn-clause-ok
 returns-in-PutsOn-clause-ok c =
-    line_goes_on c.args.next.policy.now c.args.next.history.now.records c.in-PutsOn.field-0 c.in-PutsOn.field-1 c.args.next.data.now c.args.state.now _
-    (takes_so c.args.next.policy.now c.args.next.history.now.records c.args.next.moves.now (Move.PutsOn c.in-PutsOn.field-0 c.in-PutsOn.field-1) c.args.next.data.now c.args.state.now c.in-PutsOn.is c.requires.takes)
+    line_goes_on c.in-PutsOn.field-0 c.in-PutsOn.field-1 c.args.next.data.now c.args.state.now _
+    (takes_so c.args.next.moves.now (Move.PutsOn c.in-PutsOn.field-0 c.in-PutsOn.field-1) c.args.next.data.now c.args.state.now c.in-PutsOn.is c.requires.takes)
     refl refl (day_so c.args.next.data.now c.args.next.moves.now (Move.PutsOn c.in-PutsOn.field-0 c.in-PutsOn.field-1) c.args.state.now.status _ c.in-PutsOn.is c.apply.ensures) refl refl refl refl

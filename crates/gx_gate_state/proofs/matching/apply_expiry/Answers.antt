@@ -2,14 +2,14 @@ use Rattle.std.proofs.{Common.{ℕ, ap, sym, ◌∙◌}, lemmas.Bool.eqb-true}
 use Rattle.std.specs.Prelude.{is_some}
 use Rattle.gx_history.specs.declared.moves.Move.{Move}
 use Rattle.gx_orders.specs.LiveOrders.{OrdersData, live_numbered}
-use Rattle.gx_orders.proofs.Finding.{finds_orders}
-use Rattle.gx_laws.proofs.Known.{number_found}
+use Rattle.gx_orders.proofs.Orders_found.{finds_orders}
+use Rattle.gx_laws.proofs.LiveOrders_known.{number_found}
 use Rattle.gx_gate_state.proofs.State_next.{takes_so}
 use Rattle.gx_gate_state.proofs.matching.apply_expiry.Goals as goal
 
 pub order_numbered-order-requires : goal.order_numbered-order-requires
 order_numbered-order-requires c = record {
-  lives = let t = takes_so c.args.next.policy.now c.args.next.history.now.records c.args.next.moves.now (Move.Expires c.args.number) c.args.next.data.now c.args.state.now c.requires.expires c.requires.takes in
+  lives = let t = takes_so c.args.next.moves.now (Move.Expires c.args.number) c.args.next.data.now c.args.state.now c.requires.expires c.requires.takes in
       ap (λ (d : OrdersData). is_some (live_numbered d.live c.args.number)) t.in_force.orders ∙ ap is_some (finds_orders c.args.next.policy.now c.args.next.history.now.records c.args.next.data.now (Move.Expires c.args.number) t.does).is_found;
 }
 

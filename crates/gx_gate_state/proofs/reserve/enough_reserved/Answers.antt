@@ -1,6 +1,6 @@
 use Rattle.std.proofs.Common.{arith}
+use Rattle.gx_units.proofs.Lists_found.{few_pass}
 use Rattle.gx_history.specs.LiveOrders.{is_of_user}
-use Rattle.gx_laws.proofs.Small.{few_pass}
 use Rattle.gx_gate_state.proofs.reserve.enough_reserved.Goals as goal
 
 pub overflow_add-result : goal.overflow_add-result

@@ -10,6 +10,6 @@ invariant-loop-user l =
       shown : shown_streams l.streams ≡ shown_streams l.fn.streams;
       known : (other : UserName) → has_own_stream l.streams other ≡ has_own_stream l.fn.streams other;
       readers : l.streams.readers ≡ l.fn.streams.readers;
-      more : (other : UserName) → reserved_in l.fn.streams.told other ≤ reserved_in l.streams.told other;
+      more : (other : UserName) → reserved_in l.fn.streams.lists other ≤ reserved_in l.streams.lists other;
       places : HaveEnough l.fn.orders.live l.fn.people l.fn.policy l.streams (take l.user-index l.user-items);
     }

@@ -2,7 +2,7 @@ use Rattle.std.proofs.Common.{◌≤◌, List, length, ℕ, ◌∙◌, ap, sym, 
 use Rattle.std.specs.Prelude.{Option, option_and_then}
 use Rattle.base64.specs.{Decode.decoded_estimate, Engines.standard}
 use Rattle.gx_http.specs.Credentials.{user_and_password}
-use Rattle.gx_http.proofs.Decoded.{none_decoded, some_decoded}
+use Rattle.gx_http.proofs.Text_decoded.{none_decoded, some_decoded}
 use Rattle.gx_http.proofs.credentials.decoded_credentials.Goals as goal
 
 pub returns-in_default : goal.returns-in_default

@@ -1,4 +1,4 @@
-use Rattle.gx_http.proofs.Heads.{all_within}
+use Rattle.gx_http.proofs.Head_parts.{all_within}
 use Rattle.gx_http.proofs.request.behind_head.Goals as goal
 
 pub credentials_in-requires : goal.credentials_in-requires

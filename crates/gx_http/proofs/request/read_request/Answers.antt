@@ -1,5 +1,5 @@
 use Rattle.std.proofs.Common.{arith}
-use Rattle.gx_http.proofs.Heads.{read_as}
+use Rattle.gx_http.proofs.Head_parts.{read_as}
 use Rattle.gx_http.proofs.request.read_request.Goals as goal
 
 pub returns-in-Ok-Complete-clause-read : goal.returns-in-Ok-Complete-clause-read

@@ -1,4 +1,4 @@
-use Rattle.gx_laws.proofs.NeverCrossed.{never_crossed}
+use Rattle.gx_laws.proofs.Books_uncrossed.{never_crossed}
 use Rattle.gx_laws.proofs.effects.books_are_never_crossed.Goals as goal
 
 pub returns : goal.returns

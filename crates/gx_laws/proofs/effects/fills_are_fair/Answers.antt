@@ -1,4 +1,4 @@
-use Rattle.gx_laws.proofs.FairFills.{fills_are_fair}
+use Rattle.gx_laws.proofs.Fills_fair.{fills_are_fair}
 use Rattle.gx_laws.proofs.effects.fills_are_fair.Goals as goal
 
 pub returns : goal.returns

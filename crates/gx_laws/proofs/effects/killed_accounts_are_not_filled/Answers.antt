@@ -1,4 +1,4 @@
-use Rattle.gx_laws.proofs.Sweeps.{killed_are_not_filled}
+use Rattle.gx_laws.proofs.Sweeps_ended.{killed_are_not_filled}
 use Rattle.gx_laws.proofs.effects.killed_accounts_are_not_filled.Goals as goal
 
 pub returns : goal.returns

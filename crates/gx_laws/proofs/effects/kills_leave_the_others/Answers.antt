@@ -1,4 +1,4 @@
-use Rattle.gx_laws.proofs.ByKind.{kills_leave_the_others}
+use Rattle.gx_laws.proofs.World_kinds.{kills_leave_the_others}
 use Rattle.gx_laws.proofs.effects.kills_leave_the_others.Goals as goal
 
 pub returns : goal.returns

@@ -1,4 +1,4 @@
-use Rattle.gx_laws.proofs.{Live.live_next, Sides.{side_next, waiting_next}}
+use Rattle.gx_laws.proofs.{LiveOrders_next.live_next, BookSides_next.{side_next, waiting_next}}
 use Rattle.gx_laws.proofs.effects.live_orders_turn.Goals as goal
 
 pub returns : goal.returns

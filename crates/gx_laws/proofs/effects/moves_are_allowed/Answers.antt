@@ -1,4 +1,4 @@
-use Rattle.gx_laws.proofs.Moving.{may_move}
+use Rattle.gx_laws.proofs.Moves_allowed.{may_move}
 use Rattle.gx_laws.proofs.effects.moves_are_allowed.Goals as goal
 
 pub returns : goal.returns

@@ -1,4 +1,4 @@
-use Rattle.gx_laws.proofs.ByKind.{restricts_change_one_rule, set_limits_change_one_rule, unrestricts_change_one_rule}
+use Rattle.gx_laws.proofs.World_kinds.{restricts_change_one_rule, set_limits_change_one_rule, unrestricts_change_one_rule}
 use Rattle.gx_laws.proofs.effects.settings_change_one_rule.Goals as goal
 
 pub returns : goal.returns

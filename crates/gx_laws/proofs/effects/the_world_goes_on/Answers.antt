@@ -1,4 +1,4 @@
-use Rattle.gx_laws.proofs.World.{world_next, worlds_are_runs}
+use Rattle.gx_laws.proofs.World_next.{world_next, worlds_are_runs}
 use Rattle.gx_laws.proofs.effects.the_world_goes_on.Goals as goal
 
 pub returns : goal.returns

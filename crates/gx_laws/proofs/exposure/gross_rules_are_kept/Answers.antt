@@ -1,4 +1,4 @@
-use Rattle.gx_laws.proofs.Gross.{gross_shares_are_kept, gross_values_are_kept, none_asked_none_held}
+use Rattle.gx_laws.proofs.RunningSums_kept.{gross_shares_are_kept, gross_values_are_kept, none_asked_none_held}
 use Rattle.gx_laws.proofs.exposure.gross_rules_are_kept.Goals as goal
 
 pub returns : goal.returns

@@ -1,4 +1,4 @@
-use Rattle.gx_laws.proofs.{Listed.orders_are_listed, Numbers.numbers_are_within, Owners.orders_are_their_users, Tokens.{orders_are_grants, tokens_differ}}
+use Rattle.gx_laws.proofs.{Orders_listed.orders_are_listed, Orders_numbered.numbers_are_within, Orders_owned.orders_are_their_users, Tokens_differ.{orders_are_grants, tokens_differ}}
 use Rattle.gx_laws.proofs.history.orders_are_granted_requests.Goals as goal
 
 pub returns : goal.returns

@@ -1,4 +1,4 @@
-use Rattle.gx_laws.proofs.Ends.{live_have_open, ended_are_not_live}
+use Rattle.gx_laws.proofs.Orders_ended.{live_have_open, ended_are_not_live}
 use Rattle.gx_laws.proofs.history.orders_end.Goals as goal
 
 pub returns : goal.returns

@@ -1,4 +1,4 @@
-use Rattle.gx_laws.proofs.{NextInForce.{is_closed_next, last_moment_next, line_of_next}, KillsNext.kill_in_force_next, NextOrders.is_token_used_next}
+use Rattle.gx_laws.proofs.{InForce_next.{is_closed_next, last_moment_next, line_of_next}, Kills_next.kill_in_force_next, Orders_next.is_token_used_next}
 use Rattle.gx_laws.proofs.history.states_go_on.Goals as goal
 
 pub returns : goal.returns

@@ -1,4 +1,4 @@
-use Rattle.gx_laws.proofs.NextReports.{stream_next}
+use Rattle.gx_laws.proofs.Streams_next.{stream_next}
 use Rattle.gx_laws.proofs.history.streams_grow.Goals as goal
 
 pub returns : goal.returns

@@ -1,4 +1,4 @@
-use Rattle.gx_laws.proofs.GoingOn.{days_begin_empty}
+use Rattle.gx_laws.proofs.Positions_next.{days_begin_empty}
 use Rattle.gx_laws.proofs.positions.days_begin_empty.Goals as goal
 
 pub returns : goal.returns

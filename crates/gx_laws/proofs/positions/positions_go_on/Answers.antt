@@ -1,4 +1,4 @@
-use Rattle.gx_laws.proofs.{Coming.records_may_come, GoingOn.positions_go_on}
+use Rattle.gx_laws.proofs.{Turns_allowed.records_may_come, Positions_next.positions_go_on}
 use Rattle.gx_laws.proofs.positions.positions_go_on.Goals as goal
 
 pub returns : goal.returns

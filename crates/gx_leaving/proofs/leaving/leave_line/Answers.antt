@@ -1,7 +1,7 @@
 use Rattle.std.proofs.Common.{ap}
 use Rattle.gx_units.specs.declared.names.UserName.{UserName}
 use Rattle.gx_history.specs.declared.record.{Asked.Asked, Request.Request}
-use Rattle.gx_leaving.proofs.LoggedOut.{adds_logout, leaves_line}
+use Rattle.gx_leaving.proofs.Logout_call.{adds_logout, leaves_line}
 use Rattle.gx_leaving.proofs.leaving.leave_line.Goals as goal
 
 pub returns-clause-added : goal.returns-clause-added

@@ -2,7 +2,7 @@ use Rattle.std.proofs.Common.{◌≡◌, ◌<◌, List, length, get_or, sym, ap,
 use Rattle.gx_units.specs.Spelling.{folded_user}
 use Rattle.gx_policy.specs.declared.policy.{PolicyData.PolicyData, User.User}
 use Rattle.gx_leaving.specs.Logouts.{IsOff}
-use Rattle.gx_leaving.proofs.LoggedOut.{adds_more, one_more_off}
+use Rattle.gx_leaving.proofs.Logout_call.{adds_more, one_more_off}
 use Rattle.gx_leaving.proofs.leaving.log_out_all.Goals as goal
 
 pub loop-place-preserved : goal.loop-place-preserved

@@ -1,5 +1,5 @@
 use Rattle.std.proofs.Common.{sym, ◌∙◌}
-use Rattle.gx_ledger.proofs.Likeness.{none_alike}
+use Rattle.gx_ledger.proofs.Enters_alike.{none_alike}
 use Rattle.gx_ledger.proofs.alike.alike_by_size.Goals as goal
 
 pub returns-else-is_one_sized_alike : goal.returns-else-is_one_sized_alike

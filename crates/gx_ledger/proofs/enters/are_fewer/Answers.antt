@@ -1,6 +1,6 @@
 use Rattle.std.proofs.{Common.{◌≡◌, ◌≤◌, get_or, count_by, rules, arith}, lemmas.Bool.ltb-true}
 use Rattle.gx_ledger.specs.Running.{are_alike}
-use Rattle.gx_ledger.proofs.CountedCells.{few_alike}
+use Rattle.gx_ledger.proofs.Cells_counted.{few_alike}
 use Rattle.gx_ledger.proofs.enters.are_fewer.Goals as goal
 
 pub returns : goal.returns

@@ -1,5 +1,5 @@
 use Rattle.std.proofs.Common.{rules}
-use Rattle.gx_ledger.proofs.CountedCells.{counted_down}
+use Rattle.gx_ledger.proofs.Cells_counted.{counted_down}
 use Rattle.gx_ledger.proofs.enters.count_down.Goals as goal
 
 pub returns-then-cell-len-clause-counted : goal.returns-then-cell-len-clause-counted

@@ -1,5 +1,5 @@
 use Rattle.std.proofs.Common.{rules}
-use Rattle.gx_ledger.proofs.CountedCells.{counted_up}
+use Rattle.gx_ledger.proofs.Cells_counted.{counted_up}
 use Rattle.gx_ledger.proofs.enters.count_up.Goals as goal
 
 pub returns-then-cell-len-clause-counted : goal.returns-then-cell-len-clause-counted

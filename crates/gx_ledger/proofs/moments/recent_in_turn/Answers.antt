@@ -1,5 +1,5 @@
 use Rattle.std.proofs.Common.{arith, sym, ap, ◌∙◌, ◌-◌}
-use Rattle.gx_ledger.proofs.{Latest.{one_more_recent, recent_from}, moments.recent_in_turn.Goals.{then-loop-left-test+else-is_recent, else-loop-left-test}}
+use Rattle.gx_ledger.proofs.{Moments_latest.{one_more_recent, recent_from}, moments.recent_in_turn.Goals.{then-loop-left-test+else-is_recent, else-loop-left-test}}
 use Rattle.gx_ledger.proofs.moments.recent_in_turn.Goals as goal
 
 pub loop-left-init : goal.loop-left-init

@@ -2,7 +2,7 @@ use Rattle.std.proofs.Common.{◌∙◌, ap, sym}
 use Rattle.std.specs.Map.{set_value}
 use Rattle.gx_units.specs.Names.{same_stock}
 use Rattle.gx_ledger.specs.{Changes.Change, Running.{changed_sides, noted_sides}}
-use Rattle.gx_ledger.proofs.Entries.{no_sums_set, sums_set}
+use Rattle.gx_ledger.proofs.Entries_changed.{no_sums_set, sums_set}
 use Rattle.gx_ledger.proofs.sides.note_change.Goals as goal
 
 pub returns-in-Some : goal.returns-in-Some

@@ -1,5 +1,5 @@
 use Rattle.std.proofs.Common.{◌∙◌, ◌<◌, arith, length, refl}
-use Rattle.gx_ledger.proofs.Entries.{next_name}
+use Rattle.gx_ledger.proofs.Entries_changed.{next_name}
 use Rattle.gx_ledger.proofs.tables.names_of.Goals as goal
 
 pub loop-account-preserved : goal.loop-account-preserved

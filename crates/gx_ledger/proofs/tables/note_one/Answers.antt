@@ -1,6 +1,6 @@
 use Rattle.std.proofs.Common.{arith}
 use Rattle.gx_ledger.specs.Counts.{tally_with}
-use Rattle.gx_ledger.proofs.Places.{past_is_unchanged, set_is_changed}
+use Rattle.gx_ledger.proofs.Lists_changed.{past_is_unchanged, set_is_changed}
 use Rattle.gx_ledger.proofs.tables.note_one.Goals as goal
 
 pub returns-then-index-tallies : goal.returns-then-index-tallies

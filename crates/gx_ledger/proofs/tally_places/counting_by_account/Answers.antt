@@ -1,6 +1,6 @@
 use Rattle.std.proofs.Common.{◌∙◌, ◌<◌, arith, length, refl}
 use Rattle.gx_ledger.specs.{Accounts.account_names, Counts.places_counting}
-use Rattle.gx_ledger.proofs.Listing.{his_places, next_account}
+use Rattle.gx_ledger.proofs.Tallies_told.{his_places, next_account}
 use Rattle.gx_ledger.proofs.tally_places.counting_by_account.Goals as goal
 
 pub loop-account-preserved : goal.loop-account-preserved

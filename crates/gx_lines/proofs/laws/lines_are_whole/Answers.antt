@@ -1,4 +1,4 @@
-use Rattle.gx_lines.proofs.{PlainAnswers.{answers_are_one_line, earlier_answers_are_one_line}, PlainOrders.{orders_are_one_line, copies_are_one_line}}
+use Rattle.gx_lines.proofs.{AnswerLines_plain.{answers_are_one_line, earlier_answers_are_one_line}, OrderLines_plain.{orders_are_one_line, copies_are_one_line}}
 use Rattle.gx_lines.proofs.laws.lines_are_whole.Goals as goal
 
 pub returns-clause-answers : goal.returns-clause-answers

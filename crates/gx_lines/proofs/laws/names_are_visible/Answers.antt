@@ -1,4 +1,4 @@
-use Rattle.gx_lines.proofs.Visible.{names_are_visible, json_names_are_printed}
+use Rattle.gx_lines.proofs.Names_visible.{names_are_visible, json_names_are_printed}
 use Rattle.gx_lines.proofs.laws.names_are_visible.Goals as goal
 
 pub returns : goal.returns

@@ -1,5 +1,5 @@
 use Rattle.std.proofs.Common.{sym}
-use Rattle.gx_matching.proofs.Booked as booked
+use Rattle.gx_matching.proofs.Book_sides as booked
 use Rattle.gx_matching.proofs.laws.book_at_first.Goals as goal
 
 pub returns : goal.returns

@@ -1,4 +1,4 @@
-use Rattle.gx_matching.proofs.Sound.{books_sound}
+use Rattle.gx_matching.proofs.Books_sound.{books_sound}
 use Rattle.gx_matching.proofs.laws.books_are_sound.Goals as goal
 
 pub returns : goal.returns

@@ -1,4 +1,4 @@
-use Rattle.gx_matching.proofs.Crossing.{matching_is_met, next_record_is_met}
+use Rattle.gx_matching.proofs.Orders_meet.{matching_is_met, next_record_is_met}
 use Rattle.gx_matching.proofs.laws.next_match_is_found.Goals as goal
 
 pub returns : goal.returns

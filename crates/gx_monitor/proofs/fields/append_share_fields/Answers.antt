@@ -1,10 +1,10 @@
 use Rattle.std.specs.Prelude.{codes, decimal}
+use Rattle.gx_units.proofs.Results_hold.{ok_then}
 use Rattle.gx_text.specs.Shown.{json_name}
 use Rattle.gx_json.specs.Parts.{member}
 use Rattle.gx_events.specs.Fields.{event_field}
-use Rattle.gx_peaks.proofs.Looping.{ok_then}
 use Rattle.gx_monitor.specs.Fields.{share_fields}
-use Rattle.gx_monitor.proofs.Places.{three_more}
+use Rattle.gx_monitor.proofs.Places_next.{three_more}
 use Rattle.gx_monitor.proofs.fields.append_share_fields.Goals as goal
 
 pub returns : goal.returns

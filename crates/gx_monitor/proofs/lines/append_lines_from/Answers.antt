@@ -2,7 +2,7 @@ use Rattle.std.proofs.Common.{◌++◌, arith, drop}
 use Rattle.std.specs.Prelude.{flat_map}
 use Rattle.gx_warnings.specs.Keeping.{warnings_of}
 use Rattle.gx_monitor.specs.Lines.{told_line}
-use Rattle.gx_monitor.proofs.Places.{all_told, one_more_told}
+use Rattle.gx_monitor.proofs.Places_next.{all_told, one_more_told}
 use Rattle.gx_monitor.proofs.lines.append_lines_from.Goals as goal
 
 pub loop-at-preserved : goal.loop-at-preserved

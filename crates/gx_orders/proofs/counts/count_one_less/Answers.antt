@@ -1,6 +1,6 @@
 use Rattle.std.proofs.Common.{ap, sym}
 use Rattle.std.specs.Prelude.{is_some}
-use Rattle.gx_orders.proofs.Counted.{none_less, one_less}
+use Rattle.gx_orders.proofs.Counts_next.{none_less, one_less}
 use Rattle.gx_orders.proofs.counts.count_one_less.Goals as goal
 
 -- none is counted

@@ -1,7 +1,7 @@
 use Rattle.std.proofs.Common.{◌+◌, ◌∙◌, ap, cond, sym, ℕ}
 use Rattle.std.specs.{Prelude.{Option, Some, is_some, unwrap_or}, Map.lookup}
 use Rattle.gx_units.specs.Names.{same_user}
-use Rattle.gx_orders.proofs.Counted.{one_more}
+use Rattle.gx_orders.proofs.Counts_next.{one_more}
 use Rattle.gx_orders.proofs.counts.count_one_more.Goals as goal
 
 pub returns-in-Some-clause-more : goal.returns-in-Some-clause-more

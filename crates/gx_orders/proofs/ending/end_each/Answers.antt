@@ -1,5 +1,5 @@
 use Rattle.std.proofs.Common.{arith}
-use Rattle.gx_orders.proofs.Closing.{all_ended, one_ended}
+use Rattle.gx_orders.proofs.EndedOrders_call.{all_ended, one_ended}
 use Rattle.gx_orders.proofs.ending.end_each.Goals as goal
 
 pub loop-i-preserved : goal.loop-i-preserved

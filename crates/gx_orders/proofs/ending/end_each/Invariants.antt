@@ -1,5 +1,5 @@
 use Rattle.std.proofs.Common.{drop}
-use Rattle.gx_orders.proofs.Closing.{AreEnding}
+use Rattle.gx_orders.proofs.EndedOrders_call.{AreEnding}
 use Rattle.gx_orders.proofs.ending.end_each.Given as goal
 
 -- the orders of the numbers before this one have ended

@@ -1,5 +1,5 @@
 use Rattle.std.proofs.Common.{sym}
-use Rattle.gx_orders.proofs.Closing.{has_ended, none_ended}
+use Rattle.gx_orders.proofs.EndedOrders_call.{has_ended, none_ended}
 use Rattle.gx_orders.proofs.ending.end_one.Goals as goal
 
 pub returns-in_default-clause-ended : goal.returns-in_default-clause-ended

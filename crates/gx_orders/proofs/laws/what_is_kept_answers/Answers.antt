@@ -1,4 +1,4 @@
-use Rattle.gx_orders.proofs.{Keeping.used_is, Staying.{accounts_are_theirs, none_at_first}}
+use Rattle.gx_orders.proofs.{UsedTokens_next.used_is, Orders_stay.{accounts_are_theirs, none_at_first}}
 use Rattle.gx_orders.proofs.laws.what_is_kept_answers.Goals as goal
 
 pub returns : goal.returns

@@ -1,7 +1,8 @@
 use Rattle.std.proofs.Common.{◌∙◌, ap, cond, sym, [], List, ℕ}
 use Rattle.std.specs.{Prelude.{Option, Some, is_some, unwrap_or}, Map.lookup}
 use Rattle.gx_units.specs.Names.{same_account}
-use Rattle.gx_orders.proofs.Listing.{lists_more, lists_same, on_ok}
+use Rattle.gx_units.proofs.Results_hold.{ok_then}
+use Rattle.gx_orders.proofs.AccountOrders_next.{lists_more, lists_same}
 use Rattle.gx_orders.proofs.numbers.list_number.Goals as goal
 
 pub returns-in-Some-clause-same : goal.returns-in-Some-clause-same
@@ -12,7 +13,7 @@ returns-in-Some-clause-same c =
 
 pub returns-in-Some-clause-more : goal.returns-in-Some-clause-more
 returns-in-Some-clause-more c =
-    on_ok c.push.result
+    ok_then c.push.result
     (λ more. lists_more c.args.order.now c.in-Some.numbers.now c.push.new.self c.args.table.now c.args.lists.now.entries _
     (ap (λ (found : Option (List ℕ)). unwrap_or found []) c.in-Some.ensures.value) more
     (λ other. ((c.get_mut_near.follows.holds c.push.new.self).3 (ap is_some (sym c.in-Some.ensures.value))).0 other))

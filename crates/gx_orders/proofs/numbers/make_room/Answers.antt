@@ -1,8 +1,8 @@
 use Rattle.std.proofs.Common.{◌≤◌, ◌∙◌, ap, sym, subst, ℕ}
-use Rattle.gx_laws.proofs.Owners.{filtered}
+use Rattle.gx_units.proofs.Lists_hold.{filtered}
 use Rattle.gx_slab.specs.Slabs.{numbered_of, order_of}
 use Rattle.gx_orders.specs.Tables.{NumbersBelow, NumbersUpTo, is_live_of}
-use Rattle.gx_orders.proofs.Listing.{swept, swept_below}
+use Rattle.gx_orders.proofs.AccountOrders_next.{swept, swept_below}
 use Rattle.gx_orders.proofs.numbers.make_room.Goals as goal
 
 pub returns-in_err-reserve-clause-same : goal.returns-in_err-reserve-clause-same

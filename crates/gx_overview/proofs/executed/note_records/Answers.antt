@@ -1,5 +1,5 @@
 use Rattle.std.proofs.Common.{arith}
-use Rattle.gx_history.proofs.Unpacking.{item_at}
+use Rattle.gx_units.proofs.Lists_found.{item_at}
 use Rattle.gx_overview.proofs.Fills_call.{known_further, noted_further, nothing_known, nothing_noted}
 use Rattle.gx_overview.proofs.executed.note_records.Goals as goal
 

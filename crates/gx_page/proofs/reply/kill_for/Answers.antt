@@ -1,15 +1,15 @@
 use Rattle.std.proofs.Common.{sym, subst, ◌∙◌}
 use mathlib.Core.List.{IsPrefix}
-use Rattle.gx_pass.specs.declared.view.Holds.{Holds}
-use Rattle.gx_lookout.proofs.Standing.{behind_all}
-use Rattle.gx_page.proofs.Killing.{board_goes_on, done_so, told_so}
+use Rattle.gx_pass.specs.declared.view.LineView.{LineView}
+use Rattle.gx_lookout.proofs.Summary_behind.{behind_all}
+use Rattle.gx_page.proofs.Kill_call.{board_goes_on, done_so, told_so}
 use Rattle.gx_page.proofs.reply.kill_for.Goals as goal
 
 -- the summary stands behind what the pass has met now
 pub from_parts-requires : goal.from_parts-requires
 from_parts-requires g c = record {
   behind =
-      behind_all g.L.Lookout.policy c.args.board.front (g.L.Lookout.held c.kill-pass.result.0).front c.into_parts-pass.result.1
+      behind_all (g.L.Lookout.held c.kill-pass.result.0).front c.into_parts-pass.result.1
       (board_goes_on g.L.Lookout.held g.D.Door.held g.D.Door.policy c.args.board c.into_parts-pass.result.0 c.kill-pass.result.0 c.kill-pass.result.1 c.requires.held c.into_parts-pass.ensures.held c.kill-pass.ensures.later
       c.kill-pass.ensures.untouched)
       c.into_parts-pass.ensures.behind;
@@ -26,6 +26,6 @@ returns-clause-kill g c =
 
 pub returns-clause-later : goal.returns-clause-later
 returns-clause-later g c =
-    subst (λ (h : Holds). IsPrefix c.args.board.front h.front) (sym c.from_parts.ensures.held)
+    subst (λ (h : LineView). IsPrefix c.args.board.front h.front) (sym c.from_parts.ensures.held)
     (board_goes_on g.L.Lookout.held g.D.Door.held g.D.Door.policy c.args.board c.into_parts-pass.result.0 c.kill-pass.result.0 c.kill-pass.result.1 c.requires.held c.into_parts-pass.ensures.held c.kill-pass.ensures.later
     c.kill-pass.ensures.untouched)

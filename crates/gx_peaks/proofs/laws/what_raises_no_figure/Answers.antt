@@ -1,4 +1,4 @@
-use Rattle.gx_peaks.proofs.Unraised.{limits_stay, most_raise_nothing}
+use Rattle.gx_peaks.proofs.Unraised_laws.{limits_stay, most_raise_nothing}
 use Rattle.gx_peaks.proofs.laws.what_raises_no_figure.Goals as goal
 
 pub returns : goal.returns

@@ -1,4 +1,4 @@
-use Rattle.gx_people.proofs.{Entitling.{granted_pair, revoked_pair}, Keeping.{grants_go, revocations_go}}
+use Rattle.gx_people.proofs.{Grants_next.{granted_pair, revoked_pair}, Users_laws.{grants_go, revocations_go}}
 use Rattle.gx_people.proofs.laws.commands_change_one_pair.Goals as goal
 
 pub returns : goal.returns

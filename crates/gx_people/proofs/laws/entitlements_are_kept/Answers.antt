@@ -1,4 +1,4 @@
-use Rattle.gx_people.proofs.{Entitling.kept, Keeping.named_see}
+use Rattle.gx_people.proofs.{Grants_next.kept, Users_laws.named_see}
 use Rattle.gx_people.proofs.laws.entitlements_are_kept.Goals as goal
 
 pub returns : goal.returns

@@ -1,5 +1,5 @@
 use Rattle.gx_policy.specs.People.{is_reader}
-use Rattle.gx_people.proofs.{Changing.{reader_in_force, reader_stays, role_word}, Keeping.{accounts_stay, officers_stay, passwords_stay, powers_stay, scopes_stay, traders_stay, users_stay}}
+use Rattle.gx_people.proofs.{Users_stay.{reader_in_force, reader_stays, role_word}, Users_laws.{accounts_stay, officers_stay, passwords_stay, powers_stay, scopes_stay, traders_stay, users_stay}}
 use Rattle.gx_people.proofs.laws.powers_stay.Goals as goal
 
 pub returns : goal.returns

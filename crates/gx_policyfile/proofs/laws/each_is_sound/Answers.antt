@@ -1,4 +1,4 @@
-use Rattle.gx_policyfile.proofs.WhatIsRead.{read_sound}
+use Rattle.gx_policyfile.proofs.Policy_read.{read_sound}
 use Rattle.gx_policyfile.proofs.laws.each_is_sound.Goals as goal
 
 pub returns : goal.returns

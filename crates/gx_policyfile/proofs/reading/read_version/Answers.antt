@@ -1,4 +1,4 @@
-use Rattle.gx_policyfile.proofs.{Giving.never_refused, WasRead.numbered}
+use Rattle.gx_policyfile.proofs.{Policy_answered.never_refused, Policy_parts.numbered}
 use Rattle.gx_policyfile.proofs.reading.read_version.Goals as goal
 
 pub returns-clause-fault : goal.returns-clause-fault

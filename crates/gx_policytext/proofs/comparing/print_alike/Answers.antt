@@ -1,5 +1,5 @@
 use Rattle.std.proofs.{Common.{codes, sym, ◌∙◌}, lemmas.Slice.Eq.bytes_eq-Decides}
-use Rattle.gx_policytext.proofs.Depths.{prints_alike}
+use Rattle.gx_policytext.proofs.Values_depth.{prints_alike}
 use Rattle.gx_policytext.proofs.comparing.print_alike.Goals as goal
 
 pub returns : goal.returns

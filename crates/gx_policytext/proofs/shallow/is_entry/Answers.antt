@@ -2,7 +2,7 @@ use Rattle.std.proofs.Common.{ap, ◌∙◌}
 use Rattle.std.specs.Option.{option_map_or}
 use Rattle.toml.specs.View.{view}
 use Rattle.gx_policytext.specs.Shallow.{all_members, is_field}
-use Rattle.gx_policytext.proofs.Depths.{all_members_view}
+use Rattle.gx_policytext.proofs.Values_depth.{all_members_view}
 use Rattle.gx_policytext.proofs.shallow.is_entry.Goals as goal
 
 pub returns-in-Some : goal.returns-in-Some

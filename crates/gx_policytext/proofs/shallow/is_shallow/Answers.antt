@@ -2,7 +2,7 @@ use Rattle.std.proofs.Common.{ap, ◌∙◌}
 use Rattle.std.specs.{List.list_all, Option.option_map_or}
 use Rattle.toml.specs.View.{view}
 use Rattle.gx_policytext.specs.Shallow.{all_items, is_entry, is_plain}
-use Rattle.gx_policytext.proofs.Depths.{all_items_view}
+use Rattle.gx_policytext.proofs.Values_depth.{all_items_view}
 use Rattle.gx_policytext.proofs.shallow.is_shallow.Goals as goal
 
 pub returns-in-Some : goal.returns-in-Some

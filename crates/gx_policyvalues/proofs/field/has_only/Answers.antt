@@ -1,5 +1,5 @@
 use Rattle.std.proofs.Common.{◌∙◌}
-use Rattle.gx_policyvalues.proofs.Keys.{has_only_view}
+use Rattle.gx_policyvalues.proofs.Keys_view.{has_only_view}
 use Rattle.gx_policyvalues.proofs.field.has_only.Goals as goal
 
 pub returns : goal.returns

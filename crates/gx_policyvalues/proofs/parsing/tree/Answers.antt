@@ -1,5 +1,5 @@
 use Rattle.std.proofs.{Common.{Err, ap, sym, ◌∙◌}, lemmas.Bool.false≢true}
-use Rattle.gx_policyvalues.proofs.Trees.{tree_some, tree_none}
+use Rattle.gx_policyvalues.proofs.Tree_parsed.{tree_some, tree_none}
 use Rattle.gx_policyvalues.proofs.parsing.tree.Goals as goal
 
 pub returns-in-Ok : goal.returns-in-Ok

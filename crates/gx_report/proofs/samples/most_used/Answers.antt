@@ -1,5 +1,5 @@
 use Rattle.std.proofs.Common.{arith}
-use Rattle.gx_report.proofs.Taking.{most_more}
+use Rattle.gx_report.proofs.Samples_next.{most_more}
 use Rattle.gx_report.proofs.samples.most_used.Goals as goal
 
 pub loop-stock-preserved : goal.loop-stock-preserved

@@ -1,5 +1,5 @@
 use Rattle.std.proofs.Common.{◌∙◌, length, ◌<◌, arith, refl}
-use Rattle.gx_rules.proofs.Keeping.{next_stock}
+use Rattle.gx_rules.proofs.Entries_next.{next_stock}
 use Rattle.gx_rules.proofs.book_rule.set_of.Goals as goal
 
 pub loop-stock-preserved : goal.loop-stock-preserved

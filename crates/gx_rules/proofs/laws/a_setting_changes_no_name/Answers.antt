@@ -1,4 +1,4 @@
-use Rattle.gx_rules.proofs.Changed.{names_stay, scopes_stay}
+use Rattle.gx_rules.proofs.Settings_changed.{names_stay, scopes_stay}
 use Rattle.gx_rules.proofs.laws.a_setting_changes_no_name.Goals as goal
 
 pub returns : goal.returns

@@ -1,4 +1,4 @@
-use Rattle.gx_rules.proofs.Changed.{kept_by_restrict, kept_by_unrestrict, limit_set, others_stay, restricted_listed, unrestricted_not_listed}
+use Rattle.gx_rules.proofs.Settings_changed.{kept_by_restrict, kept_by_unrestrict, limit_set, others_stay, restricted_listed, unrestricted_not_listed}
 use Rattle.gx_rules.proofs.laws.other_rules_stay.Goals as goal
 
 pub returns : goal.returns

@@ -1,5 +1,5 @@
 use Rattle.std.proofs.Common.{refl}
-use Rattle.gx_rules.proofs.Parts.{goes_on, stops_here}
+use Rattle.gx_rules.proofs.RuleOrder_parts.{goes_on, stops_here}
 use Rattle.gx_rules.proofs.rule_book.+first_from.Goals as goal
 
 pub returns-then-forbids : goal.returns-then-forbids

@@ -1,6 +1,6 @@
 use Rattle.std.proofs.Common.{◌∙◌, ap, sym, option_copied}
 use Rattle.gx_rules.specs.{Books.rules_of, Places.places_covering}
-use Rattle.gx_rules.proofs.Covering.{first_of_his, no_account, no_order, placed}
+use Rattle.gx_rules.proofs.AccountRules_table.{first_of_his, no_account, no_order, placed}
 use Rattle.gx_rules.proofs.rule_book.first_of_file.Goals as goal
 
 pub returns-in_default : goal.returns-in_default

@@ -1,6 +1,6 @@
 use Rattle.std.proofs.Common.{◌∙◌, ap, length, ◌<◌, arith}
 use Rattle.gx_rules.specs.Books.{rules_of}
-use Rattle.gx_rules.proofs.Keeping.{next_rule}
+use Rattle.gx_rules.proofs.Entries_next.{next_rule}
 use Rattle.gx_rules.proofs.rule_book.kept_rules.Goals as goal
 
 pub loop-rule-preserved : goal.loop-rule-preserved

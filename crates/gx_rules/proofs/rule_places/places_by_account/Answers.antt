@@ -1,5 +1,5 @@
 use Rattle.std.proofs.Common.{◌∙◌, ◌<◌, arith, length, refl}
-use Rattle.gx_rules.proofs.Covering.{next_account}
+use Rattle.gx_rules.proofs.AccountRules_table.{next_account}
 use Rattle.gx_rules.proofs.rule_places.places_by_account.Goals as goal
 
 pub loop-account-preserved : goal.loop-account-preserved

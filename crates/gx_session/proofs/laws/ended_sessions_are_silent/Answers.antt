@@ -1,4 +1,4 @@
-use Rattle.gx_session.proofs.Rows.{turn_ends, all_parting, late_once}
+use Rattle.gx_session.proofs.Events_replies.{turn_ends, all_parting, late_once}
 use Rattle.gx_session.proofs.laws.ended_sessions_are_silent.Goals as goal
 
 pub returns-clause-over : goal.returns-clause-over

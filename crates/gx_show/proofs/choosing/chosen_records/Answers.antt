@@ -1,6 +1,6 @@
 use Rattle.std.proofs.Common.{◌∙◌, sym, ap, arith, ◌≡◌, get_or, [], ◌∷◌, ◌++◌, cond}
 use Rattle.gx_history.specs.declared.record.RecordData.{RecordData}
-use Rattle.gx_show.proofs.{KnownNext.known_none, ChosenNext.{chosen_more, chosen_none, known_more}}
+use Rattle.gx_show.proofs.{KnownOrders_next.known_none, ChosenRecords_next.{chosen_more, chosen_none, known_more}}
 use Rattle.gx_show.proofs.choosing.chosen_records.Goals as goal
 
 pub loop-record-init : goal.loop-record-init

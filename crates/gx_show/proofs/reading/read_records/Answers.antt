@@ -1,5 +1,5 @@
 use Rattle.std.proofs.Common.{arith}
-use Rattle.gx_show.proofs.Pieces.{begun, none_read, read_more, further_to}
+use Rattle.gx_show.proofs.Audit_walk.{begun, none_read, read_more, further_to}
 use Rattle.gx_show.proofs.reading.read_records.Goals as goal
 
 pub loop-at-init : goal.loop-at-init

@@ -1,6 +1,6 @@
 use Rattle.std.proofs.Common.{◌≡◌, ◌∙◌, sym}
 use Rattle.std.specs.Prelude.{MatchOption, Option, Some, None}
-use Rattle.gx_slab.proofs.Going.{none_open, skipped_to}
+use Rattle.gx_slab.proofs.Rows_walk.{none_open, skipped_to}
 use Rattle.gx_slab.specs.Slabs.{is_open}
 use Rattle.gx_slab.proofs.live.first_of.Goals as goal
 

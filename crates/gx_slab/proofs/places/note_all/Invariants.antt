@@ -1,4 +1,4 @@
-use Rattle.gx_slab.proofs.Sweeping.{AreNoted}
+use Rattle.gx_slab.proofs.EndedOrders_swept.{AreNoted}
 use Rattle.gx_slab.proofs.places.note_all.Given as goal
 
 -- those before have been noted

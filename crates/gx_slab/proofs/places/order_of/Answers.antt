@@ -1,6 +1,6 @@
 use Rattle.std.proofs.Common.{rules, ◌∙◌, sym, ap, Some, None, Bool, if◌then◌else◌}
 use Rattle.std.specs.Prelude.{option_copied}
-use Rattle.gx_slab.proofs.Finding.{found_at, found_nowhere, order_found}
+use Rattle.gx_slab.proofs.Order_found.{found_at, found_nowhere, order_found}
 use Rattle.gx_slab.proofs.places.order_of.Goals as goal
 
 pub returns-in_err-place : goal.returns-in_err-place

@@ -1,5 +1,5 @@
 use Rattle.std.proofs.Common.{rules, ◌∙◌, sym}
-use Rattle.gx_slab.proofs.Finding.{no_place, no_row, other_row, this_row}
+use Rattle.gx_slab.proofs.Order_found.{no_place, no_row, other_row, this_row}
 use Rattle.gx_slab.proofs.places.place_of.Goals as goal
 
 pub returns-in_err-place : goal.returns-in_err-place

@@ -1,6 +1,6 @@
 use Rattle.std.proofs.{Common.{rules, ◌∙◌, subst, sym}, lemmas.Fn.filter_same}
 use Rattle.gx_slab.specs.Slabs.{CanBePlaced, is_open}
-use Rattle.gx_slab.proofs.Sweeping.{can_be_placed}
+use Rattle.gx_slab.proofs.EndedOrders_swept.{can_be_placed}
 use Rattle.gx_slab.proofs.places.sweep.Goals as goal
 
 pub note_all-requires : goal.note_all-requires

@@ -1,6 +1,6 @@
 use Rattle.std.proofs.Common.{◌∙◌, sym, arith}
 use Rattle.gx_slab.specs.Slabs.{is_waiting}
-use Rattle.gx_slab.proofs.Waiting.{is_behind, is_first, none_is}
+use Rattle.gx_slab.proofs.Waiting_first.{is_behind, is_first, none_is}
 use Rattle.gx_slab.proofs.rows.first_place.Goals as goal
 
 pub returns-then-is_waiting : goal.returns-then-is_waiting

@@ -1,5 +1,5 @@
 use Rattle.std.proofs.Common.{sym, ◌∙◌, arith}
-use Rattle.gx_soup.proofs.{Steps.{cut_at_short, cut_at_fault, cut_behind, cut_end, cut_within}, Bounds.rest_bounded}
+use Rattle.gx_soup.proofs.{Feeder_call.{cut_at_short, cut_at_fault, cut_behind, cut_end, cut_within}, Rest_bounds.rest_bounded}
 use Rattle.gx_soup.proofs.feeder.cut.Goals as goal
 
 pub returns-in-Short-clause-packets : goal.returns-in-Short-clause-packets

@@ -1,4 +1,4 @@
-use Rattle.gx_soup.proofs.PacketLaws.{held_back}
+use Rattle.gx_soup.proofs.Packets_laws.{held_back}
 use Rattle.gx_soup.proofs.laws.held_back.Goals as goal
 
 pub returns : goal.returns

@@ -1,4 +1,4 @@
-use Rattle.gx_soup.proofs.PacketLaws.{nothing_after_fault}
+use Rattle.gx_soup.proofs.Packets_laws.{nothing_after_fault}
 use Rattle.gx_soup.proofs.laws.nothing_after_fault.Goals as goal
 
 pub returns : goal.returns

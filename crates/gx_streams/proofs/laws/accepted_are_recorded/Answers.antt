@@ -1,4 +1,4 @@
-use Rattle.gx_streams.proofs.Recording.{accepted_are_recorded, part_is_recorded}
+use Rattle.gx_streams.proofs.Accepted_recorded.{accepted_are_recorded, part_is_recorded}
 use Rattle.gx_streams.proofs.laws.accepted_are_recorded.Goals as goal
 
 pub returns : goal.returns

@@ -1,4 +1,4 @@
-use Rattle.gx_streams.proofs.{Telling.{all_owed_shown, kept_last_shown, last_shown, owed_next, places_not_shown}, Sending.fill_is_shown}
+use Rattle.gx_streams.proofs.{Reports_told.{all_owed_shown, kept_last_shown, last_shown, owed_next, places_not_shown}, Fills_told.fill_is_shown}
 use Rattle.gx_streams.proofs.laws.changes_are_shown.Goals as goal
 
 pub returns : goal.returns

@@ -1,4 +1,4 @@
-use Rattle.gx_streams.proofs.{Owing.{answered_are_told, ended_are_told, none_for_one, one_among_all, two_among_all}, Telling.{all_owed, none_owed, one_owed}}
+use Rattle.gx_streams.proofs.{EndedOrders_owed.{answered_are_told, ended_are_told, none_for_one, one_among_all, two_among_all}, Reports_told.{all_owed, none_owed, one_owed}}
 use Rattle.gx_streams.proofs.laws.owed_is_told.Goals as goal
 
 pub returns : goal.returns

@@ -1,4 +1,4 @@
-use Rattle.gx_streams.proofs.Places.{each_has_a_place, none_taken, one_taken, others_keep, owed_taken, places_kept, users_stay}
+use Rattle.gx_streams.proofs.Places_kept.{each_has_a_place, none_taken, one_taken, others_keep, owed_taken, places_kept, users_stay}
 use Rattle.gx_streams.proofs.laws.places_are_taken.Goals as goal
 
 pub returns : goal.returns

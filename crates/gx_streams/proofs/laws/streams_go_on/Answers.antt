@@ -1,7 +1,7 @@
 use Rattle.std.proofs.Common.{◌++◌, ◌∷◌, []}
 use Rattle.gx_history.specs.Streams.{reports_of}
-use Rattle.gx_laws.proofs.NextReports.{stream_next}
-use Rattle.gx_streams.proofs.{Owing.{ended_are_counted, ended_are_owed}, Telling.{all_owed, all_told, first_told, more_told, nobody_told, none_owed, one_owed, one_told}}
+use Rattle.gx_laws.proofs.Streams_next.{stream_next}
+use Rattle.gx_streams.proofs.{EndedOrders_owed.{ended_are_counted, ended_are_owed}, Reports_told.{all_owed, all_told, first_told, more_told, nobody_told, none_owed, one_owed, one_told}}
 use Rattle.gx_streams.proofs.laws.streams_go_on.Goals as goal
 
 pub returns : goal.returns

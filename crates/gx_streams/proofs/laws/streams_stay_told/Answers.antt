@@ -1,4 +1,4 @@
-use Rattle.gx_streams.proofs.{Sending.stays_by_fill, Telling.{stays_by_all, stays_by_none, stays_by_one}}
+use Rattle.gx_streams.proofs.{Fills_told.stays_by_fill, Reports_told.{stays_by_all, stays_by_none, stays_by_one}}
 use Rattle.gx_streams.proofs.laws.streams_stay_told.Goals as goal
 
 pub returns : goal.returns

@@ -1,4 +1,4 @@
-use Rattle.gx_text.proofs.Visible.{json_is_printed, shown_is_visible}
+use Rattle.gx_text.proofs.Shown_visible.{json_is_printed, shown_is_visible}
 use Rattle.gx_text.proofs.laws.shown_bytes_are_visible.Goals as goal
 
 pub returns : goal.returns

@@ -1,4 +1,4 @@
-use Rattle.gx_text.proofs.Ending.{strings_end}
+use Rattle.gx_text.proofs.JsonString_end.{strings_end}
 use Rattle.gx_text.proofs.laws.strings_end.Goals as goal
 
 pub returns : goal.returns

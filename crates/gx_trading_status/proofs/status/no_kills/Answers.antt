@@ -1,10 +1,11 @@
 use Rattle.std.proofs.{Common.{◌≡◌, ◌∙◌, ap, map, refl, take, true}, lemmas.List.take_all}
 use Rattle.std.specs.Prelude.{None}
 use Rattle.gx_units.specs.Names.{same_account}
+use Rattle.gx_units.proofs.Names_equal.{same_account_flip}
 use Rattle.gx_policy.specs.{Lists.are_distinct, declared.policy.Account.Account}
 use Rattle.gx_trading_status.specs.{InForce.without_kill, View.kills_of}
-use Rattle.gx_laws.proofs.Names.{accounts_differ, same_account_flip}
-use Rattle.gx_trading_status.proofs.Table.{added_next, kills_begin}
+use Rattle.gx_laws.proofs.Names_differ.{accounts_differ}
+use Rattle.gx_trading_status.proofs.Status_table.{added_next, kills_begin}
 use Rattle.gx_trading_status.proofs.status.no_kills.Goals as goal
 
 -- one more account

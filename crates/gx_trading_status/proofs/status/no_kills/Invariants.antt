@@ -1,6 +1,6 @@
 use Rattle.std.proofs.Common.{◌≡◌, IsTrue, map, take}
 use Rattle.gx_policy.specs.Soundness.{is_sound}
-use Rattle.gx_trading_status.proofs.Table.{entry_unkilled}
+use Rattle.gx_trading_status.proofs.Status_table.{entry_unkilled}
 use Rattle.gx_trading_status.proofs.status.no_kills.Given as goal
 
 abbrev pub invariant-loop-account : goal.invariant-loop-account

@@ -1,10 +1,11 @@
 use Rattle.std.proofs.{Common.{◌≡◌, ◌∙◌, ap, map, take, true}, lemmas.List.take_all}
 use Rattle.std.specs.Prelude.{None}
 use Rattle.gx_units.specs.Names.{same_user}
+use Rattle.gx_units.proofs.Names_equal.{same_user_flip}
 use Rattle.gx_policy.specs.{Lists.are_distinct, declared.policy.User.User}
 use Rattle.gx_trading_status.specs.{InForce.off_line, View.lines_of}
-use Rattle.gx_laws.proofs.Names.{same_user_flip, users_differ}
-use Rattle.gx_trading_status.proofs.Table.{added_next, lines_begin}
+use Rattle.gx_laws.proofs.Names_differ.{users_differ}
+use Rattle.gx_trading_status.proofs.Status_table.{added_next, lines_begin}
 use Rattle.gx_trading_status.proofs.status.no_lines.Goals as goal
 
 -- one more user

@@ -1,5 +1,5 @@
 use Rattle.std.proofs.{Common.{rules}, lemmas.Nat.le_bytes_8}
-use Rattle.gx_units.proofs.Words.{as_numbers}
+use Rattle.gx_units.proofs.Names_compared.{as_numbers}
 use Rattle.gx_units.proofs.comparing.are_same.Goals as goal
 
 pub returns : goal.returns

@@ -1,6 +1,6 @@
 use Rattle.std.proofs.{Common.{◌≡◌, ◌+◌, ◌-◌, ◌∙◌, sym, get_or, arith, false}, lemmas.Bool.Decides.nat_tests}
 use Rattle.gx_units.specs.Spelling.{is_space}
-use Rattle.gx_units.proofs.Trimming.{space_taken, other_taken}
+use Rattle.gx_units.proofs.Trimmed_next.{space_taken, other_taken}
 use Rattle.gx_units.proofs.spelling.unpadded.Goals as goal
 
 pub returns-then-field-end-ne32-clause-text : goal.returns-then-field-end-ne32-clause-text

@@ -1,7 +1,7 @@
 use Rattle.std.proofs.Common.{◌∙◌, ap, Bool}
 use Rattle.indexmap.specs.IndexMap.{insert_entry}
 use Rattle.gx_whatif.specs.{declared.heading.{Heading.Heading}, Counting.once_more}
-use Rattle.gx_whatif.proofs.Counted.{same_tests}
+use Rattle.gx_whatif.proofs.Counts_next.{same_tests}
 use Rattle.gx_whatif.proofs.heading.count.Goals as goal
 
 pub returns : goal.returns

@@ -1,5 +1,5 @@
 use Rattle.std.proofs.Common.{refl}
-use Rattle.gx_whatif.proofs.Counted.{counted_further}
+use Rattle.gx_whatif.proofs.Counts_next.{counted_further}
 use Rattle.gx_whatif.proofs.heading.count_all.Goals as goal
 
 pub loop-change-preserved : goal.loop-change-preserved

@@ -1,5 +1,5 @@
 use Rattle.gx_history.specs.Verdicts.{day_limit}
-use Rattle.gx_whatif.proofs.Further.{full_before}
+use Rattle.gx_whatif.proofs.OtherDay_next.{full_before}
 use Rattle.gx_whatif.proofs.other_day.redo.Goals as goal
 
 pub returns-in-Err-clause-day_full : goal.returns-in-Err-clause-day_full

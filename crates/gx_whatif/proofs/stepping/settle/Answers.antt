@@ -1,7 +1,7 @@
 use Rattle.std.proofs.Common.{◌∙◌, ap}
 use Rattle.std.specs.Prelude.{option_map}
-use Rattle.gx_answers.specs.{Gates.{GateData, matched_by}, Matches.with_match}
-use Rattle.gx_whatif.proofs.Further.{full_settled, settled_here}
+use Rattle.gx_access_gate.specs.{Gates.{GateData, matched_by}, Matches.with_match}
+use Rattle.gx_whatif.proofs.OtherDay_next.{full_settled, settled_here}
 use Rattle.gx_whatif.proofs.stepping.settle.Goals as goal
 
 pub returns-in-Ok-None-clause-records : goal.returns-in-Ok-None-clause-records

@@ -1,5 +1,5 @@
 use Rattle.std.proofs.Common.{◌≡◌}
-use Rattle.gx_answers.specs.Matches.{matches_left, settled_gate}
+use Rattle.gx_access_gate.specs.Matches.{matches_left, settled_gate}
 use Rattle.gx_whatif.proofs.stepping.settle.Given as goal
 
 abbrev pub invariant-loop-fault : goal.invariant-loop-fault

@@ -1,5 +1,5 @@
 use Rattle.std.proofs.Common.{◌≡◌, ◌∙◌, ◌++◌, ◌∷◌, [], ap, append_assoc, ℕ, List}
-use Rattle.gx_devices.proofs.Known.{on_ok}
+use Rattle.gx_units.proofs.Results_hold.{on_ok}
 use Rattle.gx_whatif.specs.Telling.{whatif_members}
 use Rattle.gx_whatif.proofs.telling.append_whatif_json.Goals as goal
 

@@ -1,7 +1,7 @@
 use Rattle.std.proofs.Common.{◌∙◌, ap, List}
 use Rattle.std.specs.Prelude.{is_some}
 use Rattle.gx_book.specs.Books.{StockOrders, stock_in}
-use Rattle.gx_book.proofs.Stocks.{listed_found}
+use Rattle.gx_book.proofs.Stocks_table.{listed_found}
 use Rattle.gx_book.proofs.book.Book.lists.Goals as goal
 
 pub returns : goal.returns

@@ -1,7 +1,7 @@
 use Rattle.std.proofs.Common.{List, ◌∙◌, sym, ap, length, not}
 use Rattle.gx_history.specs.Book.{is_buy}
 use Rattle.gx_book.specs.{Books.{StockOrders, all_orders, is_sound_book, on_side}, Queue.{is_same, without_order}, Resting.resting_of, Table.book_of}
-use Rattle.gx_book.proofs.{Order.in_order_filter, Stocks.{fewer_back, sound_on_side, unlisted_stays, written_back}}
+use Rattle.gx_book.proofs.{Side_order.in_order_filter, Stocks_table.{fewer_back, sound_on_side, unlisted_stays, written_back}}
 use Rattle.gx_book.proofs.book.Book.remove.Goals as goal
 
 pub returns-in_err-sides-clause-removed : goal.returns-in_err-sides-clause-removed

@@ -2,7 +2,7 @@ use Rattle.std.proofs.Common.{List, ◌∙◌, sym, ap, ◌+◌, length, Bool}
 use Rattle.std.specs.Prelude.{if◌then◌else◌}
 use Rattle.gx_history.specs.declared.live_order.LiveOrder.{LiveOrder}
 use Rattle.gx_book.specs.Books.{all_orders}
-use Rattle.gx_book.proofs.TakenOut.{all_counted, all_his_are_out, each_taken_out, none_gone, none_more, one_gone}
+use Rattle.gx_book.proofs.AccountOrders_out.{all_counted, all_his_are_out, each_taken_out, none_gone, none_more, one_gone}
 use Rattle.gx_book.proofs.book.Book.remove_account.Goals as goal
 
 pub loop-order-init : goal.loop-order-init

@@ -1,5 +1,5 @@
 use Rattle.std.proofs.Common.{◌≡◌}
-use Rattle.gx_book.proofs.TakenOut.{HaveGone, each_taken_out}
+use Rattle.gx_book.proofs.AccountOrders_out.{HaveGone, each_taken_out}
 use Rattle.gx_book.proofs.book.Book.remove_account.Given as goal
 
 -- taking out what is left is taking out all, and so many have gone

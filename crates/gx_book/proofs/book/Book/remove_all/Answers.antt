@@ -1,6 +1,6 @@
 use Rattle.std.proofs.{Common.{◌∙◌, ap, refl, rules}, lemmas.Map.Made.map_same_pairs}
 use Rattle.gx_book.specs.{Books.{is_sound_book, on_each_side}, Queue.no_orders, Table.{book_of, both_changed}}
-use Rattle.gx_book.proofs.Stocks.{each_changed, sound_on_each}
+use Rattle.gx_book.proofs.Stocks_table.{each_changed, sound_on_each}
 use Rattle.gx_book.proofs.book.Book.remove_all.Goals as goal
 
 pub invariant_of-self : goal.invariant_of-self

@@ -1,7 +1,8 @@
 use Rattle.std.proofs.Common.{◌∙◌, sym, ap}
+use Rattle.gx_units.proofs.Results_hold.{on_err}
 use Rattle.gx_history.specs.Book.{is_buy}
 use Rattle.gx_book.specs.{Books.{is_sound_book, on_side}, Queue.with_order, Resting.resting_of, Table.book_of}
-use Rattle.gx_book.proofs.{Order.in_order_placed, Stocks.{on_err, sound_on_side, unlisted_stays, written_back, written_same}}
+use Rattle.gx_book.proofs.{Side_order.in_order_placed, Stocks_table.{sound_on_side, unlisted_stays, written_back, written_same}}
 use Rattle.gx_book.proofs.book.Book.rest.Goals as goal
 
 pub returns-in_default-clause-ok : goal.returns-in_default-clause-ok

@@ -1,7 +1,7 @@
 use Rattle.std.proofs.Common.{◌∙◌, sym, ap}
 use Rattle.gx_history.specs.Book.{is_buy}
 use Rattle.gx_book.specs.{Books.{is_sound_book, on_side}, Queue.taken_from_first, Table.book_of}
-use Rattle.gx_book.proofs.{Order.in_order_taken, Stocks.{sound_on_side, unlisted_stays, written_back}}
+use Rattle.gx_book.proofs.{Side_order.in_order_taken, Stocks_table.{sound_on_side, unlisted_stays, written_back}}
 use Rattle.gx_book.proofs.book.Book.take_from_best.Goals as goal
 
 pub returns-in_default : goal.returns-in_default

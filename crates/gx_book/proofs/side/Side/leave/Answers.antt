@@ -2,7 +2,7 @@ use Rattle.std.proofs.Common.{ℕ, ◌∙◌, sym, ap}
 use Rattle.std.specs.{Map.values_of}
 use Rattle.gx_history.specs.Book.{is_buy}
 use Rattle.gx_book.specs.{Keys.{are_keyed, orders_at}, Queue.{left_with, without_order}}
-use Rattle.gx_book.proofs.Keyed.{go_keyed, none_stays, stay_keyed, stays_at, taken_at}
+use Rattle.gx_book.proofs.Side_keys.{go_keyed, none_stays, stay_keyed, stays_at, taken_at}
 use Rattle.gx_book.proofs.side.Side.leave.Goals as goal
 
 pub invariant_of-self : goal.invariant_of-self

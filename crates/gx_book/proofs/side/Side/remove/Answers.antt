@@ -2,7 +2,7 @@ use Rattle.std.proofs.Common.{Some, ◌∙◌, ap, sym}
 use Rattle.std.specs.{Option.option_map, List.find, Map.values_of}
 use Rattle.gx_history.specs.Book.{is_buy}
 use Rattle.gx_book.specs.{Keys.{are_keyed, resting_of_kept, orders_at, price_at}, Queue.{is_same, without_order}, Resting.{resting_of}}
-use Rattle.gx_book.proofs.Keyed.{found_at, go_keyed, is_held, taken_at}
+use Rattle.gx_book.proofs.Side_keys.{found_at, go_keyed, is_held, taken_at}
 use Rattle.gx_book.proofs.side.Side.remove.Goals as goal
 
 pub invariant_of-self-2 : goal.invariant_of-self-2

@@ -1,7 +1,7 @@
 use Rattle.std.proofs.Common.{◌∙◌, sym, ap}
 use Rattle.gx_history.specs.Book.{is_buy}
 use Rattle.gx_book.specs.{Keys.{resting_of_kept, price_at}, Queue.{left_with, taken_from_first}}
-use Rattle.gx_book.proofs.Keyed.{first_is_keyed}
+use Rattle.gx_book.proofs.Side_keys.{first_is_keyed}
 use Rattle.gx_book.proofs.side.Side.take_from_first.Goals as goal
 
 pub returns-in-Some : goal.returns-in-Some

@@ -1,4 +1,4 @@
-use Rattle.gx_client.proofs.ServerSoups.{packets_nil}
+use Rattle.gx_client.proofs.Packets_next.{packets_nil}
 use Rattle.gx_client.proofs.feeder.ServerFeeder.new.Goals as goal
 
 pub returns : goal.returns

@@ -1,6 +1,6 @@
 use Rattle.std.proofs.Common.{ap, ◌∙◌}
 use Rattle.gx_client.specs.{declared.heard.Heard.Heard, Session.standing_after}
-use Rattle.gx_client.proofs.Hearing.{has_heard, is_heard_as}
+use Rattle.gx_client.proofs.Session_next.{has_heard, is_heard_as}
 use Rattle.gx_client.proofs.session.ClientSession.hear.Goals as goal
 
 pub returns-clause-heard : goal.returns-clause-heard

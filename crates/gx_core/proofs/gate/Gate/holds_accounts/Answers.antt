@@ -1,6 +1,6 @@
 use Rattle.std.proofs.Common.{◌≡◌, Bool, true, false, ◌&&◌, ◌∙◌, ap, sym}
 use Rattle.gx_policy.specs.People.{is_officer, role_in}
-use Rattle.gx_answers.specs.Gates.{GateData}
+use Rattle.gx_access_gate.specs.Gates.{GateData}
 use Rattle.gx_core.specs.Known.{has_concerned}
 use Rattle.gx_core.proofs.{Command_call.concerned_are_his, Facts_call.officers_are_known}
 use Rattle.gx_core.proofs.gate.Gate.holds_accounts.Goals as goal

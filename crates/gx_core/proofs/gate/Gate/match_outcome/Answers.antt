@@ -2,7 +2,7 @@ use Rattle.std.proofs.Common.{ℕ, ◌+◌, ◌∙◌, ap, length, sym}
 use Rattle.std.specs.Prelude.{Some, max}
 use Rattle.gx_history.specs.Verdicts.{last_moment}
 use Rattle.gx_matching.specs.Meeting.{outcome_against}
-use Rattle.gx_answers.specs.{Gates.GateData, Matches.{matching_of, next_match}}
+use Rattle.gx_access_gate.specs.{Gates.GateData, Matches.{matching_of, next_match}}
 use Rattle.gx_core.specs.Known.{first_of}
 use Rattle.gx_core.proofs.Match_call.{first_is_known, first_is_met, match_in_parts}
 use Rattle.gx_core.proofs.gate.Gate.match_outcome.Goals as goal
@@ -10,7 +10,7 @@ use Rattle.gx_core.proofs.gate.Gate.match_outcome.Goals as goal
 pub returns-clause-verdict : goal.returns-clause-verdict
 returns-clause-verdict c =
     ap matching_of (sym c.self.view_is)
-    ∙ first_is_met c.self.inside.policy c.self.inside.history.records c.self.inside.state c.args.first.now c.self.invariant.kept
+    ∙ first_is_met c.self.inside.state c.args.first.now c.self.invariant.kept
     (first_is_known c.self.inside.policy c.self.inside.history.records c.self.inside.state c.self.invariant.kept ∙ ap first_of c.self.view_is ∙ c.requires.waits)
     ∙ ap Some (sym (c.outcome_against.ensures ∙ ap (outcome_against c.args.first.now) c.best_against.ensures))
 

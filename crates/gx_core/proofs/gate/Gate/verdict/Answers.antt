@@ -1,8 +1,8 @@
 use Rattle.std.proofs.Common.{◌≡◌, ◌∙◌, ap, sym}
 use Rattle.gx_history.specs.{Showing.answers, Verdicts.{facts_now, verdict}}
-use Rattle.gx_laws.proofs.Showable.{verdict_is_shown}
-use Rattle.gx_decide.proofs.Agreeing.{decided_is_the_verdict}
-use Rattle.gx_answers.specs.Gates.{GateData}
+use Rattle.gx_laws.proofs.Records_showable.{verdict_is_shown}
+use Rattle.gx_decide.proofs.Verdict_decided.{decided_is_the_verdict}
+use Rattle.gx_access_gate.specs.Gates.{GateData}
 use Rattle.gx_core.proofs.gate.Gate.verdict.Goals as goal
 
 pub returns-clause-verdict : goal.returns-clause-verdict

@@ -1,4 +1,4 @@
-use Rattle.gx_laws.proofs.{Gross.{gross_shares_are_kept, gross_values_are_kept, net_shares_are_kept, none_asked_none_held, none_asked_none_on_side}, NeverCrossed.never_crossed}
+use Rattle.gx_laws.proofs.{RunningSums_kept.{gross_shares_are_kept, gross_values_are_kept, net_shares_are_kept, none_asked_none_held, none_asked_none_on_side}, Books_uncrossed.never_crossed}
 use Rattle.gx_core.proofs.gate.GateAccessGate.is_legal.Goals as goal
 
 pub returns : goal.returns

@@ -3,9 +3,9 @@ use Rattle.std.specs.{Prelude.Option, List.AllByRecursion}
 use Rattle.gx_units.specs.declared.names.Firm.{Firm}
 use Rattle.gx_policy.specs.Lists.{slice}
 use Rattle.gx_history.specs.{declared.{«record».RecordData.RecordData, report.Report.Report}, Streams.stream}
-use Rattle.gx_answers.specs.Gates.{GateData}
+use Rattle.gx_access_gate.specs.Gates.{GateData}
 use Rattle.gx_streams.specs.Recorded.{IsRecorded, house_of}
-use Rattle.gx_streams.proofs.Recording.{part_is_recorded}
+use Rattle.gx_streams.proofs.Accepted_recorded.{part_is_recorded}
 use Rattle.gx_core.proofs.Facts_call.{copies_are_given, reports_are_known}
 use Rattle.gx_core.proofs.gate.GateAccessGate.put_reports.Goals as goal
 
@@ -27,5 +27,5 @@ put_pull-requires c =
 pub returns-clause-copies : goal.returns-clause-copies
 returns-clause-copies c =
     rw (← c.self.view_is) (
-    copies_are_given c.put_pull.result (λ _. c.put_pull.new.list.items) c.self.inside.policy c.self.inside.history.records c.self.inside.state c.args.user c.args.from c.args.most c.self.invariant.kept c.put_pull.ensures.reports
+    copies_are_given c.put_pull.result (λ _. c.put_pull.new.list.items) c.self.inside.state c.args.user c.args.from c.args.most c.self.invariant.kept c.put_pull.ensures.reports
     )

@@ -1,6 +1,6 @@
 use Rattle.std.proofs.Common.{◌∙◌, ap}
 use Rattle.gx_events.specs.Known.{known_next}
-use Rattle.gx_events.proofs.Going.{known_further}
+use Rattle.gx_events.proofs.Lines_next.{known_further}
 use Rattle.gx_events.proofs.event_log.EventLog.pass_over.Goals as goal
 
 pub loop-record-preserved : goal.loop-record-preserved

@@ -2,7 +2,7 @@ use Rattle.std.proofs.Common.{◌++◌, ◌∙◌, ap}
 use Rattle.gx_history.specs.declared.record.RecordData.{RecordData}
 use Rattle.gx_text.specs.declared.form.Form.{Form}
 use Rattle.gx_events.specs.{Known.known_next, Lines.record_lines}
-use Rattle.gx_events.proofs.Going.{known_further, lines_further}
+use Rattle.gx_events.proofs.Lines_next.{known_further, lines_further}
 use Rattle.gx_events.proofs.event_log.EventLog.tell.Goals as goal
 
 pub loop-record-preserved : goal.loop-record-preserved

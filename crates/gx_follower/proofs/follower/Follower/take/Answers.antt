@@ -1,4 +1,4 @@
-use Rattle.gx_follower.proofs.Standing.{are_whole}
+use Rattle.gx_follower.proofs.Reading_stands.{are_whole}
 use Rattle.gx_follower.proofs.follower.Follower.take.Goals as goal
 
 pub returns-in-Ok-clause-whole : goal.returns-in-Ok-clause-whole

@@ -2,7 +2,7 @@ use Rattle.std.proofs.Common.{◌≡◌, subst}
 use Rattle.std.specs.Prelude.{None, IfSome}
 use Rattle.gx_audit_bytes.specs.Versions.{version_of}
 use Rattle.gx_follower.specs.Followers.{FollowerData}
-use Rattle.gx_follower.proofs.Standing.{shows}
+use Rattle.gx_follower.proofs.Reading_stands.{shows}
 use Rattle.gx_follower.proofs.follower.Follower.version.Goals as goal
 
 pub returns-clause-shown : goal.returns-clause-shown

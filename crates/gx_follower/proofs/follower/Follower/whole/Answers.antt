@@ -1,7 +1,7 @@
 use Rattle.std.proofs.Common.{◌≡◌, subst}
 use Rattle.std.specs.Prelude.{None}
 use Rattle.gx_follower.specs.Followers.{AreWhole, FollowerData}
-use Rattle.gx_follower.proofs.Standing.{are_whole}
+use Rattle.gx_follower.proofs.Reading_stands.{are_whole}
 use Rattle.gx_follower.proofs.follower.Follower.whole.Goals as goal
 
 pub returns-clause-whole : goal.returns-clause-whole

@@ -1,5 +1,5 @@
 use Rattle.std.proofs.Common.{◌++◌, ◌∷◌, [], ◌∙◌, arith}
-use Rattle.gx_history.proofs.Unpacking.{AddsOne, kept_then, pushed}
+use Rattle.gx_history.proofs.Rows_table.{AddsOne, kept_then, pushed}
 use Rattle.gx_history.proofs.history.History.push_reserved.Goals as goal
 
 -- the record as it stands behind the row
@@ -16,7 +16,7 @@ adds c = record {
 pub invariant_of-self : goal.invariant_of-self
 invariant_of-self c =
     kept_then c.self.inside.details c.put-event.new.self c.self.inside.rows.items c.push_reserved.new.self.items c.as_content-left.result.now c.put-event.result _ _ _ _ c.self.invariant (adds c) c.as_content-left.ensures.showable
-    (omega (arith, c.self.invariant.room, c.put-event.ensures.spare, c.push_reserved.ensures.len, c.push_reserved.ensures.capacity))
+    (omega (arith, c.self.invariant.room, c.put-event.ensures.reserved, c.push_reserved.ensures.len, c.push_reserved.ensures.capacity))
 
 pub returns-clause-records : goal.returns-clause-records
 returns-clause-records c =

@@ -1,6 +1,6 @@
 use Rattle.std.proofs.{Common.{◌≡◌, take, ap, sym, ◌∙◌}, Math.Path.subst, lemmas.List.take-map}
 use Rattle.gx_history.specs.Rows.{AllShowable, record_in, records_in}
-use Rattle.gx_history.proofs.Unpacking.{showable_taken}
+use Rattle.gx_history.proofs.Rows_table.{showable_taken}
 use Rattle.gx_history.proofs.records.Records.at_most.Goals as goal
 
 -- the first of the rows stand for the first of the records

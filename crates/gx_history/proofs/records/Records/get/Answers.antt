@@ -1,7 +1,7 @@
 use Rattle.std.proofs.Common.{ap, sym, ◌∙◌}
 use Rattle.std.specs.Prelude.{Some, slice_get}
 use Rattle.gx_history.specs.Rows.{records_in}
-use Rattle.gx_history.proofs.Unpacking.{no_record, record_there, showable_at}
+use Rattle.gx_history.proofs.Rows_table.{no_record, record_there, showable_at}
 use Rattle.gx_history.proofs.records.Records.get.Goals as goal
 
 pub returns-in_err-row : goal.returns-in_err-row

@@ -1,6 +1,6 @@
 use Rattle.std.proofs.{Common.{◌≡◌, drop, ap, sym, ◌∙◌}, Math.Path.subst, lemmas.List.drop-map}
 use Rattle.gx_history.specs.Rows.{AllShowable, record_in, records_in}
-use Rattle.gx_history.proofs.Unpacking.{showable_past}
+use Rattle.gx_history.proofs.Rows_table.{showable_past}
 use Rattle.gx_history.proofs.records.Records.past.Goals as goal
 
 -- the rows behind so many stand for the records behind so many

@@ -1,5 +1,5 @@
 use Rattle.std.proofs.Common.{◌≡◌, refl, subst, sym, false, ap, ◌∙◌}
-use Rattle.gx_pass.specs.declared.view.Holds.{Holds}
+use Rattle.gx_pass.specs.declared.view.LineView.{LineView}
 use Rattle.gx_journal.specs.Journals.{added_by, is_broken, met_by, IsKept, JournalData}
 use Rattle.gx_journal.proofs.Journal_call.{journal, kept_later}
 use Rattle.gx_journal.proofs.journal.Journal.fetch.Goals as goal
@@ -12,7 +12,7 @@ invariant_of-self g c =
     let none : added_by added c.self.inside.pass ≡ added c.in-Some.pass = ap (added_by added) (sym c.take.ensures.value ∙ c.in-Some.is) in (
       refl,
       c.records-pass.ensures.adds_none ∙ sym none ∙ c.self.invariant.1,
-      kept_later g.J.JournalName.begun g.J.JournalName.count g.J.JournalName.earlier g.J.JournalName.version (held c.in-Some.pass) (held c.records-pass.result.0) c.self.inside.writer (subst (λ (j : JournalData). is_broken j.writer ≡ false) (sym c.self.view_is) c.requires.sound)
+      kept_later g.J.JournalName.begun g.J.JournalName.count g.J.JournalName.version (held c.in-Some.pass) (held c.records-pass.result.0) c.self.inside.writer (subst (λ (j : JournalData). is_broken j.writer ≡ false) (sym c.self.view_is) c.requires.sound)
           c.records-pass.ensures.later.front
-          (subst (λ (h : Holds). IsKept g.J.JournalName.begun g.J.JournalName.count g.J.JournalName.earlier g.J.JournalName.version (journal h c.self.inside.writer)) was c.self.invariant.2),
+          (subst (λ (h : LineView). IsKept g.J.JournalName.begun g.J.JournalName.count g.J.JournalName.earlier g.J.JournalName.version (journal h c.self.inside.writer)) was c.self.invariant.2),
     )

@@ -1,7 +1,7 @@
 use Rattle.std.proofs.Common.{◌≡◌, ◌∷◌, ◌++◌, ◌*◌, [], sym, subst, ◌∙◌, arith, List, length}
 use Rattle.circular_buffer.specs.Buffer.{Buffer, keep_last}
 use Rattle.gx_ledger.specs.{declared.group.RepeatKey.RepeatKey, Cells.AreCounted}
-use Rattle.gx_ledger.proofs.CountedCells.{first_goes}
+use Rattle.gx_ledger.proofs.Cells_counted.{first_goes}
 use Rattle.gx_ledger.proofs.enters.Enters.push.Goals as goal
 
 pub invariant_of-self : goal.invariant_of-self

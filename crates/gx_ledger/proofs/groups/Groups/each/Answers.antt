@@ -1,6 +1,6 @@
 use Rattle.std.proofs.Common.{◌∙◌, ◌∷◌, [], ◌++◌, ◌<◌, arith, length}
 use Rattle.gx_ledger.specs.Tallies.{new_group}
-use Rattle.gx_ledger.proofs.Places.{same_more}
+use Rattle.gx_ledger.proofs.Lists_changed.{same_more}
 use Rattle.gx_ledger.proofs.groups.Groups.each.Goals as goal
 
 pub loop-account-preserved : goal.loop-account-preserved

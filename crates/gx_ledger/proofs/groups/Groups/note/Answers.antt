@@ -1,6 +1,6 @@
 use Rattle.std.proofs.Common.{◌∙◌, ap, sym, arith}
 use Rattle.gx_ledger.specs.{Running.changed_group, Tallies.changed_at}
-use Rattle.gx_ledger.proofs.Places.{past_is_unchanged, set_is_changed}
+use Rattle.gx_ledger.proofs.Lists_changed.{past_is_unchanged, set_is_changed}
 use Rattle.gx_ledger.proofs.groups.Groups.note.Goals as goal
 
 pub returns-then-place-len : goal.returns-then-place-len

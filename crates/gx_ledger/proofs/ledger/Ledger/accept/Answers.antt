@@ -1,6 +1,6 @@
 use Rattle.std.proofs.Common.{sym, subst}
 use Rattle.gx_ledger.specs.StandsFor.{Accepts}
-use Rattle.gx_ledger.proofs.Carrying.{accept_carries}
+use Rattle.gx_ledger.proofs.Ledger_next.{accept_carries}
 use Rattle.gx_ledger.proofs.ledger.Ledger.accept.Goals as goal
 
 pub returns : goal.returns

@@ -1,6 +1,6 @@
 use Rattle.std.proofs.Common.{◌∙◌, ap, sym, subst}
 use Rattle.gx_ledger.specs.{Keeping.LedgerData, StandsFor.GivesFigures}
-use Rattle.gx_ledger.proofs.Answering.{figures_answer}
+use Rattle.gx_ledger.proofs.Figures_given.{figures_answer}
 use Rattle.gx_ledger.proofs.ledger.Ledger.after.Goals as goal
 
 pub returns : goal.returns

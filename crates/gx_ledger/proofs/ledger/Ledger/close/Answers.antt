@@ -1,6 +1,6 @@
 use Rattle.std.proofs.Common.{◌∙◌, ap, sym, subst}
 use Rattle.gx_ledger.specs.{Keeping.{data_after, leaves}, StandsFor.Closes}
-use Rattle.gx_ledger.proofs.Carrying.{close_carries}
+use Rattle.gx_ledger.proofs.Ledger_next.{close_carries}
 use Rattle.gx_ledger.proofs.ledger.Ledger.close.Goals as goal
 
 pub returns : goal.returns

@@ -1,6 +1,6 @@
 use Rattle.std.proofs.Common.{sym, subst}
 use Rattle.gx_ledger.specs.StandsFor.{Cuts}
-use Rattle.gx_ledger.proofs.Carrying.{cut_carries}
+use Rattle.gx_ledger.proofs.Ledger_next.{cut_carries}
 use Rattle.gx_ledger.proofs.ledger.Ledger.cut.Goals as goal
 
 pub returns : goal.returns

@@ -1,6 +1,6 @@
 use Rattle.std.proofs.Common.{◌∙◌, ap, sym, subst}
 use Rattle.gx_ledger.specs.{Keeping.{is_filled, data_after, with_price}, StandsFor.Fills}
-use Rattle.gx_ledger.proofs.Filled.{fill_carries}
+use Rattle.gx_ledger.proofs.Fills_counted.{fill_carries}
 use Rattle.gx_ledger.proofs.ledger.Ledger.fill.Goals as goal
 
 pub returns : goal.returns

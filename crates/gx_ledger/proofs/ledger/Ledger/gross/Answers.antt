@@ -1,7 +1,7 @@
 use Rattle.std.proofs.Common.{◌∙◌, ap, sym, subst}
 use Rattle.std.specs.Prelude.{option_and_then, slice_get}
 use Rattle.gx_ledger.specs.{declared.tally.Tally.Tally, Keeping.LedgerData, Standing.{GivesGross, tally_gross}}
-use Rattle.gx_ledger.proofs.StandingSums.{gross_answer}
+use Rattle.gx_ledger.proofs.Sums_given.{gross_answer}
 use Rattle.gx_ledger.proofs.ledger.Ledger.gross.Goals as goal
 
 pub returns : goal.returns

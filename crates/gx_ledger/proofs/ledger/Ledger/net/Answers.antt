@@ -1,7 +1,7 @@
 use Rattle.std.proofs.Common.{◌∙◌, ap, sym, subst}
 use Rattle.std.specs.Prelude.{option_and_then, slice_get}
 use Rattle.gx_ledger.specs.{declared.tally.Tally.Tally, Keeping.LedgerData, Standing.{GivesNet, tally_net}}
-use Rattle.gx_ledger.proofs.StandingSums.{net_answer}
+use Rattle.gx_ledger.proofs.Sums_given.{net_answer}
 use Rattle.gx_ledger.proofs.ledger.Ledger.net.Goals as goal
 
 pub returns : goal.returns

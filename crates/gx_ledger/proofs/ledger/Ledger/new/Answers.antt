@@ -1,9 +1,9 @@
 use Rattle.std.proofs.Common.{◌≡◌, ◌∙◌, ap, sym, subst, map}
 use Rattle.gx_policy.specs.declared.policy.PolicyData.{PolicyData}
-use Rattle.gx_laws.proofs.Names.{accounts_differ as accounts_apart}
+use Rattle.gx_laws.proofs.Names_differ.{accounts_differ as accounts_apart}
 use Rattle.gx_laws.specs.Changing.{no_positions}
 use Rattle.gx_ledger.specs.{Counts.places_counting, Accounts.account_names, Keeping.{LedgerData, reference_prices}, StandsFor.StandsFor, Tables.{accounts_differ, names_differ}, Tallies.new_tally, contracts.ledger.Ledger.the_view}
-use Rattle.gx_ledger.proofs.Opening.{opened_stands, sound_stocks}
+use Rattle.gx_ledger.proofs.Ledger_first.{opened_stands, sound_stocks}
 use Rattle.gx_ledger.proofs.ledger.Ledger.new.Goals as goal
 
 pub names_of-requires : goal.names_of-requires

@@ -1,7 +1,7 @@
 use Rattle.std.proofs.{Common.{◌∙◌, None, Some, ap, sym, rules}, lemmas.{List.{places, with_items_is}, Option.get_or_from_slice_get}}
 use Rattle.std.specs.Vec.{with_items}
 use Rattle.gx_ledger.specs.{Accounts.account_place, Keeping.{LedgerData, data_after, tallies_after}, contracts.ledger.Ledger.the_view}
-use Rattle.gx_ledger.proofs.Listing.{his_list, kept_told, still_counted, told_his}
+use Rattle.gx_ledger.proofs.Tallies_told.{his_list, kept_told, still_counted, told_his}
 use Rattle.gx_ledger.proofs.ledger.Ledger.note_at.Goals as goal
 
 pub invariant_of-self : goal.invariant_of-self

@@ -1,7 +1,7 @@
 use Rattle.std.proofs.Common.{ℕ, sym, ◌∙◌, subst, true≢false}
 use Rattle.std.specs.List.Sorted.{IsNonDecreasing}
 use Rattle.circular_buffer.specs.Buffer.{Buffer}
-use Rattle.gx_ledger.proofs.{Halves.still_rise, moments.Moments.push.Goals.{then-self, else-self}}
+use Rattle.gx_ledger.proofs.{Moments_rise.still_rise, moments.Moments.push.Goals.{then-self, else-self}}
 use Rattle.gx_ledger.proofs.moments.Moments.push.Goals as goal
 
 pub invariant_of-self : goal.invariant_of-self

@@ -1,7 +1,7 @@
 use Rattle.std.proofs.Common.{◌∙◌, ◌<◌, arith, length, refl}
 use Rattle.gx_policy.specs.declared.policy.Stock.{Stock}
 use Rattle.gx_ledger.specs.Running.{no_sides}
-use Rattle.gx_ledger.proofs.Entries.{next_value}
+use Rattle.gx_ledger.proofs.Entries_changed.{next_value}
 use Rattle.gx_ledger.proofs.sides.Sides.of.Goals as goal
 
 pub loop-stock-preserved : goal.loop-stock-preserved

@@ -1,5 +1,5 @@
 use Rattle.std.proofs.Common.{◌∙◌, ◌<◌, arith, length}
-use Rattle.gx_ledger.proofs.Listing.{next_place}
+use Rattle.gx_ledger.proofs.Tallies_told.{next_place}
 use Rattle.gx_ledger.proofs.tally_places.TallyPlaces.of.Goals as goal
 
 pub loop-place-preserved : goal.loop-place-preserved

@@ -1,6 +1,6 @@
 use Rattle.std.proofs.Common.{◌≡◌, length, take, drop, subst, sym}
 use Rattle.gx_door.specs.Acts.{history_met}
-use Rattle.gx_logging.proofs.Giving.{gives}
+use Rattle.gx_logging.proofs.Lines_next.{gives}
 use Rattle.gx_logging.specs.Logging.{LoggingData}
 use Rattle.gx_logging.proofs.record_log.RecordLog.give.Goals as goal
 

@@ -1,7 +1,7 @@
 use Rattle.std.proofs.Common.{◌≡◌}
 use Rattle.gx_pass.specs.Views.{mine}
 use Rattle.gx_board.specs.Summaries.{IsBehind}
-use Rattle.gx_lookout.proofs.Standing.{GoesOn}
+use Rattle.gx_lookout.proofs.Summary_behind.{GoesOn}
 use Rattle.gx_lookout.proofs.board.Board.view.Given as goal
 
 abbrev pub invariant-loop : goal.invariant-loop

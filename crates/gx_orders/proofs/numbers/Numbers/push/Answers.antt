@@ -1,6 +1,6 @@
 use Rattle.std.proofs.Common.{◌∙◌, ◌++◌, ◌∷◌, [], ap}
 use Rattle.gx_slab.specs.Slabs.{numbered_of}
-use Rattle.gx_orders.proofs.Listing.{put_in_vain, put_last}
+use Rattle.gx_orders.proofs.AccountOrders_next.{put_in_vain, put_last}
 use Rattle.gx_orders.proofs.numbers.Numbers.push.Goals as goal
 
 pub returns-clause-same : goal.returns-clause-same

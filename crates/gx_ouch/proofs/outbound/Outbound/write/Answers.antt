@@ -1,5 +1,5 @@
 use Rattle.std.proofs.Common.{rules}
-use Rattle.gx_ouch.proofs.Places.{outbound_known_to_lie}
+use Rattle.gx_ouch.proofs.Fields_placed.{outbound_known_to_lie}
 use Rattle.gx_ouch.proofs.outbound.Outbound.write.Goals as goal
 
 pub returns-clause-fields : goal.returns-clause-fields

@@ -1,5 +1,5 @@
 use Rattle.std.specs.Prelude.{None}
-use Rattle.gx_peaks.proofs.Beginning.{answered}
+use Rattle.gx_peaks.proofs.Peaks_first.{answered}
 use Rattle.gx_peaks.proofs.peaks.Peaks.gross.Goals as goal
 
 pub returns-clause-peak : goal.returns-clause-peak

@@ -1,4 +1,4 @@
-use Rattle.gx_peaks.proofs.Beginning.{empty_holds}
+use Rattle.gx_peaks.proofs.Peaks_first.{empty_holds}
 use Rattle.gx_peaks.proofs.peaks.Peaks.new.Goals as goal
 
 pub returns : goal.returns

@@ -2,7 +2,7 @@ use Rattle.std.proofs.Common.{◌∙◌, ap}
 use Rattle.std.specs.Map.{keys_of}
 use Rattle.indexmap.proofs.CallerLemmas.{keys-insert_entry-present}
 use Rattle.gx_peaks.specs.Keys.{same_key}
-use Rattle.gx_peaks.proofs.Advancing.{put_so}
+use Rattle.gx_peaks.proofs.Peaks_call.{put_so}
 use Rattle.gx_peaks.proofs.table.PeakTable.note.Goals as goal
 
 pub returns : goal.returns

@@ -1,6 +1,6 @@
 use Rattle.std.proofs.Common.{◌∙◌, ap}
 use Rattle.gx_policy.specs.declared.policy.PolicyData.{PolicyData}
-use Rattle.gx_peaks.proofs.Looping.{all_rules, no_rule_yet, one_more_rule}
+use Rattle.gx_peaks.proofs.Table_next.{all_rules, no_rule_yet, one_more_rule}
 use Rattle.gx_peaks.proofs.table.PeakTable.note_account.Goals as goal
 
 pub loop-rule-init : goal.loop-rule-init

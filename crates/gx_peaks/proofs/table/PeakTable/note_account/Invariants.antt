@@ -1,6 +1,6 @@
 use Rattle.std.proofs.Common.{take}
 use Rattle.gx_peaks.specs.Noting.{AdvancesTo}
-use Rattle.gx_peaks.proofs.Looping.{OfRules}
+use Rattle.gx_peaks.proofs.Table_next.{OfRules}
 use Rattle.gx_peaks.proofs.table.PeakTable.note_account.Given as goal
 
 abbrev pub invariant-loop-rule : goal.invariant-loop-rule

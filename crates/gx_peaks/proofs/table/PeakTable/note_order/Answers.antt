@@ -1,8 +1,9 @@
 use Rattle.std.proofs.Common.{◌∙◌, subst, sym}
 use Rattle.std.specs.Prelude.{Option, None, Some}
+use Rattle.gx_units.proofs.Results_hold.{ok_then}
 use Rattle.gx_history.specs.declared.live_order.LiveOrder.{LiveOrder}
 use Rattle.gx_peaks.specs.Noting.{AdvancesTo, IsOfAccount, IsOfOrder, side_of}
-use Rattle.gx_peaks.proofs.{Advancing.and_then, Looping.ok_then}
+use Rattle.gx_peaks.proofs.Peaks_call.{and_then}
 use Rattle.gx_peaks.proofs.table.PeakTable.note_order.Goals as goal
 
 pub returns : goal.returns

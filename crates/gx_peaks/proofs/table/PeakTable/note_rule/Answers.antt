@@ -1,7 +1,7 @@
 use Rattle.std.proofs.{Common.{◌≡◌, ◌≤◌, ◌<◌, ◌∙◌, refl, length, arith, List}, lemmas.List.length-map}
 use Rattle.std.specs.Map.{keys_of}
 use Rattle.gx_peaks.specs.declared.{key.PeakKey.PeakKey, table.HeldPeak.HeldPeak}
-use Rattle.gx_peaks.proofs.Looping.{all_places, no_place_yet, one_more_place}
+use Rattle.gx_peaks.proofs.Table_next.{all_places, no_place_yet, one_more_place}
 use Rattle.gx_peaks.proofs.table.PeakTable.note_rule.Goals as goal
 
 as_many : (entries : List (PeakKey × HeldPeak)) → length (keys_of entries) ≡ length entries

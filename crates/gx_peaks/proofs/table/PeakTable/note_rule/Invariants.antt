@@ -1,7 +1,7 @@
 use Rattle.std.proofs.Common.{◌≡◌, take}
 use Rattle.std.specs.Map.{keys_of}
 use Rattle.gx_peaks.specs.Noting.{AdvancesTo, AreTheirs}
-use Rattle.gx_peaks.proofs.Looping.{OfKeys}
+use Rattle.gx_peaks.proofs.Table_next.{OfKeys}
 use Rattle.gx_peaks.proofs.table.PeakTable.note_rule.Given as goal
 
 abbrev pub invariant-loop-place : goal.invariant-loop-place

@@ -1,7 +1,7 @@
 use Rattle.std.proofs.Common.{◌∙◌, ap, sym, refl, true≢false}
 use Rattle.gx_policy.specs.People.{is_reader, role_in}
 use Rattle.gx_people.specs.{Entitled.{granted_to, has_room, sees, with_account}, View.users_of, declared.person.Person.Person}
-use Rattle.gx_people.proofs.{Entitling.granted_pair, Table.{role_written, nobody_reads, room_found}}
+use Rattle.gx_people.proofs.{Grants_next.granted_pair, Persons_table.{role_written, nobody_reads, room_found}}
 use Rattle.gx_people.proofs.people.People.grant.Goals as goal
 
 -- the reader is known

@@ -2,8 +2,8 @@ use Rattle.std.proofs.Common.{◌≡◌, List, ◌∙◌, ap, true}
 use Rattle.gx_units.specs.Names.{same_user}
 use Rattle.gx_policy.specs.{Lists.are_distinct, declared.policy.{Role.Role, User.User}}
 use Rattle.gx_people.specs.View.{users_of}
-use Rattle.gx_laws.proofs.Names.{users_differ}
-use Rattle.gx_people.proofs.Table.{added_next}
+use Rattle.gx_laws.proofs.Names_differ.{users_differ}
+use Rattle.gx_people.proofs.Persons_table.{added_next}
 use Rattle.gx_people.proofs.people.People.new.Goals as goal
 
 -- one more user

@@ -2,7 +2,7 @@ use Rattle.std.proofs.Common.{◌≡◌, ◌∙◌, ap, sym, rules}
 use Rattle.std.specs.Prelude.{Some, option_map}
 use Rattle.gx_policy.specs.{declared.policy.User.User, People.{is_reader, role_in}}
 use Rattle.gx_history.specs.Readers.{reader_in}
-use Rattle.gx_people.proofs.Table.{named_reads}
+use Rattle.gx_people.proofs.Persons_table.{named_reads}
 use Rattle.gx_people.proofs.people.People.reader_named.Goals as goal
 
 -- no other user has the reader's name

@@ -1,7 +1,7 @@
 use Rattle.std.proofs.Common.{◌∙◌, ap, sym, refl, true≢false}
 use Rattle.gx_policy.specs.People.{is_reader, role_in}
 use Rattle.gx_people.specs.{Entitled.{revoked_from, sees, without_account}, View.users_of, declared.person.Person.Person}
-use Rattle.gx_people.proofs.{Entitling.revoked_pair, Table.{role_written, nobody_reads}}
+use Rattle.gx_people.proofs.{Grants_next.revoked_pair, Persons_table.{role_written, nobody_reads}}
 use Rattle.gx_people.proofs.people.People.revoke.Goals as goal
 
 -- the reader is known

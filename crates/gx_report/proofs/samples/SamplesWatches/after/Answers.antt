@@ -1,6 +1,6 @@
-use Rattle.gx_report.proofs.Taking.{stay_taken}
+use Rattle.gx_report.proofs.Samples_next.{stay_taken}
 use Rattle.gx_report.proofs.samples.SamplesWatches.after.Goals as goal
 
 pub returns-clause-saw : goal.returns-clause-saw
 returns-clause-saw g c =
-    stay_taken (g.G.AccessGate.seen c.args._gate.now).policy c.args.self.now (g.G.AccessGate.seen c.args._gate.now).records c.args._left.now c.requires.last c.requires.expects
+    stay_taken c.args.self.now (g.G.AccessGate.seen c.args._gate.now).records c.args._left.now c.requires.last c.requires.expects

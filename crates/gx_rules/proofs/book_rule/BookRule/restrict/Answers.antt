@@ -1,7 +1,7 @@
 use Rattle.gx_policy.specs.Kinds.{with_stocks}
 use Rattle.std.proofs.Common.{◌∙◌, ap}
 use Rattle.gx_history.specs.InForce.{with_stock}
-use Rattle.gx_rules.proofs.{Keeping.insert_is_adding, Apart.changed_stocks}
+use Rattle.gx_rules.proofs.{Entries_next.insert_is_adding, Stocks_apart.changed_stocks}
 use Rattle.gx_rules.proofs.book_rule.BookRule.restrict.Goals as goal
 
 pub returns-clause-kind : goal.returns-clause-kind

@@ -3,7 +3,7 @@ use Rattle.std.proofs.Common.{◌∙◌, ap, sym}
 use Rattle.std.specs.List.{list_any}
 use Rattle.gx_units.specs.Names.{same_stock}
 use Rattle.gx_history.specs.InForce.{without_stock}
-use Rattle.gx_rules.proofs.{Keeping.remove_is_removing, Apart.changed_stocks}
+use Rattle.gx_rules.proofs.{Entries_next.remove_is_removing, Stocks_apart.changed_stocks}
 use Rattle.gx_rules.proofs.book_rule.BookRule.unrestrict.Goals as goal
 
 pub returns-clause-kind : goal.returns-clause-kind

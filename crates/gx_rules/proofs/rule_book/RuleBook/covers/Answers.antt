@@ -2,7 +2,7 @@ use Rattle.std.proofs.Common.{◌∙◌, ap, sym, Some, None, option_copied, fal
 use Rattle.std.specs.Option.{option_map_or}
 use Rattle.gx_policy.specs.{declared.policy.FileRule.FileRule, People.covers}
 use Rattle.gx_rules.specs.Settings.{covers_in}
-use Rattle.gx_rules.proofs.Places.{rule_found}
+use Rattle.gx_rules.proofs.Rules_table.{rule_found}
 use Rattle.gx_rules.proofs.rule_book.RuleBook.covers.Goals as goal
 
 pub returns-in-Some : goal.returns-in-Some

@@ -2,7 +2,7 @@ use Rattle.gx_policy.specs.{Kinds.limit_of, declared.policy.FileRule.FileRule}
 use Rattle.std.proofs.Common.{◌∙◌, ap, sym, Some, None, option_copied}
 use Rattle.std.specs.Option.{option_and_then}
 use Rattle.gx_rules.specs.Settings.{limit_in}
-use Rattle.gx_rules.proofs.Places.{rule_found}
+use Rattle.gx_rules.proofs.Rules_table.{rule_found}
 use Rattle.gx_rules.proofs.rule_book.RuleBook.limit.Goals as goal
 
 pub returns-in-Some : goal.returns-in-Some

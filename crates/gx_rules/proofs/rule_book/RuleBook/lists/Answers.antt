@@ -1,7 +1,7 @@
 use Rattle.std.proofs.Common.{◌∙◌, ap, sym, Some, None, option_copied}
 use Rattle.gx_history.specs.Asking.{has_stock}
 use Rattle.gx_rules.specs.Settings.{lists_in}
-use Rattle.gx_rules.proofs.Places.{rule_found}
+use Rattle.gx_rules.proofs.Rules_table.{rule_found}
 use Rattle.gx_rules.proofs.rule_book.RuleBook.lists.Goals as goal
 
 pub returns-in-Some : goal.returns-in-Some

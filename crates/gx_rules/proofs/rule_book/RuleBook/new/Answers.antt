@@ -1,8 +1,8 @@
 use Rattle.std.proofs.Common.{◌∙◌, ap, sym}
 use Rattle.std.specs.List.{list_all}
-use Rattle.gx_laws.proofs.Names.{accounts_differ as accounts_apart}
+use Rattle.gx_laws.proofs.Names_differ.{accounts_differ as accounts_apart}
 use Rattle.gx_rules.specs.{Books.{lists_once, names_differ, rules_of}, Places.accounts_differ}
-use Rattle.gx_rules.proofs.{Covering.table_made, Sound.{few_entries, sound_lists, sound_names}}
+use Rattle.gx_rules.proofs.{AccountRules_table.table_made, Rules_sound.{few_entries, sound_lists, sound_names}}
 use Rattle.gx_rules.proofs.rule_book.RuleBook.new.Goals as goal
 
 pub kept_rules-requires-clause-names_differ : goal.kept_rules-requires-clause-names_differ

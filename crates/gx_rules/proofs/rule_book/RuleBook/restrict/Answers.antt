@@ -2,7 +2,7 @@ use Rattle.gx_policy.specs.Kinds.{with_stocks}
 use Rattle.std.proofs.{Common.{◌≤◌, ◌∙◌, ap, sym, map, subst}, lemmas.Result.{on_err_weaker, on_ok_weaker}}
 use Rattle.gx_history.specs.InForce.{with_stock, change_rule}
 use Rattle.indexmap.proofs.CallerLemmas.{index_map_len-with_value_at}
-use Rattle.gx_rules.proofs.{Covering.table_kept, Places.{changed_at, changed_nowhere, same_at}}
+use Rattle.gx_rules.proofs.{AccountRules_table.table_kept, Rules_table.{changed_at, changed_nowhere, same_at}}
 use Rattle.gx_rules.proofs.rule_book.RuleBook.restrict.Goals as goal
 
 pub returns-in-Some-clause-restricted : goal.returns-in-Some-clause-restricted

@@ -2,7 +2,7 @@ use Rattle.gx_policy.specs.Kinds.{with_limit}
 use Rattle.std.proofs.Common.{◌≤◌, ◌∙◌, ap, sym, map, subst}
 use Rattle.gx_history.specs.InForce.{change_rule}
 use Rattle.indexmap.proofs.CallerLemmas.{index_map_len-with_value_at}
-use Rattle.gx_rules.proofs.{Covering.table_kept, Places.{changed_at, changed_nowhere}}
+use Rattle.gx_rules.proofs.{AccountRules_table.table_kept, Rules_table.{changed_at, changed_nowhere}}
 use Rattle.gx_rules.proofs.rule_book.RuleBook.set_limit.Goals as goal
 
 pub returns-in-Some : goal.returns-in-Some

@@ -1,6 +1,6 @@
 use Rattle.std.proofs.Common.{◌∙◌, ◌<◌, arith, ap, sym, length}
 use Rattle.gx_policy.specs.{declared.policy.FileRule.FileRule, People.covers}
-use Rattle.gx_rules.proofs.Covering.{next_place}
+use Rattle.gx_rules.proofs.AccountRules_table.{next_place}
 use Rattle.gx_rules.proofs.rule_places.RulePlaces.of.Goals as goal
 
 pub loop-place-preserved : goal.loop-place-preserved

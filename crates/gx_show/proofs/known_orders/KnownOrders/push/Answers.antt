@@ -1,7 +1,7 @@
 use Rattle.std.proofs.Common.{rules, ◌≡◌, subst, List, ◌++◌, ◌∷◌, [], ℕ}
 use Rattle.gx_history.specs.declared.live_order.UserToken.{UserToken}
 use Rattle.gx_show.specs.{declared.known_order.KnownOrder.KnownOrder, Tables.{AreFound, FindsNumber, FindsToken}}
-use Rattle.gx_show.proofs.Finding.{found_next}
+use Rattle.gx_show.proofs.FoundOrders_next.{found_next}
 use Rattle.gx_show.proofs.known_orders.KnownOrders.push.Goals as goal
 
 pub invariant_of-self-2 : goal.invariant_of-self-2

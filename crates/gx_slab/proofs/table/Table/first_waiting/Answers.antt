@@ -2,7 +2,7 @@ use Rattle.std.proofs.Common.{◌∙◌, ap, List}
 use Rattle.std.specs.Prelude.{slice_get}
 use Rattle.gx_history.specs.declared.live_order.LiveOrder.{LiveOrder}
 use Rattle.gx_slab.specs.Slabs.{first_waiting, is_waiting}
-use Rattle.gx_slab.proofs.Finding.{found_first, found_open}
+use Rattle.gx_slab.proofs.Order_found.{found_first, found_open}
 use Rattle.gx_slab.proofs.table.Table.first_waiting.Goals as goal
 
 pub returns : goal.returns

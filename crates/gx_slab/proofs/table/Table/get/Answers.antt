@@ -2,7 +2,7 @@ use Rattle.std.proofs.Common.{◌≡◌, ◌∙◌, ap, sym, List}
 use Rattle.std.specs.{Option.option_copied, Prelude.{Some, None, slice_get}, List.position}
 use Rattle.gx_history.specs.declared.live_order.LiveOrder.{LiveOrder}
 use Rattle.gx_slab.specs.Slabs.{live_numbered, stands_for}
-use Rattle.gx_slab.proofs.Finding.{found_at, found_nowhere}
+use Rattle.gx_slab.proofs.Order_found.{found_at, found_nowhere}
 use Rattle.gx_slab.proofs.table.Table.get.Goals as goal
 
 pub returns-in_err-place : goal.returns-in_err-place

@@ -1,7 +1,7 @@
 use Rattle.std.proofs.{Common.{◌++◌, ◌∷◌, [], ◌∙◌, ap, List, arith, rules}, lemmas.List.Sums.{count_by-le-length, length-filter}}
 use Rattle.gx_history.specs.declared.live_order.LiveOrder.{LiveOrder}
 use Rattle.gx_slab.specs.Slabs.{first_place, is_open, live_numbered}
-use Rattle.gx_slab.proofs.Putting.{pushed}
+use Rattle.gx_slab.proofs.Order_put.{pushed}
 use Rattle.gx_slab.proofs.table.Table.push.Goals as goal
 
 pub overflow_add-self : goal.overflow_add-self

@@ -1,8 +1,8 @@
 use Rattle.std.proofs.Common.{◌≡◌, ◌≤◌, ◌+◌, ◌*◌, ◌∙◌, ap, sym, subst, ℕ, List, set, length-set}
 use Rattle.std.specs.{Option.option_map_or, Prelude.{None}, List.position}
 use Rattle.gx_history.specs.declared.live_order.LiveOrder.{LiveOrder}
-use Rattle.gx_slab.specs.Slabs.{at_rest, first_place, live_numbered, stands_for, written}
-use Rattle.gx_slab.proofs.{Waiting.first_written, Writing.{IsRested, is_rested, none_rested}}
+use Rattle.gx_slab.specs.Slabs.{at_rest, first_place, live_numbered, stands_for, live_with}
+use Rattle.gx_slab.proofs.{Waiting_first.first_written, Order_written.{IsRested, is_rested, none_rested}}
 use Rattle.gx_slab.proofs.table.Table.rest.Goals as goal
 
 pub returns-in_default : goal.returns-in_default
@@ -11,7 +11,7 @@ returns-in_default c =
     ap (position (stands_for c.args.number)) (sym c.deref-2.ensures.value) ∙ sym c.place_of.ensures ∙ c.in_default.is in
     sym c.self.view_is
     ∙ none_rested c.self.inside.rows.items c.args.number nowhere
-    ∙ ap (λ (live : List LiveOrder). option_map_or (λ (o : LiveOrder). written (at_rest o) live) (live_numbered live c.args.number) live) c.self.view_is
+    ∙ ap (λ (live : List LiveOrder). option_map_or (λ (o : LiveOrder). live_with (at_rest o) live) (live_numbered live c.args.number) live) c.self.view_is
 
 rested : (c : goal.After-self-2-1) → IsRested c.self.inside.places.items c.self.inside.rows.items c.args.number c.index_mut.result.now c.in-Some.place
 rested c =
@@ -35,4 +35,4 @@ invariant_of-self c = record {
 pub returns : goal.returns
 returns c =
     (rested c).shown
-    ∙ ap (λ (live : List LiveOrder). option_map_or (λ (o : LiveOrder). written (at_rest o) live) (live_numbered live c.args.number) live) c.self.view_is
+    ∙ ap (λ (live : List LiveOrder). option_map_or (λ (o : LiveOrder). live_with (at_rest o) live) (live_numbered live c.args.number) live) c.self.view_is

@@ -1,14 +1,14 @@
 use Rattle.std.proofs.Common.{◌≡◌, ◌≤◌, ◌∙◌, ap, sym, subst, ℕ, if◌then◌else◌, set, length, ◌-◌}
 use Rattle.std.specs.{Prelude.{None, min}, List.position}
-use Rattle.gx_slab.specs.Slabs.{first_place, is_open, stands_for, written}
-use Rattle.gx_slab.proofs.{Waiting.first_written, Writing.{is_written, nothing_written}}
+use Rattle.gx_slab.specs.Slabs.{first_place, is_open, stands_for, live_with}
+use Rattle.gx_slab.proofs.{Waiting_first.first_written, Order_written.{is_written, nothing_written}}
 use Rattle.gx_slab.proofs.table.Table.write.Goals as goal
 
 pub returns-in_default : goal.returns-in_default
 returns-in_default c =
     let nowhere : position (stands_for c.args.order.number) c.self.inside.rows.items ≡ None =
     ap (position (stands_for c.args.order.number)) (sym c.deref-2.ensures.value) ∙ sym c.place_of.ensures ∙ c.in_default.is in
-    sym c.self.view_is ∙ nothing_written c.self.inside.rows.items c.args.order nowhere ∙ ap (written c.args.order) c.self.view_is
+    sym c.self.view_is ∙ nothing_written c.self.inside.rows.items c.args.order nowhere ∙ ap (live_with c.args.order) c.self.view_is
 
 pub thin_out-self-inside-requires-clause-placed : goal.thin_out-self-inside-requires-clause-placed
 thin_out-self-inside-requires-clause-placed c =
@@ -46,4 +46,4 @@ returns c =
     c.thin_out-self-inside.ensures.shown
     ∙ (is_written c.self.inside.places.items c.self.inside.rows.items c.args.order c.in-Some.place c.self.invariant.placed
     (ap (position (stands_for c.args.order.number)) (sym c.deref-2.ensures.value) ∙ sym c.place_of.ensures ∙ c.in-Some.is)).shown
-    ∙ ap (written c.args.order) c.self.view_is
+    ∙ ap (live_with c.args.order) c.self.view_is

@@ -1,5 +1,5 @@
 use Rattle.std.proofs.{Common.{sym, ◌∙◌, arith}, lemmas.Grind.common_steps}
-use Rattle.gx_soup.proofs.Steps.{fed_stuck, fed_on}
+use Rattle.gx_soup.proofs.Feeder_call.{fed_stuck, fed_on}
 use Rattle.gx_soup.proofs.feeder.Feeder.feed_into.Goals as goal
 
 pub returns-then-is_some-clause-fed : goal.returns-then-is_some-clause-fed

@@ -1,4 +1,4 @@
-use Rattle.gx_soup.proofs.Soup.{packets_nil}
+use Rattle.gx_soup.proofs.Packets_next.{packets_nil}
 use Rattle.gx_soup.proofs.feeder.Feeder.new.Goals as goal
 
 pub returns : goal.returns

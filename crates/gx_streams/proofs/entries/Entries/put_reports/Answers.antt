@@ -2,7 +2,7 @@ use Rattle.std.proofs.{Common.{List, map, sym, ◌∙◌, ap, subst}, lemmas.{Re
 use Rattle.std.specs.List.{AllByRecursion}
 use Rattle.gx_history.specs.declared.report.Report.{Report}
 use Rattle.gx_streams.specs.{declared.{stored_report.StoredReport.StoredReport}, Slots.{DetailLists, entry_in, lists_of}, Recorded.IsRecorded, Table.report_of}
-use Rattle.gx_streams.proofs.Slotting.{of_slots}
+use Rattle.gx_streams.proofs.Slots_table.{of_slots}
 use Rattle.gx_streams.proofs.entries.Entries.put_reports.Goals as goal
 
 pub put_each-requires : goal.put_each-requires

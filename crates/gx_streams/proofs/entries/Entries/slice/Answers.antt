@@ -1,7 +1,7 @@
 use Rattle.std.proofs.Common.{List, ◌∙◌, ap}
 use Rattle.gx_policy.specs.Lists.{slice}
 use Rattle.gx_streams.specs.{declared.{stored_report.StoredReport.StoredReport, slot.Slot.Slot}, Slots.{DetailLists, entries_in, entry_in, lists_of}}
-use Rattle.gx_streams.proofs.Slotting.{mapped_slice}
+use Rattle.gx_streams.proofs.Slots_table.{mapped_slice}
 use Rattle.gx_streams.proofs.entries.Entries.slice.Goals as goal
 
 pub returns : goal.returns

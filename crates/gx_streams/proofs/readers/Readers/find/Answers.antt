@@ -1,7 +1,7 @@
 use Rattle.std.proofs.Common.{◌∙◌, ap, sym}
 use Rattle.std.specs.List.{find}
 use Rattle.gx_streams.specs.Spans.{is_named}
-use Rattle.gx_streams.proofs.Named.{found}
+use Rattle.gx_streams.proofs.Readers_named.{found}
 use Rattle.gx_streams.proofs.readers.Readers.find.Goals as goal
 
 pub returns : goal.returns

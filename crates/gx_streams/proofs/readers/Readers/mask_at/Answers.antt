@@ -1,7 +1,7 @@
 use Rattle.std.proofs.Common.{◌∙◌, ap, sym}
 use Rattle.std.specs.{Prelude.{Some, option_map}, List.find}
 use Rattle.gx_streams.specs.{Spans.{ReaderSpans, is_named}, declared.span.Span.Span}
-use Rattle.gx_streams.proofs.Named.{found}
+use Rattle.gx_streams.proofs.Readers_named.{found}
 use Rattle.gx_streams.proofs.readers.Readers.mask_at.Goals as goal
 
 pub returns : goal.returns

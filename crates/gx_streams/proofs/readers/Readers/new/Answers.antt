@@ -2,9 +2,9 @@ use Rattle.std.proofs.Common.{◌≡◌, true, List, take, ◌∙◌, ap, sym, s
 use Rattle.std.specs.Map.{values_of}
 use Rattle.gx_units.specs.Names.{same_user}
 use Rattle.gx_policy.specs.{Lists.are_distinct, declared.policy.User.User}
-use Rattle.gx_laws.proofs.Names.{users_differ}
+use Rattle.gx_laws.proofs.Names_differ.{users_differ}
 use Rattle.gx_streams.specs.Spans.{AreNamed, AreWithin}
-use Rattle.gx_streams.proofs.{Named.{reader_next}, Within.within_first}
+use Rattle.gx_streams.proofs.{Readers_named.{reader_next}, Accounts_read.within_first}
 use Rattle.gx_streams.proofs.readers.Readers.new.Goals as goal
 
 -- one more reader

@@ -1,7 +1,7 @@
 use Rattle.std.proofs.Common.{◌<◌, ◌+◌, ◌^◌, List, length, ◌∙◌, sym, ap, subst}
 use Rattle.std.specs.Map.{values_of}
 use Rattle.gx_streams.specs.Spans.{AreWithin, ReaderSpans, with_copies_counted}
-use Rattle.gx_streams.proofs.{Named.{next_is, one_more, stays_named_at}, Spanning.few_at, Within.{none_counted, within_at}}
+use Rattle.gx_streams.proofs.{Readers_named.{next_is, one_more, stays_named_at}, Spans_next.few_at, Accounts_read.{none_counted, within_at}}
 use Rattle.gx_streams.proofs.readers.Readers.note.Goals as goal
 
 pub note-requires : goal.note-requires

@@ -1,7 +1,7 @@
 use Rattle.std.proofs.{Common.{◌∙◌, ap, sym, true≢false}, lemmas.Result.{on_ok_weaker, on_err_weaker}}
 use Rattle.std.specs.Prelude.{is_some}
 use Rattle.gx_streams.specs.Kept.{with_last, is_known}
-use Rattle.gx_streams.proofs.Users.{known_found, written_back, written_same}
+use Rattle.gx_streams.proofs.Users_table.{known_found, written_back, written_same}
 use Rattle.gx_streams.proofs.report_lists.ReportLists.append.Goals as goal
 
 -- the user is known

@@ -2,8 +2,8 @@ use Rattle.std.proofs.Common.{◌≡◌, true, List, ◌∙◌, ap}
 use Rattle.gx_units.specs.Names.{same_user}
 use Rattle.gx_policy.specs.{Lists.are_distinct, declared.policy.User.User}
 use Rattle.gx_streams.specs.Table.{lists_of}
-use Rattle.gx_laws.proofs.Names.{users_differ}
-use Rattle.gx_streams.proofs.Opening.{known_next}
+use Rattle.gx_laws.proofs.Names_differ.{users_differ}
+use Rattle.gx_streams.proofs.Users_opened.{known_next}
 use Rattle.gx_streams.proofs.report_lists.ReportLists.new.Goals as goal
 
 -- one more user

@@ -1,7 +1,7 @@
 use Rattle.std.proofs.{Common.{ℕ, ◌≤◌, ◌∙◌, ap, subst, sym, true≢false}, lemmas.Result.{on_ok_weaker, on_err_weaker}}
 use Rattle.std.specs.{Prelude.{Option, is_some}, Option.option_map_or}
 use Rattle.gx_streams.specs.{declared.stored_report.StoredReport.StoredReport, Kept.{ReservedList, with_reserved, is_known, reserved_in}}
-use Rattle.gx_streams.proofs.Users.{known_found, spare_found, written_back, written_same}
+use Rattle.gx_streams.proofs.Users_table.{known_found, spare_found, written_back, written_same}
 use Rattle.gx_streams.proofs.report_lists.ReportLists.reserve.Goals as goal
 
 -- the user is known
@@ -25,5 +25,5 @@ pub returns-clause-enough : goal.returns-clause-enough
 returns-clause-enough c = λ h.
     c.reserve.ensures.enough
     (subst (λ (n : ℕ). c.args.places ≤ n)
-    (ap (λ s. reserved_in s c.args.user) (sym c.self.view_is) ∙ spare_found c.self.inside.by_user.entries c.args.user ∙ ap (λ (o : Option (ReservedList StoredReport)). option_map_or (λ (k : (ReservedList StoredReport)). k.spare) o 0) (sym c.in-Some.ensures.value))
+    (ap (λ s. reserved_in s c.args.user) (sym c.self.view_is) ∙ spare_found c.self.inside.by_user.entries c.args.user ∙ ap (λ (o : Option (ReservedList StoredReport)). option_map_or (λ (k : (ReservedList StoredReport)). k.reserved) o 0) (sym c.in-Some.ensures.value))
     h)

@@ -1,7 +1,7 @@
 use Rattle.std.proofs.Common.{◌∙◌, ap, sym, true≢false}
 use Rattle.std.specs.Prelude.{is_some}
 use Rattle.gx_streams.specs.Kept.{is_known, without_last}
-use Rattle.gx_streams.proofs.Users.{known_found, written_back}
+use Rattle.gx_streams.proofs.Users_table.{known_found, written_back}
 use Rattle.gx_streams.proofs.report_lists.ReportLists.take_back.Goals as goal
 
 -- the user is known

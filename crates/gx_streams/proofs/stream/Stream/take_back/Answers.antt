@@ -1,6 +1,6 @@
 use Rattle.std.proofs.Common.{length, take, ◌∙◌, ap}
 use Rattle.gx_streams.specs.{declared.{stored_report.StoredReport.StoredReport}, Kept.{ReservedList, without_last}}
-use Rattle.gx_streams.proofs.Slotting.{taken_back}
+use Rattle.gx_streams.proofs.Slots_table.{taken_back}
 use Rattle.gx_streams.proofs.stream.Stream.take_back.Goals as goal
 
 pub returns : goal.returns

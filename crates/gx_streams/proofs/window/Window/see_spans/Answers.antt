@@ -1,5 +1,5 @@
 use Rattle.std.proofs.Common.{◌∙◌, ap, take}
-use Rattle.gx_streams.proofs.Reading.{count_is, spans_step}
+use Rattle.gx_streams.proofs.Streams_read.{count_is, spans_step}
 use Rattle.gx_streams.proofs.window.Window.see_spans.Goals as goal
 
 pub see_span-requires : goal.see_span-requires

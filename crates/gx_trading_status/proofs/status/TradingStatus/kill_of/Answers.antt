@@ -1,7 +1,7 @@
 use Rattle.std.proofs.Common.{◌∙◌, ap, sym}
 use Rattle.std.specs.Prelude.{Option, option_and_then, option_map}
 use Rattle.gx_trading_status.specs.{StatusData.kill_in, View.lifted_by, declared.status.Kill.Kill}
-use Rattle.gx_trading_status.proofs.Table.{kill_found}
+use Rattle.gx_trading_status.proofs.Status_table.{kill_found}
 use Rattle.gx_trading_status.proofs.status.TradingStatus.kill_of.Goals as goal
 
 pub returns-in_err-get_near : goal.returns-in_err-get_near

@@ -1,7 +1,7 @@
 use Rattle.std.proofs.Common.{◌∙◌, ap, sym, ℕ}
 use Rattle.std.specs.Prelude.{Option, option_and_then}
 use Rattle.gx_trading_status.specs.StatusData.{line_in}
-use Rattle.gx_trading_status.proofs.Table.{line_found}
+use Rattle.gx_trading_status.proofs.Status_table.{line_found}
 use Rattle.gx_trading_status.proofs.status.TradingStatus.line_of.Goals as goal
 
 pub returns-in_err-get_near : goal.returns-in_err-get_near

@@ -1,6 +1,6 @@
 use Rattle.std.proofs.Common.{List, ◌∙◌, ap}
 use Rattle.gx_trading_status.specs.{StatusData.{AccountKill, TradingStatusData, with_mark}, View.{kills_of, lines_of}}
-use Rattle.gx_trading_status.proofs.Table.{kill_unknown, kill_written}
+use Rattle.gx_trading_status.proofs.Status_table.{kill_unknown, kill_written}
 use Rattle.gx_trading_status.proofs.status.TradingStatus.mark.Goals as goal
 
 -- no account has this name

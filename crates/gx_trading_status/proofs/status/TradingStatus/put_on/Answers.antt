@@ -1,6 +1,6 @@
 use Rattle.std.proofs.Common.{List, ◌∙◌, ap}
 use Rattle.gx_trading_status.specs.{StatusData.{TradingStatusData, UserLine, with_line}, View.{kills_of, lines_of}}
-use Rattle.gx_trading_status.proofs.Table.{line_unknown, line_written}
+use Rattle.gx_trading_status.proofs.Status_table.{line_unknown, line_written}
 use Rattle.gx_trading_status.proofs.status.TradingStatus.put_on.Goals as goal
 
 -- nobody has this name

@@ -1,6 +1,6 @@
-use Rattle.gx_peaks.proofs.Looping.{ok_then}
 use Rattle.gx_warnings.proofs.Table_next.{read_so}
 use Rattle.gx_warnings.proofs.table.WarningTable.note_figure.Goals as goal
+use Rattle.gx_units.proofs.Results_hold.{ok_then}
 
 pub returns : goal.returns
 returns g c =

@@ -2,4 +2,4 @@ use Rattle.gx_warnings.proofs.Warnings_exact.{exactly}
 use Rattle.gx_warnings.proofs.warnings.Warnings.count.Goals as goal
 
 pub returns-clause-exact : goal.returns-clause-exact
-returns-clause-exact c = λ policy records kept. exactly policy c.args.self.now.shares.items records c.args.self.now.table.entries.entries kept.keeps
+returns-clause-exact c = λ policy records kept. exactly c.args.self.now.shares.items c.args.self.now.table.entries.entries kept.keeps

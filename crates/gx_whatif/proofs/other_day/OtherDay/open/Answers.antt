@@ -1,4 +1,4 @@
-use Rattle.gx_whatif.proofs.Followed.{begun}
+use Rattle.gx_whatif.proofs.Watcher_next.{begun}
 use Rattle.gx_whatif.proofs.other_day.OtherDay.open.Goals as goal
 
 pub returns : goal.returns

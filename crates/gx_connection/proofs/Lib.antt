@@ -1,0 +1,12 @@
+pub mod Step_call
+pub mod Connection_keeps
+pub mod Records_next
+pub mod Connection_call
+pub mod Run_next
+pub mod Packet_marks
+pub mod Connection_cut
+pub mod Run_logout
+pub mod Sent_next
+pub mod Line_kept
+pub mod Run_prefix
+pub mod Waiting_none

@@ -1,6 +1,0 @@
-use Rattle.std.proofs.{Common.{rules, not}, lemmas.Fn.filter_same}
-use Rattle.gx_operator.specs.Hearing.{answers}
-use Rattle.gx_operator.proofs.operator.let_go.Goals as goal
-
-pub returns : goal.returns
-returns c = filter_same _ (λ asked. not (answers c.args.message.now asked)) _ (λ x b f' k. search rules) _ _ c.retain.ensures.filtered

@@ -1,8 +1,0 @@
-use Rattle.gx_answers.specs.Matches.{matches_left, IsSettling}
-use Rattle.gx_pipe.proofs.connection.settle.Given as goal
-
-abbrev pub invariant-loop : goal.invariant-loop
-invariant-loop g l = IsSettling (g.G.AccessGate.seen l.fn.gate) l.moment (g.G.AccessGate.seen l.gate)
-
-abbrev pub decreases-loop : goal.decreases-loop
-decreases-loop g l = matches_left (g.G.AccessGate.seen l.gate)

@@ -1,6 +1,0 @@
-use Rattle.gx_session.specs.declared.session.Phase.TheVariants.{On}
-use Rattle.gx_pipe.proofs.Serving.{served_in}
-use Rattle.gx_pipe.proofs.laws.stream_is_sent.Goals as goal
-
-pub returns : goal.returns
-returns c = λ gate first bytes e. served_in gate first bytes On e

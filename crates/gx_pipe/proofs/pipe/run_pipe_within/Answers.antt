@@ -1,8 +1,0 @@
-use Rattle.gx_pipe.proofs.{Leaving.after_either, Runs.all_of_transcript}
-use Rattle.gx_pipe.proofs.pipe.run_pipe_within.Goals as goal
-
-pub returns-in-Ok-clause-all : goal.returns-in-Ok-clause-all
-returns-in-Ok-clause-all g c = all_of_transcript _ _ _ _ c.in-Ok.ensures.pipe
-
-pub returns-in-Err-clause-fault : goal.returns-in-Err-clause-fault
-returns-in-Err-clause-fault g c = after_either _ _ _ (g.G.AccessGate.seen c.serve.new.gate) (g.G.AccessGate.seen c.leave.new.gate) c.serve.new.connection c.leave.new.self _ c.leave.result c.in-Err.ensures.cut c.leave.ensures.ok c.leave.ensures.asks c.leave.ensures.sure

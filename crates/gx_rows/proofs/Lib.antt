@@ -1,5 +1,0 @@
-pub mod OrderRows
-pub mod CommandRows
-pub mod RuleRows
-pub mod MatchingRows
-pub mod ReportRows

@@ -1,5 +1,0 @@
-use Rattle.gx_script.proofs.Sixteen.{spaced_from}
-use Rattle.gx_script.proofs.lanes.with_spaces_from.Goals as goal
-
-pub returns : goal.returns
-returns c = spaced_from c.args.end c.args.bytes c.requires.long c.requires.within

@@ -1,0 +1,14 @@
+use Rattle.std.proofs.Common.{◌≡◌, ◌≤◌, ◌*◌}
+use Rattle.gx_devices.specs.{Devices.counted_on, Pieces.flow_of}
+use Rattle.gx_devices.proofs.Run_pieces.{Stands}
+use Rattle.gx_script_run.specs.ScriptPiping.{way, IsSoFar}
+use Rattle.gx_script_run.proofs.script.follow.Given as goal
+
+abbrev pub invariant-loop : goal.invariant-loop
+invariant-loop g l = record {
+  stands : Stands (way (g.G.AccessGate.seen l.fn.gate)) (IsSoFar (g.G.AccessGate.seen l.fn.gate) (g.G.AccessGate.seen l.gate) l.held.rest.items l.held.progress.lines) (flow_of g.R.Read.remaining g.W.Write.contents l.fn.reader l.reader l.fn.writer l.writer);
+  counted : l.held.progress.lines ≤ 4096 * l.counter;
+  calls : counted_on l.fn.reader.calls l.counter ≤ l.reader.calls;
+  reads : l.reader.failed ≡ l.fn.reader.failed;
+  writes : l.writer.failed ≡ l.fn.writer.failed;
+}

@@ -1,5 +1,0 @@
-use Rattle.gx_scripting.proofs.Lines_cut.{nothing_follows}
-use Rattle.gx_scripting.proofs.laws.nothing_follows_a_bad_line.Goals as goal
-
-pub returns : goal.returns
-returns c = nothing_follows

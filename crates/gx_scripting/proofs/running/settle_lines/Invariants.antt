@@ -1,9 +1,0 @@
-use Rattle.gx_answers.specs.Matches.{matches_left}
-use Rattle.gx_scripting.proofs.Settle_call.{Settles}
-use Rattle.gx_scripting.proofs.running.settle_lines.Given as goal
-
-abbrev pub invariant-loop : goal.invariant-loop
-invariant-loop g l = Settles (g.G.AccessGate.seen l.fn.gate) l.moment l.text.items (g.G.AccessGate.seen l.gate)
-
-abbrev pub decreases-loop : goal.decreases-loop
-decreases-loop g l = matches_left (g.G.AccessGate.seen l.gate)
