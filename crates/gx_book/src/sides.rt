@@ -68,8 +68,8 @@ impl BothSides {
     /// Takes so many shares from the order, where it is on this side; it goes where none are left.
     pub(crate) fn reduce(&mut self, buy: bool, order: &LiveOrder, shares: u32)
         ensures { self.new
-            ≡ with_side_changed buy (left_with (resting_of order.now) (shares_open order.now - shares))
-            self.old }
+            ≡ with_side_changed buy
+            (left_with (resting_of order.now) (shares_open order.now - shares)) self.old }
     {
         if buy {
             self.buys.reduce(order, shares);

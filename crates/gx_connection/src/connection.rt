@@ -207,7 +207,8 @@ impl Connection {
         writer: &mut CallCounter<W>,
     ) -> Result<(), PipeFault>
         requires { writer.old.failed < 2 ^ 64 - 1 }
-        ensures ok { OnOk result (IsTaken (run_of_login (G.seen gate.old) self.old packet.now moment)
+        ensures ok { OnOk result (IsTaken
+            (run_of_login (G.seen gate.old) self.old packet.now moment)
             (G.seen gate.new) self.new
             (W.contents writer.old.device) (W.contents writer.new.device)) }
         ensures err { IfErr result (λ fault. IsGivenUp (G.seen gate.old) self.old
@@ -263,7 +264,8 @@ impl Connection {
     ) -> Result<UserName, PipeFault>
         requires { writer.old.failed < 2 ^ 64 - 1 }
         ensures name { IfOk result (λ name. name ≡ folded_user self.new.user) }
-        ensures ok { OnOk result (IsTaken (run_of_login (G.seen gate.old) self.old packet.now moment)
+        ensures ok { OnOk result (IsTaken
+            (run_of_login (G.seen gate.old) self.old packet.now moment)
             (G.seen gate.new) self.new
             (W.contents writer.old.device) (W.contents writer.new.device)) }
         ensures err { IfErr result (λ fault. IsGivenUp (G.seen gate.old) self.old

@@ -89,7 +89,8 @@ pub fn counting_by_account(
 ) -> Result<Vec<TallyPlaces>, OutOfMemory>
     requires { names.now.keys ≡ account_names accounts.now }
     ensures { IfOk result (λ places. places.items
-        ≡ map (places_counting (account_names accounts.now) tallies.now) (account_names accounts.now)) }
+        ≡ map (places_counting (account_names accounts.now) tallies.now)
+        (account_names accounts.now)) }
 {
     let mut places = Vec::new(alloc);
     for account in accounts {

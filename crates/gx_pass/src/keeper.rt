@@ -123,7 +123,8 @@ impl<N: GateName> Keeper<N> {
     pub fn note(&mut self, noted: RecordData)
         requires line { MayNote self.old.hand (line_in noted) }
         requires room { length self.old.list + 1 < 2 ^ 64 }
-        ensures { self.new ≡ keeper_view (self.old.list ++ noted ∷ []) self.old.hand self.old.issued }
+        ensures { self.new
+            ≡ keeper_view (self.old.list ++ noted ∷ []) self.old.hand self.old.issued }
     {
         append::<Brand>(&self.table, &mut self.seat, noted);
     }

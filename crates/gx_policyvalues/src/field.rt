@@ -125,7 +125,8 @@ pub fn number_at(
     least: u64,
     most: u64,
 ) -> Result<u64, PolicyFault>
-    ensures value { seen_result (λ n. n) result ≡ number_at key.now least most (table_view entry.now) }
+    ensures value { seen_result (λ n. n) result
+        ≡ number_at key.now least most (table_view entry.now) }
     ensures range { IfOk result (λ n. n ≤ most) }
 {
     let allowed = Allowed::Number(least, most);

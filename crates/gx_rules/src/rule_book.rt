@@ -159,7 +159,8 @@ fn first_of_file<F: TellsFigures>(
 ) -> Option<RuleName>
     requires tied { AreTied rules.now.entries by_account.now.entries }
     ensures { result ≡ first_file_rule
-        (rules_with_figures (F.told figures.now) (rules_of rules.now.entries)) facts.now request.now }
+        (rules_with_figures (F.told figures.now) (rules_of rules.now.entries))
+        facts.now request.now }
 {
     let Some(account) = facts.account else {
         return None;
@@ -184,7 +185,8 @@ fn first_in_order<F: TellsFigures>(
 ) -> Option<RuleName>
     requires tied { AreTied rules.now.entries by_account.now.entries }
     ensures { result ≡ first_forbidding
-        (rules_with_figures (F.told figures.now) (rules_of rules.now.entries)) facts.now request.now }
+        (rules_with_figures (F.told figures.now) (rules_of rules.now.entries))
+        facts.now request.now }
 {
     match first_before(facts, request) {
         None => first_of_file(rules, by_account, figures, facts, near, request).or_else(

@@ -469,7 +469,8 @@ impl<T: Drop> ConnectionState<T> {
             self.old.session (history_met D.held self.old.pass) self.old.outbox
             self.new.session (history_met D.held self.new.pass) self.new.outbox }
         ensures user { self.new.user ≡ user_after
-            (turn self.old.session (happens.Packet packet.now) moment).reply.next packet.now self.old.user }
+            (turn self.old.session (happens.Packet packet.now) moment).reply.next
+            packet.now self.old.user }
     {
         let (next, ended) = self.tell(rt, door, Event::Packet(packet), moment);
         match (next, packet) {
@@ -502,7 +503,8 @@ impl<T: Drop> ConnectionState<T> {
             self.old.session (history_met D.held self.old.pass) self.old.outbox
             self.new.session (history_met D.held self.new.pass) self.new.outbox }
         ensures user { self.new.user ≡ user_after
-            (turn self.old.session (happens.Packet packet.now) moment).reply.next packet.now self.old.user }
+            (turn self.old.session (happens.Packet packet.now) moment).reply.next
+            packet.now self.old.user }
     {
         let ended = self.serve(rt, door, packet, moment);
         Told {

@@ -220,7 +220,8 @@ pub fn leave<G: AccessGate, N: GateName>(
         ≡ line_view entered (G.seen gate.now).records (length (G.seen gate.now).records) }
     ensures legal { IsLegal (G.seen gate.now).policy (G.seen gate.now).records }
     ensures keeper { keeper.new
-        ≡ keeper_view (G.seen gate.now).records (without_line entered keeper.old.hand) keeper.old.issued }
+        ≡ keeper_view (G.seen gate.now).records
+        (without_line entered keeper.old.hand) keeper.old.issued }
 {
     gate.is_legal();
     keeper.leave(entered)

@@ -261,7 +261,8 @@ pub fn chosen_records(
     choice: &Choice,
     records: &[Record],
 ) -> Result<Vec<Record>, OutOfMemory>
-    ensures { IfOk result (λ found. found.items ≡ records_chosen policy.now choice.now records.now) }
+    ensures { IfOk result (λ found.
+        found.items ≡ records_chosen policy.now choice.now records.now) }
 {
     let mut known = KnownOrders::new(alloc);
     let mut found = Vec::new(alloc);
