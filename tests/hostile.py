@@ -1,6 +1,6 @@
 #!/usr/bin/env python3
 """Shows that nobody keeps an officer out: in a flood of wrong passwords, silent peers and garbage he logs in within a second,
-and his kill is answered within a tenth, ten times, also where the server has 256 descriptors.
+and his kill is answered within a tenth, ten times, also where the server has 256 descriptors (`.ci/run` allows ten times as long).
 
   tests/hostile.py [GATE [SCALE]]
   tests/hostile.py [GATE [SCALE]] --slack 10    what is asked for may take ten times as long, for a busy machine

@@ -27,14 +27,15 @@ fn most_reserved_records(policy: &Policy) -> usize
 /// No record yet, and the reserved places at the beginning of a day: those of the first records among them.
 pub(crate) fn first_history(alloc: Global, policy: &Policy) -> Result<History, OutOfMemory>
     ensures records { IfOk result (λ history. history.records ≡ []) }
-    ensures enough { IfOk result (λ history. most_reserved_records policy.now ≤ history.reserved) }
+    ensures enough { IfOk result (λ history.
+        most_reserved_records policy.now ≤ history.reserved) }
 {
     let mut history = History::new(alloc);
     history.reserve(most_reserved_records(policy).max(FIRST_RECORDS))?;
     Ok(history)
 }
 
-/// Makes a place for one more record, beside those that are kept.
+/// Makes a place for one more record, beside those that are reserved.
 ///
 /// `DayFull` comes before `OutOfMemory`, and only where the day has as many records as it may have.
 pub(crate) fn reserve_one(history: &mut History, policy: &Policy) -> Result<(), StepFault>
