@@ -1,6 +1,6 @@
 //! A server of a day that begins with it.
 
-use crate::entrance::{Entrance, open_lobby, served, unserved};
+use crate::entrance::{ServerEntrance, open_lobby, served, unserved};
 use crate::runtime::ServerRuntime;
 use gx_command_line::Serving;
 use gx_log::Log;
@@ -26,7 +26,7 @@ fn serve_on<'a, G: ShowsRecords + ShowsState + Send, R: ServerRuntime>(
     start: Start,
     log: &Arc<Log, Global>,
 ) -> Result<(Served<G>, Result<(), Failure<'a>>), Failure<'a>> {
-    let Entrance {
+    let ServerEntrance {
         listener,
         page,
         control,

@@ -19,7 +19,7 @@ use std::sync::Arc;
 /// Where connections come in: who listens for them, where the risk desk's page is served, what its threads share, and who tells
 /// that it listens.
 #[derive(Drop)]
-pub(crate) struct Entrance {
+pub(crate) struct ServerEntrance {
     pub(crate) listener: TcpListener,
     pub(crate) page: Option<PagePort>,
     pub(crate) control: Arc<ServerControl, Global>,
@@ -35,7 +35,7 @@ pub(crate) fn open_lobby<'a, R: ServerRuntime>(
     start: Start,
     last: Moment,
     log: &Arc<Log, Global>,
-) -> Result<Entrance, Failure<'a>> {
+) -> Result<ServerEntrance, Failure<'a>> {
     let listener = listen(rt, serving.port)?;
     let page = open_page(rt, host, serving)?;
     let alloc = host.alloc();
@@ -50,7 +50,7 @@ pub(crate) fn open_lobby<'a, R: ServerRuntime>(
     };
     await_ends(*rt, *host, serving.ends, &control)?;
     let announcer = Announcer::begin(*rt, *host, &control, serving.port)?;
-    Ok(Entrance {
+    Ok(ServerEntrance {
         listener,
         page,
         control,

@@ -28,16 +28,16 @@ const SHORTER: &str = "another program has made the file shorter: it has lost wh
 
 /// Why a journal is followed no further.
 #[derive(Drop)]
-enum Stop<'a> {
+enum FollowError<'a> {
     /// Its bytes are none of a legal day.
     Fault(AuditFault),
     /// The program gives up.
     Failure(Failure<'a>),
 }
 
-impl<'a> From<OutOfMemory> for Stop<'a> {
-    fn from(refused: OutOfMemory) -> Stop<'a> {
-        Stop::Failure(refused.into())
+impl<'a> From<OutOfMemory> for FollowError<'a> {
+    fn from(refused: OutOfMemory) -> FollowError<'a> {
+        FollowError::Failure(refused.into())
     }
 }
 
@@ -130,16 +130,16 @@ fn tell_records<'a, G: ShowsRecords + ShowsState>(
     host: &HostRuntime,
     watch: &mut Watch<G>,
     bytes: &[u8],
-) -> Result<(), Stop<'a>> {
+) -> Result<(), FollowError<'a>> {
     let mut text = Vec::new(host.alloc());
     let taken = take_records(host.alloc(), watch, bytes, &mut text);
     if let Err(ended) = print(host, text.as_slice()) {
-        return Err(Stop::Failure(ended));
+        return Err(FollowError::Failure(ended));
     }
     match taken {
         Ok(()) => Ok(()),
         Err(AuditFault::OutOfMemory) => Err(OutOfMemory.into()),
-        Err(fault) => Err(Stop::Fault(fault)),
+        Err(fault) => Err(FollowError::Fault(fault)),
     }
 }
 
@@ -167,10 +167,10 @@ fn take_piece<'a, G: ShowsRecords + ShowsState>(
     file: &mut File,
     watch: &mut Watch<G>,
     room: &mut [u8],
-) -> Result<bool, Stop<'a>> {
+) -> Result<bool, FollowError<'a>> {
     let count = match read_piece(host, path, file, watch.whole(), room) {
         Ok(count) => count,
-        Err(ended) => return Err(Stop::Failure(ended)),
+        Err(ended) => return Err(FollowError::Failure(ended)),
     };
     tell_records(host, watch, &room[..count])?;
     Ok(count > 0)
@@ -183,7 +183,7 @@ fn take_all<'a, G: ShowsRecords + ShowsState>(
     file: &mut File,
     watch: &mut Watch<G>,
     room: &mut [u8],
-) -> Result<bool, Stop<'a>> {
+) -> Result<bool, FollowError<'a>> {
     let mut has_come = false;
     for _ in 0..u64::MAX {
         if !take_piece(host, path, file, watch, room)? {
@@ -202,7 +202,7 @@ fn follow_file<'a, R: Wait + Clock, G: ShowsRecords + ShowsState>(
     asked: FollowAsked,
     file: &mut File,
     watch: &mut Watch<G>,
-) -> Result<(), Stop<'a>> {
+) -> Result<(), FollowError<'a>> {
     let mut room = Vec::new(host.alloc());
     if room.resize(PIECE, 0u8).is_err() {
         return Err(OutOfMemory.into());
@@ -241,18 +241,18 @@ fn tell_fault<'a>(
 }
 
 /// What is wrong with the journal, if anything is, or why the program gave up.
-fn fault_of<'a>(ended: Result<(), Stop<'a>>) -> Result<Option<AuditFault>, Failure<'a>> {
+fn fault_of<'a>(ended: Result<(), FollowError<'a>>) -> Result<Option<AuditFault>, Failure<'a>> {
     match ended {
         Ok(()) => Ok(None),
-        Err(Stop::Fault(fault)) => Ok(Some(fault)),
-        Err(Stop::Failure(ended)) => Err(ended),
+        Err(FollowError::Fault(fault)) => Ok(Some(fault)),
+        Err(FollowError::Failure(ended)) => Err(ended),
     }
 }
 
 /// How the journal's end is told: the status that says what it is.
 fn tell_end<'a>(
     host: &HostRuntime,
-    ended: Result<(), Stop<'a>>,
+    ended: Result<(), FollowError<'a>>,
     left: &[u8],
     is_json: bool,
 ) -> Result<ExitCode, Failure<'a>> {

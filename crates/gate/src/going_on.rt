@@ -1,6 +1,6 @@
 //! A server of the day that a journal holds.
 
-use crate::entrance::{Entrance, open_lobby, served, unserved};
+use crate::entrance::{ServerEntrance, open_lobby, served, unserved};
 use crate::runtime::ServerRuntime;
 use gx_access_gate::AccessGate;
 use gx_audit_bytes::AuditVersion;
@@ -16,7 +16,7 @@ use gx_runs::{
     leave_audit, look_back, open_audit, open_file, open_journal, take_over, take_up, tell_cut,
 };
 use gx_server::ErrorRecorder;
-use gx_shared::{Kept, serve_journaled};
+use gx_shared::{KeptDay, serve_journaled};
 use std::alloc::Global;
 use std::io;
 use std::sync::{Arc, Wait};
@@ -33,7 +33,7 @@ fn go_on<'a, G: ShowsRecords + ShowsState + Send, R: ServerRuntime>(
     log: &Arc<Log, Global>,
 ) -> Result<
     (
-        Kept<G, ErrorRecorder<JournalDevice>>,
+        KeptDay<G, ErrorRecorder<JournalDevice>>,
         Result<(), Failure<'a>>,
     ),
     Failure<'a>,
@@ -46,7 +46,7 @@ fn go_on<'a, G: ShowsRecords + ShowsState + Send, R: ServerRuntime>(
     } = day;
     match open_lobby(rt, host, serving, start, gate.moment_of_last(), log) {
         Ok(
-            Entrance {
+            ServerEntrance {
                 listener,
                 page,
                 control,
@@ -98,12 +98,12 @@ fn kept<'a>(
 fn close_server<'a, G: ShowsRecords>(
     host: &HostRuntime,
     path: &'a str,
-    left: Kept<G, ErrorRecorder<JournalDevice>>,
+    left: KeptDay<G, ErrorRecorder<JournalDevice>>,
     ended: Result<(), Failure<'a>>,
     version: AuditVersion,
     audit: Option<AuditFile<'a>>,
 ) -> Result<(), Failure<'a>> {
-    let Kept {
+    let KeptDay {
         gate,
         fault,
         device,

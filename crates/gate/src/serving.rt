@@ -17,7 +17,7 @@ use std::time::{Clock, Duration};
 use std::{io, thread};
 
 /// So many seconds behind its end a server waits for what it told to be written.
-const FAREWELL: u64 = 1;
+const LOG_WAIT_SECONDS: u64 = 1;
 
 /// Serves connections, and writes the audit.
 fn serve_port<'a, G: ShowsRecords + ShowsState + Send, R: ServerRuntime>(
@@ -67,7 +67,7 @@ fn serve_logged<G: ShowsRecords + ShowsState + Send, R: ServerRuntime>(
         Err(ended) => tell_in(rt, host, log, ended),
     };
     log.close(rt);
-    log.await_written(rt, Duration::from_secs(FAREWELL));
+    log.await_written(rt, Duration::from_secs(LOG_WAIT_SECONDS));
     status
 }
 

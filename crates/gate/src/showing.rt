@@ -53,7 +53,10 @@ fn names_of<'a>(wanted: &ShowFilter<'a>) -> AskedNames<'a> {
 }
 
 /// What a name is not known as, and the name.
-fn told_of<'a>(wanted: &ShowFilter<'a>, unknown: UnknownName) -> (&'static str, Option<&'a str>) {
+fn kind_and_name<'a>(
+    wanted: &ShowFilter<'a>,
+    unknown: UnknownName,
+) -> (&'static str, Option<&'a str>) {
     match unknown {
         UnknownName::Account => ("account", wanted.account),
         UnknownName::User => ("user", wanted.user),
@@ -69,7 +72,7 @@ fn tell_unknown(
     wanted: &ShowFilter,
     unknown: UnknownName,
 ) -> ExitCode {
-    let (what, name) = told_of(wanted, unknown);
+    let (what, name) = kind_and_name(wanted, unknown);
     let name = name.unwrap_or("");
     let hint = if is_known_in_capitals(policy, unknown, name) {
         ": names are in capitals"

@@ -13,7 +13,7 @@ use gx_journal::Journaled;
 use gx_pass::GateName;
 use gx_policy::Policy;
 use gx_records::{ShowsRecords, ShowsState};
-use gx_shared::{CountedPass, Entrance, Kept, Permits, SharedGate, close_kept};
+use gx_shared::{CountedPass, Entrance, KeptDay, Permits, SharedGate, close_kept};
 use gx_test_devices::{DeviceLimits, LARGE, OutputText, ShortWriter, limits_of};
 use gx_test_server::{
     Scenario, ScenarioFailure, are_owed, run_scenario, write_comparisons, write_failure,
@@ -196,7 +196,7 @@ pub(crate) fn run_at_gate<
     );
     let journal = door.into_journal();
     let (kept, _met, _total) = close_kept(shared, journal);
-    let Kept {
+    let KeptDay {
         gate,
         fault,
         device,

@@ -5,8 +5,8 @@ use Rattle.gx_history.specs.{declared.record.{Asked.Asked, Request.Request, Step
 use Rattle.gx_access_gate.specs.Gates.{GateData}
 
 -- a request of the user, on the one line that there is
-abbrev pub asked_by : UserName → Request → ℕ → Asked
-asked_by user request moment = record { line = 1; user = folded_user user; request = request; handed = moment }
+abbrev pub request_on_line_1 : UserName → Request → ℕ → Asked
+request_on_line_1 user request moment = record { line = 1; user = folded_user user; request = request; handed = moment }
 
 -- the gate after the request's step
 abbrev pub gate_after_step : GateData → Asked → GateData

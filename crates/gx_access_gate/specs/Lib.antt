@@ -4,4 +4,4 @@ pub mod Gates
 pub mod Logins
 pub mod Matches
 pub mod Steps
-pub mod Told
+pub mod Reports

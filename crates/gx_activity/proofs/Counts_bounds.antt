@@ -7,7 +7,7 @@ use Rattle.gx_ouch.specs.declared.letters.Liquidity.{Liquidity}
 use Rattle.gx_policy.specs.{declared.policy.{Account.Account, PolicyData.PolicyData}, Lists.{each_after, each_with_earlier}}
 use Rattle.gx_history.specs.{declared.record.{Fill.Fill, RecordData.RecordData, Request.Request, Verdict.Verdict}, Book.rested_of, Executions.{Execution, executions, executions_of, side_of, sides_in}, Orders.{Order, order_numbered, orders}, Requests.is_granted}
 use Rattle.gx_overview.specs.Accounts.{capped_count}
-use Rattle.gx_activity.specs.{declared.activity.ActivityRow.ActivityRow, Activity.{activity_row, expired_of, is_asked, is_cancel, is_denied, is_enter, is_replace, orders_of, orders_said, requests_of}, Noting.{capped_requests, row_in, so_far}}
+use Rattle.gx_activity.specs.{declared.activity.ActivityRow.ActivityRow, Activity.{activity_row, order_expired, is_asked, is_cancel, is_denied, is_enter, is_replace, orders_of, orders_said, requests_of}, Noting.{capped_requests, row_in, so_far}}
 use Rattle.gx_activity.proofs.Counts_next.{the_requests, the_row}
 
 pub fits : (n : ℕ) → n < 2 ^ 64 → capped_count n ≡ n
@@ -75,7 +75,7 @@ module _ (policy : PolicyData) (records : List RecordData) (n : ℕ) (is : n ≡
       fits (orders_of account (orders_said says policy records)) (omega arith)
 
   all_fit : (a : Account) → so_far policy records a ≡ activity_row policy records a
-  all_fit a = λ i. the_row a.name (asked_fit a.name is_granted i) (asked_fit a.name is_denied i) (fills_fit a.name i) (said_fit a.name rested_of i) (said_fit a.name expired_of i)
+  all_fit a = λ i. the_row a.name (asked_fit a.name is_granted i) (asked_fit a.name is_denied i) (fills_fit a.name i) (said_fit a.name rested_of i) (said_fit a.name order_expired i)
 
   -- each row is that of its account
   pub rows_stand : (entries : List (AccountName × ActivityRow)) → ((a : Account) → row_in entries a.name ≡ so_far policy records a)

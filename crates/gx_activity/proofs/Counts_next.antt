@@ -8,7 +8,7 @@ use Rattle.gx_policy.specs.{declared.policy.{Account.Account, PolicyData.PolicyD
 use Rattle.gx_history.specs.{declared.record.{Asked.Asked, Fill.Fill, RecordData.RecordData, Request.Request, Step.Step, Verdict.Verdict}, Book.rested_of, Executions.{Execution, executions, side_of, sides_in}, Orders.{Order, order_numbered, orders}, Requests.{asked_of, is_granted}}
 use Rattle.gx_laws.proofs.{Orders_next.executions_next, Lists_next.each_after_next}
 use Rattle.gx_overview.specs.Accounts.{capped_count}
-use Rattle.gx_activity.specs.{declared.{activity.{ActivityRow.ActivityRow, OrderRequests.OrderRequests}, deeds.Deed.Deed}, Activity.{expired_of, is_asked, is_cancel, is_denied, is_enter, is_replace, orders_of, orders_said, trades_for}, Noting.{deed_of, deeds_in, one_more, row_done, so_far}}
+use Rattle.gx_activity.specs.{declared.{activity.{ActivityRow.ActivityRow, OrderRequests.OrderRequests}, deeds.Deed.Deed}, Activity.{order_expired, is_asked, is_cancel, is_denied, is_enter, is_replace, orders_of, orders_said, trades_for}, Noting.{deed_of, deeds_in, one_more, row_done, so_far}}
 use Rattle.gx_overview.proofs.LiveOrders_call.{count_capped}
 
 pub no_more : (n : ℕ) → capped_count (n + 0) ≡ capped_count n
@@ -55,7 +55,7 @@ module _ (policy : PolicyData) (known : List Order) (account : AccountName) (ge 
       (stopped (de + cond (is_denied v && asks is_enter step) 1 0) (dr + cond (is_denied v && asks is_replace step) 1 0) (dc + cond (is_denied v && asks is_cancel step) 1 0))
       (capped_count (fills + count_by is_his (sides_in known v)))
       (capped_count (rested + orders_of account (named (rested_of v))))
-      (capped_count (expired + orders_of account (named (expired_of v))))
+      (capped_count (expired + orders_of account (named (order_expired v))))
 
   still : the_row account (stopped (ge + 0) (gr + 0) (gc + 0)) (stopped (de + 0) (dr + 0) (dc + 0)) (capped_count (fills + 0)) (capped_count (rested + 0)) (capped_count (expired + 0)) ≡ base
   still = λ i. the_row account (none_asked ge gr gc i) (none_asked de dr dc i) (no_more fills i) (no_more rested i) (no_more expired i)
@@ -225,9 +225,9 @@ row_next policy records r a =
     (λ i. the_row a.name
     (stopped (asks is_granted is_enter i) (asks is_granted is_replace i) (asks is_granted is_cancel i))
     (stopped (asks is_denied is_enter i) (asks is_denied is_replace i) (asks is_denied is_cancel i))
-    (capped_count (fills_next policy records r a.name i)) (capped_count (said_next policy records r a.name rested_of i)) (capped_count (said_next policy records r a.name expired_of i)))
+    (capped_count (fills_next policy records r a.name i)) (capped_count (said_next policy records r a.name rested_of i)) (capped_count (said_next policy records r a.name order_expired i)))
     ∙ all_grows policy (orders policy records) a.name (so_many is_granted is_enter) (so_many is_granted is_replace) (so_many is_granted is_cancel) (so_many is_denied is_enter) (so_many is_denied is_replace) (so_many is_denied is_cancel)
-    (count_by (λ (e : Execution). same_account a.name e.order.account) (executions policy records)) (orders_of a.name (orders_said rested_of policy records)) (orders_of a.name (orders_said expired_of policy records)) r.step r.verdict
+    (count_by (λ (e : Execution). same_account a.name e.order.account) (executions policy records)) (orders_of a.name (orders_said rested_of policy records)) (orders_of a.name (orders_said order_expired policy records)) r.step r.verdict
   where
     so_many : (Verdict → Bool) → (Request → Bool) → ℕ
     so_many became kind = count_by (is_asked policy a.name became kind) records

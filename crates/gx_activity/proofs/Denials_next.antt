@@ -6,7 +6,7 @@ use Rattle.gx_units.proofs.{Names_equal.{account_is, rule_is, account_is_itself}
 use Rattle.gx_policy.specs.{declared.policy.PolicyData.PolicyData, Lists.once}
 use Rattle.gx_history.specs.declared.record.RecordData.{RecordData}
 use Rattle.gx_overview.specs.Accounts.{capped_count}
-use Rattle.gx_activity.specs.{declared.denials.{Denial.Denial, DenialRow.DenialRow}, Denials.{denial_in, denial_row, denial_rows, denials, row_of, same_denial}, Denying.{counted_in, counted_once, denial_table, never, once_more, so_often, table_of}}
+use Rattle.gx_activity.specs.{declared.denials.{Denial.Denial, DenialRow.DenialRow}, Denials.{denial_in, denial_row, denial_rows, denials, denial_row_of, same_denial}, Denying.{counted_in, counted_once, denial_table, never, once_more, so_often, table_of}}
 use Rattle.gx_activity.proofs.{Counts_next.one_more_is, Counts_bounds.fits, Table_next.{listed_value_of, table_next}}
 
 -- ---- denials are the same where they are equal
@@ -86,9 +86,9 @@ rows_are policy held records shown entries n is under of many few =
 
 -- and each of them
 pub each_is : (policy : PolicyData) (records : List RecordData) (rows : List DenialRow) (n : ℕ) → rows ≡ denial_rows policy records → n ≡ length records → n < 2 ^ 63
-    → (d : Denial) → row_of rows d ≡ denial_row (denials policy records) d
+    → (d : Denial) → denial_row_of rows d ≡ denial_row (denials policy records) d
 each_is policy records rows n is many few d =
-    ap (λ (rs : List DenialRow). row_of rs d)
+    ap (λ (rs : List DenialRow). denial_row_of rs d)
     (is
     ∙ ap (λ (ds : List Denial). map (denial_row (denials policy records)) (once same_denial ds)) (sym (map-id (denials policy records)))
     ∙ map_same (denial_row (denials policy records)) (so_often (denials policy records)) (λ x. sym (all_fit policy records n many few x)) (once same_denial (map (λ (x : Denial). x) (denials policy records))))

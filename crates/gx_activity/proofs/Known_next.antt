@@ -5,19 +5,16 @@ use Rattle.gx_policy.specs.declared.policy.{Account.Account, PolicyData.PolicyDa
 use Rattle.gx_history.specs.{declared.record.RecordData.RecordData, Executions.executions, Orders.orders}
 use Rattle.gx_laws.proofs.Orders_next.{orders_next, orders_none}
 use Rattle.gx_overview.specs.{declared.owners.Owners.Owners, Executed.KnowOrders}
-use Rattle.gx_activity.specs.{declared.activity.ActivityRow.ActivityRow, Activity.idle, Noting.{NoteRecord, deeds_in, row_in, so_far}}
+use Rattle.gx_activity.specs.{declared.activity.ActivityRow.ActivityRow, Activity.idle, Noting.{NoteDeeds, deeds_in, row_in, so_far}}
 use Rattle.gx_activity.proofs.{Counts_next.row_next, AccountRow_next.row_after}
 
 -- before any record
-pub nothing_known : (policy : PolicyData) (owners : Owners) → KnowOrders owners [] → KnowOrders owners (orders policy [])
-nothing_known policy owners knows = subst (KnowOrders owners) (sym (orders_none policy)) knows
-
 pub nothing_noted : (policy : PolicyData) (a : Account) → idle a.name ≡ so_far policy [] a
 unfolding executions
 nothing_noted policy a = refl
 
 module _ (policy : PolicyData) (records : List RecordData) (i : ℕ) (r d : RecordData) (old new : Owners) (before after : List (AccountName × ActivityRow)) (within : i < length records) (is : r ≡ get_or records i d)
-    (knows : KnowOrders old (orders policy (take i records))) (noted : NoteRecord policy r old new before after) where
+    (knows : KnowOrders old (orders policy (take i records))) (noted : NoteDeeds policy r old new before after) where
   abbrev one_more : take i records ++ r ∷ [] ≡ take (i + 1) records
   one_more = ap (λ (x : RecordData). take i records ++ x ∷ []) is ∙ sym (take_more records i d within)
 

@@ -6,9 +6,9 @@ use Rattle.gx_units.proofs.Names_equal.{account_is, stock_is, account_is_itself}
 use Rattle.gx_policy.specs.{declared.policy.PolicyData.PolicyData, Lists.once}
 use Rattle.gx_history.specs.{declared.record.RecordData.RecordData, Book.is_buy, Executions.{Execution, executions, sides_in}, Figures.done_of_chosen, Orders.orders}
 use Rattle.gx_laws.proofs.Orders_next.{executions_next, executions_none, orders_next}
-use Rattle.gx_overview.specs.{declared.{executed.Executed.Executed, owners.Owners.Owners}, Accounts.capped_at_128_bits, Executed.{KnowOrders, value_of_chosen}}
+use Rattle.gx_overview.specs.{declared.{executed.ExecutedTotals.ExecutedTotals, owners.Owners.Owners}, Accounts.capped_at_128_bits, Executed.{KnowOrders, value_of_chosen}}
 use Rattle.gx_overview.proofs.{LiveOrders_call.sum_capped, Fills_call.{shares_next, value_next}}
-use Rattle.gx_activity.specs.{declared.positions.{Position.Position, PositionRow.PositionRow}, Positions.{is_in, no_position, position_of, position_row, position_rows, position_with, row_of, same_position}, Positioning.{NotePositions, entries_after, position_table, table_of}}
+use Rattle.gx_activity.specs.{declared.positions.{Position.Position, PositionRow.PositionRow}, Positions.{is_in, no_position, position_of, position_row, position_rows, position_with, position_row_of, same_position}, Positioning.{NotePositions, entries_after, position_table, table_of}}
 use Rattle.gx_activity.proofs.Table_next.{listed_value_of, table_from}
 
 -- ---- positions are the same where they are equal
@@ -24,10 +24,10 @@ same_are_equal p q same =
 
 -- ---- the row of a position, with one more side of a fill
 
-abbrev the_sums : ℕ → ℕ → Executed
+abbrev the_sums : ℕ → ℕ → ExecutedTotals
 the_sums shares worth = record { shares = shares; value = worth }
 
-abbrev the_row : Position → Executed → Executed → PositionRow
+abbrev the_row : Position → ExecutedTotals → ExecutedTotals → PositionRow
 the_row p bought sold = record { position = p; bought = bought; sold = sold }
 
 abbrev with_side : Execution → PositionRow → PositionRow
@@ -103,7 +103,7 @@ rows_are policy held records shown entries is under of =
     ∙ map-map {B = Position × PositionRow} (λ (e : Position × PositionRow). e.1) (λ (p : Position). (p, position_row (executions policy records) p)) (once same_position (map position_of (executions policy records)))
 
 -- and each of them
-pub each_is : (policy : PolicyData) (records : List RecordData) (rows : List PositionRow) → rows ≡ position_rows policy records → (p : Position) → row_of rows p ≡ position_row (executions policy records) p
+pub each_is : (policy : PolicyData) (records : List RecordData) (rows : List PositionRow) → rows ≡ position_rows policy records → (p : Position) → position_row_of rows p ≡ position_row (executions policy records) p
 each_is policy records rows is p =
-    ap (λ (rs : List PositionRow). row_of rs p) is
+    ap (λ (rs : List PositionRow). position_row_of rs p) is
     ∙ listed_value_of same_position same_itself same_are_equal position_of position_row no_position with_side no_row row_next (λ (row : PositionRow). row.position) (λ xs k. refl) (executions policy records) p

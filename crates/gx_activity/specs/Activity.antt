@@ -43,9 +43,9 @@ requests_of policy records account became = record {
 }
 
 -- the order that came to an end since it found nothing to trade with
-abbrev pub expired_of : Verdict → Option ℕ
-expired_of (Verdict.Expired order) = Some order
-expired_of other = None
+abbrev pub order_expired : Verdict → Option ℕ
+order_expired (Verdict.Expired order) = Some order
+order_expired other = None
 
 -- the orders of which the verdicts say so, each by the records in front of it
 abbrev pub orders_said : (Verdict → Option ℕ) → PolicyData → List RecordData → List Order
@@ -64,7 +64,7 @@ activity_of policy records account = record {
   denied = requests_of policy records account is_denied;
   fills = count_by (λ (e : Execution). same_account account e.order.account) (executions policy records);
   rested = orders_of account (orders_said rested_of policy records);
-  expired = orders_of account (orders_said expired_of policy records);
+  expired = orders_of account (orders_said order_expired policy records);
 }
 
 -- what an account of the policy did

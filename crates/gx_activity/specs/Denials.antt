@@ -31,5 +31,5 @@ abbrev pub denial_rows : PolicyData → List RecordData → List DenialRow
 denial_rows policy records = map (denial_row (denials policy records)) (once same_denial (denials policy records))
 
 -- the row of this rule and account, or none came where there is no such row
-abbrev pub row_of : List DenialRow → Denial → DenialRow
-row_of rows d = unwrap_or (find (λ (row : DenialRow). same_denial d row.denial) rows) (record { denial = d; count = 0 })
+abbrev pub denial_row_of : List DenialRow → Denial → DenialRow
+denial_row_of rows d = unwrap_or (find (λ (row : DenialRow). same_denial d row.denial) rows) (record { denial = d; count = 0 })

@@ -69,13 +69,13 @@ abbrev pub entries_after : List (AccountName × ActivityRow) → AccountName × 
 entries_after entries d = entries_done d.0 d.1 entries
 
 -- the record's order is known too, and what it tells is counted
-pub record AreNoted (policy : PolicyData) (r : RecordData) (known : List Order) (owners : Owners) (before after : List (AccountName × ActivityRow)) : Type 0 where
+pub record AreDeedsNoted (policy : PolicyData) (r : RecordData) (known : List Order) (owners : Owners) (before after : List (AccountName × ActivityRow)) : Type 0 where
   pub knows : KnowOrders owners (known ++ orders_added policy known r)
   pub rows : after ≡ fold entries_after before (deeds_in policy known r.step r.verdict)
 
 -- of any orders that were known
-abbrev pub NoteRecord : PolicyData → RecordData → Owners → Owners → List (AccountName × ActivityRow) → List (AccountName × ActivityRow) → Type 0
-NoteRecord policy r old new before after = (known : List Order) → KnowOrders old known → AreNoted policy r known new before after
+abbrev pub NoteDeeds : PolicyData → RecordData → Owners → Owners → List (AccountName × ActivityRow) → List (AccountName × ActivityRow) → Type 0
+NoteDeeds policy r old new before after = (known : List Order) → KnowOrders old known → AreDeedsNoted policy r known new before after
 
 -- the counts, where each stops at 64 bits
 abbrev pub capped_requests : OrderRequests → OrderRequests

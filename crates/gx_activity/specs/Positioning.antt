@@ -11,18 +11,18 @@ abbrev pub owned_position : Owner → Position
 owned_position owner = record { account = owner.account; stock = owner.stock }
 
 -- the rows by what they are of, once an order of this owner was filled so
-abbrev pub entries_with : Owner → Fill → List (Position × PositionRow) → List (Position × PositionRow)
-entries_with owner f entries =
+abbrev pub position_entries_with : Owner → Fill → List (Position × PositionRow) → List (Position × PositionRow)
+position_entries_with owner f entries =
     insert_entry same_position entries (owned_position owner)
     (position_with owner.buys f (unwrap_or (lookup (same_position (owned_position owner)) entries) (no_position (owned_position owner))))
 
 -- and once an order was filled so whose owner is known, or is not
 abbrev pub entries_filled : Fill → List (Position × PositionRow) → Option Owner → List (Position × PositionRow)
-entries_filled f entries owner = option_map_or (λ (o : Owner). entries_with o f entries) owner entries
+entries_filled f entries owner = option_map_or (λ (o : Owner). position_entries_with o f entries) owner entries
 
 -- and once this side of a fill was executed
 abbrev pub entries_after : List (Position × PositionRow) → Execution → List (Position × PositionRow)
-entries_after entries e = entries_with (owner_of e.order) e.fill entries
+entries_after entries e = position_entries_with (owner_of e.order) e.fill entries
 
 -- the rows of what was executed, by what they are of
 abbrev pub table_of : List Execution → List (Position × PositionRow)

@@ -4,7 +4,7 @@ use Rattle.gx_units.specs.{Names.{same_account, same_stock}, declared.names.Acco
 use Rattle.gx_ouch.specs.declared.outbound.OrderTerms.{OrderTerms}
 use Rattle.gx_policy.specs.{declared.policy.PolicyData.PolicyData, Lists.once}
 use Rattle.gx_history.specs.{declared.record.{Fill.Fill, RecordData.RecordData}, Executions.{Execution, executions}, Figures.{done_of_chosen, on_side}}
-use Rattle.gx_overview.specs.{declared.executed.Executed.Executed, Accounts.capped_at_128_bits, Executed.{value_of_chosen, with_fill}}
+use Rattle.gx_overview.specs.{declared.executed.ExecutedTotals.ExecutedTotals, Accounts.capped_at_128_bits, Executed.{value_of_chosen, with_fill}}
 use Rattle.gx_activity.specs.declared.positions.{Position.Position, PositionRow.PositionRow}
 
 -- the same account and the same stock
@@ -20,7 +20,7 @@ abbrev pub is_in : Position → Bool → AccountName → OrderTerms → Bool
 is_in p buys = on_side (λ (account : AccountName). same_account account p.account) (record { stock = p.stock; buys = buys })
 
 -- what was executed on this side there
-abbrev pub executed_in : List Execution → Position → Bool → Executed
+abbrev pub executed_in : List Execution → Position → Bool → ExecutedTotals
 executed_in made p buys = record {
   shares = capped_at_128_bits (done_of_chosen made (is_in p buys));
   value = capped_at_128_bits (value_of_chosen made (is_in p buys));
@@ -44,5 +44,5 @@ position_with true f row = record { position = row.position; bought = with_fill 
 position_with false f row = record { position = row.position; bought = row.bought; sold = with_fill f row.sold }
 
 -- the row of this account and stock, or nothing was executed where there is no such row
-abbrev pub row_of : List PositionRow → Position → PositionRow
-row_of rows p = unwrap_or (find (λ (row : PositionRow). same_position p row.position) rows) (no_position p)
+abbrev pub position_row_of : List PositionRow → Position → PositionRow
+position_row_of rows p = unwrap_or (find (λ (row : PositionRow). same_position p row.position) rows) (no_position p)

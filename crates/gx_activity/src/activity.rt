@@ -1,7 +1,7 @@
 //! What each account asked for, and what became of its orders: one pass over the records.
 
 ghost use Rattle.std.specs.{Prelude.{◌≡◌, map, nat_eq, IfOk, OnOk}, Map.lookup};
-ghost use Rattle.gx_activity.specs.{Activity.{activity_row, idle}, Noting.{entries_done, entries_of_number, entries_told, requests_with, row_in, row_with, so_far, NoteRecord}};
+ghost use Rattle.gx_activity.specs.{Activity.{activity_row, idle}, Noting.{entries_done, entries_of_number, entries_told, requests_with, row_in, row_with, so_far, NoteDeeds}};
 ghost use Rattle.gx_policy.specs.declared.policy.Account.{Account};
 
 use crate::deeds::Deed;
@@ -170,7 +170,7 @@ fn note_record(
     left: &Record,
 ) -> Result<(), OutOfMemory>
     requires people { people.now ≡ policy.now.users }
-    ensures noted { OnOk result (NoteRecord policy.now left.now
+    ensures noted { OnOk result (NoteDeeds policy.now left.now
         owners.old owners.new table.old.entries table.new.entries) }
 {
     let shown = left.content();
@@ -236,8 +236,8 @@ pub fn activity_rows<G: ShowsRecords>(
     gate: &G,
 ) -> Result<Vec<ActivityRow>, OutOfMemory>
     ensures rows { IfOk result (λ rows. rows.items ≡ map
-        (activity_row (G.seen gate.now).policy (G.seen gate.now).records)
-        (G.seen gate.now).policy.accounts) }
+        (activity_row (G.state gate.now).policy (G.state gate.now).records)
+        (G.state gate.now).policy.accounts) }
 {
     // That the records are fewer than 2^63, so that no count stops.
     gate.length();

@@ -1,7 +1,7 @@
 //! How often each rule denied what an account's users asked for: one pass over the records.
 
 ghost use Rattle.std.specs.Prelude.{◌≡◌, IfOk, OnOk};
-ghost use Rattle.gx_activity.specs.{Denials.{denial_in, denial_row, denial_rows, denials, row_of}, declared.denials.Denial.Denial, Denying.{counted_in, counted_once, denial_table, once_more}};
+ghost use Rattle.gx_activity.specs.{Denials.{denial_in, denial_row, denial_rows, denials, denial_row_of}, declared.denials.Denial.Denial, Denying.{counted_in, counted_once, denial_table, once_more}};
 
 use crate::listing::rows_in;
 use gx_history::record::{Record, Step, Verdict};
@@ -110,9 +110,9 @@ fn count_all(
 /// `OutOfMemory` where the rows were refused their memory.
 pub fn denial_rows<G: ShowsRecords>(alloc: Global, gate: &G) -> Result<Vec<DenialRow>, OutOfMemory>
     ensures rows { IfOk result (λ rows. rows.items
-        ≡ denial_rows (G.seen gate.now).policy (G.seen gate.now).records) }
-    ensures all { IfOk result (λ rows. (d : Denial) → row_of rows.items d
-        ≡ denial_row (denials (G.seen gate.now).policy (G.seen gate.now).records) d) }
+        ≡ denial_rows (G.state gate.now).policy (G.state gate.now).records) }
+    ensures all { IfOk result (λ rows. (d : Denial) → denial_row_of rows.items d
+        ≡ denial_row (denials (G.state gate.now).policy (G.state gate.now).records) d) }
 {
     // That the records are fewer than 2^63, so that no count stops.
     gate.length();

@@ -1,13 +1,13 @@
 //! What each account bought and sold in each stock: one pass over the records.
 
 ghost use Rattle.std.specs.{Prelude.{◌≡◌, nat_eq, IfOk, OnOk}, Map.lookup};
-ghost use Rattle.gx_activity.specs.{Positions.{no_position, position_row, position_rows, position_with, row_of}, declared.positions.Position.Position, Positioning.{entries_filled, entries_with, position_table, NotePositions}};
+ghost use Rattle.gx_activity.specs.{Positions.{no_position, position_row, position_rows, position_with, position_row_of}, declared.positions.Position.Position, Positioning.{entries_filled, position_entries_with, position_table, NotePositions}};
 ghost use Rattle.gx_history.specs.Executions.{executions};
 
 use crate::listing::rows_in;
 use gx_history::record::{Fill, Record, Step, Verdict};
 use gx_history::records::Records;
-use gx_overview::executed::Executed;
+use gx_overview::executed::ExecutedTotals;
 use gx_overview::owners::{Owner, Owners};
 use gx_people::People;
 use gx_policy::Policy;
@@ -31,12 +31,12 @@ pub struct PositionRow {
     /// The account and the stock.
     pub position: Position,
     /// By buys.
-    pub bought: Executed,
+    pub bought: ExecutedTotals,
     /// By all that is no buy.
-    pub sold: Executed,
+    pub sold: ExecutedTotals,
 }
 
-const NOTHING: Executed = Executed {
+const NOTHING: ExecutedTotals = ExecutedTotals {
     shares: 0,
     value: 0,
 };
@@ -73,7 +73,7 @@ fn note_side(
     fill: &Fill,
 ) -> Result<(), OutOfMemory>
     ensures noted { OnOk result
-        (table.new.entries ≡ entries_with owner fill.now table.old.entries) }
+        (table.new.entries ≡ position_entries_with owner fill.now table.old.entries) }
 {
     let position = Position {
         account: owner.account,
@@ -163,9 +163,9 @@ pub fn position_rows<G: ShowsRecords>(
     gate: &G,
 ) -> Result<Vec<PositionRow>, OutOfMemory>
     ensures rows { IfOk result (λ rows. rows.items
-        ≡ position_rows (G.seen gate.now).policy (G.seen gate.now).records) }
-    ensures all { IfOk result (λ rows. (p : Position) → row_of rows.items p
-        ≡ position_row (executions (G.seen gate.now).policy (G.seen gate.now).records) p) }
+        ≡ position_rows (G.state gate.now).policy (G.state gate.now).records) }
+    ensures all { IfOk result (λ rows. (p : Position) → position_row_of rows.items p
+        ≡ position_row (executions (G.state gate.now).policy (G.state gate.now).records) p) }
 {
     let table = note_records(alloc, gate.policy(), &gate.shown_records())?;
     rows_in(alloc, &table)

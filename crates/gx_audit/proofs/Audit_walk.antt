@@ -5,7 +5,7 @@ use Rattle.gx_units.proofs.Lists_hold.{all_next}
 use Rattle.gx_history.specs.{declared.record.RecordData.RecordData, Verdicts.IsLegal}
 use Rattle.gx_policy.specs.declared.policy.PolicyData.{PolicyData}
 use Rattle.gx_audit.specs.{declared.fault.AuditFault.AuditFault, Replaying.{EndsAt, IsRecordsFault}, Auditing.{IsAnswer, IsFaultAt, IsRecordFault, IsFirstFault, IsOneMore}}
-use Rattle.gx_audit_bytes.specs.{declared.version.AuditVersion.AuditVersion, Versions.version_of, Headers.front_of, Records.record_bytes, Reading.IsShown, Audits.{all_bytes, whole_audit, AreShown}}
+use Rattle.gx_audit_bytes.specs.{declared.version.AuditVersion.AuditVersion, Versions.version_of, Headers.front_of, Records.record_bytes, Reading.IsRecordShown, Audits.{all_bytes, whole_audit, AreShown}}
 use Rattle.gx_audit_bytes.proofs.Records_next.{no_bytes, more_bytes}
 
 pub whole_more : (version : AuditVersion) (policy : PolicyData) (records : List RecordData) (r : RecordData)
@@ -40,7 +40,7 @@ bytes_further version policy {before} piece bytes at h more cut =
     ∙ h
 
 pub shown_further : (version : AuditVersion) {before after : List RecordData} (piece : List ℕ) → AreShown version before → IsOneMore version before after piece → AreShown version after
-shown_further version {before} piece shown more = subst (AreShown version) (sym more.grown) (all_next (IsShown version) before more.added shown more.shown)
+shown_further version {before} piece shown more = subst (AreShown version) (sym more.grown) (all_next (IsRecordShown version) before more.added shown more.shown)
 
 -- the fault after the records so far is the first
 first_fault : (version : AuditVersion) {policy : PolicyData} {records : List RecordData} (bytes : List ℕ) (at : ℕ) (fault : AuditFault) → version_of bytes ≡ version

@@ -5,7 +5,7 @@ use Rattle.gx_history.specs.{declared.«record».RecordData.RecordData, Verdicts
 use Rattle.gx_policy.specs.{declared.policy.PolicyData.PolicyData, Lists.{each_after, each_with_earlier}}
 use Rattle.gx_laws.proofs.Orders_numbered.{next_number}
 use Rattle.gx_audit.specs.{declared.fault.AuditFault.AuditFault, Auditing.{HasCutHeader, HasOtherHeader, IsAnswer, IsFaultAt, IsFirstFault, IsJudgement, IsOnlyAnswer}}
-use Rattle.gx_audit_bytes.specs.{declared.version.AuditVersion.AuditVersion, Versions.version_of, Headers.front_of, Records.record_bytes, Reading.{record_of, IsShown}, Audits.{all_bytes, whole_audit, AreShown}}
+use Rattle.gx_audit_bytes.specs.{declared.version.AuditVersion.AuditVersion, Versions.version_of, Headers.front_of, Records.record_bytes, Reading.{record_of, IsRecordShown}, Audits.{all_bytes, whole_audit, AreShown}}
 use Rattle.gx_audit_bytes.proofs.Record_read.{fields_lie}
 use Rattle.gx_audit.proofs.Header_call.{begins_so, long_enough, same_header}
 
@@ -20,7 +20,7 @@ follows_in {policy} before r rest legal is =
     follows_there (Follows policy) [] before r rest (subst (λ (rs : List RecordData). AllByRecursion (Follows policy) (each_with_earlier rs)) is legal.follows)
 
 -- a record that its bytes show has 128 of them
-pub shown_size : (version : AuditVersion) (r : RecordData) → IsShown version r → length (record_bytes version r) ≡ 128
+pub shown_size : (version : AuditVersion) (r : RecordData) → IsRecordShown version r → length (record_bytes version r) ≡ 128
 shown_size version r shown =
     eqb-true (length (record_bytes version r)) 128
     (and_parts (slice_index (record_bytes version r) 0 == 71) (length (record_bytes version r) == 128) (fields_lie version r (record_bytes version r) refl shown.places).is_of).1
@@ -28,8 +28,8 @@ shown_size version r shown =
 -- the records of the same bytes: one list goes on where the other ends
 data Compared (version : AuditVersion) (h k : List RecordData) (l m : List ℕ) : Type 0 where
   Same : h ≡ k → l ≡ m → Compared version h k l m
-  Longer : (r : RecordData) (rest : List RecordData) (bytes : List ℕ) → IsShown version r → k ≡ h ++ r ∷ rest → l ≡ record_bytes version r ++ bytes → Compared version h k l m
-  Shorter : (r : RecordData) (rest : List RecordData) (bytes : List ℕ) → IsShown version r → h ≡ k ++ r ∷ rest → m ≡ record_bytes version r ++ bytes → Compared version h k l m
+  Longer : (r : RecordData) (rest : List RecordData) (bytes : List ℕ) → IsRecordShown version r → k ≡ h ++ r ∷ rest → l ≡ record_bytes version r ++ bytes → Compared version h k l m
+  Shorter : (r : RecordData) (rest : List RecordData) (bytes : List ℕ) → IsRecordShown version r → h ≡ k ++ r ∷ rest → m ≡ record_bytes version r ++ bytes → Compared version h k l m
 
 with_first : (version : AuditVersion) (r s : RecordData) {h k : List RecordData} (l m : List ℕ) → r ≡ s → Compared version h k l m → Compared version (r ∷ h) (s ∷ k) l m
 with_first version r s l m is (Same records bytes) = Same (λ i. is i ∷ records i) bytes
@@ -57,7 +57,7 @@ EndsAt version policy before left (Err fault) = IsFaultAt version policy before 
 
 -- no answer ends before a record that follows
 stops : (version : AuditVersion) {policy : PolicyData} {before : List RecordData} (left : List ℕ) (r : RecordData) (bytes : List ℕ) (answer : Result ℕ AuditFault)
-    → Follows policy (before, r) → IsShown version r → left ≡ record_bytes version r ++ bytes → IsJudgement answer → EndsAt version policy before left answer → ⊥
+    → Follows policy (before, r) → IsRecordShown version r → left ≡ record_bytes version r ++ bytes → IsJudgement answer → EndsAt version policy before left answer → ⊥
 stops version left r bytes (Ok n) follows shown is judges ends =
     let size : length left ≡ 128 + length bytes = ap length is ∙ length-append (record_bytes version r) bytes ∙ ap (λ (n : ℕ). n + length bytes) (shown_size version r shown) in
     let none : length left ≡ 0 = ap length ends.0 in

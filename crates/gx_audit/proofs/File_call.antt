@@ -4,11 +4,11 @@ use Rattle.std.specs.List.{starts_with}
 use Rattle.gx_policy.specs.declared.policy.PolicyData.{PolicyData}
 use Rattle.gx_history.specs.declared.record.RecordData.{RecordData}
 use Rattle.gx_audit_bytes.specs.{Audits.whole_audit, Headers.header_in, Versions.version_of}
-use Rattle.gx_audit.specs.{Replaying.{journal_size, HoldsRecords}, Resuming.{IsNew, Stands}}
+use Rattle.gx_audit.specs.{Replaying.{journal_size, HoldsRecords}, Resuming.{IsNewFile, Stands}}
 use Rattle.gx_audit.proofs.Journal_call.{audit_size}
 
 -- the file is a front of the header
-pub begins_header : (policy : PolicyData) (file header : List ℕ) (answer : Bool) → length file < 128 → header ≡ header_in (version_of file) policy → answer ≡ starts_with nat_eq header file → answer ≡ true → IsNew policy file
+pub begins_header : (policy : PolicyData) (file header : List ℕ) (answer : Bool) → length file < 128 → header ≡ header_in (version_of file) policy → answer ≡ starts_with nat_eq header file → answer ≡ true → IsNewFile policy file
 begins_header policy file header answer short is tested agreed = record {
   rest = drop (length file) header;
   short = short;

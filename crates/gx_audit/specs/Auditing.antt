@@ -4,7 +4,7 @@ use Rattle.gx_policy.specs.declared.policy.PolicyData.{PolicyData}
 use Rattle.gx_history.specs.{declared.record.{RecordData.RecordData, Step.Step}, Verdicts.{IsLegal, Follows}}
 use Rattle.gx_audit.specs.declared.fault.AuditFault.{AuditFault}
 use Rattle.gx_access_gate.specs.declared.outcome.Outcome.{Outcome}
-use Rattle.gx_audit_bytes.specs.{declared.version.AuditVersion.AuditVersion, Versions.{has_header, version_of}, Audits.{record_size, whole_audit, AreShown}, Headers.header_in, Records.record_bytes, Reading.{record_of, IsShown}}
+use Rattle.gx_audit_bytes.specs.{declared.version.AuditVersion.AuditVersion, Versions.{has_header, version_of}, Audits.{record_size, whole_audit, AreShown}, Headers.header_in, Records.record_bytes, Reading.{record_of, IsRecordShown}}
 
 -- the bytes are the audit of a legal day, in one of the versions, with so many records
 pub record IsLegalAudit (policy : PolicyData) (bytes : List ℕ) (count : ℕ) : Type 0 where
@@ -87,13 +87,13 @@ IsOnlyAnswer policy bytes answer =
 -- one more record, with these bytes
 pub record IsOneMore (version : AuditVersion) (before after : List RecordData) (bytes : List ℕ) : Type 0 where
   pub added : RecordData
-  pub shown : IsShown version added
+  pub shown : IsRecordShown version added
   pub bytes_are : record_bytes version added ≡ bytes
   pub grown : after ≡ before ++ added ∷ []
 
 -- the record that a step left, by what came of it
-abbrev pub left_by : Step → Outcome → RecordData
-left_by step o = record { number = o.number; moment = o.moment; step = step; verdict = o.verdict }
+abbrev pub record_left : Step → Outcome → RecordData
+record_left step o = record { number = o.number; moment = o.moment; step = step; verdict = o.verdict }
 
 -- the records, and the one that a step left, if it left one
 abbrev pub with_left : List RecordData → Option RecordData → List RecordData

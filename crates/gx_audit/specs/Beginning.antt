@@ -6,7 +6,7 @@ use Rattle.gx_audit_bytes.specs.{Audits.{record_size, whole_audit, AreShown}, Ve
 
 -- these are the audit's first records, so many of them, or all where it has fewer, behind which too few bytes are left for
 -- another
-pub record AreFirst (policy : PolicyData) (most : ℕ) (audit : List ℕ) (records : List RecordData) : Type 0 where
+pub record AreFirstOfAudit (policy : PolicyData) (most : ℕ) (audit : List ℕ) (records : List RecordData) : Type 0 where
   pub shown : AreShown (version_of audit) records
   pub few : length records ≤ most
   pub rest : List ℕ

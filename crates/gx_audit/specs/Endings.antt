@@ -3,13 +3,13 @@ use Rattle.std.specs.Prelude.{◌≡◌, ◌-◌, ◌^◌, ℕ, List, [], ◌⊎
 use Rattle.gx_policy.specs.declared.policy.PolicyData.{PolicyData}
 use Rattle.gx_history.specs.{declared.record.RecordData.RecordData, Verdicts.IsLegal}
 use Rattle.gx_endings.specs.{declared.{endings.Ending.Ending, order_ends.OrderEnd.OrderEnd}, Endings.{endings, order_ends}}
-use Rattle.gx_audit.specs.{declared.fault.AuditFault.AuditFault, Auditing.{IsAnswer, IsJudgement}, Beginning.AreFirst}
+use Rattle.gx_audit.specs.{declared.fault.AuditFault.AuditFault, Auditing.{IsAnswer, IsJudgement}, Beginning.AreFirstOfAudit}
 
 -- all whole records of the audit are those of a legal day, and they are so
 pub record IsOfDay (policy : PolicyData) (audit : List ℕ) (IsSo : List RecordData → Type 0) : Type 0 where
   pub records : List RecordData
   pub legal : IsLegal policy records
-  pub first : AreFirst policy (2 ^ 64 - 1) audit records
+  pub first : AreFirstOfAudit policy (2 ^ 64 - 1) audit records
   pub is_so : IsSo records
 
 -- the check of the audit tells a fault

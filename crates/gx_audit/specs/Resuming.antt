@@ -5,7 +5,7 @@ use Rattle.gx_history.specs.declared.record.RecordData.{RecordData}
 use Rattle.gx_audit_bytes.specs.{Versions.{has_header, version_of}, Audits.{record_size, whole_audit}, Headers.header_in}
 
 -- the file holds a front of the policy's header, or nothing: no day was begun in it
-pub record IsNew (policy : PolicyData) (file : List ℕ) : Type 0 where
+pub record IsNewFile (policy : PolicyData) (file : List ℕ) : Type 0 where
   pub rest : List ℕ
   pub short : length file < record_size
   pub begins : file ++ rest ≡ header_in (version_of file) policy
@@ -18,4 +18,4 @@ pub record IsDay (policy : PolicyData) (file : List ℕ) (records : List RecordD
 
 -- so many bytes of the file stand: those of a day with these records, or none
 abbrev pub Stands : PolicyData → List ℕ → List RecordData → ℕ → Type 0
-Stands policy file records kept = ((records ≡ []) × (kept ≡ 0) × IsNew policy file) ⊎ IsDay policy file records kept
+Stands policy file records kept = ((records ≡ []) × (kept ≡ 0) × IsNewFile policy file) ⊎ IsDay policy file records kept

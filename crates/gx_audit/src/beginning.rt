@@ -2,7 +2,7 @@
 
 ghost use Rattle.std.specs.Prelude.{◌≡◌, ◌++◌, ◌≤◌, [], drop, length, Err, IfErr, IfOk, OnOk};
 ghost use Rattle.gx_history.specs.Verdicts.{IsLegal};
-ghost use Rattle.gx_audit.specs.{Auditing.IsAnswer, Beginning.AreFirst, Replaying.IsRecordsFault};
+ghost use Rattle.gx_audit.specs.{Auditing.IsAnswer, Beginning.AreFirstOfAudit, Replaying.IsRecordsFault};
 ghost use Rattle.gx_audit_bytes.specs.{Headers.front_of, Versions.version_of};
 
 use crate::checking::{check_watched, record_at, records_start};
@@ -22,19 +22,19 @@ fn follow_first<G: AccessGate, W: Watches<G>>(
     start: usize,
     most: u64,
 ) -> Result<(), AuditFault>
-    requires new { (G.seen gate.old).records ≡ [] }
-    requires saw { W.saw watcher.old (G.seen gate.old).policy [] }
+    requires new { (G.state gate.old).records ≡ [] }
+    requires saw { W.saw watcher.old (G.state gate.old).policy [] }
     requires version { version_of audit.now ≡ version }
     requires within { start ≤ length audit.now }
-    requires front { front_of version (G.seen gate.old).policy ++ drop start audit.now
+    requires front { front_of version (G.state gate.old).policy ++ drop start audit.now
         ≡ audit.now }
-    ensures policy { (G.seen gate.new).policy ≡ (G.seen gate.old).policy }
-    ensures legal { OnOk result (IsLegal (G.seen gate.old).policy (G.seen gate.new).records) }
+    ensures policy { (G.state gate.new).policy ≡ (G.state gate.old).policy }
+    ensures legal { OnOk result (IsLegal (G.state gate.old).policy (G.state gate.new).records) }
     ensures first { OnOk result
-        (AreFirst (G.seen gate.old).policy most audit.now (G.seen gate.new).records) }
+        (AreFirstOfAudit (G.state gate.old).policy most audit.now (G.state gate.new).records) }
     ensures saw { OnOk result
-        (W.saw watcher.new (G.seen gate.old).policy (G.seen gate.new).records) }
-    ensures fault { IfErr result (λ e. IsRecordsFault (G.seen gate.old).policy audit.now e) }
+        (W.saw watcher.new (G.state gate.old).policy (G.state gate.new).records) }
+    ensures fault { IfErr result (λ e. IsRecordsFault (G.state gate.old).policy audit.now e) }
 {
     let mut at = start;
     while audit.len() - at >= RECORD_SIZE {
@@ -65,10 +65,10 @@ pub fn replay_first<G: AccessGate>(
     audit: &[u8],
     most: u64,
 ) -> Result<G, AuditFault>
-    ensures policy { IfOk result (λ gate. (G.seen gate).policy ≡ policy.now) }
-    ensures legal { IfOk result (λ gate. IsLegal policy.now (G.seen gate).records) }
+    ensures policy { IfOk result (λ gate. (G.state gate).policy ≡ policy.now) }
+    ensures legal { IfOk result (λ gate. IsLegal policy.now (G.state gate).records) }
     ensures first { IfOk result
-        (λ gate. AreFirst policy.now most audit.now (G.seen gate).records) }
+        (λ gate. AreFirstOfAudit policy.now most audit.now (G.state gate).records) }
     // The fault is what the check of the whole audit answers.
     ensures fault { IfErr result (λ e. IsAnswer policy.now audit.now (Err e)) }
 {
@@ -89,11 +89,11 @@ pub fn replay_watched<G: AccessGate, W: Watches<G>>(
     watcher: &mut W,
 ) -> Result<G, AuditFault>
     requires saw { W.saw watcher.old policy.now [] }
-    ensures policy { IfOk result (λ gate. (G.seen gate).policy ≡ policy.now) }
-    ensures legal { IfOk result (λ gate. IsLegal policy.now (G.seen gate).records) }
+    ensures policy { IfOk result (λ gate. (G.state gate).policy ≡ policy.now) }
+    ensures legal { IfOk result (λ gate. IsLegal policy.now (G.state gate).records) }
     ensures first { IfOk result
-        (λ gate. AreFirst policy.now most audit.now (G.seen gate).records) }
-    ensures saw { IfOk result (λ gate. W.saw watcher.new policy.now (G.seen gate).records) }
+        (λ gate. AreFirstOfAudit policy.now most audit.now (G.state gate).records) }
+    ensures saw { IfOk result (λ gate. W.saw watcher.new policy.now (G.state gate).records) }
     // The fault is what the check of the whole audit answers.
     ensures fault { IfErr result (λ e. IsAnswer policy.now audit.now (Err e)) }
 {

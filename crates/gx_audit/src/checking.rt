@@ -4,8 +4,8 @@ ghost use Rattle.std.specs.Prelude.{◌≡◌, ◌≢◌, ◌+◌, ◌-◌, ◌<
 ghost use Rattle.gx_history.specs.Verdicts.{next, IsLegal};
 ghost use Rattle.gx_access_gate.specs.declared.outcome.StepFault.TheVariants as stepping;
 ghost use Rattle.gx_audit.specs.declared.fault.AuditFault.TheVariants as faults;
-ghost use Rattle.gx_audit.specs.{Auditing.{left_by, with_left, HasOtherHeader, IsAnswer, IsOneMore, IsOnlyAnswer, IsRecordFault, NoneFollows}, Replaying.{EndsAt, IsHeaderFault, IsRecordsFault}};
-ghost use Rattle.gx_audit_bytes.specs.{Reading.{record_of, shows_rule, IsAskableStep, IsShown}, Headers.front_of, Records.record_bytes, Versions.{has_header, version_of}};
+ghost use Rattle.gx_audit.specs.{Auditing.{record_left, with_left, HasOtherHeader, IsAnswer, IsOneMore, IsOnlyAnswer, IsRecordFault, NoneFollows}, Replaying.{EndsAt, IsHeaderFault, IsRecordsFault}};
+ghost use Rattle.gx_audit_bytes.specs.{Reading.{record_of, shows_rule, IsAskableStep, IsRecordShown}, Headers.front_of, Records.record_bytes, Versions.{has_header, version_of}};
 
 use crate::fault::AuditFault;
 use gx_access_gate::{AccessGate, Outcome, StepFault};
@@ -130,12 +130,12 @@ fn check_records<G: AccessGate>(
     bytes: &[u8],
     start: usize,
 ) -> Result<u64, AuditFault>
-    requires new { (G.seen gate.old).records ≡ [] }
+    requires new { (G.state gate.old).records ≡ [] }
     requires version { version_of bytes.now ≡ version }
     requires within { start ≤ length bytes.now }
-    requires front { front_of version (G.seen gate.old).policy ++ drop start bytes.now
+    requires front { front_of version (G.state gate.old).policy ++ drop start bytes.now
         ≡ bytes.now }
-    ensures { IsAnswer (G.seen gate.old).policy bytes.now result }
+    ensures { IsAnswer (G.state gate.old).policy bytes.now result }
 {
     match follow_records(gate, version, bytes, start) {
         Ok(end) if end < bytes.len() => Err(AuditFault::Truncated),
@@ -151,16 +151,16 @@ pub(crate) fn follow_records<G: AccessGate>(
     bytes: &[u8],
     start: usize,
 ) -> Result<usize, AuditFault>
-    requires new { (G.seen gate.old).records ≡ [] }
+    requires new { (G.state gate.old).records ≡ [] }
     requires version { version_of bytes.now ≡ version }
     requires within { start ≤ length bytes.now }
-    requires front { front_of version (G.seen gate.old).policy ++ drop start bytes.now
+    requires front { front_of version (G.state gate.old).policy ++ drop start bytes.now
         ≡ bytes.now }
-    ensures policy { (G.seen gate.new).policy ≡ (G.seen gate.old).policy }
-    ensures legal { OnOk result (IsLegal (G.seen gate.old).policy (G.seen gate.new).records) }
+    ensures policy { (G.state gate.new).policy ≡ (G.state gate.old).policy }
+    ensures legal { OnOk result (IsLegal (G.state gate.old).policy (G.state gate.new).records) }
     ensures whole { IfOk result (λ end.
-        EndsAt version (G.seen gate.old).policy bytes.now (G.seen gate.new).records end) }
-    ensures fault { IfErr result (λ e. IsRecordsFault (G.seen gate.old).policy bytes.now e) }
+        EndsAt version (G.state gate.old).policy bytes.now (G.state gate.new).records end) }
+    ensures fault { IfErr result (λ e. IsRecordsFault (G.state gate.old).policy bytes.now e) }
 {
     let mut at = start;
     while bytes.len() - at >= RECORD_SIZE {
@@ -201,14 +201,14 @@ pub fn check_record<G: AccessGate>(
     version: AuditVersion,
     bytes: &[u8; RECORD_SIZE],
 ) -> Result<(), AuditFault>
-    ensures policy { (G.seen gate.new).policy ≡ (G.seen gate.old).policy }
-    ensures legal { IsLegal (G.seen gate.old).policy (G.seen gate.old).records }
+    ensures policy { (G.state gate.new).policy ≡ (G.state gate.old).policy }
+    ensures legal { IsLegal (G.state gate.old).policy (G.state gate.old).records }
     ensures ok { OnOk result
-        (IsOneMore version (G.seen gate.old).records (G.seen gate.new).records bytes.now) }
-    ensures len { OnOk result (length (G.seen gate.new).records
-        ≡ length (G.seen gate.old).records + 1) }
+        (IsOneMore version (G.state gate.old).records (G.state gate.new).records bytes.now) }
+    ensures len { OnOk result (length (G.state gate.new).records
+        ≡ length (G.state gate.old).records + 1) }
     ensures fault { IfErr result (λ e.
-        IsRecordFault version (G.seen gate.old).policy (G.seen gate.old).records bytes.now e) }
+        IsRecordFault version (G.state gate.old).policy (G.state gate.old).records bytes.now e) }
 {
     check_watched(gate, &mut NoWatch, version, bytes)
 }
@@ -221,18 +221,18 @@ pub fn check_watched<G: AccessGate, W: Watches<G>>(
     version: AuditVersion,
     bytes: &[u8; RECORD_SIZE],
 ) -> Result<(), AuditFault>
-    requires saw { W.saw watcher.old (G.seen gate.old).policy (G.seen gate.old).records }
-    ensures policy { (G.seen gate.new).policy ≡ (G.seen gate.old).policy }
-    ensures legal { IsLegal (G.seen gate.old).policy (G.seen gate.old).records }
+    requires saw { W.saw watcher.old (G.state gate.old).policy (G.state gate.old).records }
+    ensures policy { (G.state gate.new).policy ≡ (G.state gate.old).policy }
+    ensures legal { IsLegal (G.state gate.old).policy (G.state gate.old).records }
     ensures ok { OnOk result
-        (IsOneMore version (G.seen gate.old).records (G.seen gate.new).records bytes.now) }
-    ensures len { OnOk result (length (G.seen gate.new).records
-        ≡ length (G.seen gate.old).records + 1) }
+        (IsOneMore version (G.state gate.old).records (G.state gate.new).records bytes.now) }
+    ensures len { OnOk result (length (G.state gate.new).records
+        ≡ length (G.state gate.old).records + 1) }
     ensures saw { OnOk result
-        (W.saw watcher.new (G.seen gate.new).policy (G.seen gate.new).records) }
+        (W.saw watcher.new (G.state gate.new).policy (G.state gate.new).records) }
     ensures asked { W.asked watcher.new ≡ W.asked watcher.old }
     ensures fault { IfErr result (λ e.
-        IsRecordFault version (G.seen gate.old).policy (G.seen gate.old).records bytes.now e) }
+        IsRecordFault version (G.state gate.old).policy (G.state gate.old).records bytes.now e) }
 {
     // that the records so far are those of a legal day
     gate.is_legal();
@@ -257,24 +257,24 @@ fn follow_watched<G: AccessGate, W: Watches<G>>(
     shown: &RecordData,
     bytes: &[u8; RECORD_SIZE],
 ) -> Result<(), AuditFault>
-    requires saw { W.saw watcher.old (G.seen gate.old).policy (G.seen gate.old).records }
-    requires number { number ≡ length (G.seen gate.old).records + 1 }
+    requires saw { W.saw watcher.old (G.state gate.old).policy (G.state gate.old).records }
+    requires number { number ≡ length (G.state gate.old).records + 1 }
     requires numbered { shown.now.number ≡ number }
     requires shows { record_of version bytes.now ≡ Some shown.now }
     requires bytes { record_bytes version shown.now ≡ bytes.now }
-    requires read_back { IsShown version shown.now }
+    requires read_back { IsRecordShown version shown.now }
     requires named { IsTrue (shows_rule shown.now.verdict) }
     requires askable { IsAskableStep shown.now.step }
-    ensures policy { (G.seen gate.new).policy ≡ (G.seen gate.old).policy }
+    ensures policy { (G.state gate.new).policy ≡ (G.state gate.old).policy }
     ensures ok { OnOk result
-        (IsOneMore version (G.seen gate.old).records (G.seen gate.new).records bytes.now) }
-    ensures len { OnOk result (length (G.seen gate.new).records
-        ≡ length (G.seen gate.old).records + 1) }
+        (IsOneMore version (G.state gate.old).records (G.state gate.new).records bytes.now) }
+    ensures len { OnOk result (length (G.state gate.new).records
+        ≡ length (G.state gate.old).records + 1) }
     ensures saw { OnOk result
-        (W.saw watcher.new (G.seen gate.new).policy (G.seen gate.new).records) }
+        (W.saw watcher.new (G.state gate.new).policy (G.state gate.new).records) }
     ensures asked { W.asked watcher.new ≡ W.asked watcher.old }
     ensures fault { IfErr result (λ e.
-        IsRecordFault version (G.seen gate.old).policy (G.seen gate.old).records bytes.now e) }
+        IsRecordFault version (G.state gate.old).policy (G.state gate.old).records bytes.now e) }
 {
     let Ok(()) = watcher.before(gate, shown) else {
         return Err(AuditFault::OutOfMemory);
@@ -294,20 +294,20 @@ fn follow<G: AccessGate>(
     shown: &RecordData,
     bytes: &[u8; RECORD_SIZE],
 ) -> Result<(), AuditFault>
-    requires number { number ≡ length (G.seen gate.old).records + 1 }
+    requires number { number ≡ length (G.state gate.old).records + 1 }
     requires numbered { shown.now.number ≡ number }
     requires shows { record_of version bytes.now ≡ Some shown.now }
     requires bytes { record_bytes version shown.now ≡ bytes.now }
-    requires read_back { IsShown version shown.now }
+    requires read_back { IsRecordShown version shown.now }
     requires named { IsTrue (shows_rule shown.now.verdict) }
     requires askable { IsAskableStep shown.now.step }
-    ensures policy { (G.seen gate.new).policy ≡ (G.seen gate.old).policy }
+    ensures policy { (G.state gate.new).policy ≡ (G.state gate.old).policy }
     ensures ok { OnOk result
-        (IsOneMore version (G.seen gate.old).records (G.seen gate.new).records bytes.now) }
-    ensures len { OnOk result (length (G.seen gate.new).records
-        ≡ length (G.seen gate.old).records + 1) }
+        (IsOneMore version (G.state gate.old).records (G.state gate.new).records bytes.now) }
+    ensures len { OnOk result (length (G.state gate.new).records
+        ≡ length (G.state gate.old).records + 1) }
     ensures fault { IfErr result (λ e.
-        IsRecordFault version (G.seen gate.old).policy (G.seen gate.old).records bytes.now e) }
+        IsRecordFault version (G.state gate.old).policy (G.state gate.old).records bytes.now e) }
 {
     match made(gate, shown.step) {
         Ok(Some(outcome)) => {
@@ -326,15 +326,15 @@ fn follow<G: AccessGate>(
 #[tactic(auto, using(crate::proofs::FullDay_bounds::none_asked, crate::proofs::FullDay_bounds::none_matched))]
 fn made<G: AccessGate>(gate: &mut G, step: Step) -> Result<Option<Outcome>, StepFault>
     requires askable { IsAskableStep step }
-    ensures policy { (G.seen gate.new).policy ≡ (G.seen gate.old).policy }
+    ensures policy { (G.state gate.new).policy ≡ (G.state gate.old).policy }
     ensures next { IfOk result (λ found. next
-        (G.seen gate.old).policy
-        (G.seen gate.old).records
-        step ≡ option_map (left_by step) found) }
-    ensures records { IfOk result (λ found. (G.seen gate.new).records
-        ≡ with_left (G.seen gate.old).records (option_map (left_by step) found)) }
+        (G.state gate.old).policy
+        (G.state gate.old).records
+        step ≡ option_map (record_left step) found) }
+    ensures records { IfOk result (λ found. (G.state gate.new).records
+        ≡ with_left (G.state gate.old).records (option_map (record_left step) found)) }
     ensures day_full { IfErr result (λ e. e ≡ stepping.DayFull
-        → NoneFollows (G.seen gate.old).policy (G.seen gate.old).records step) }
+        → NoneFollows (G.state gate.old).policy (G.state gate.old).records step) }
 {
     match step {
         Step::Asked(asked) => {
@@ -349,8 +349,8 @@ fn made<G: AccessGate>(gate: &mut G, step: Step) -> Result<Option<Outcome>, Step
 #[tactic(auto, using(crate::proofs::Outcome_call::same_outcome))]
 fn has_outcome(shown: &RecordData, outcome: &Outcome) -> bool
     requires { IsTrue (shows_rule shown.now.verdict) }
-    ensures same { IsTrue result → left_by shown.now.step outcome.now ≡ shown.now }
-    ensures other { IsFalse result → left_by shown.now.step outcome.now ≢ shown.now }
+    ensures same { IsTrue result → record_left shown.now.step outcome.now ≡ shown.now }
+    ensures other { IsFalse result → record_left shown.now.step outcome.now ≢ shown.now }
 {
     shown.number == outcome.number
         && shown.moment == outcome.moment

@@ -11,7 +11,7 @@ use std::alloc::Global;
 
 /// The header of the gate's policy in this version. Takes no memory.
 pub fn header_of<G: AccessGate>(version: AuditVersion, gate: &G) -> [u8; RECORD_SIZE]
-    ensures header { result ≡ header_in version (G.seen gate.now).policy }
+    ensures header { result ≡ header_in version (G.state gate.now).policy }
     ensures fits { DayFits version }
 {
     write_header_in(version, gate.policy())
@@ -25,7 +25,7 @@ fn front<G: AccessGate>(
     gate: &G,
 ) -> Result<Vec<u8>, OutOfMemory>
     ensures front { IfOk result
-        (λ front. front.items ≡ front_of version (G.seen gate.now).policy) }
+        (λ front. front.items ≡ front_of version (G.state gate.now).policy) }
     ensures fits { DayFits version }
 {
     let header = header_of(version, gate);
@@ -44,9 +44,9 @@ pub fn audit_of<G: AccessGate>(
     gate: &G,
 ) -> Result<Vec<u8>, OutOfMemory>
     ensures bytes { IfOk result (λ v.
-        v.items ≡ whole_audit version (G.seen gate.now).policy (G.seen gate.now).records) }
+        v.items ≡ whole_audit version (G.state gate.now).policy (G.state gate.now).records) }
     ensures legal { IfOk result (λ v.
-        IsLegalAudit (G.seen gate.now).policy v.items (length (G.seen gate.now).records)) }
+        IsLegalAudit (G.state gate.now).policy v.items (length (G.state gate.now).records)) }
 {
     gate.is_legal();
     let mut audit = front(alloc, version, gate)?;

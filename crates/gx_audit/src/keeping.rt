@@ -31,10 +31,10 @@ pub fn write_audit<G: ShowsRecords, W: Write>(
     requires { writer.old.failed < 2 ^ 64 - 1 }
     ensures written { OnOk result (Appends
         (W.contents writer.old.device) (W.contents writer.new.device)
-        (whole_audit version (G.seen gate.now).policy (G.seen gate.now).records)) }
+        (whole_audit version (G.state gate.now).policy (G.state gate.now).records)) }
     ensures front { OnErr result (IsFront
         (W.contents writer.old.device) (W.contents writer.new.device)
-        (whole_audit version (G.seen gate.now).policy (G.seen gate.now).records)) }
+        (whole_audit version (G.state gate.now).policy (G.state gate.now).records)) }
     ensures kept { OnOk result (writer.new.failed ≡ writer.old.failed) }
     ensures told { OnErr result (writer.old.failed < writer.new.failed) }
 {
@@ -52,10 +52,10 @@ fn write_front<G: ShowsRecords, W: Write>(
     requires { writer.old.failed < 2 ^ 64 - 1 }
     ensures written { OnOk result (Appends
         (W.contents writer.old.device) (W.contents writer.new.device)
-        (front_of version (G.seen gate.now).policy)) }
+        (front_of version (G.state gate.now).policy)) }
     ensures front { OnErr result (IsFront
         (W.contents writer.old.device) (W.contents writer.new.device)
-        (front_of version (G.seen gate.now).policy)) }
+        (front_of version (G.state gate.now).policy)) }
     ensures kept { OnOk result (writer.new.failed ≡ writer.old.failed) }
     ensures told { OnErr result (writer.old.failed < writer.new.failed) }
 {

@@ -25,12 +25,12 @@ pub fn replay<G: AccessGate>(
     policy: &Policy,
     journal: &[u8],
 ) -> Result<G, AuditFault>
-    ensures policy { IfOk result (λ gate. (G.seen gate).policy ≡ policy.now) }
+    ensures policy { IfOk result (λ gate. (G.state gate).policy ≡ policy.now) }
     ensures records { IfOk result
-        (λ gate. HoldsRecords policy.now journal.now (G.seen gate).records) }
-    ensures legal { IfOk result (λ gate. IsLegal policy.now (G.seen gate).records) }
+        (λ gate. HoldsRecords policy.now journal.now (G.state gate).records) }
+    ensures legal { IfOk result (λ gate. IsLegal policy.now (G.state gate).records) }
     ensures size { IfOk result (λ gate.
-        journal_size (length (G.seen gate).records) ≤ length journal.now) }
+        journal_size (length (G.state gate).records) ≤ length journal.now) }
     ensures fault { IfErr result (λ e. IsReplayFault policy.now journal.now e) }
 {
     let version = AuditVersion::of(journal);

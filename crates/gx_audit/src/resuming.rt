@@ -3,7 +3,7 @@
 ghost use Rattle.std.specs.Prelude.{◌≡◌, ◌≢◌, ◌<◌, ◌≤◌, ◌^◌, [], length, IfErr, IfOk, IsTrue};
 ghost use Rattle.gx_audit.specs.declared.fault.AuditFault.TheVariants as faults;
 ghost use Rattle.gx_history.specs.Verdicts.{IsLegal};
-ghost use Rattle.gx_audit.specs.{Replaying.{journal_size, IsReplayFault}, Resuming.{IsNew, Stands}};
+ghost use Rattle.gx_audit.specs.{Replaying.{journal_size, IsReplayFault}, Resuming.{IsNewFile, Stands}};
 
 use crate::fault::AuditFault;
 use crate::replaying::replay;
@@ -23,7 +23,7 @@ pub struct Resumed<G> {
 
 /// Whether the bytes are a front of the policy's header in their version, but not all of it.
 pub fn is_new(policy: &Policy, file: &[u8]) -> bool
-    ensures { IsTrue result → IsNew policy.now file.now }
+    ensures { IsTrue result → IsNewFile policy.now file.now }
 {
     file.len() < RECORD_SIZE && write_header_in(AuditVersion::of(file), policy).starts_with(file)
 }
@@ -38,10 +38,10 @@ fn size_of(count: u64) -> u64
 
 /// A day of which a file holds nothing yet.
 fn begun<G: AccessGate>(alloc: Global, policy: &Policy) -> Result<Resumed<G>, AuditFault>
-    ensures policy { IfOk result (λ r. (G.seen r.gate).policy ≡ policy.now) }
-    ensures records { IfOk result (λ r. (G.seen r.gate).records ≡ []) }
+    ensures policy { IfOk result (λ r. (G.state r.gate).policy ≡ policy.now) }
+    ensures records { IfOk result (λ r. (G.state r.gate).records ≡ []) }
     ensures kept { IfOk result (λ r. r.kept ≡ 0) }
-    ensures legal { IfOk result (λ r. IsLegal policy.now (G.seen r.gate).records) }
+    ensures legal { IfOk result (λ r. IsLegal policy.now (G.state r.gate).records) }
     ensures fault { IfErr result (λ e. e ≡ faults.OutOfMemory) }
 {
     match G::open(alloc, policy) {
@@ -65,10 +65,10 @@ pub fn resume<G: AccessGate>(
     policy: &Policy,
     file: &[u8],
 ) -> Result<Resumed<G>, AuditFault>
-    ensures policy { IfOk result (λ r. (G.seen r.gate).policy ≡ policy.now) }
-    ensures legal { IfOk result (λ r. IsLegal policy.now (G.seen r.gate).records) }
+    ensures policy { IfOk result (λ r. (G.state r.gate).policy ≡ policy.now) }
+    ensures legal { IfOk result (λ r. IsLegal policy.now (G.state r.gate).records) }
     ensures stands { IfOk result
-        (λ r. Stands policy.now file.now (G.seen r.gate).records r.kept) }
+        (λ r. Stands policy.now file.now (G.state r.gate).records r.kept) }
     ensures fault { IfErr result (λ e. e ≢ faults.OutOfMemory
         → IsReplayFault policy.now file.now e) }
 {

@@ -1,12 +1,11 @@
 -- A message that is read of a payload is written as the payload.
 use Rattle.std.proofs.{Common.{◌≡◌, ℕ, ◌+◌, ◌<◌, ◌≤◌, ◌==◌, Bool, true, false, List, [], ◌∷◌, ◌++◌, length, take, drop, map, get_or, slice_index, inl, inr, refl, sym, ap, ◌∙◌, arith}, Math.Seq.take-add, lemmas.{Bool.{cases_lt, eqb-true, and_parts}, List.{take_all, length-take, length-drop, get_or-drop, get_or-take, get_or_past}, Nat.{be_bytes_2, be_bytes_4, be_bytes_8}}}
 use Rattle.std.specs.{Prelude.{Option, Some, None, option_map, if◌then◌else◌}, Option.{option_or, unwrap_or}, Int.{w8, w16, w32, w64, to_be_bytes, from_be_bytes}}
-use Rattle.gx_ouch.specs.{Layout.{Field, Layout, IsWithoutGaps, bytes_at, field_bytes, is_of, laid_out, with_fields, offsets_from, end_from}, Writing.letter, Messages.{enter_order, replace_order, cancel_order}, Reading.{inbound_of, enter_of, replace_of, cancel_of}, declared.inbound.{Inbound.Inbound, EnterOrder.EnterOrder, ReplaceOrder.ReplaceOrder}}
+use Rattle.gx_ouch.specs.{Layout.{Field, Layout, IsWithoutGaps, bytes_at, field_bytes, is_of, laid_out, with_fields, offsets_from, end_from}, Writing.letter, Messages.{enter_order, replace_order, cancel_order}, Reading.{inbound_of, enter_of, replace_of, cancel_of}, declared.inbound.{Inbound.Inbound, EnterOrder.EnterOrder, ReplaceOrder.ReplaceOrder}, Contents.{enter_contents, replace_contents}}
 use Rattle.gx_desk.specs.{Messages.{kill, lift, set_limit, restrict, unrestrict, grant, revoke, close_day}, Reading.{command_of, limit_command_of}, declared.{Command.Command}}
 use Rattle.gx_history.specs.{Payloads.{asked_by, message_of, request_of, unreadable_request}, declared.record.Request.Request}
-use Rattle.gx_audit_bytes.specs.{Bodies.request_body, Contents.{enter_contents, replace_contents}}
-use Rattle.gx_audit_bytes.proofs.Message_read.{one_byte}
-use Rattle.gx_ouch.proofs.Fields_placed.{same_head, same_tail}
+use Rattle.gx_audit_bytes.specs.{Bodies.request_body}
+use Rattle.gx_ouch.proofs.{Requests_read.one_byte, Fields_placed.{same_head, same_tail}}
 
 -- ---- fields
 

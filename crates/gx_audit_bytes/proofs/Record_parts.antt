@@ -1,13 +1,13 @@
 -- A record is written as the bytes that show it where its parts stand there.
 use Rattle.std.proofs.{Common.{◌≡◌, ℕ, ◌+◌, ◌-◌, ◌≤◌, ◌&&◌, ◌||◌, ◌==◌, Bool, true, false, List, [], ◌∷◌, ◌++◌, length, take, drop, map, get_or, slice_index, refl, sym, ap, ◌∙◌, arith}, lemmas.{Bool.{eqb-true, and_parts, and_from, eq-eqb}, List.{take-append-drop, drop_at, length-append}, Slice.Eq.bytes_eq-Decides, Option.same_Some}}
 use Rattle.std.specs.{Prelude.{Option, Some, None, option_map, option_and_then, replicate, codes, unwrap_or, if◌then◌else◌, bytes_eq, IsTrue}, List.find, Int.{w8, w16, w32, w64, to_be_bytes, from_be_bytes}}
-use Rattle.gx_ouch.proofs.Fields_placed.{known_to_lie, same_head, same_tail}
+use Rattle.gx_ouch.proofs.{Fields_placed.{known_to_lie, same_head, same_tail}, Requests_read.one_byte}
 use Rattle.gx_ouch.specs.{Layout.{field, bytes_at, field_bytes, laid_out, with_fields}, Writing.letter}
-use Rattle.gx_desk.specs.declared.{Action.Action, Tag.Tag}
+use Rattle.gx_desk.specs.{declared.{Action.Action, Tag.Tag}, Contents.command_layout}
 use Rattle.gx_policy.specs.{declared.rule_name.RuleName.RuleName, RuleNames.{rule_id, rules_before, rules_behind}}
 use Rattle.gx_history.specs.{Payloads.request_of, Requests.handed_moment, declared.record.{RecordData.RecordData, Request.Request, Step.Step, Asked.Asked, Verdict.Verdict, Fill.Fill}}
-use Rattle.gx_audit_bytes.specs.{declared.version.AuditVersion.AuditVersion, Versions.mark_of, Bodies.{yes_or_no, zero_padded, request_body, request_kind}, Contents.command_layout, Records.{audit_record, record_contents, record_bytes, HasPlaces, number_place, handed_place, moment_place, line_place, user_place, kind_place, body_place, verdict_place, rule_place, order_place, maker_place, shares_place, price_place, line_shown, user_shown, kind_shown, body_shown, verdict_letter, rule_shown, order_shown, maker_shown, shares_shown, price_shown}, Reading.{part, login_in, unreadable_in, request_in, step_in, step_shown, rule_in, verdict_in, verdict_shown, content_in, content_with, record_of, IsShown}, Written.{has_mark, body_size, is_free, is_answer, has_answers, is_request_written, is_step_written, has_no_rule, has_no_order, has_no_fill, is_verdict_written, has_parts}}
-use Rattle.gx_audit_bytes.proofs.{Record_read.is_true, Message_read.one_byte, Message_written.{IsBytes, bytes-take, bytes-drop, sized, one, two, four, eight, fields_back, laid_back, is_message, message_back}}
+use Rattle.gx_audit_bytes.specs.{declared.version.AuditVersion.AuditVersion, Versions.mark_of, Bodies.{yes_or_no, zero_padded, request_body, request_kind}, Records.{audit_record, record_contents, record_bytes, HasPlaces, number_place, handed_place, moment_place, line_place, user_place, kind_place, body_place, verdict_place, rule_place, order_place, maker_place, shares_place, price_place, line_shown, user_shown, kind_shown, body_shown, verdict_letter, rule_shown, order_shown, maker_shown, shares_shown, price_shown}, Reading.{part, login_in, unreadable_in, request_in, step_of_bytes, step_shown, rule_of_bytes, verdict_of_bytes, verdict_shown, content_in, content_with, record_of, IsRecordShown}, Written.{has_mark, body_size, is_free, is_answer, has_answers, is_request_written, is_step_written, has_no_rule, has_no_order, has_no_fill, is_verdict_written, has_parts}}
+use Rattle.gx_audit_bytes.proofs.{Record_read.is_true, Message_written.{IsBytes, bytes-take, bytes-drop, sized, one, two, four, eight, fields_back, laid_back, is_message, message_back}}
 use Rattle.gx_policy.proofs.Name_whole.{take_whole}
 
 -- ---- tests
@@ -205,11 +205,11 @@ body_bytes bytes h = bytes-take 58 (drop 37 bytes) (bytes-drop 37 bytes h)
 
 asked_of : (a : Asked) (bytes : List ℕ) → step_shown bytes ≡ Some (Step.Asked a)
     → IsAskedOf a (from_be_bytes w64 (bytes_at handed_place bytes)) (from_be_bytes w16 (bytes_at line_place bytes)) (bytes_at user_place bytes) (request_in (from_be_bytes w8 (bytes_at kind_place bytes)) (bytes_at body_place bytes))
-unfolding step_shown step_in
+unfolding step_shown step_of_bytes
 asked_of a bytes shown = asked_inside (from_be_bytes w8 (bytes_at kind_place bytes) == 52) _ _ _ _ a shown
 
 matching_of : (moment : ℕ) (bytes : List ℕ) → step_shown bytes ≡ Some (Step.Matching moment) → ((from_be_bytes w8 (bytes_at kind_place bytes) == 52) ≡ true) × (from_be_bytes w64 (bytes_at handed_place bytes) ≡ moment)
-unfolding step_shown step_in
+unfolding step_shown step_of_bytes
 matching_of moment bytes shown =
     matching_inside (from_be_bytes w8 (bytes_at kind_place bytes) == 52) (from_be_bytes w64 (bytes_at handed_place bytes)) (from_be_bytes w16 (bytes_at line_place bytes)) (bytes_at user_place bytes) (request_in (from_be_bytes w8 (bytes_at kind_place bytes)) (bytes_at body_place bytes)) moment shown
 
@@ -269,8 +269,8 @@ by_letter n k this rest here there = go (n == k) refl
     go true e = here (eqb-true n k e)
     go false e = there
 
-letter_read : (n : ℕ) (rule : List ℕ) (order maker shares price : ℕ) (v : Verdict) → verdict_in n rule order maker shares price ≡ Some v → n ≡ verdict_letter v
-unfolding verdict_in
+letter_read : (n : ℕ) (rule : List ℕ) (order maker shares price : ℕ) (v : Verdict) → verdict_of_bytes n rule order maker shares price ≡ Some v → n ≡ verdict_letter v
+unfolding verdict_of_bytes
 letter_read n rule order maker shares price v =
     by_letter n 71 _ _ (tell n _)
     (by_letter n 68 _ _ (tell n _)
@@ -294,8 +294,8 @@ named name None size is = take_whole name (codes "        ") size
 named name (Some x) size is = is x refl
 
 -- a rule is named by the field that it was read from
-rule_back : (name : List ℕ) → length name ≡ 8 → (rule_id (rule_in name)).bytes ≡ name
-unfolding rule_in
+rule_back : (name : List ℕ) → length name ≡ 8 → (rule_id (rule_of_bytes name)).bytes ≡ name
+unfolding rule_of_bytes
 rule_back name size = named name (find (λ rule. bytes_eq (rule_id rule).bytes name) (rules_before ++ rules_behind)) size (found_named name (rules_before ++ rules_behind))
 
 denied_same : (x y : RuleName) → Some (Verdict.Denied x) ≡ Some (Verdict.Denied y) → x ≡ y
@@ -321,7 +321,7 @@ record VerdictStands (v : Verdict) (bytes : List ℕ) : Type 0 where
 -- the verdict, by its letter
 abbrev lettered : ℕ → List ℕ → Option Verdict
 lettered n bytes =
-    verdict_in n (bytes_at rule_place bytes) (from_be_bytes w64 (bytes_at order_place bytes)) (from_be_bytes w64 (bytes_at maker_place bytes)) (from_be_bytes w32 (bytes_at shares_place bytes)) (from_be_bytes w32 (bytes_at price_place bytes))
+    verdict_of_bytes n (bytes_at rule_place bytes) (from_be_bytes w64 (bytes_at order_place bytes)) (from_be_bytes w64 (bytes_at maker_place bytes)) (from_be_bytes w32 (bytes_at shares_place bytes)) (from_be_bytes w32 (bytes_at price_place bytes))
 
 letter_shown : (v : Verdict) (bytes : List ℕ) → verdict_shown bytes ≡ Some v → from_be_bytes w8 (bytes_at verdict_place bytes) ≡ verdict_letter v
 unfolding verdict_shown
@@ -332,22 +332,22 @@ unfolding verdict_shown
 by_its_letter v bytes shown = ap (λ (n : ℕ). lettered n bytes) (sym (letter_shown v bytes shown)) ∙ shown
 
 denied_rule : (rule : RuleName) (bytes : List ℕ) → length bytes ≡ 128 → verdict_shown bytes ≡ Some (Verdict.Denied rule) → (rule_id rule).bytes ≡ bytes_at rule_place bytes
-unfolding verdict_in
+unfolding verdict_of_bytes
 denied_rule rule bytes size shown =
-    ap (λ (r : RuleName). (rule_id r).bytes) (sym (denied_same (rule_in (bytes_at rule_place bytes)) rule (by_its_letter (Verdict.Denied rule) bytes shown)))
+    ap (λ (r : RuleName). (rule_id r).bytes) (sym (denied_same (rule_of_bytes (bytes_at rule_place bytes)) rule (by_its_letter (Verdict.Denied rule) bytes shown)))
     ∙ rule_back (bytes_at rule_place bytes) (sized 96 8 bytes (omega (arith, size)))
 
 filled_of : (fill : Fill) (bytes : List ℕ) → verdict_shown bytes ≡ Some (Verdict.Filled fill)
     → record { taker = from_be_bytes w64 (bytes_at order_place bytes); maker = from_be_bytes w64 (bytes_at maker_place bytes); shares = from_be_bytes w32 (bytes_at shares_place bytes); price = from_be_bytes w32 (bytes_at price_place bytes) } ≡ fill
-unfolding verdict_in
+unfolding verdict_of_bytes
 filled_of fill bytes shown = filled_same _ fill (by_its_letter (Verdict.Filled fill) bytes shown)
 
 rested_of : (order : ℕ) (bytes : List ℕ) → verdict_shown bytes ≡ Some (Verdict.Rested order) → from_be_bytes w64 (bytes_at order_place bytes) ≡ order
-unfolding verdict_in
+unfolding verdict_of_bytes
 rested_of order bytes shown = rested_same _ order (by_its_letter (Verdict.Rested order) bytes shown)
 
 expired_of : (order : ℕ) (bytes : List ℕ) → verdict_shown bytes ≡ Some (Verdict.Expired order) → from_be_bytes w64 (bytes_at order_place bytes) ≡ order
-unfolding verdict_in
+unfolding verdict_of_bytes
 expired_of order bytes shown = expired_same _ order (by_its_letter (Verdict.Expired order) bytes shown)
 
 rule_size : (v : Verdict) (bytes : List ℕ) → length bytes ≡ 128 → verdict_shown bytes ≡ Some v → length (rule_shown v) ≡ 8
@@ -527,5 +527,5 @@ parts_tell version r bytes result h size shown is =
     is ∙ agree (has_parts version r bytes) (record_bytes version r) bytes (written_so version r bytes h size shown) (tested_so version r bytes h size shown)
 
 -- a record that is read has the places of one that is written
-pub shown_so : (version : AuditVersion) (r : RecordData) (bytes : List ℕ) → HasPlaces version r → record_of version bytes ≡ Some r → record_bytes version r ≡ bytes → IsShown version r
+pub shown_so : (version : AuditVersion) (r : RecordData) (bytes : List ℕ) → HasPlaces version r → record_of version bytes ≡ Some r → record_bytes version r ≡ bytes → IsRecordShown version r
 shown_so version r bytes places read is = record { places = places; read_back = ap (record_of version) is ∙ read }

@@ -2,7 +2,7 @@
 use Rattle.std.proofs.{Common.{◌≡◌, ℕ, ◌+◌, ◌<◌, List, [], ◌∷◌, ◌++◌, length, take, get_or, refl, sym, ap, ◌∙◌, append_assoc, subst}, lemmas.List.{append-nil, take_more}}
 use Rattle.gx_units.proofs.Lists_hold.{all_next}
 use Rattle.gx_history.specs.declared.record.RecordData.{RecordData}
-use Rattle.gx_audit_bytes.specs.{declared.version.AuditVersion.AuditVersion, Audits.{all_bytes, AreShown}, Reading.IsShown, Records.record_bytes}
+use Rattle.gx_audit_bytes.specs.{declared.version.AuditVersion.AuditVersion, Audits.{all_bytes, AreShown}, Reading.IsRecordShown, Records.record_bytes}
 
 pub no_bytes : (version : AuditVersion) → all_bytes version [] ≡ []
 unfolding all_bytes
@@ -20,8 +20,8 @@ pub one_more : (version : AuditVersion) (before after : List RecordData) (r : Re
 one_more version before after r bytes more written put grown =
     put ∙ ap (λ (bs : List ℕ). bs ++ record_bytes version r) written ∙ sym (more_bytes version before r) ∙ ap (all_bytes version) (sym grown)
 
-pub one_more_shown : (version : AuditVersion) (before after : List RecordData) (r : RecordData) → AreShown version before → IsShown version r → after ≡ before ++ r ∷ [] → AreShown version after
-one_more_shown version before after r are is grown = subst (AreShown version) (sym grown) (all_next (IsShown version) before r are is)
+pub one_more_shown : (version : AuditVersion) (before after : List RecordData) (r : RecordData) → AreShown version before → IsRecordShown version r → after ≡ before ++ r ∷ [] → AreShown version after
+one_more_shown version before after r are is grown = subst (AreShown version) (sym grown) (all_next (IsRecordShown version) before r are is)
 
 pub one_on : (records : List RecordData) (i : ℕ) (r d : RecordData) → i < length records → r ≡ get_or records i d → take (i + 1) records ≡ take i records ++ r ∷ []
 one_on records i r d within is = take_more records i d within ∙ ap (λ (x : RecordData). take i records ++ x ∷ []) (sym is)
@@ -32,5 +32,5 @@ pub bytes_on : (version : AuditVersion) (records : List RecordData) (i : ℕ) (r
 bytes_on version records i r d bytes more within is written put =
     one_more version (take i records) (take (i + 1) records) r bytes more written put (one_on records i r d within is)
 
-pub shown_on : (version : AuditVersion) (records : List RecordData) (i : ℕ) (r d : RecordData) → i < length records → r ≡ get_or records i d → AreShown version (take i records) → IsShown version r → AreShown version (take (i + 1) records)
+pub shown_on : (version : AuditVersion) (records : List RecordData) (i : ℕ) (r d : RecordData) → i < length records → r ≡ get_or records i d → AreShown version (take i records) → IsRecordShown version r → AreShown version (take (i + 1) records)
 shown_on version records i r d within is are shown = one_more_shown version (take i records) (take (i + 1) records) r are shown (one_on records i r d within is)

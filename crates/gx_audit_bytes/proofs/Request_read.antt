@@ -2,10 +2,10 @@
 use Rattle.std.proofs.{Common.{◌≡◌, ℕ, ◌<◌, ◌^◌, ◌-◌, ◌==◌, Bool, true, false, List, [], ◌∷◌, length, take, refl, sym, ap, ◌∙◌}, lemmas.{List.take_at, Nat.{from_be_bytes-to_be_bytes_2, from_be_bytes-to_be_bytes_8}}}
 use Rattle.std.specs.{Prelude.{Some, option_map, replicate, if◌then◌else◌}, Int.{w8, from_be_bytes}}
 use Rattle.gx_ouch.specs.declared.inbound.{EnterOrder.EnterOrder, ReplaceOrder.ReplaceOrder, CancelOrder.CancelOrder}
-use Rattle.gx_desk.specs.{declared.{Action.Action, Command.Command, Tag.Tag}, Names.command_type}
+use Rattle.gx_desk.specs.{declared.{Action.Action, Command.Command, Tag.Tag}, Names.command_type, Contents.command_layout}
 use Rattle.gx_history.specs.{Payloads.request_of, declared.record.{Login.Login, Unreadable.Unreadable, Request.Request, Step.Step, Asked.Asked}}
-use Rattle.gx_audit_bytes.specs.{Bodies.{yes_or_no, zero_padded, request_body, request_kind}, Contents.command_layout, Reading.{request_in, step_in, login_in, unreadable_in, StepIsRead}}
-use Rattle.gx_audit_bytes.proofs.Message_read.{one_byte}
+use Rattle.gx_audit_bytes.specs.{Bodies.{yes_or_no, zero_padded, request_body, request_kind}, Reading.{request_in, step_of_bytes, login_in, unreadable_in, StepIsRead}}
+use Rattle.gx_ouch.proofs.Requests_read.{one_byte}
 
 -- a message, and zero bytes behind it
 message_in : (size : ℕ) (q : Request) (bytes : List ℕ) → length bytes ≡ size → request_of bytes ≡ q → Some (request_of (take size (zero_padded 58 bytes))) ≡ Some q
@@ -94,8 +94,8 @@ no_match (Request.Command c) = asked_by_kind c.tag c.action
 
 -- a step is read from its parts as itself
 asked_back : (a : Asked) (body : List ℕ) → request_in (request_kind a.request) body ≡ Some a.request
-    → step_in (request_kind a.request) a.handed a.line a.user.bytes body ≡ Some (Step.Asked a)
-unfolding step_in
+    → step_of_bytes (request_kind a.request) a.handed a.line a.user.bytes body ≡ Some (Step.Asked a)
+unfolding step_of_bytes
 asked_back a body read =
     ap (λ (matches : Bool). if matches then Some (Step.Matching a.handed) else option_map (λ (q : Request). made q) (request_in (request_kind a.request) body)) (no_match a.request)
     ∙ ap (option_map (λ (q : Request). made q)) read
@@ -109,5 +109,5 @@ asked_read a bytes known read =
     (ap (λ (bs : List ℕ). request_in (request_kind a.request) (zero_padded 58 bs)) (sym known) ∙ read)
 
 pub matching_read : (handed : ℕ) → StepIsRead (Step.Matching handed)
-unfolding step_in
+unfolding step_of_bytes
 matching_read handed = refl

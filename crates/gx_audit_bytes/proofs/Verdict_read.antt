@@ -5,7 +5,7 @@ use Rattle.gx_units.specs.declared.names.RuleId.{RuleId}
 use Rattle.gx_units.proofs.Lists_found.{nothing_such}
 use Rattle.gx_policy.specs.{RuleNames.{NameFits, rule_id, rules_before, rules_behind, is_built_in}, declared.rule_name.RuleName.{RuleName, TheVariants.{L1, L2, L3, G1, G2, G3, I1, I2, I3, P1, P2, P3, P4, P5, P6, P7, P8, P9, P10, P11, P12, Q1, Q2, Q3, Q4, File}}}
 use Rattle.gx_history.specs.{Showing.{is_showable, is_verdict_of, is_rule_shown, answers}, declared.record.{RecordData.RecordData, Request.Request, Step.Step, Verdict.Verdict, Fill.Fill}}
-use Rattle.gx_audit_bytes.specs.Reading.{rule_in, verdict_in, VerdictIsRead, shows_rule}
+use Rattle.gx_audit_bytes.specs.Reading.{rule_of_bytes, verdict_of_bytes, VerdictIsRead, shows_rule}
 use Rattle.gx_policy.proofs.Name_whole.{take_whole}
 
 none_of : {X : Type 0} (passes : Bool) (x : X) (rest : Option X) (any : Bool) → (passes || any) ≡ false → (any ≡ false → rest ≡ None) → cond passes (Some x) rest ≡ None
@@ -17,15 +17,15 @@ not_built_in true blank h = cc
 not_built_in false blank h = refl
 
 -- a rule of the file
-file_read : (name : RuleId) → is_built_in name ≡ false → rule_in name.bytes ≡ File name
-unfolding rule_in
+file_read : (name : RuleId) → is_built_in name ≡ false → rule_of_bytes name.bytes ≡ File name
+unfolding rule_of_bytes
 file_read name other =
     ap (λ (found : Option RuleName). unwrap_or found (File (record { bytes = name.bytes })))
     (nothing_such (λ (rule : RuleName). bytes_eq (rule_id rule).bytes name.bytes) (rules_before ++ rules_behind) other)
 
 -- a rule is read from its name
-rule_read : (rule : RuleName) → NameFits rule → IsTrue (is_rule_shown rule) → rule_in (rule_id rule).bytes ≡ rule
-unfolding rule_in rules_before rules_behind
+rule_read : (rule : RuleName) → NameFits rule → IsTrue (is_rule_shown rule) → rule_of_bytes (rule_id rule).bytes ≡ rule
+unfolding rule_of_bytes rules_before rules_behind
 rule_read L1 fits shown = refl
 rule_read L2 fits shown = refl
 rule_read L3 fits shown = refl
@@ -52,35 +52,35 @@ rule_read Q2 fits shown = refl
 rule_read Q3 fits shown = refl
 rule_read Q4 fits shown = refl
 rule_read (File name) fits shown =
-    ap rule_in (take_whole name.bytes (codes "        ") fits) ∙ file_read name (not_built_in (is_built_in name) _ shown)
+    ap rule_of_bytes (take_whole name.bytes (codes "        ") fits) ∙ file_read name (not_built_in (is_built_in name) _ shown)
 
 -- two that can be shown are one where their names are
 pub one_rule : (shown made : RuleName) → NameFits shown → NameFits made → IsTrue (is_rule_shown shown) → IsTrue (is_rule_shown made) → (rule_id shown).bytes ≡ (rule_id made).bytes
     → shown ≡ made
-one_rule shown made fits made_fits is_shown is_made named = sym (rule_read shown fits is_shown) ∙ ap rule_in named ∙ rule_read made made_fits is_made
+one_rule shown made fits made_fits is_shown is_made named = sym (rule_read shown fits is_shown) ∙ ap rule_of_bytes named ∙ rule_read made made_fits is_made
 
 pub one_fill : (shown made : Fill) → shown.taker ≡ made.taker → shown.maker ≡ made.maker → shown.shares ≡ made.shares → shown.price ≡ made.price → shown ≡ made
 one_fill shown made taker maker shares price = λ i. record { taker = taker i; maker = maker i; shares = shares i; price = price i }
 
 -- a denial, by its rule
 pub denial_read : (rule : RuleName) → NameFits rule → IsTrue (is_rule_shown rule) → VerdictIsRead (Verdict.Denied rule)
-unfolding verdict_in
+unfolding verdict_of_bytes
 denial_read rule fits shown = ap (λ (r : RuleName). Some (Verdict.Denied r)) (rule_read rule fits shown)
 
 pub grant_read : VerdictIsRead Verdict.Granted
-unfolding verdict_in
+unfolding verdict_of_bytes
 grant_read = refl
 
 pub fill_read : (fill : Fill) → VerdictIsRead (Verdict.Filled fill)
-unfolding verdict_in
+unfolding verdict_of_bytes
 fill_read fill = refl
 
 pub rest_read : (order : ℕ) → VerdictIsRead (Verdict.Rested order)
-unfolding verdict_in
+unfolding verdict_of_bytes
 rest_read order = refl
 
 pub expiry_read : (order : ℕ) → VerdictIsRead (Verdict.Expired order)
-unfolding verdict_in
+unfolding verdict_of_bytes
 expiry_read order = refl
 
 -- what can be shown names a rule that can be

@@ -2,7 +2,7 @@
 use Rattle.std.specs.{Prelude.{ℕ, List, ◌++◌, map}, List.{concat, AllByRecursion}}
 use Rattle.gx_policy.specs.declared.policy.PolicyData.{PolicyData}
 use Rattle.gx_history.specs.declared.record.RecordData.{RecordData}
-use Rattle.gx_audit_bytes.specs.{declared.version.AuditVersion.AuditVersion, Headers.front_of, Records.record_bytes, Reading.IsShown}
+use Rattle.gx_audit_bytes.specs.{declared.version.AuditVersion.AuditVersion, Headers.front_of, Records.record_bytes, Reading.IsRecordShown}
 
 -- how many bytes a record has, and a header
 abbrev pub record_size : ℕ
@@ -14,7 +14,7 @@ all_bytes version records = concat (map (record_bytes version) records)
 
 -- each record is one that its bytes show
 abbrev pub AreShown : AuditVersion → List RecordData → Type 0
-AreShown version records = AllByRecursion (IsShown version) records
+AreShown version records = AllByRecursion (IsRecordShown version) records
 
 -- an audit: in version 1 the records' bytes alone, in version 2 the policy's header, and then those
 abbrev pub whole_audit : AuditVersion → PolicyData → List RecordData → List ℕ

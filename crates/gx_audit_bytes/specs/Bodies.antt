@@ -1,9 +1,8 @@
 -- What a record's body shows of its step.
 use Rattle.std.specs.{Prelude.{ℕ, Bool, List, [], ◌∷◌, ◌++◌, ◌-◌, length, replicate, if◌then◌else◌}, Int.{w16, w64, to_be_bytes}}
-use Rattle.gx_ouch.specs.{Layout.{laid_out, with_fields}, Messages.{enter_order, replace_order, cancel_order}, Writing.letter}
-use Rattle.gx_desk.specs.Names.{command_type}
+use Rattle.gx_ouch.specs.{Layout.{laid_out, with_fields}, Messages.{enter_order, replace_order, cancel_order}, Writing.letter, Contents.{enter_contents, replace_contents, cancel_contents}}
+use Rattle.gx_desk.specs.{Names.command_type, Contents.{command_layout, command_contents}}
 use Rattle.gx_history.specs.declared.record.Request.{Request}
-use Rattle.gx_audit_bytes.specs.Contents.{enter_contents, replace_contents, cancel_contents, command_layout, command_contents}
 
 -- `Y` or `N`
 abbrev pub yes_or_no : Bool → ℕ

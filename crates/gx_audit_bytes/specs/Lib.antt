@@ -1,4 +1,3 @@
-pub mod Contents
 pub mod Bodies
 pub mod Days
 pub mod Versions

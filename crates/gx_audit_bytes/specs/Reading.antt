@@ -45,20 +45,20 @@ request_in kind body =
     else option_map (λ (size : ℕ). request_of (take size body)) (message_size kind)))
 
 -- the step, by its kind: the bytes of its other parts
-unfoldable pub step_in : ℕ → ℕ → ℕ → List ℕ → List ℕ → Option Step
-step_in kind handed line user body =
+unfoldable pub step_of_bytes : ℕ → ℕ → ℕ → List ℕ → List ℕ → Option Step
+step_of_bytes kind handed line user body =
     if kind == 52 then Some (Step.Matching handed)
     else option_map (λ (q : Request). Step.Asked (record { line = line; user = record { bytes = user }; request = q; handed = handed })) (request_in kind body)
 
 -- the built-in rule of this name, else the file's
-unfoldable pub rule_in : List ℕ → RuleName
-rule_in name = unwrap_or (find (λ rule. bytes_eq (rule_id rule).bytes name) (rules_before ++ rules_behind)) (RuleName.File (record { bytes = name }))
+unfoldable pub rule_of_bytes : List ℕ → RuleName
+rule_of_bytes name = unwrap_or (find (λ rule. bytes_eq (rule_id rule).bytes name) (rules_before ++ rules_behind)) (RuleName.File (record { bytes = name }))
 
 -- the verdict, by its letter: the rule, and the numbers of its other parts
-unfoldable pub verdict_in : ℕ → List ℕ → ℕ → ℕ → ℕ → ℕ → Option Verdict
-verdict_in letter rule order maker shares price =
+unfoldable pub verdict_of_bytes : ℕ → List ℕ → ℕ → ℕ → ℕ → ℕ → Option Verdict
+verdict_of_bytes letter rule order maker shares price =
     if letter == 71 then Some Verdict.Granted
-    else (if letter == 68 then Some (Verdict.Denied (rule_in rule))
+    else (if letter == 68 then Some (Verdict.Denied (rule_of_bytes rule))
     else (if letter == 70 then Some (Verdict.Filled (record { taker = order; maker = maker; shares = shares; price = price }))
     else (if letter == 82 then Some (Verdict.Rested order)
     else (if letter == 69 then Some (Verdict.Expired order)
@@ -67,7 +67,7 @@ verdict_in letter rule order maker shares price =
 -- the step that the bytes show
 unfoldable pub step_shown : List ℕ → Option Step
 step_shown bytes =
-    step_in
+    step_of_bytes
     (from_be_bytes w8 (bytes_at kind_place bytes))
     (from_be_bytes w64 (bytes_at handed_place bytes))
     (from_be_bytes w16 (bytes_at line_place bytes))
@@ -77,7 +77,7 @@ step_shown bytes =
 -- the verdict that the bytes show
 unfoldable pub verdict_shown : List ℕ → Option Verdict
 verdict_shown bytes =
-    verdict_in
+    verdict_of_bytes
     (from_be_bytes w8 (bytes_at verdict_place bytes))
     (bytes_at rule_place bytes)
     (from_be_bytes w64 (bytes_at order_place bytes))
@@ -103,7 +103,7 @@ unfoldable pub record_of : AuditVersion → List ℕ → Option RecordData
 record_of version bytes = option_and_then (λ (r : RecordData). if is_record_of version bytes r then Some r else None) (content_in bytes)
 
 -- each part of the record has its place, and its bytes show the record
-pub record IsShown (version : AuditVersion) (r : RecordData) : Type 0 where
+pub record IsRecordShown (version : AuditVersion) (r : RecordData) : Type 0 where
   pub places : HasPlaces version r
   pub read_back : record_of version (record_bytes version r) ≡ Some r
 
@@ -120,11 +120,11 @@ pub record NumbersFit (r : RecordData) : Type 0 where
 
 -- the step is read from its parts as itself
 abbrev pub StepIsRead : Step → Type 0
-StepIsRead s = step_in (kind_shown s) (handed_moment s) (line_shown s) (user_shown s) (zero_padded 58 (body_shown s)) ≡ Some s
+StepIsRead s = step_of_bytes (kind_shown s) (handed_moment s) (line_shown s) (user_shown s) (zero_padded 58 (body_shown s)) ≡ Some s
 
 -- the verdict is read from its parts as itself
 abbrev pub VerdictIsRead : Verdict → Type 0
-VerdictIsRead v = verdict_in (verdict_letter v) (rule_shown v) (order_shown v) (maker_shown v) (shares_shown v) (price_shown v) ≡ Some v
+VerdictIsRead v = verdict_of_bytes (verdict_letter v) (rule_shown v) (order_shown v) (maker_shown v) (shares_shown v) (price_shown v) ≡ Some v
 
 -- a denial names a rule that a record can show
 abbrev pub shows_rule : Verdict → Bool

@@ -2,7 +2,8 @@
 use Rattle.std.specs.{Prelude.{ℕ, Bool, true, ◌&&◌, ◌||◌, ◌==◌, ◌-◌, List, ◌∷◌, codes, take, drop, replicate, bytes_eq}, Int.{w8, from_be_bytes}}
 use Rattle.gx_ouch.specs.{Layout.bytes_at, Messages.{enter_order, replace_order, cancel_order}}
 use Rattle.gx_history.specs.declared.record.{RecordData.RecordData, Request.Request, Step.Step, Verdict.Verdict}
-use Rattle.gx_audit_bytes.specs.{declared.version.AuditVersion.AuditVersion, Versions.mark_of, Bodies.request_kind, Contents.command_layout, Reading.part, Records.{line_place, user_place, kind_place, body_place, rule_place, order_place, maker_place, shares_place, price_place}}
+use Rattle.gx_audit_bytes.specs.{declared.version.AuditVersion.AuditVersion, Versions.mark_of, Bodies.request_kind, Reading.part, Records.{line_place, user_place, kind_place, body_place, rule_place, order_place, maker_place, shares_place, price_place}}
+use Rattle.gx_desk.specs.Contents.{command_layout}
 
 -- the first letter, and the version's mark behind it
 abbrev pub has_mark : AuditVersion → List ℕ → Bool

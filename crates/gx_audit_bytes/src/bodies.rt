@@ -1,10 +1,11 @@
 //! What a record's body shows of a request.
 
 ghost use Rattle.std.specs.Prelude.{◌≡◌, ◌≤◌, Some, [], ◌∷◌, length};
-ghost use Rattle.gx_ouch.specs.{Layout.{laid_out, HasSizes}, Messages.{enter_order, replace_order, cancel_order}};
+ghost use Rattle.gx_ouch.specs.{Layout.{laid_out, HasSizes}, Messages.{enter_order, replace_order, cancel_order}, Contents.{enter_contents, replace_contents, cancel_contents}};
 ghost use Rattle.gx_history.specs.Payloads.{request_of};
 ghost use Rattle.gx_history.specs.declared.record.Request.TheVariants as requests;
-ghost use Rattle.gx_audit_bytes.specs.{Bodies.{request_body, request_kind, yes_or_no, zero_padded}, Reading.request_in, Contents.{enter_contents, replace_contents, cancel_contents, command_contents, command_layout, LimitFits}};
+ghost use Rattle.gx_audit_bytes.specs.{Bodies.{request_body, request_kind, yes_or_no, zero_padded}, Reading.request_in};
+ghost use Rattle.gx_desk.specs.Contents.{command_contents, command_layout, LimitFits};
 
 use crate::draft::RecordDraft;
 use gx_desk::{Action, Command};

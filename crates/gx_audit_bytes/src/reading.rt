@@ -6,7 +6,7 @@ ghost use Rattle.gx_history.specs.declared.record.Request.TheVariants as request
 ghost use Rattle.gx_history.specs.{Payloads.request_of, Showing.{is_showable, is_verdict_of, is_askable, answers, is_rule_shown, has_its_first}};
 ghost use Rattle.gx_policy.specs.RuleNames.{rule_id};
 ghost use Rattle.gx_audit_bytes.specs.declared.version.AuditVersion.TheVariants as versions;
-ghost use Rattle.gx_audit_bytes.specs.{Records.record_bytes, Reading.{record_of, shows_rule, IsShown, content_in, step_in, verdict_in, rule_in, request_in, login_in, unreadable_in, message_size, step_shown, verdict_shown}};
+ghost use Rattle.gx_audit_bytes.specs.{Records.record_bytes, Reading.{record_of, shows_rule, IsRecordShown, content_in, step_of_bytes, verdict_of_bytes, rule_of_bytes, request_in, login_in, unreadable_in, message_size, step_shown, verdict_shown}};
 
 use crate::draft::{RECORD_SIZE, whole};
 use crate::version::AuditVersion;
@@ -42,7 +42,7 @@ pub fn read_record_2(bytes: &[u8; RECORD_SIZE]) -> Option<Record>
 pub fn read_record_in(version: AuditVersion, bytes: &[u8; RECORD_SIZE]) -> Option<Record>
     ensures shown { result ≡ record_of version bytes.now }
     ensures bytes { IfSome result (λ r. record_bytes version r ≡ bytes.now) }
-    ensures read_back { IfSome result (IsShown version) }
+    ensures read_back { IfSome result (IsRecordShown version) }
 {
     let content = content(bytes)?;
     if is_showable(&content) && is_written(version, &content, bytes) {
@@ -93,10 +93,10 @@ fn verdict_shown(bytes: &[u8]) -> Option<Verdict>
     verdict(letter, rule, order, maker, shares, price)
 }
 
-#[tactic(auto, unfolding(crate::specs::Reading::step_in))]
+#[tactic(auto, unfolding(crate::specs::Reading::step_of_bytes))]
 fn step(kind: u8, handed: u64, line: u16, user: [u8; 6], body: &[u8]) -> Option<Step>
     requires { length body.now ≡ 58 }
-    ensures { result ≡ step_in kind handed line user body.now }
+    ensures { result ≡ step_of_bytes kind handed line user body.now }
 {
     if kind == b'4' {
         return Some(Step::Matching(handed));
@@ -165,7 +165,7 @@ pub(crate) fn message_size(kind: u8) -> Option<usize>
     }
 }
 
-#[tactic(auto, unfolding(crate::specs::Reading::verdict_in))]
+#[tactic(auto, unfolding(crate::specs::Reading::verdict_of_bytes))]
 fn verdict(
     letter: u8,
     rule: [u8; 8],
@@ -174,7 +174,7 @@ fn verdict(
     shares: u32,
     price: u32,
 ) -> Option<Verdict>
-    ensures { result ≡ verdict_in letter rule order maker shares price }
+    ensures { result ≡ verdict_of_bytes letter rule order maker shares price }
 {
     match letter {
         b'G' => Some(Verdict::Granted),
@@ -192,9 +192,9 @@ fn verdict(
 }
 
 /// The rule of this name: a built-in one, or else one of the file.
-#[tactic(auto, unfolding(crate::specs::Reading::rule_in, gx_policy::specs::RuleNames::rules_before, gx_policy::specs::RuleNames::rules_behind))]
+#[tactic(auto, unfolding(crate::specs::Reading::rule_of_bytes, gx_policy::specs::RuleNames::rules_before, gx_policy::specs::RuleNames::rules_behind))]
 fn rule_named(name: [u8; 8]) -> RuleName
-    ensures { result ≡ rule_in name }
+    ensures { result ≡ rule_of_bytes name }
 {
     match found(&BUILT_IN, name) {
         Some(rule) => rule,

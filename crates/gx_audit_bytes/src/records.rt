@@ -1,7 +1,7 @@
 //! Records, one behind the other.
 
 ghost use Rattle.std.specs.Prelude.{◌≡◌, ◌++◌, IfOk, OnOk};
-ghost use Rattle.gx_audit_bytes.specs.{Audits.{all_bytes, AreShown}, Reading.IsShown, Records.record_bytes};
+ghost use Rattle.gx_audit_bytes.specs.{Audits.{all_bytes, AreShown}, Reading.IsRecordShown, Records.record_bytes};
 
 use crate::version::AuditVersion;
 use crate::writing::write_record_in;
@@ -13,7 +13,7 @@ use std::alloc::Global;
 fn put(version: AuditVersion, bytes: &mut Vec<u8>, given: &Record) -> Result<(), OutOfMemory>
     ensures ok { OnOk result (bytes.new.items
         ≡ bytes.old.items ++ record_bytes version given.now) }
-    ensures shown { IsShown version given.now }
+    ensures shown { IsRecordShown version given.now }
 {
     bytes.extend_from_slice(&write_record_in(version, given))?;
     Ok(())

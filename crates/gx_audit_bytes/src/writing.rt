@@ -5,7 +5,7 @@ ghost use Rattle.gx_ouch.specs.Layout.{LiesIn};
 ghost use Rattle.gx_policy.specs.RuleNames.{rule_id};
 ghost use Rattle.gx_history.specs.{Requests.handed_moment, Showing.is_showable};
 ghost use Rattle.gx_audit_bytes.specs.declared.version.AuditVersion.TheVariants as versions;
-ghost use Rattle.gx_audit_bytes.specs.{Bodies.zero_padded, Reading.{record_of, shows_rule, IsShown, NumbersFit, StepIsRead, VerdictIsRead}, Records.{audit_record, record_contents, record_bytes, line_shown, user_shown, kind_shown, body_shown, verdict_letter, rule_shown, order_shown, maker_shown, shares_shown, price_shown, HasPlaces}, Versions.mark_of};
+ghost use Rattle.gx_audit_bytes.specs.{Bodies.zero_padded, Reading.{record_of, shows_rule, IsRecordShown, NumbersFit, StepIsRead, VerdictIsRead}, Records.{audit_record, record_contents, record_bytes, line_shown, user_shown, kind_shown, body_shown, verdict_letter, rule_shown, order_shown, maker_shown, shares_shown, price_shown, HasPlaces}, Versions.mark_of};
 
 use crate::bodies::{request_body, request_kind};
 use crate::draft::{RECORD_SIZE, RecordDraft, zero_padded};
@@ -23,7 +23,7 @@ pub fn write_record(given: &Record) -> [u8; RECORD_SIZE]
     ensures bytes { result ≡ record_bytes versions.One given.now }
     ensures fields { LiesIn audit_record (record_contents versions.One given.now) result }
     ensures read_back { record_of versions.One result ≡ Some given.now }
-    ensures shown { IsShown versions.One given.now }
+    ensures shown { IsRecordShown versions.One given.now }
 {
     write_record_in(AuditVersion::One, given)
 }
@@ -34,7 +34,7 @@ pub fn write_record_2(given: &Record) -> [u8; RECORD_SIZE]
     ensures bytes { result ≡ record_bytes versions.Two given.now }
     ensures fields { LiesIn audit_record (record_contents versions.Two given.now) result }
     ensures read_back { record_of versions.Two result ≡ Some given.now }
-    ensures shown { IsShown versions.Two given.now }
+    ensures shown { IsRecordShown versions.Two given.now }
 {
     write_record_in(AuditVersion::Two, given)
 }
@@ -44,7 +44,7 @@ pub fn write_record_in(version: AuditVersion, given: &Record) -> [u8; RECORD_SIZ
     ensures bytes { result ≡ record_bytes version given.now }
     ensures fields { LiesIn audit_record (record_contents version given.now) result }
     ensures read_back { record_of version result ≡ Some given.now }
-    ensures shown { IsShown version given.now }
+    ensures shown { IsRecordShown version given.now }
 {
     write_content(version, &given.content())
 }
@@ -56,7 +56,7 @@ pub(crate) fn write_content(version: AuditVersion, content: &RecordData) -> [u8;
     ensures fields { LiesIn audit_record (record_contents version content.now) result }
     ensures read_back { IsTrue (is_showable content.now)
         → record_of version result ≡ Some content.now }
-    ensures shown { IsTrue (is_showable content.now) → IsShown version content.now }
+    ensures shown { IsTrue (is_showable content.now) → IsRecordShown version content.now }
 {
     record_draft(version, content).into_whole()
 }

@@ -1,7 +1,8 @@
 //! Whether bytes are those that a record is written as, told by their parts: nothing is written.
 
 ghost use Rattle.std.specs.Prelude.{◌≡◌, length, Some, IsTrue, bytes_eq, replicate};
-ghost use Rattle.gx_audit_bytes.specs.{Reading.content_in, Records.{record_bytes, HasPlaces}, Contents.command_layout, Written.{has_parts, has_mark, is_answer, has_answers, is_free, is_request_written, is_step_written, has_no_rule, has_no_order, has_no_fill, is_verdict_written, body_size}};
+ghost use Rattle.gx_audit_bytes.specs.{Reading.content_in, Records.{record_bytes, HasPlaces}, Written.{has_parts, has_mark, is_answer, has_answers, is_free, is_request_written, is_step_written, has_no_rule, has_no_order, has_no_fill, is_verdict_written, body_size}};
+ghost use Rattle.gx_desk.specs.Contents.{command_layout};
 
 use crate::bodies::request_kind;
 use crate::draft::{RECORD_SIZE, whole};

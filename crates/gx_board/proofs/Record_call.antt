@@ -5,7 +5,7 @@ use Rattle.circular_buffer.specs.Buffer.{Buffer}
 use Rattle.gx_history.specs.{declared.record.{Asked.Asked, RecordData.RecordData, Step.Step, Verdict.Verdict, VerdictKind.VerdictKind}, Requests.{asked_of, is_granted, kind_of}}
 use Rattle.gx_pass.specs.Views.{line_in}
 use Rattle.gx_overview.specs.Commands.{is_grant, is_officers}
-use Rattle.gx_board.specs.{declared.{counts.Counts.Counts, summary.Summary.Summary}, Counting.{counts_with, counted_by, denies, fills, grants, is_denial, is_meeting, line_of, one_more, row_counted}, Summaries.{IsNoted, Notes, pushed_if}}
+use Rattle.gx_board.specs.{declared.{counts.Counts.Counts, summary.Summary.Summary}, Counting.{counts_with, counted_by, denies, fills, grants, is_denial, is_meeting, line_asked_on, one_more, row_counted}, Summaries.{IsNoted, Notes, pushed_if}}
 use Rattle.gx_board.proofs.Denied_next.{none_counted}
 
 -- the verdict of a record, and its request
@@ -40,7 +40,7 @@ module _ (number moment : ℕ) (step : Step) where
   fills_by (Verdict.Rested order) = refl
   fills_by (Verdict.Expired order) = refl
 
-line_by : (s : Step) (number moment : ℕ) (v : Verdict) → line_of (asked_of s) ≡ line_in (record { number = number; moment = moment; step = s; verdict = v })
+line_by : (s : Step) (number moment : ℕ) (v : Verdict) → line_asked_on (asked_of s) ≡ line_in (record { number = number; moment = moment; step = s; verdict = v })
 line_by (Step.Asked a) number moment v = refl
 line_by (Step.Matching handed) number moment v = refl
 

@@ -3,7 +3,7 @@ use Rattle.std.proofs.{Common.{◌≡◌, ℕ, ◌+◌, ◌<◌, ◌≤◌, ◌^
 use Rattle.gx_policy.specs.declared.policy.PolicyData.{PolicyData}
 use Rattle.gx_history.specs.declared.record.RecordData.{RecordData}
 use Rattle.gx_overview.specs.Accounts.{capped_count}
-use Rattle.gx_board.specs.{declared.{counts.Counts.Counts, summary.Summary.Summary}, Summaries.{Follows, IsBehind, IsSummary, Stays}}
+use Rattle.gx_board.specs.{declared.{counts.Counts.Counts, summary.Summary.Summary}, Summaries.{FollowsSummary, IsBehind, IsSummary, Stays}}
 
 counted_records : Counts → ℕ
 counted_records c = c.records
@@ -35,18 +35,18 @@ behind_at {policy} records m d small is =
     }
 
 -- with so many more, or all that there are
-more_followed : {policy : PolicyData} {records : List RecordData} (most : ℕ) (old new : Summary) → IsBehind policy records old → Follows (take most (drop old.counts.records records)) old new
+more_followed : {policy : PolicyData} {records : List RecordData} (most : ℕ) (old new : Summary) → IsBehind policy records old → FollowsSummary (take most (drop old.counts.records records)) old new
     → IsSummary policy (take (old.counts.records + most) records) new
 more_followed {policy} {records} most old new was follows =
     subst (λ (some : List RecordData). IsSummary policy some new) (sym (take-add old.counts.records most records)) (follows policy (take old.counts.records records) was.summary)
 
 pub behind_more : {policy : PolicyData} {records : List RecordData} (most : ℕ) (old new : Summary) → length records < 2 ^ 63 → IsBehind policy records old
-    → Follows (take most (drop old.counts.records records)) old new → IsBehind policy records new
+    → FollowsSummary (take most (drop old.counts.records records)) old new → IsBehind policy records new
 behind_more {records} most old new small was follows =
     behind_at records (old.counts.records + most) new small (more_followed most old new was follows)
 
 pub counts_more : {policy : PolicyData} {records : List RecordData} (most : ℕ) (old new : Summary) → length records < 2 ^ 63 → IsBehind policy records old
-    → Follows (take most (drop old.counts.records records)) old new → new.counts.records ≡ min (old.counts.records + most) (length records)
+    → FollowsSummary (take most (drop old.counts.records records)) old new → new.counts.records ≡ min (old.counts.records + most) (length records)
 counts_more {records} most old new small was follows =
     count_is records (old.counts.records + most) new small (more_followed most old new was follows)
 

@@ -9,7 +9,7 @@ use Rattle.gx_history.specs.declared.record.RecordData.{RecordData}
 use Rattle.gx_pass.specs.Views.{highest_line}
 use Rattle.gx_pass.proofs.HighestLine_next.{highest_more}
 use Rattle.gx_overview.specs.{Accounts.capped_count, Commands.{granted_command, granted_commands}}
-use Rattle.gx_board.specs.{declared.{summary.Summary.Summary}, Counting.{commands, counts_with, counts_of, denied_row, denies, fills, grants, is_denied_by, one_more, row_counted, rule_names}, Summaries.{Counted, Follows, IsCounted, IsNoted, Notes, most_recent, pushed_if, recent}}
+use Rattle.gx_board.specs.{declared.{summary.Summary.Summary}, Counting.{commands, counts_with, counts_of, denied_row, denies, fills, grants, is_denied_by, one_more, row_counted, rule_names}, Summaries.{Counted, FollowsSummary, IsCounted, IsNoted, Notes, most_recent, pushed_if, recent_records}}
 
 cap_more : (b : Bool) (n : ℕ) → capped_count (n + (if b then 1 else 0)) ≡ one_more b (capped_count n)
 cap_more true n = grind arith
@@ -52,12 +52,12 @@ keep_more n xs x =
     ∙ drop-drop (length (drop k xs ++ x ∷ []) - n) k (xs ++ x ∷ [])
     ∙ ap (λ (m : ℕ). drop m (xs ++ x ∷ [])) place
 
-one_kept : (b : Bool) (found : List RecordData) (r : RecordData) → recent (found ++ (if b then r ∷ [] else [])) ≡ pushed_if b r (recent found)
+one_kept : (b : Bool) (found : List RecordData) (r : RecordData) → recent_records (found ++ (if b then r ∷ [] else [])) ≡ pushed_if b r (recent_records found)
 one_kept true found r = ap (λ items. buffer items most_recent) (sym (keep_more most_recent found r))
-one_kept false found r = ap recent (append-nil found)
+one_kept false found r = ap recent_records (append-nil found)
 
-recent_next : (p : RecordData → Bool) (records : List RecordData) (r : RecordData) → recent (filter p (records ++ r ∷ [])) ≡ pushed_if (p r) r (recent (filter p records))
-recent_next p records r = ap recent (filter-append p records (r ∷ [])) ∙ one_kept (p r) (filter p records) r
+recent_next : (p : RecordData → Bool) (records : List RecordData) (r : RecordData) → recent_records (filter p (records ++ r ∷ [])) ≡ pushed_if (p r) r (recent_records (filter p records))
+recent_next p records r = ap recent_records (filter-append p records (r ∷ [])) ∙ one_kept (p r) (filter p records) r
 
 counted_next : {policy : PolicyData} {records : List RecordData} (r : RecordData) (old new : Summary) → Notes r old new → IsCounted policy records old → IsCounted policy (records ++ r ∷ []) new
 counted_next {policy} {records} r old new notes was = record {
@@ -88,7 +88,7 @@ next_noted more i first old new within noted so_far = by (slice_get more i) refl
 
 -- with the commands that were granted too, all of them are followed
 pub all_followed : (more : List RecordData) (old middle new : Summary) → ((policy : PolicyData) (records : List RecordData) → IsCounted policy records old → IsCounted policy records middle)
-    → middle.commands.items ≡ old.commands.items ++ granted_commands more → Counted more middle new → new.commands.items ≡ middle.commands.items → Follows more old new
+    → middle.commands.items ≡ old.commands.items ++ granted_commands more → Counted more middle new → new.commands.items ≡ middle.commands.items → FollowsSummary more old new
 all_followed more old middle new same granted counts kept policy records was = record {
   counted = counts policy records (same policy records was.counted);
   commands = kept ∙ granted ∙ ap (λ earlier. earlier ++ granted_commands more) was.commands ∙ sym (filter_map-append granted_command records more);

@@ -6,7 +6,7 @@ use Rattle.gx_policy.specs.{Kinds.{is_gross, is_net}, declared.policy.{Account.A
 use Rattle.gx_history.specs.declared.record.RecordData.{RecordData}
 use Rattle.gx_overview.specs.{Rules.{gross_row, net_row}, declared.{day.UserRow.UserRow, rules.{GrossRow.GrossRow, NetRow.NetRow}}}
 use Rattle.circular_buffer.specs.Buffer.{keep_last}
-use Rattle.gx_board.specs.{Accounts.account_state, Counting.{commands, denies}, Summaries.most_recent, declared.{accounts.AccountState.AccountState, uses.{GrossUse.GrossUse, NetUse.NetUse}, view.View.View}, Laws.{IsHis, ViewsAreHis}, Sight.{is_record_shown, is_shown, is_user_shown}, Views.{gross_use, gross_uses_of, is_gross_shown, is_net_used, IsView, net_use, net_uses_by, net_uses_in, net_uses_of}}
+use Rattle.gx_board.specs.{Accounts.account_state, Counting.{commands, denies}, Summaries.most_recent, declared.{accounts.AccountState.AccountState, uses.{GrossUse.GrossUse, NetUse.NetUse}, view.BoardView.BoardView}, Laws.{IsHis, ViewsAreHis}, Sight.{is_record_shown, is_shown, is_user_shown}, Views.{gross_use, gross_uses_of, is_gross_shown, is_net_used, IsView, net_use, net_uses_by, net_uses_in, net_uses_of}}
 
 -- what a filter keeps passes its test
 passing : {X : Type 0} (p : X → Bool) (xs : List X) → All (λ x. IsTrue (p x)) (filter p xs)
@@ -64,7 +64,7 @@ module _ (policy : PolicyData) (records : List RecordData) (viewer : UserName) w
   net_of_rule rule = all_where NetIsHis (is_net rule.kind) _ (all_given NetIsHis (net_uses_in policy records viewer rule) (net_of_account rule) policy.accounts)
 
   -- a view has only such
-  is_his : (v : View) → IsView policy records viewer v → IsHis policy records viewer v
+  is_his : (v : BoardView) → IsView policy records viewer v → IsHis policy records viewer v
   unfolding AccountIsHis GrossIsHis NetIsHis
   is_his v view = record {
     accounts = subst (All AccountIsHis) (sym view.accounts) (All-map AccountIsHis (account_state policy records) _ (passing (λ (a : Account). is_shown policy records viewer a.name) policy.accounts));

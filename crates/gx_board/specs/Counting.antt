@@ -71,8 +71,8 @@ is_meeting (Some VerdictKind.Filled) = true
 is_meeting other = false
 
 -- the line that it was asked on; 0 of a matching step
-abbrev pub line_of : Option Asked → ℕ
-line_of found = option_map_or (λ (a : Asked). a.line) found 0
+abbrev pub line_asked_on : Option Asked → ℕ
+line_asked_on found = option_map_or (λ (a : Asked). a.line) found 0
 
 -- the numbers, once a record with this verdict and this request has come
 abbrev pub counted_by : Option VerdictKind → Option Asked → Counts → Counts
@@ -81,7 +81,7 @@ counted_by kind found c = record {
   granted = one_more (is_grant kind) c.granted;
   denied = one_more (is_denial kind) c.denied;
   fills = one_more (is_meeting kind) c.fills;
-  highest_line = max c.highest_line (line_of found);
+  highest_line = max c.highest_line (line_asked_on found);
 }
 
 -- how often the rule of this name denied a request

@@ -11,8 +11,8 @@ abbrev pub most_recent : ℕ
 most_recent = 100
 
 -- the last of these
-abbrev pub recent : List RecordData → Buffer RecordData
-recent found = buffer (keep_last most_recent found) most_recent
+abbrev pub recent_records : List RecordData → Buffer RecordData
+recent_records found = buffer (keep_last most_recent found) most_recent
 
 -- the ring with one more item, where the condition holds
 abbrev pub pushed_if : Bool → RecordData → Buffer RecordData → Buffer RecordData
@@ -22,8 +22,8 @@ pushed_if is r ring = if is then buffer (keep_last ring.capacity (ring.items ++ 
 pub record IsCounted (policy : PolicyData) (records : List RecordData) (d : Summary) : Type 0 where
   pub counts : d.counts ≡ counts_of records
   pub denied : d.denied.items ≡ denied_rows policy records
-  pub last_denied : d.last_denied ≡ recent (filter denies records)
-  pub last_commands : d.last_commands ≡ recent (filter commands records)
+  pub last_denied : d.last_denied ≡ recent_records (filter denies records)
+  pub last_commands : d.last_commands ≡ recent_records (filter commands records)
 
 -- the summary is that of these records
 pub record IsSummary (policy : PolicyData) (records : List RecordData) (d : Summary) : Type 0 where
@@ -35,8 +35,8 @@ abbrev pub Counted : List RecordData → Summary → Summary → Type 0
 Counted more old new = (policy : PolicyData) (records : List RecordData) → IsCounted policy records old → IsCounted policy (records ++ more) new
 
 -- and follows them
-abbrev pub Follows : List RecordData → Summary → Summary → Type 0
-Follows more old new = (policy : PolicyData) (records : List RecordData) → IsSummary policy records old → IsSummary policy (records ++ more) new
+abbrev pub FollowsSummary : List RecordData → Summary → Summary → Type 0
+FollowsSummary more old new = (policy : PolicyData) (records : List RecordData) → IsSummary policy records old → IsSummary policy (records ++ more) new
 
 -- what the record changes but for the commands
 pub record Notes (r : RecordData) (old new : Summary) : Type 0 where

@@ -5,7 +5,7 @@ use Rattle.gx_units.specs.declared.names.{AccountName.AccountName, RuleId.RuleId
 use Rattle.gx_policy.specs.{Kinds.{is_gross, is_net}, declared.policy.{Account.Account, FileRule.FileRule, PolicyData.PolicyData}}
 use Rattle.gx_history.specs.declared.record.RecordData.{RecordData}
 use Rattle.gx_overview.specs.{Rules.{day_row, gross_row, limit_row, net_row, user_row}, declared.{day.{UserRow.UserRow}, rules.{GrossRow.GrossRow, NetRow.NetRow}}}
-use Rattle.gx_board.specs.{declared.{uses.{GrossUse.GrossUse, NetUse.NetUse}, view.View.View}, Accounts.account_states, Counting.{commands, counts_of, denied_rows, denies}, Summaries.most_recent, Sight.{is_record_shown, is_shown, is_user_shown}}
+use Rattle.gx_board.specs.{declared.{uses.{GrossUse.GrossUse, NetUse.NetUse}, view.BoardView.BoardView}, Accounts.account_states, Counting.{commands, counts_of, denied_rows, denies}, Summaries.most_recent, Sight.{is_record_shown, is_shown, is_user_shown}}
 
 -- an account that is his, for which the rule is
 abbrev pub is_gross_shown : PolicyData → List RecordData → UserName → GrossRow → Bool
@@ -64,7 +64,7 @@ abbrev pub user_rows : PolicyData → List RecordData → UserName → List User
 user_rows policy records viewer = filter (λ (row : UserRow). is_user_shown policy records viewer row.user) (map (user_row records) policy.users)
 
 -- what the viewer is shown behind these records: each figure is that of all of them, and no earlier or later ones
-pub record IsView (policy : PolicyData) (records : List RecordData) (viewer : UserName) (v : View) : Type 0 where
+pub record IsView (policy : PolicyData) (records : List RecordData) (viewer : UserName) (v : BoardView) : Type 0 where
   pub day : v.day ≡ day_row records
   pub counts : v.counts ≡ counts_of records
   pub accounts : v.accounts.items ≡ account_states policy records viewer

@@ -27,7 +27,7 @@ pub struct AccountState {
 /// How many live orders the user has, if he trades for the account.
 fn orders_of_trader<G: ShowsState>(gate: &G, account: AccountName, user: &User) -> u64
     ensures { result ≡ orders_of_trader
-        (live (G.seen gate.now).policy (G.seen gate.now).records) account user.now }
+        (live (G.state gate.now).policy (G.state gate.now).records) account user.now }
 {
     match user.role {
         Role::Trader(his) if his == account => gate.live_count_of(user.name) as u64,
@@ -39,7 +39,7 @@ fn orders_of_trader<G: ShowsState>(gate: &G, account: AccountName, user: &User) 
 /// whose names differ, since the records are a legal day and the policy is sound.
 fn live_orders<G: ShowsState>(gate: &G, account: AccountName) -> u64
     ensures { result
-        ≡ live_orders (G.seen gate.now).policy (G.seen gate.now).records account }
+        ≡ live_orders (G.state gate.now).policy (G.state gate.now).records account }
 {
     gate.is_legal();
     let _ = gate.policy().rules();
@@ -55,9 +55,9 @@ fn account_state<G: ShowsState>(
     commands: &[GrantedCommand],
     account: &Account,
 ) -> AccountState
-    requires { commands.now ≡ granted_commands (G.seen gate.now).records }
+    requires { commands.now ≡ granted_commands (G.state gate.now).records }
     ensures { result
-        ≡ account_state (G.seen gate.now).policy (G.seen gate.now).records account.now }
+        ≡ account_state (G.state gate.now).policy (G.state gate.now).records account.now }
 {
     let name = account.name;
     AccountState {
@@ -75,10 +75,10 @@ fn states_among<G: ShowsState>(
     viewer: UserName,
     accounts: &[Account],
 ) -> Result<Vec<AccountState>, OutOfMemory>
-    requires { commands.now ≡ granted_commands (G.seen gate.now).records }
+    requires { commands.now ≡ granted_commands (G.state gate.now).records }
     ensures { IfOk result (λ states. states.items ≡ map
-        (account_state (G.seen gate.now).policy (G.seen gate.now).records)
-        (filter (λ a. is_shown (G.seen gate.now).policy (G.seen gate.now).records viewer a.name)
+        (account_state (G.state gate.now).policy (G.state gate.now).records)
+        (filter (λ a. is_shown (G.state gate.now).policy (G.state gate.now).records viewer a.name)
         accounts.now)) }
 {
     let mut states = Vec::new(alloc);
@@ -101,9 +101,9 @@ pub(crate) fn account_states<G: ShowsState>(
     commands: &[GrantedCommand],
     viewer: UserName,
 ) -> Result<Vec<AccountState>, OutOfMemory>
-    requires { commands.now ≡ granted_commands (G.seen gate.now).records }
+    requires { commands.now ≡ granted_commands (G.state gate.now).records }
     ensures { IfOk result (λ states. states.items
-        ≡ account_states (G.seen gate.now).policy (G.seen gate.now).records viewer) }
+        ≡ account_states (G.state gate.now).policy (G.state gate.now).records viewer) }
 {
     states_among(alloc, gate, commands, viewer, gate.policy().accounts())
 }

@@ -2,7 +2,7 @@
 
 ghost use Rattle.std.specs.Prelude.{◌≡◌, [], ◌||◌, option_copied};
 ghost use Rattle.gx_overview.specs.Commands.{is_officers};
-ghost use Rattle.gx_board.specs.Counting.{commands, counted_by, counts_of, denies, is_denial, is_meeting, line_of, one_more};
+ghost use Rattle.gx_board.specs.Counting.{commands, counted_by, counts_of, denies, is_denial, is_meeting, line_asked_on, one_more};
 
 use gx_history::record::{Asked, RecordData, Request, Step, Verdict, VerdictKind};
 use gx_overview::commands::{is_command, is_grant};
@@ -61,7 +61,7 @@ pub(crate) fn is_kept(kind: Option<VerdictKind>, asked: Option<&Asked>) -> bool
 /// The line that it was asked on; 0 of a matching step.
 #[inline(always)]
 fn line_of(asked: Option<&Asked>) -> u16
-    ensures { result ≡ line_of (option_copied asked.entry) }
+    ensures { result ≡ line_asked_on (option_copied asked.entry) }
 {
     match asked {
         Some(asked) => asked.line,

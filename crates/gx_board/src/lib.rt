@@ -30,4 +30,4 @@ pub use laws::views_are_his;
 pub use sight::is_shown;
 pub use summary::Summary;
 pub use uses::{GrossUse, NetUse};
-pub use view::{View, view_of};
+pub use view::{BoardView, view_of};

@@ -13,7 +13,7 @@ use gx_units::{AccountName, UserName};
 /// a trader none.
 pub fn is_shown<G: ShowsState>(gate: &G, viewer: UserName, account: AccountName) -> bool
     ensures { result
-        ≡ is_shown (G.seen gate.now).policy (G.seen gate.now).records viewer account }
+        ≡ is_shown (G.state gate.now).policy (G.state gate.now).records viewer account }
 {
     let Some(known) = gate.policy().user(viewer) else {
         return false;
@@ -28,7 +28,7 @@ pub fn is_shown<G: ShowsState>(gate: &G, viewer: UserName, account: AccountName)
 /// Whether the viewer is shown the account that the user trades for.
 fn is_trader_shown<G: ShowsState>(gate: &G, viewer: UserName, user: UserName) -> bool
     ensures { result
-        ≡ is_trader_shown (G.seen gate.now).policy (G.seen gate.now).records viewer user }
+        ≡ is_trader_shown (G.state gate.now).policy (G.state gate.now).records viewer user }
 {
     match gate.policy().account_of(user) {
         Some(account) => is_shown(gate, viewer, account),
@@ -39,14 +39,14 @@ fn is_trader_shown<G: ShowsState>(gate: &G, viewer: UserName, user: UserName) ->
 /// Whether the viewer is shown that the user is logged in.
 pub(crate) fn is_user_shown<G: ShowsState>(gate: &G, viewer: UserName, user: UserName) -> bool
     ensures { result
-        ≡ is_user_shown (G.seen gate.now).policy (G.seen gate.now).records viewer user }
+        ≡ is_user_shown (G.state gate.now).policy (G.state gate.now).records viewer user }
 {
     user == viewer || is_trader_shown(gate, viewer, user)
 }
 
 fn is_action_shown<G: ShowsState>(gate: &G, viewer: UserName, action: &Action) -> bool
     ensures { result ≡
-        is_action_shown (G.seen gate.now).policy (G.seen gate.now).records viewer action.now }
+        is_action_shown (G.state gate.now).policy (G.state gate.now).records viewer action.now }
 {
     match *action {
         Action::Kill(account)
@@ -63,7 +63,7 @@ fn is_request_shown<G: ShowsState>(
     user: UserName,
     request: &Request,
 ) -> bool
-    ensures { result ≡ is_request_shown (G.seen gate.now).policy (G.seen gate.now).records
+    ensures { result ≡ is_request_shown (G.state gate.now).policy (G.state gate.now).records
         viewer user request.now }
 {
     match request {
@@ -75,7 +75,7 @@ fn is_request_shown<G: ShowsState>(
 /// Whether the viewer is shown the record of a request.
 pub(crate) fn is_record_shown<G: ShowsState>(gate: &G, viewer: UserName, left: &RecordData) -> bool
     ensures { result ≡
-        is_record_shown (G.seen gate.now).policy (G.seen gate.now).records viewer left.now }
+        is_record_shown (G.state gate.now).policy (G.state gate.now).records viewer left.now }
 {
     match &left.step {
         Step::Asked(asked) => is_request_shown(gate, viewer, asked.user, &asked.request),

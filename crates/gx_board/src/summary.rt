@@ -1,7 +1,7 @@
 //! What is kept of a day's records, so that no view walks them.
 
 ghost use Rattle.std.specs.Prelude.{◌≡◌, ◌+◌, ◌<◌, ◌≤◌, [], drop, length, slice_get, take, IfOk, IsFalse, IsTrue, OnErr, OnOk};
-ghost use Rattle.gx_board.specs.{Counting.counts_with, Summaries.{Counted, Follows, IsBehind, IsNoted, IsSummary, Notes, pushed_if, recent, Stays}};
+ghost use Rattle.gx_board.specs.{Counting.counts_with, Summaries.{Counted, FollowsSummary, IsBehind, IsNoted, IsSummary, Notes, pushed_if, recent_records, Stays}};
 
 use crate::counts::{Counts, commands, denies, is_kept};
 use crate::denied::{DeniedRow, first_rows, note};
@@ -35,7 +35,7 @@ pub struct Summary {
 
 /// Room for the last records.
 fn ring(alloc: Global) -> Result<HeapCircularBuffer<RecordData>, OutOfMemory>
-    ensures { IfOk result (λ ring. ring ≡ recent []) }
+    ensures { IfOk result (λ ring. ring ≡ recent_records []) }
 {
     Ok(HeapCircularBuffer::with_capacity(alloc, MOST_RECENT)?)
 }
@@ -114,7 +114,7 @@ impl Summary {
     ///
     /// `OutOfMemory` where memory was refused; then it has followed none of them.
     pub fn follow(&mut self, alloc: Global, more: &Records<'_>) -> Result<(), OutOfMemory>
-        ensures followed { OnOk result (Follows more.now self.old self.new) }
+        ensures followed { OnOk result (FollowsSummary more.now self.old self.new) }
         ensures refused { OnErr result (Stays self.old self.new) }
     {
         let granted = granted_commands(alloc, more)?;
@@ -135,10 +135,10 @@ impl Summary {
         gate: &G,
         most: usize,
     ) -> Result<bool, OutOfMemory>
-        requires behind { IsBehind (G.seen gate.now).policy (G.seen gate.now).records self.old }
-        ensures behind { IsBehind (G.seen gate.now).policy (G.seen gate.now).records self.new }
+        requires behind { IsBehind (G.state gate.now).policy (G.state gate.now).records self.old }
+        ensures behind { IsBehind (G.state gate.now).policy (G.state gate.now).records self.new }
         ensures all { IfOk result (λ all. IsTrue all
-            → IsSummary (G.seen gate.now).policy (G.seen gate.now).records self.new) }
+            → IsSummary (G.state gate.now).policy (G.state gate.now).records self.new) }
         ensures further { IfOk result (λ all. IsFalse all
             → self.new.counts.records ≡ self.old.counts.records + most) }
     {

@@ -49,7 +49,7 @@ fn is_net_used(row: &NetRow) -> bool
 }
 
 fn is_gross_shown<G: ShowsState>(gate: &G, viewer: UserName, row: &GrossRow) -> bool
-    ensures { result ≡ is_gross_shown (G.seen gate.now).policy (G.seen gate.now).records
+    ensures { result ≡ is_gross_shown (G.state gate.now).policy (G.state gate.now).records
         viewer row.now }
 {
     row.used.is_some() && is_shown(gate, viewer, row.account)
@@ -64,7 +64,7 @@ fn add_gross_rows<G: ShowsState>(
     rows: &[GrossRow],
 ) -> Result<(), OutOfMemory>
     ensures { OnOk result (uses.new.items ≡ uses.old.items ++ map (gross_use rule)
-        (filter (is_gross_shown (G.seen gate.now).policy (G.seen gate.now).records viewer)
+        (filter (is_gross_shown (G.state gate.now).policy (G.state gate.now).records viewer)
         rows.now)) }
 {
     for row in rows {
@@ -84,7 +84,7 @@ fn add_gross<G: ShowsState>(
     rule: &FileRule,
 ) -> Result<(), OutOfMemory>
     ensures { OnOk result (uses.new.items ≡ uses.old.items
-        ++ gross_uses_of (G.seen gate.now).policy (G.seen gate.now).records viewer rule.now) }
+        ++ gross_uses_of (G.state gate.now).policy (G.state gate.now).records viewer rule.now) }
 {
     if !rule.kind.is_gross() {
         return Ok(());
@@ -100,7 +100,7 @@ fn gross_uses_among<G: ShowsState>(
     rules: &[FileRule],
 ) -> Result<Vec<GrossUse>, OutOfMemory>
     ensures { IfOk result (λ uses. uses.items ≡ flat_map
-        (gross_uses_of (G.seen gate.now).policy (G.seen gate.now).records viewer) rules.now) }
+        (gross_uses_of (G.state gate.now).policy (G.state gate.now).records viewer) rules.now) }
 {
     let mut uses = Vec::new(alloc);
     for rule in rules {
@@ -116,7 +116,7 @@ pub(crate) fn gross_uses<G: ShowsState>(
     viewer: UserName,
 ) -> Result<Vec<GrossUse>, OutOfMemory>
     ensures { IfOk result (λ uses. uses.items
-        ≡ gross_uses (G.seen gate.now).policy (G.seen gate.now).records viewer) }
+        ≡ gross_uses (G.state gate.now).policy (G.state gate.now).records viewer) }
 {
     gross_uses_among(alloc, gate, viewer, gate.policy().rules())
 }
@@ -153,7 +153,7 @@ fn add_net<G: ShowsState>(
     account: &Account,
 ) -> Result<(), OutOfMemory>
     ensures { OnOk result (uses.new.items ≡ uses.old.items
-        ++ net_uses_in (G.seen gate.now).policy (G.seen gate.now).records
+        ++ net_uses_in (G.state gate.now).policy (G.state gate.now).records
         viewer rule.now account.now) }
 {
     if !is_shown(gate, viewer, account.name) {
@@ -172,7 +172,7 @@ fn add_net_of<G: ShowsState>(
     accounts: &[Account],
 ) -> Result<(), OutOfMemory>
     ensures { OnOk result (uses.new.items ≡ uses.old.items ++ flat_map
-        (net_uses_in (G.seen gate.now).policy (G.seen gate.now).records viewer rule.now)
+        (net_uses_in (G.state gate.now).policy (G.state gate.now).records viewer rule.now)
         accounts.now) }
 {
     for account in accounts {
@@ -189,7 +189,7 @@ fn add_if_net<G: ShowsState>(
     rule: &FileRule,
 ) -> Result<(), OutOfMemory>
     ensures { OnOk result (uses.new.items ≡ uses.old.items
-        ++ net_uses_of (G.seen gate.now).policy (G.seen gate.now).records viewer rule.now) }
+        ++ net_uses_of (G.state gate.now).policy (G.state gate.now).records viewer rule.now) }
 {
     if !rule.kind.is_net() {
         return Ok(());
@@ -204,7 +204,7 @@ fn net_uses_among<G: ShowsState>(
     rules: &[FileRule],
 ) -> Result<Vec<NetUse>, OutOfMemory>
     ensures { IfOk result (λ uses. uses.items ≡ flat_map
-        (net_uses_of (G.seen gate.now).policy (G.seen gate.now).records viewer) rules.now) }
+        (net_uses_of (G.state gate.now).policy (G.state gate.now).records viewer) rules.now) }
 {
     let mut uses = Vec::new(alloc);
     for rule in rules {
@@ -221,7 +221,7 @@ pub(crate) fn net_uses<G: ShowsState>(
     viewer: UserName,
 ) -> Result<Vec<NetUse>, OutOfMemory>
     ensures { IfOk result (λ uses. uses.items
-        ≡ net_uses (G.seen gate.now).policy (G.seen gate.now).records viewer) }
+        ≡ net_uses (G.state gate.now).policy (G.state gate.now).records viewer) }
 {
     net_uses_among(alloc, gate, viewer, gate.policy().rules())
 }

@@ -19,7 +19,7 @@ use std::alloc::Global;
 
 /// What a viewer is shown of a day, at one moment: of accounts those that are his. What names no account is shown to all.
 #[derive(Drop)]
-pub struct View {
+pub struct BoardView {
     /// How far the day is.
     pub day: DayRow,
     /// What its records say in numbers.
@@ -51,7 +51,7 @@ fn users_shown<G: ShowsState>(
     rows: &[UserRow],
 ) -> Result<Vec<UserRow>, OutOfMemory>
     ensures { IfOk result (λ shown. shown.items ≡ filter (λ row. is_user_shown
-        (G.seen gate.now).policy (G.seen gate.now).records viewer row.user) rows.now) }
+        (G.state gate.now).policy (G.state gate.now).records viewer row.user) rows.now) }
 {
     let mut shown = Vec::new(alloc);
     for row in rows {
@@ -70,7 +70,7 @@ fn records_shown<G: ShowsState>(
     ring: &HeapCircularBuffer<RecordData>,
 ) -> Result<Vec<RecordData>, OutOfMemory>
     ensures { IfOk result (λ shown. shown.items ≡ filter (is_record_shown
-        (G.seen gate.now).policy (G.seen gate.now).records viewer) ring.now.items) }
+        (G.state gate.now).policy (G.state gate.now).records viewer) ring.now.items) }
 {
     let mut shown = Vec::new(alloc);
     for left in ring {
@@ -87,7 +87,7 @@ fn users_of<G: ShowsState>(
     viewer: UserName,
 ) -> Result<Vec<UserRow>, OutOfMemory>
     ensures { IfOk result (λ shown. shown.items
-        ≡ user_rows (G.seen gate.now).policy (G.seen gate.now).records viewer) }
+        ≡ user_rows (G.state gate.now).policy (G.state gate.now).records viewer) }
 {
     let rows = user_rows(alloc, gate)?;
     users_shown(alloc, gate, viewer, rows.as_slice())
@@ -103,10 +103,10 @@ pub fn view_of<G: ShowsRecords + ShowsState>(
     gate: &G,
     summary: &Summary,
     viewer: UserName,
-) -> Result<View, OutOfMemory>
-    requires summary { IsSummary (G.seen gate.now).policy (G.seen gate.now).records summary.now }
+) -> Result<BoardView, OutOfMemory>
+    requires summary { IsSummary (G.state gate.now).policy (G.state gate.now).records summary.now }
     ensures view { IfOk result
-        (IsView (G.seen gate.now).policy (G.seen gate.now).records viewer) }
+        (IsView (G.state gate.now).policy (G.state gate.now).records viewer) }
 {
     let accounts = account_states(alloc, gate, summary.commands.as_slice(), viewer)?;
     let limits = limit_rows(alloc, gate, summary.commands.as_slice())?;
@@ -116,7 +116,7 @@ pub fn view_of<G: ShowsRecords + ShowsState>(
     let denials = records_shown(alloc, gate, viewer, &summary.last_denied)?;
     let commands = records_shown(alloc, gate, viewer, &summary.last_commands)?;
     let users = users_of(alloc, gate, viewer)?;
-    Ok(View {
+    Ok(BoardView {
         day: day_row(gate),
         counts: summary.counts,
         accounts,

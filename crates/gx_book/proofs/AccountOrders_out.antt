@@ -3,7 +3,7 @@ use Rattle.std.proofs.{Common.{◌≡◌, ℕ, ◌+◌, ◌-◌, ◌≤◌, arit
 use Rattle.std.specs.{Prelude.{◌&&◌, ◌||◌, min}, List.{AllByRecursion, filter, fold, list_any}}
 use Rattle.gx_units.specs.{declared.names.{AccountName.AccountName, Symbol.Symbol}, Names.same_stock}
 use Rattle.gx_history.specs.{declared.live_order.LiveOrder.LiveOrder, Book.is_buy, Live.is_there}
-use Rattle.gx_book.specs.{Resting.{RestingData, resting_of}, Account.{AreAllOf, AreInStock, IsOneOf, count_of, rests_as}, Books.{StockOrders, all_orders, both_sides, on_each_side, with_side}, Changes.taken_out, Queue.{is_of, is_same, without_account, without_order}}
+use Rattle.gx_book.specs.{Resting.{RestingData, resting_of}, Account.{AreAllOf, AreInStock, IsOneOf, count_of, rests_as}, Books.{StockOrders, all_orders, both_sides, on_each_side, with_side}, Changes.taken_out, Queue.{is_resting_of, is_same, without_account, without_order}}
 
 -- each of these orders taken out, one after the other
 abbrev pub each_taken_out : List LiveOrder → List StockOrders → List StockOrders
@@ -81,7 +81,7 @@ all_his_are_out account his book whole = all_out his book ∙ by book whole
     of_side stock buy [] h = refl
     of_side stock buy (r ∷ rs) h =
         ap (λ b. cond (not b) (r ∷ side_without his stock buy rs) (side_without his stock buy rs)) h.0
-        ∙ ap (λ more. cond (not (is_of account r)) (r ∷ more) more) (of_side stock buy rs h.1)
+        ∙ ap (λ more. cond (not (is_resting_of account r)) (r ∷ more) more) (of_side stock buy rs h.1)
 
     by : (ss : List StockOrders) → AllByRecursion (AreInStock his account) ss → map (stock_without his) ss ≡ on_each_side (without_account account) ss
     by [] h = refl
@@ -93,8 +93,8 @@ without_all : (account : AccountName) (book : List StockOrders) → all_orders (
 without_all account [] = refl
 without_all account (s ∷ ss) =
     ap (λ rest. (without_account account s.buys ++ without_account account s.sells) ++ rest) (without_all account ss)
-    ∙ ap (λ front. front ++ without_account account (all_orders ss)) (sym (filter-append (λ r. not (is_of account r)) s.buys s.sells))
-    ∙ sym (filter-append (λ r. not (is_of account r)) (both_sides s) (all_orders ss))
+    ∙ ap (λ front. front ++ without_account account (all_orders ss)) (sym (filter-append (λ r. not (is_resting_of account r)) s.buys s.sells))
+    ∙ sym (filter-append (λ r. not (is_resting_of account r)) (both_sides s) (all_orders ss))
 
 -- so many fewer orders, counted as far as the count goes
 pub record HaveGone (count most : ℕ) (before now : List StockOrders) : Type 0 where
@@ -120,7 +120,7 @@ all_counted account count most before now h is =
     ∙ ap (λ (n : ℕ). min n most)
     (ap (λ (book : List StockOrders). length (all_orders before) - length (all_orders book)) is
     ∙ ap (λ (rs : List RestingData). length (all_orders before) - length rs) (without_all account before)
-    ∙ by (length (without_account account (all_orders before))) (count_of account before) (length (all_orders before)) (length-filter_both (is_of account) (λ r. not (is_of account r)) (λ r. refl) (all_orders before)))
+    ∙ by (length (without_account account (all_orders before))) (count_of account before) (length (all_orders before)) (length-filter_both (is_resting_of account) (λ r. not (is_resting_of account r)) (λ r. refl) (all_orders before)))
   where
     by : (others his all : ℕ) → his + others ≡ all → all - others ≡ his
     by others his all h = omega (arith, h)

@@ -2,7 +2,7 @@
 use Rattle.std.proofs.{Common.{◌≡◌, ℕ, zero, suc, ◌+◌, ◌-◌, ◌<◌, ◌≤◌, inl, inr, Bool, true, false, cond, not, ◌&&◌, List, [], ◌∷◌, refl, ◌∙◌, sym, ap, subst, arith, eq-eqb, if◌then◌else◌}, lemmas.{Bool.{and_from, and_parts, cases_eq, eqb-true, lt-ltb, le-ltb, false_from_ne_true, not-true}, Cmp.ranked, Option.same_Some}}
 use Rattle.std.specs.{Prelude.{nat_lt, None, Some, option_map, slice_get}, BTreeMap.{insert_entry, is_at}, List.{AllByRecursion, find, list_all, Sorted.IsStrictlySortedBy}, Map.{keys_of, values_of, lookup, remove_entry, set_value}, Ordering.{is_eq, nat_cmp, match_ordering, ordering_then, MatchOrdering}, declared.cmp.Ordering.{Ordering, TheVariants.{Less, Equal, Greater}}}
 use Rattle.gx_history.specs.declared.live_order.LiveOrder.{LiveOrder}
-use Rattle.gx_book.specs.{declared.resting.KeptOrder.KeptOrder, Resting.{RestingData, resting_of}, Keys.{are_keyed, resting_of_kept, is_keyed, is_rank, order_at, orders_at, price_at}, Queue.{IsLatest, is_better, is_numbered, is_same, left_with, taken_from_first, with_order, with_shares, without_order}}
+use Rattle.gx_book.specs.{declared.resting.KeptOrder.KeptOrder, Resting.{RestingData, resting_of}, Keys.{are_keyed, resting_of_kept, is_keyed, is_rank, order_at, orders_at, price_at}, Queue.{IsLatest, is_better, is_numbered, is_same, left_with, taken_from_first, with_order, with_open_shares, without_order}}
 use Rattle.gx_book.proofs.Side_order.{ahead_of_all, all_pass, behind_first}
 
 -- ---- keys
@@ -161,11 +161,11 @@ found_is buy k r (e ∷ es) here keyed =
     ∙ ap (cond (is_at (key_cmp k) e.0) (Some e.1)) (found_is buy k r es here parts.1)
 
 -- where no order is the same, none has other shares
-none_shared : (r : RestingData) (shares : ℕ) (rs : List RestingData) → list_all (λ x. not (is_same r x)) rs ≡ true → with_shares r shares rs ≡ rs
+none_shared : (r : RestingData) (shares : ℕ) (rs : List RestingData) → list_all (λ x. not (is_same r x)) rs ≡ true → with_open_shares r shares rs ≡ rs
 none_shared r shares [] all = refl
 none_shared r shares (x ∷ rs) all =
     let parts = and_parts (not (is_same r x)) (list_all (λ y. not (is_same r y)) rs) all in
-    ap (λ (b : Bool). (if b then record x { shares = shares } else x) ∷ with_shares r shares rs) (not-true (is_same r x) parts.0) ∙ ap (λ more. x ∷ more) (none_shared r shares rs parts.1)
+    ap (λ (b : Bool). (if b then record x { shares = shares } else x) ∷ with_open_shares r shares rs) (not-true (is_same r x) parts.0) ∙ ap (λ more. x ∷ more) (none_shared r shares rs parts.1)
 
 -- ---- what is kept under keys, and the orders that are meant
 
@@ -256,7 +256,7 @@ sized shares kept = record kept { shares = shares }
 shared_at : (buy : Bool) (k : ℕ × ℕ) (r : RestingData) (shares : ℕ) (kept : KeptOrder) (es : List ((ℕ × ℕ) × KeptOrder))
     → is_keyed buy (k, r) ≡ true → are_keyed buy (orders_at buy es) ≡ true → IsStrictlySortedBy key_cmp (keys_of es) → lookup (is_at (key_cmp k)) es ≡ Some kept
     → (are_keyed buy (orders_at buy (set_value (is_at (key_cmp k)) es (sized shares kept))) ≡ true)
-    × (values_of (orders_at buy (set_value (is_at (key_cmp k)) es (sized shares kept))) ≡ with_shares r shares (values_of (orders_at buy es)))
+    × (values_of (orders_at buy (set_value (is_at (key_cmp k)) es (sized shares kept))) ≡ with_open_shares r shares (values_of (orders_at buy es)))
 unfolding IsStrictlySortedBy
 shared_at buy k r shares kept [] here keyed sorted there = cc
 shared_at buy k r shares kept (e ∷ es) here keyed sorted there =
@@ -270,19 +270,19 @@ shared_at buy k r shares kept (e ∷ es) here keyed sorted there =
         → cond (is_eq o) (Some e.1) (lookup (is_at (key_cmp k)) es) ≡ Some kept
         → (lookup (is_at (key_cmp k)) es ≡ Some kept
         → (are_keyed buy (orders_at buy (set_value (is_at (key_cmp k)) es (sized shares kept))) ≡ true)
-        × (values_of (orders_at buy (set_value (is_at (key_cmp k)) es (sized shares kept))) ≡ with_shares r shares (values_of (orders_at buy es))))
-        → (are_keyed buy (orders_at buy (left o)) ≡ true) × (values_of (orders_at buy (left o)) ≡ with_shares r shares ((order_at buy e).1 ∷ values_of (orders_at buy es)))
+        × (values_of (orders_at buy (set_value (is_at (key_cmp k)) es (sized shares kept))) ≡ with_open_shares r shares (values_of (orders_at buy es))))
+        → (are_keyed buy (orders_at buy (left o)) ≡ true) × (values_of (orders_at buy (left o)) ≡ with_open_shares r shares ((order_at buy e).1 ∷ values_of (orders_at buy es)))
     by o is parts sorted there deeper = at o is there (same_by_key buy (k, r) (order_at buy e) here parts.0 ∙ ap is_eq (sym is))
       where
         shown : Bool → RestingData
         shown b = if b then record (order_at buy e).1 { shares = shares } else (order_at buy e).1
 
         at : (o : Ordering) → o ≡ key_cmp k e.0 → cond (is_eq o) (Some e.1) (lookup (is_at (key_cmp k)) es) ≡ Some kept → is_same r (order_at buy e).1 ≡ is_eq o
-            → (are_keyed buy (orders_at buy (left o)) ≡ true) × (values_of (orders_at buy (left o)) ≡ with_shares r shares ((order_at buy e).1 ∷ values_of (orders_at buy es)))
+            → (are_keyed buy (orders_at buy (left o)) ≡ true) × (values_of (orders_at buy (left o)) ≡ with_open_shares r shares ((order_at buy e).1 ∷ values_of (orders_at buy es)))
         at Less is there same =
-            (and_from _ _ parts.0 (deeper there).0, ap (λ rest. (order_at buy e).1 ∷ rest) (deeper there).1 ∙ ap (λ b. shown b ∷ with_shares r shares (values_of (orders_at buy es))) (sym same))
+            (and_from _ _ parts.0 (deeper there).0, ap (λ rest. (order_at buy e).1 ∷ rest) (deeper there).1 ∙ ap (λ b. shown b ∷ with_open_shares r shares (values_of (orders_at buy es))) (sym same))
         at Greater is there same =
-            (and_from _ _ parts.0 (deeper there).0, ap (λ rest. (order_at buy e).1 ∷ rest) (deeper there).1 ∙ ap (λ b. shown b ∷ with_shares r shares (values_of (orders_at buy es))) (sym same))
+            (and_from _ _ parts.0 (deeper there).0, ap (λ rest. (order_at buy e).1 ∷ rest) (deeper there).1 ∙ ap (λ b. shown b ∷ with_open_shares r shares (values_of (orders_at buy es))) (sym same))
         at Equal is there same =
             let behind = subst (λ (a : ℕ × ℕ). AllByRecursion (λ (y : ℕ × ℕ). key_cmp a y ≡ Less) (keys_of es)) (sym (compared k e.0 Equal is)) sorted in
             let apart = apart_all buy (k, r) (orders_at buy es) here parts.1 (subst (AllByRecursion (λ (y : ℕ × ℕ). key_cmp k y ≡ Less)) (sym (keys_stay buy es)) behind) in
@@ -290,7 +290,7 @@ shared_at buy k r shares kept (e ∷ es) here keyed sorted there =
               and_from _ _ parts.0 parts.1,
               ap (λ (x : KeptOrder). resting_of_kept e.0.1 (price_at buy e.0.0) (sized shares x) ∷ values_of (orders_at buy es)) (sym its)
                   ∙ ap (λ rest. shown true ∷ rest) (sym (none_shared r shares (values_of (orders_at buy es)) apart))
-                  ∙ ap (λ b. shown b ∷ with_shares r shares (values_of (orders_at buy es))) (sym same),
+                  ∙ ap (λ b. shown b ∷ with_open_shares r shares (values_of (orders_at buy es))) (sym same),
             )
 
 -- where no order is found, none is the same
@@ -311,7 +311,7 @@ pub stays_at : (buy : Bool) (k : ℕ × ℕ) (r : RestingData) (shares : ℕ) (k
     → is_keyed buy (k, r) ≡ true → are_keyed buy (orders_at buy es) ≡ true → IsStrictlySortedBy key_cmp (keys_of es) → lookup (is_at (key_cmp k)) es ≡ Some kept
     → values_of (orders_at buy (set_value (is_at (key_cmp k)) es (sized shares kept))) ≡ left_with r shares (values_of (orders_at buy es))
 stays_at buy k r shares kept es some here keyed sorted there =
-    (shared_at buy k r shares kept es here keyed sorted there).1 ∙ ap (λ b. if b then with_shares r shares (values_of (orders_at buy es)) else without_order r (values_of (orders_at buy es))) (sym (some_left shares some))
+    (shared_at buy k r shares kept es here keyed sorted there).1 ∙ ap (λ b. if b then with_open_shares r shares (values_of (orders_at buy es)) else without_order r (values_of (orders_at buy es))) (sym (some_left shares some))
 
 -- or none was there
 pub none_stays : (buy : Bool) (k : ℕ × ℕ) (r : RestingData) (shares : ℕ) (es : List ((ℕ × ℕ) × KeptOrder)) → (shares ≡ 0 → ⊥)
@@ -319,7 +319,7 @@ pub none_stays : (buy : Bool) (k : ℕ × ℕ) (r : RestingData) (shares : ℕ) 
     → values_of (orders_at buy es) ≡ left_with r shares (values_of (orders_at buy es))
 none_stays buy k r shares es some here keyed missing =
     sym (none_shared r shares (values_of (orders_at buy es)) (none_found r (values_of (orders_at buy es)) (found_at buy k r es here keyed ∙ ap (option_map (resting_of_kept k.1 (price_at buy k.0))) missing)))
-    ∙ ap (λ b. if b then with_shares r shares (values_of (orders_at buy es)) else without_order r (values_of (orders_at buy es))) (sym (some_left shares some))
+    ∙ ap (λ b. if b then with_open_shares r shares (values_of (orders_at buy es)) else without_order r (values_of (orders_at buy es))) (sym (some_left shares some))
 
 -- a key alone tells that the orders stay keyed
 pub stay_keyed : (buy : Bool) (k : ℕ × ℕ) (shares : ℕ) (kept : KeptOrder) (es : List ((ℕ × ℕ) × KeptOrder))

@@ -3,7 +3,7 @@ use Rattle.std.proofs.{Common.{◌≡◌, ◌-◌, ℕ, Bool, true, false, cond,
 use Rattle.std.specs.{Prelude.{if◌then◌else◌, nat_lt}, List.{filter, list_all}}
 use Rattle.gx_units.proofs.Lists_hold.{all_imply}
 use Rattle.gx_policy.specs.Lists.{inserted_behind}
-use Rattle.gx_book.specs.{Resting.RestingData, Queue.{is_better, is_in_order, is_same, left_with, taken_from_first, with_order, with_shares, without_order}}
+use Rattle.gx_book.specs.{Resting.RestingData, Queue.{is_better, is_in_order, is_same, left_with, taken_from_first, with_order, with_open_shares, without_order}}
 
 -- ---- any list
 
@@ -83,12 +83,12 @@ none_betters : (buy : Bool) (r : RestingData) (shares : ℕ) (x : RestingData) (
 none_betters buy r shares x [] = refl
 none_betters buy r shares x (y ∷ xs) = λ i. not (if buy then nat_lt (keeps_price r shares x i) (keeps_price r shares y i) else nat_lt (keeps_price r shares y i) (keeps_price r shares x i)) && none_betters buy r shares x xs i
 
-shared_in_order : (buy : Bool) (r : RestingData) (shares : ℕ) (xs : List RestingData) → is_in_order buy (with_shares r shares xs) ≡ is_in_order buy xs
+shared_in_order : (buy : Bool) (r : RestingData) (shares : ℕ) (xs : List RestingData) → is_in_order buy (with_open_shares r shares xs) ≡ is_in_order buy xs
 shared_in_order buy r shares [] = refl
 shared_in_order buy r shares (x ∷ xs) = λ i. none_betters buy r shares x xs i && shared_in_order buy r shares xs i
 
 pub in_order_left : (buy : Bool) (r : RestingData) (shares : ℕ) (xs : List RestingData) → is_in_order buy xs ≡ true → is_in_order buy (left_with r shares xs) ≡ true
-in_order_left buy r shares xs sorted = elim (nat_lt 0 shares) as (λ (b : Bool). is_in_order buy (if b then with_shares r shares xs else without_order r xs) ≡ true) [
+in_order_left buy r shares xs sorted = elim (nat_lt 0 shares) as (λ (b : Bool). is_in_order buy (if b then with_open_shares r shares xs else without_order r xs) ≡ true) [
   | true ↦ shared_in_order buy r shares xs ∙ sorted
   | false ↦ in_order_filter buy (λ x. not (is_same r x)) xs sorted
 ]

@@ -4,7 +4,7 @@ use Rattle.std.specs.{Prelude.{Option, Some, None, is_some}, Cmp.{IsEquivalence,
 use Rattle.gx_units.specs.{Names.same_stock, declared.names.Symbol.Symbol}
 use Rattle.gx_units.proofs.Lists_hold.{all_imply}
 use Rattle.gx_policy.specs.Lists.{are_distinct}
-use Rattle.gx_book.specs.{declared.sides.BothSides.BothSides, Resting.RestingData, Books.{IsSound, StockOrders, all_orders, both_sides, is_same_stock, is_sound_book, is_sound_stock, on_each_side, on_side, resting_in, side_of, stock_in, with_side}, Queue.is_in_order, Table.{book_of, both_changed, with_side_changed, side_in, stock_of}}
+use Rattle.gx_book.specs.{declared.sides.BothSides.BothSides, Resting.RestingData, Books.{IsSound, StockOrders, all_orders, both_sides, is_same_stock, is_sound_book, is_sound_stock, on_each_side, with_one_side, resting_in, orders_on_side, stock_in, with_side}, Queue.is_in_order, Table.{book_of, both_changed, with_side_changed, side_in, stock_of}}
 
 pub stocks_equiv : IsEquivalence same_stock
 stocks_equiv = on_equiv (λ (s : Symbol). s.bytes) nat_list_eq_equiv
@@ -16,7 +16,7 @@ pub stock_found : (es : List (Symbol × BothSides)) (stock : Symbol) (buy : Bool
     → resting_in (book_of es) stock buy ≡ option_map_or (side_in buy) (lookup (same_stock stock) es) []
 stock_found [] stock buy = refl
 stock_found (e ∷ es) stock buy =
-    elim (same_stock stock e.0) as (λ b. option_map_or (side_of buy) (cond b (Some (stock_of e)) (stock_in (book_of es) stock)) [] ≡ option_map_or (side_in buy) (cond b (Some e.1) (lookup (same_stock stock) es)) [])
+    elim (same_stock stock e.0) as (λ b. option_map_or (orders_on_side buy) (cond b (Some (stock_of e)) (stock_in (book_of es) stock)) [] ≡ option_map_or (side_in buy) (cond b (Some e.1) (lookup (same_stock stock) es)) [])
     [ true ↦ refl | false ↦ stock_found es stock buy ]
 
 -- whether the table has the stock
@@ -39,18 +39,18 @@ abbrev row : Symbol × BothSides → Bool → (List RestingData → List Resting
 row e buy f b = if b then with_side buy f (stock_of e) else stock_of e
 
 -- where no entry has the name, nothing changes
-none_changed : (stock : Symbol) (buy : Bool) (f : List RestingData → List RestingData) (es : List (Symbol × BothSides)) → NonePasses (same_stock stock) es → on_side stock buy f (book_of es) ≡ book_of es
+none_changed : (stock : Symbol) (buy : Bool) (f : List RestingData → List RestingData) (es : List (Symbol × BothSides)) → NonePasses (same_stock stock) es → with_one_side stock buy f (book_of es) ≡ book_of es
 none_changed stock buy f [] apart = refl
 none_changed stock buy f (e ∷ es) apart =
-    ap (λ b. row e buy f b ∷ on_side stock buy f (book_of es)) apart.0 ∙ ap (λ rest. stock_of e ∷ rest) (none_changed stock buy f es apart.1)
+    ap (λ b. row e buy f b ∷ with_one_side stock buy f (book_of es)) apart.0 ∙ ap (λ rest. stock_of e ∷ rest) (none_changed stock buy f es apart.1)
 
-pub unlisted_stays : (es : List (Symbol × BothSides)) (book : List StockOrders) (stock : Symbol) (buy : Bool) (f : List RestingData → List RestingData) → book_of es ≡ book → None ≡ lookup (same_stock stock) es → on_side stock buy f book ≡ book
+pub unlisted_stays : (es : List (Symbol × BothSides)) (book : List StockOrders) (stock : Symbol) (buy : Bool) (f : List RestingData → List RestingData) → book_of es ≡ book → None ≡ lookup (same_stock stock) es → with_one_side stock buy f book ≡ book
 unlisted_stays es book stock buy f view missing =
-    ap (on_side stock buy f) (sym view) ∙ none_changed stock buy f es (none_passes_from_lookup (same_stock stock) es (sym missing)) ∙ view
+    ap (with_one_side stock buy f) (sym view) ∙ none_changed stock buy f es (none_passes_from_lookup (same_stock stock) es (sym missing)) ∙ view
 
 changed_in_place : (stock : Symbol) (buy : Bool) (f : List RestingData → List RestingData) (es : List (Symbol × BothSides)) (before : BothSides)
     → IsDistinct same_stock (keys_of es) → lookup (same_stock stock) es ≡ Some before
-    → book_of (set_value (same_stock stock) es (with_side_changed buy f before)) ≡ on_side stock buy f (book_of es)
+    → book_of (set_value (same_stock stock) es (with_side_changed buy f before)) ≡ with_one_side stock buy f (book_of es)
 unfolding IsDistinct
 changed_in_place stock buy f [] before distinct found = refl
 changed_in_place stock buy f (e ∷ es) before distinct found = by (same_stock stock e.0) refl (λ later. changed_in_place stock buy f es before distinct.1 later)
@@ -59,22 +59,22 @@ changed_in_place stock buy f (e ∷ es) before distinct found = by (same_stock s
     written b s = book_of (cond b ((e.0, with_side_changed buy f s) ∷ es) (e ∷ set_value (same_stock stock) es (with_side_changed buy f s)))
 
     by : (b : Bool) → same_stock stock e.0 ≡ b
-        → (lookup (same_stock stock) es ≡ Some before → book_of (set_value (same_stock stock) es (with_side_changed buy f before)) ≡ on_side stock buy f (book_of es))
-        → written (same_stock stock e.0) before ≡ on_side stock buy f (book_of (e ∷ es))
+        → (lookup (same_stock stock) es ≡ Some before → book_of (set_value (same_stock stock) es (with_side_changed buy f before)) ≡ with_one_side stock buy f (book_of es))
+        → written (same_stock stock e.0) before ≡ with_one_side stock buy f (book_of (e ∷ es))
     by true is later =
         ap (λ b. written b before) is
         ∙ ap (written true) (same_Some _ _ (sym found ∙ ap (λ b. cond b (Some e.1) (lookup (same_stock stock) es)) is))
         ∙ ap (λ rest. row e buy f true ∷ rest) (sym (none_changed stock buy f es (none_past_head stocks_equiv stock e es distinct is)))
-        ∙ ap (λ b. row e buy f b ∷ on_side stock buy f (book_of es)) (sym is)
+        ∙ ap (λ b. row e buy f b ∷ with_one_side stock buy f (book_of es)) (sym is)
     by false is later =
         ap (λ b. written b before) is
         ∙ ap (λ rest. stock_of e ∷ rest) (later (sym (ap (λ b. cond b (Some e.1) (lookup (same_stock stock) es)) is) ∙ found))
-        ∙ ap (λ b. row e buy f b ∷ on_side stock buy f (book_of es)) (sym is)
+        ∙ ap (λ b. row e buy f b ∷ with_one_side stock buy f (book_of es)) (sym is)
 
 -- a stock's sides written back into the table, one of them changed
 pub written_back : (es after : List (Symbol × BothSides)) (stock : Symbol) (buy : Bool) (f : List RestingData → List RestingData) (before now : BothSides)
     → after ≡ set_value (same_stock stock) es now → now ≡ with_side_changed buy f before → IsDistinct same_stock (keys_of es) → Some before ≡ lookup (same_stock stock) es
-    → book_of after ≡ on_side stock buy f (book_of es)
+    → book_of after ≡ with_one_side stock buy f (book_of es)
 written_back es after stock buy f before now written done distinct found =
     ap book_of written ∙ ap (λ s. book_of (set_value (same_stock stock) es s)) done ∙ changed_in_place stock buy f es before distinct (sym found)
 
@@ -98,7 +98,7 @@ KeepsOrder buy f = (xs : List RestingData) → is_in_order buy xs ≡ true → i
 sound_map : (g : StockOrders → StockOrders) (book : List StockOrders) → is_sound_book book ≡ true → ((s : StockOrders) → is_sound_stock s ≡ true → is_sound_stock (g s) ≡ true) → is_sound_book (map g book) ≡ true
 sound_map g book sound keeps = list_all-map is_sound_stock g book ∙ all_imply is_sound_stock (λ s. is_sound_stock (g s)) book keeps sound
 
-pub sound_on_side : (stock : Symbol) (buy : Bool) (f : List RestingData → List RestingData) (book : List StockOrders) → is_sound_book book ≡ true → KeepsOrder buy f → is_sound_book (on_side stock buy f book) ≡ true
+pub sound_on_side : (stock : Symbol) (buy : Bool) (f : List RestingData → List RestingData) (book : List StockOrders) → is_sound_book book ≡ true → KeepsOrder buy f → is_sound_book (with_one_side stock buy f book) ≡ true
 sound_on_side stock buy f book sound keeps =
     sound_map (λ (s : StockOrders). if same_stock stock s.stock then with_side buy f s else s) book sound (λ s here. elim (same_stock stock s.stock) as (λ b. is_sound_stock (if b then with_side buy f s else s) ≡ true) [ true ↦ by s buy keeps here | false ↦ here ])
   where

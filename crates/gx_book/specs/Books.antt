@@ -11,8 +11,8 @@ pub record StockOrders : Type 0 where
   pub sells : List RestingData
 
 -- one side, true for buys
-abbrev pub side_of : Bool → StockOrders → List RestingData
-side_of buy s = if buy then s.buys else s.sells
+abbrev pub orders_on_side : Bool → StockOrders → List RestingData
+orders_on_side buy s = if buy then s.buys else s.sells
 
 -- one side changed, true for buys
 abbrev pub with_side : Bool → (List RestingData → List RestingData) → StockOrders → StockOrders
@@ -28,19 +28,19 @@ stock_in book stock = find (λ (s : StockOrders). same_stock stock s.stock) book
 
 -- the orders that rest on one side of a stock, in price-time priority; none in a stock that is not listed
 abbrev pub resting_in : List StockOrders → Symbol → Bool → List RestingData
-resting_in book stock buy = option_map_or (side_of buy) (stock_in book stock) []
+resting_in book stock buy = option_map_or (orders_on_side buy) (stock_in book stock) []
 
 -- the best order on one side of a stock
 abbrev pub best_in : List StockOrders → Symbol → Bool → Option RestingData
 best_in book stock buy = slice_get (resting_in book stock buy) 0
 
 -- the book with one side of one stock changed, and all else as it was
-abbrev pub on_side : Symbol → Bool → (List RestingData → List RestingData) → List StockOrders → List StockOrders
-on_side stock buy change book = map (λ (s : StockOrders). if same_stock stock s.stock then with_side buy change s else s) book
+abbrev pub with_one_side : Symbol → Bool → (List RestingData → List RestingData) → List StockOrders → List StockOrders
+with_one_side stock buy change book = map (λ (s : StockOrders). if same_stock stock s.stock then with_side buy change s else s) book
 
 -- the book with one more order on one side of a stock
 abbrev pub with_rested : Symbol → Bool → RestingData → List StockOrders → List StockOrders
-with_rested stock buy r book = on_side stock buy (with_order buy r) book
+with_rested stock buy r book = with_one_side stock buy (with_order buy r) book
 
 -- the book with each side changed
 abbrev pub on_each_side : (List RestingData → List RestingData) → List StockOrders → List StockOrders

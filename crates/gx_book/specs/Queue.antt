@@ -17,8 +17,8 @@ abbrev pub is_same : RestingData → RestingData → Bool
 is_same a b = a.order == b.order && a.price == b.price
 
 -- the order is the account's
-abbrev pub is_of : AccountName → RestingData → Bool
-is_of account r = same_account r.account account
+abbrev pub is_resting_of : AccountName → RestingData → Bool
+is_resting_of account r = same_account r.account account
 
 -- the order is behind all of equal or better price
 abbrev pub with_order : Bool → RestingData → List RestingData → List RestingData
@@ -29,12 +29,12 @@ abbrev pub without_order : RestingData → List RestingData → List RestingData
 without_order order orders = filter (λ r. not (is_same order r)) orders
 
 -- the order with so many shares, where it stands
-abbrev pub with_shares : RestingData → ℕ → List RestingData → List RestingData
-with_shares order shares orders = map (λ (r : RestingData). if is_same order r then record r { shares = shares } else r) orders
+abbrev pub with_open_shares : RestingData → ℕ → List RestingData → List RestingData
+with_open_shares order shares orders = map (λ (r : RestingData). if is_same order r then record r { shares = shares } else r) orders
 
 -- so many shares of the order are left: it stays where it stands, or goes where none are
 abbrev pub left_with : RestingData → ℕ → List RestingData → List RestingData
-left_with order shares orders = if nat_lt 0 shares then with_shares order shares orders else without_order order orders
+left_with order shares orders = if nat_lt 0 shares then with_open_shares order shares orders else without_order order orders
 
 -- so many shares taken from the first order; it goes where none are left
 abbrev pub taken_from_first : ℕ → List RestingData → List RestingData
@@ -43,7 +43,7 @@ taken_from_first shares (r ∷ rs) = left_with r (r.shares - shares) (r ∷ rs)
 
 -- the account's orders are taken out, and the others stay in their order
 abbrev pub without_account : AccountName → List RestingData → List RestingData
-without_account account orders = filter (λ r. not (is_of account r)) orders
+without_account account orders = filter (λ r. not (is_resting_of account r)) orders
 
 -- no order is left
 abbrev pub no_orders : List RestingData → List RestingData

@@ -11,8 +11,8 @@ may_in_role (Some (Role.Reader names)) account = false
 may_in_role None account = false
 
 -- and the account is one of the policy
-abbrev pub may_kill : PolicyData → UserName → AccountName → Bool
-may_kill policy user account = may_in_role (role_in policy.users user) account && is_some (account_named policy account)
+abbrev pub may_user_kill : PolicyData → UserName → AccountName → Bool
+may_user_kill policy user account = may_in_role (role_in policy.users user) account && is_some (account_named policy account)
 
 -- an officer who has the power to kill
 abbrev pub is_powerful : Option Role → Bool
@@ -21,5 +21,5 @@ is_powerful (Some (Role.Trader account)) = false
 is_powerful (Some (Role.Reader names)) = false
 is_powerful None = false
 
-abbrev pub has_power : PolicyData → UserName → Bool
-has_power policy user = is_powerful (role_in policy.users user)
+abbrev pub has_kill_power : PolicyData → UserName → Bool
+has_kill_power policy user = is_powerful (role_in policy.users user)

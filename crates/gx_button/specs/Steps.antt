@@ -8,7 +8,7 @@ use Rattle.gx_access_gate.specs.{declared.outcome.{LoginAnswer.LoginAnswer, Outc
 use Rattle.gx_pass.specs.{declared.view.LineView.LineView, Views.mine}
 use Rattle.gx_door.specs.{declared.caller.Caller.Caller, Matching.Turns, Acts.{asked_on, gate_met, login_on, AddsOwn, IsToldFull, LogsIn, MayBeRefused}, Callers.caller_of}
 use Rattle.gx_http.specs.declared.{credentials.Credentials.Credentials, forms.{KillForm.KillForm}}
-use Rattle.gx_button.specs.{declared.steps.{Decided.Decided, Deed.Deed, Refusal.Refusal}, Permission.may_kill, Tokens.{same_token, token_of}}
+use Rattle.gx_button.specs.{declared.steps.{Decided.Decided, Deed.Deed, Refusal.Refusal}, Permission.may_user_kill, Tokens.{same_page_token, page_token}}
 
 -- an officer or a reader, with his password
 abbrev pub is_staff : PolicyData → Credentials → Bool
@@ -22,17 +22,17 @@ is_staff policy who = by_caller (caller_of policy who.user who.password)
 -- a caller with his password, the token of his page, and the power and the account
 pub record IsPermitted (policy : PolicyData) (secret : List ℕ) (who : Credentials) (form : KillForm) : Type 0 where
   pub staff : IsTrue (is_staff policy who)
-  pub token : IsTrue (same_token form.token (token_of secret (folded_user who.user)))
-  pub power : IsTrue (may_kill policy (folded_user who.user) form.account)
+  pub token : IsTrue (same_page_token form.token (page_token secret (folded_user who.user)))
+  pub power : IsTrue (may_user_kill policy (folded_user who.user) form.account)
 
 -- why a caller may not, by the first reason there is
 abbrev pub IsRefusal : PolicyData → List ℕ → Option Credentials → KillForm → Refusal → Type 0
 IsRefusal policy secret None form Refusal.Unauthorized = Unit {0}
 IsRefusal policy secret (Some who) form Refusal.Unauthorized = IsFalse (is_staff policy who)
 IsRefusal policy secret (Some who) form Refusal.NoToken =
-    IsTrue (is_staff policy who) × IsFalse (same_token form.token (token_of secret (folded_user who.user)))
+    IsTrue (is_staff policy who) × IsFalse (same_page_token form.token (page_token secret (folded_user who.user)))
 IsRefusal policy secret (Some who) form Refusal.NoPower =
-    IsTrue (is_staff policy who) × IsTrue (same_token form.token (token_of secret (folded_user who.user))) × IsFalse (may_kill policy (folded_user who.user) form.account)
+    IsTrue (is_staff policy who) × IsTrue (same_page_token form.token (page_token secret (folded_user who.user))) × IsFalse (may_user_kill policy (folded_user who.user) form.account)
 IsRefusal policy secret None form Refusal.NoToken = ⊥
 IsRefusal policy secret None form Refusal.NoPower = ⊥
 
@@ -77,10 +77,10 @@ pub record AddsKill (policy : PolicyData) (was is : LineView) (who : Credentials
   pub behind : AsksAndLeaves policy between is who request kill logout
 
 -- what was done on the line
-abbrev pub Makes : PolicyData → LineView → LineView → Credentials → Request → Deed → Type 0
-Makes policy was is who request (Deed.Refused fault) = (mine is ≡ mine was) × IsToldFull (gate_met policy is) fault
-Makes policy was is who request (Deed.Rejected reason) = (moment : ℕ) × AsksIn policy was is who moment (LoginAnswer.Rejected reason)
-Makes policy was is who request (Deed.Asked kill logout) = AddsKill policy was is who request kill logout
+abbrev pub MakesDeed : PolicyData → LineView → LineView → Credentials → Request → Deed → Type 0
+MakesDeed policy was is who request (Deed.Refused fault) = (mine is ≡ mine was) × IsToldFull (gate_met policy is) fault
+MakesDeed policy was is who request (Deed.Rejected reason) = (moment : ℕ) × AsksIn policy was is who moment (LoginAnswer.Rejected reason)
+MakesDeed policy was is who request (Deed.Asked kill logout) = AddsKill policy was is who request kill logout
 
 -- a step that was made is one record
 abbrev pub step_of : {X : Type 0} → Result X StepFault → ℕ

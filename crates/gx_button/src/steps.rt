@@ -3,7 +3,7 @@
 ghost use Rattle.std.specs.Prelude.{◌≡◌, ◌+◌, IfErr, IfOk, IfSome, IsSome, OnErr, OnOk, Some};
 ghost use Rattle.gx_history.specs.declared.record.Request.TheVariants as requests;
 ghost use Rattle.gx_door.specs.Acts.{asked_on, IsLater};
-ghost use Rattle.gx_button.specs.Steps.{is_staff, kill_command, AsksAndLeaves, IsPermitted, IsRefusal, KillsOn, Makes, step_of, steps_of, StepsOn};
+ghost use Rattle.gx_button.specs.Steps.{is_staff, kill_command, AsksAndLeaves, IsPermitted, IsRefusal, KillsOn, MakesDeed, step_of, steps_of, StepsOn};
 
 use crate::permission::may_kill;
 use crate::token::{Secret, same_token};
@@ -114,8 +114,9 @@ fn ask<D: Door, R: Wait + Dial>(
     moment: Moment,
 ) -> (D::Pass, Result<Decided, StepFault>)
     requires clock { R.shown moment }
-    ensures later { IsLater D.policy (D.held pass) (D.held result.0) }
-    ensures step { KillsOn D.policy (D.held pass) (D.held result.0) (asked_on (D.held pass).line
+    ensures later { IsLater D.policy (D.observed pass) (D.observed result.0) }
+    ensures step { KillsOn D.policy (D.observed pass) (D.observed result.0)
+        (asked_on (D.observed pass).line
         who.now.user (kill_command TAG account) moment) result.1 }
     ensures adds { D.added result.0 ≡ D.added pass + step_of result.1 }
 {
@@ -143,9 +144,9 @@ fn leave<D: Door, R: Wait + Dial>(
     moment: Moment,
 ) -> (D::Pass, Result<Outcome, StepFault>)
     requires clock { R.shown moment }
-    ensures later { IsLater D.policy (D.held pass) (D.held result.0) }
-    ensures step { StepsOn D.policy (D.held pass) (D.held result.0)
-        (asked_on (D.held pass).line who.now.user requests.Logout moment) result.1 }
+    ensures later { IsLater D.policy (D.observed pass) (D.observed result.0) }
+    ensures step { StepsOn D.policy (D.observed pass) (D.observed result.0)
+        (asked_on (D.observed pass).line who.now.user requests.Logout moment) result.1 }
     ensures adds { D.added result.0 ≡ D.added pass + step_of result.1 }
 {
     door.logout(rt, pass, who.user, moment)
@@ -163,8 +164,8 @@ fn ask_and_leave<D: Door, R: Wait + Dial>(
     Result<Decided, StepFault>,
     Result<Outcome, StepFault>,
 )
-    ensures later { IsLater D.policy (D.held pass) (D.held result.0) }
-    ensures steps { AsksAndLeaves D.policy (D.held pass) (D.held result.0) who.now
+    ensures later { IsLater D.policy (D.observed pass) (D.observed result.0) }
+    ensures steps { AsksAndLeaves D.policy (D.observed pass) (D.observed result.0) who.now
         (kill_command TAG account) result.1 result.2 }
     ensures adds { D.added result.0 ≡ D.added pass + step_of result.1 + step_of result.2 }
 {
@@ -183,8 +184,8 @@ fn kill_as<D: Door, R: Wait + Dial>(
     who: &Credentials,
     account: AccountName,
 ) -> (D::Pass, Deed)
-    ensures later { IsLater D.policy (D.held pass) (D.held result.0) }
-    ensures steps { Makes D.policy (D.held pass) (D.held result.0) who.now
+    ensures later { IsLater D.policy (D.observed pass) (D.observed result.0) }
+    ensures steps { MakesDeed D.policy (D.observed pass) (D.observed result.0) who.now
         (kill_command TAG account) result.1 }
     ensures adds { D.added result.0 ≡ D.added pass + steps_of result.1 }
 {
@@ -217,14 +218,14 @@ pub fn kill<D: Door, R: Wait + Dial>(
     form: &KillForm,
 ) -> (D::Pass, Result<Deed, Refusal>)
     requires policy { policy.now ≡ D.policy }
-    ensures later { OnOk result.1 (IsLater D.policy (D.held pass) (D.held result.0)) }
+    ensures later { OnOk result.1 (IsLater D.policy (D.observed pass) (D.observed result.0)) }
     ensures untouched { OnErr result.1 (result.0 ≡ pass) }
     ensures refused { IfErr result.1 (IsRefusal D.policy secret.now.bytes caller form.now) }
     ensures permitted { OnOk result.1 (IfSome caller (λ who.
         IsPermitted D.policy secret.now.bytes who form.now)) }
     ensures named { OnOk result.1 (IsSome caller) }
     ensures steps { IfOk result.1 (λ deed. IfSome caller (λ who.
-        Makes D.policy (D.held pass) (D.held result.0) who
+        MakesDeed D.policy (D.observed pass) (D.observed result.0) who
         (kill_command TAG form.now.account) deed)) }
     ensures adds { IfOk result.1 (λ deed. D.added result.0 ≡ D.added pass + steps_of deed) }
 {

@@ -1,7 +1,7 @@
 //! What a page is given, so that no page of another server can ask for anything in a user's name.
 
 ghost use Rattle.std.specs.Prelude.{◌≡◌};
-ghost use Rattle.gx_button.specs.Tokens.{differences, same_token, token_of};
+ghost use Rattle.gx_button.specs.Tokens.{differences, same_page_token, page_token};
 
 use gx_http::PageToken;
 use gx_units::UserName;
@@ -18,7 +18,7 @@ pub struct Secret {
 impl Secret {
     /// The token of this user's page.
     pub fn token(&self, user: UserName) -> PageToken
-        ensures { result ≡ token_of self.now.bytes user }
+        ensures { result ≡ page_token self.now.bytes user }
     {
         let mut hasher = Sha256::new();
         hasher.update(&self.bytes);
@@ -44,7 +44,7 @@ fn differences(one: &[u8], other: &[u8]) -> u8
 
 /// Whether the tokens are the same. Its time does not tell how much of a token is right.
 pub(crate) fn same_token(one: &PageToken, other: &PageToken) -> bool
-    ensures { result ≡ same_token one.now other.now }
+    ensures { result ≡ same_page_token one.now other.now }
 {
     differences(&one.bytes, &other.bytes) == 0
 }

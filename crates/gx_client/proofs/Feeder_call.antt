@@ -2,11 +2,11 @@
 use Rattle.std.proofs.{Common.{◌≡◌, ℕ, ◌+◌, ◌-◌, ◌≤◌, true, false, List, [], ◌++◌, length, take, drop, Option, Some, None, refl, sym, ap, ◌∙◌, append_assoc, append-nil, arith, is_some}, lemmas.List.{take_rest, drop_all, drop-drop, length-drop}}
 use Rattle.gx_soup.specs.declared.packet.ServerPacket.{ServerPacket}
 use Rattle.std.specs.Option.{option_to_list}
-use Rattle.gx_client.specs.{declared.front.{ServerFault.ServerFault, Front.{Front, TheVariants.{Short, Faulty, Whole}}}, ServerPackets.{server_front, ServerSoup, packets_behind, server_packets_of}, ServerFeeding.{Held, HasRead, Gives}}
+use Rattle.gx_client.specs.{declared.front.{ServerFault.ServerFault, ServerFront.{ServerFront, TheVariants.{Short, Faulty, Whole}}}, ServerPackets.{server_front, ServerSoup, packets_behind, server_packets_of}, ServerFeeding.{HeldServerBytes, HasReadServerBytes, GivesServerPackets}}
 use Rattle.gx_client.proofs.Packets_next.{joined, front_takes, packets_short, packets_faulty, packets_whole, packets_join, packets_nil}
 
 module _ (bytes : List ℕ) (used : ℕ) (ps : List ServerPacket) (told : packets_behind ps (server_packets_of (drop used bytes)) ≡ server_packets_of bytes) where
-  cut_from : (r : Front) → r ≡ server_front (take (length bytes - used) (drop used bytes)) → server_front (drop used bytes) ≡ r
+  cut_from : (r : ServerFront) → r ≡ server_front (take (length bytes - used) (drop used bytes)) → server_front (drop used bytes) ≡ r
   cut_from r e = sym (e ∙ ap server_front (take_rest bytes used))
 
   pub cut_short : Short ≡ server_front (take (length bytes - used) (drop used bytes)) → server_packets_of bytes ≡ record { packets = ps; fault = None; rest = drop used bytes }
@@ -35,9 +35,9 @@ joined_on : (soup : ServerSoup) (fault : Option ServerFault) (piece : List ℕ) 
 joined_on soup None piece h = refl
 joined_on soup (Some f) piece h = cc
 
-pub fed_stuck : (rest : List ℕ) (fault : Option ServerFault) (feeder : Held) (piece : List ℕ) → record { rest = rest; fault = fault } ≡ feeder → is_some fault ≡ true → (given : List ServerPacket) → given ≡ [] → (before : List ℕ) → HasRead feeder before → Gives given fault feeder before piece
+pub fed_stuck : (rest : List ℕ) (fault : Option ServerFault) (feeder : HeldServerBytes) (piece : List ℕ) → record { rest = rest; fault = fault } ≡ feeder → is_some fault ≡ true → (given : List ServerPacket) → given ≡ [] → (before : List ℕ) → HasReadServerBytes feeder before → GivesServerPackets given fault feeder before piece
 fed_stuck rest fault feeder piece view some given none before h =
-    let f : fault ≡ feeder.fault = ap (λ (x : Held). x.fault) view in
+    let f : fault ≡ feeder.fault = ap (λ (x : HeldServerBytes). x.fault) view in
     let still : is_some (server_packets_of before).fault ≡ true = rw (f, h.fault) at some in
     let e : server_packets_of (before ++ piece) ≡ server_packets_of before = packets_join before piece ∙ joined_stuck (server_packets_of before) _ piece still in
     record {
@@ -46,10 +46,10 @@ fed_stuck rest fault feeder piece view some given none before h =
       reads = record { rest = h.rest ∙ sym (ap (λ (s : ServerSoup). s.rest) e); fault = h.fault ∙ sym (ap (λ (s : ServerSoup). s.fault) e) };
     }
 
-pub fed_on : (rest : List ℕ) (fault : Option ServerFault) (feeder : Held) (piece : List ℕ) → record { rest = rest; fault = fault } ≡ feeder → is_some fault ≡ false → (given : List ServerPacket) (told : Option ServerFault) (left : List ℕ) → server_packets_of (rest ++ piece) ≡ record { packets = given; fault = told; rest = left } → (before : List ℕ) → HasRead feeder before → Gives given told (record { rest = left; fault = told }) before piece
+pub fed_on : (rest : List ℕ) (fault : Option ServerFault) (feeder : HeldServerBytes) (piece : List ℕ) → record { rest = rest; fault = fault } ≡ feeder → is_some fault ≡ false → (given : List ServerPacket) (told : Option ServerFault) (left : List ℕ) → server_packets_of (rest ++ piece) ≡ record { packets = given; fault = told; rest = left } → (before : List ℕ) → HasReadServerBytes feeder before → GivesServerPackets given told (record { rest = left; fault = told }) before piece
 fed_on rest fault feeder piece view none given told left cut before h =
-    let f : fault ≡ feeder.fault = ap (λ (x : Held). x.fault) view in
-    let same : rest ≡ (server_packets_of before).rest = ap (λ (x : Held). x.rest) view ∙ h.rest in
+    let f : fault ≡ feeder.fault = ap (λ (x : HeldServerBytes). x.fault) view in
+    let same : rest ≡ (server_packets_of before).rest = ap (λ (x : HeldServerBytes). x.rest) view ∙ h.rest in
     let still : is_some (server_packets_of before).fault ≡ false = rw (f, h.fault) at none in
     let e : server_packets_of (before ++ piece) ≡ packets_behind (server_packets_of before).packets (record { packets = given; fault = told; rest = left }) = packets_join before piece ∙ (joined_on (server_packets_of before) _ piece still ∙ ap (packets_behind (server_packets_of before).packets) (ap (λ r. server_packets_of (r ++ piece)) (sym same) ∙ cut)) in
     record {

@@ -1,7 +1,6 @@
 pub mod Messages_read
 pub mod OfficerMessages_read
 pub mod Messages_apart
-pub mod Requests_read
 pub mod Packets_next
 pub mod Feeder_call
 pub mod Rest_bounds

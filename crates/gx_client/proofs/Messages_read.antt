@@ -1,20 +1,13 @@
 -- A message that the gate writes is shown by its bytes.
 use Rattle.std.proofs.{Common.{◌≡◌, ℕ, ◌<◌, ◌^◌, Bool, true, false, List, [], ◌∷◌, ◌++◌, length, Option, Some, None, refl, sym, ap, subst, ◌∙◌, arith}, lemmas.{Bool.{eqb-true, and_parts}, Slice.Eq.bytes_eq-Decides, Nat.{from_be_bytes-to_be_bytes_4, from_be_bytes-to_be_bytes_8}}}
 use Rattle.std.specs.{Prelude.{option_map, option_and_then, IsTrue, IfSome, IfNone, bytes_eq, slice_index, ◌&&◌, ◌==◌, if◌then◌else◌}, Int.{w64, to_be_bytes}}
-use Rattle.gx_ouch.proofs.Fields_placed.{lies, outbound_known_to_lie}
+use Rattle.gx_ouch.proofs.{Fields_placed.{lies, outbound_known_to_lie}, Requests_read.one_byte}
 use Rattle.gx_ouch.specs.{Layout.{LiesIn, Layout, IsWithoutGaps, HasSizes, field_bytes, laid_out}, Letters.{event_letter, liquidity_letter, cancel_letter, reject_letter}, Messages.{system_event, accepted_layout, replaced_layout, canceled_layout, executed_layout, rejected_layout}, Reading.byte, Writing.{outbound_bytes, outbound_layout, outbound_contents, contents_behind, order_contents}, declared.{letters.{EventCode.EventCode, Liquidity.Liquidity, CancelReason.CancelReason, RejectReason.RejectReason}, outbound.{OrderTerms.OrderTerms, Outbound.Outbound, Accepted.Accepted, Replaced.Replaced, Canceled.Canceled, Executed.Executed, Rejected.Rejected}}}
 use Rattle.gx_client.specs.{declared.reading.Stamped.Stamped, Letters.{event_in, liquidity_in, cancel_reason_in, reject_reason_in}, Messages.{IsOutbound, HasNone, ReadsBack, TermsFit}, Reading.{long, part, moment_shown, stamped_message, message_in, terms_of, executed_in, event_in_parts, accepted_in_parts, replaced_in_parts, canceled_in_parts, executed_in_parts, rejected_in_parts, outbound_shown}}
 
-pub is_true : (b : Bool) → IsTrue b → b ≡ true
+is_true : (b : Bool) → IsTrue b → b ≡ true
 is_true true h = refl
 is_true false h = cc
-
-same_bytes : (bytes : List ℕ) → bytes_eq bytes bytes ≡ true
-same_bytes bytes = (bytes_eq-Decides bytes bytes).1 refl
-
--- a field of one byte shows the byte
-pub one_byte : (n : ℕ) → byte (n ∷ []) ≡ n
-one_byte n = omega arith
 
 -- each letter stands for its code
 event_back : (code : EventCode) → event_in (event_letter code) ≡ Some code
@@ -184,7 +177,7 @@ module _ {M : Type 0} (IsMessage : ℕ → M → Type 0) (bytes_of : ℕ → M �
       subst (λ (bs : List ℕ). message_in shown bytes_of bs ≡ Some (record { timestamp = timestamp; message = message })) e
       (ap (option_and_then (λ (m : M). stamped_message bytes_of (bytes_of timestamp message) (moment_shown (bytes_of timestamp message)) m)) (message_back timestamp message is)
       ∙ (ap (λ (t : ℕ). stamped_message bytes_of (bytes_of timestamp message) t message) (moment_is timestamp message is)
-      ∙ ap (λ (b : Bool). if b then Some (record { timestamp = timestamp; message = message }) else None) (same_bytes (bytes_of timestamp message))))
+      ∙ ap (λ (b : Bool). if b then Some (record { timestamp = timestamp; message = message }) else None) ((bytes_eq-Decides (bytes_of timestamp message) (bytes_of timestamp message)).1 refl)))
 
 -- what was read has these bytes
 checked_written : {M : Type 0} (bytes_of : ℕ → M → List ℕ) (bytes : List ℕ) (timestamp : ℕ) (message : M) (b : Bool) → bytes_eq (bytes_of timestamp message) bytes ≡ b

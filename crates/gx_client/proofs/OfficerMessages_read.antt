@@ -4,7 +4,8 @@ use Rattle.std.specs.{Prelude.{option_map, ◌==◌, None, if◌then◌else◌},
 use Rattle.gx_ouch.specs.Layout.{field_bytes}
 use Rattle.gx_desk.specs.{declared.{Answer.Answer, AnswerCode.AnswerCode, DropCopy.DropCopy}, Messages.{answer, drop_copy}, Writing.{answer_code, answer_contents, answer_bytes, drop_copy_contents, drop_copy_bytes}}
 use Rattle.gx_client.specs.{Letters.answer_code_in, Messages.{IsAnswer, IsDropCopy}, Reading.{moment_shown, message_in, answer_in_parts, answer_shown, drop_copy_in_parts, drop_copy_shown}}
-use Rattle.gx_client.proofs.Messages_read.{one_byte, lies_in, first_back, executed_parts, in_back}
+use Rattle.gx_ouch.proofs.Requests_read.{one_byte}
+use Rattle.gx_client.proofs.Messages_read.{lies_in, first_back, executed_parts, in_back}
 
 code_back : (code : AnswerCode) → answer_code_in (answer_code code) ≡ Some code
 code_back AnswerCode.Done = refl

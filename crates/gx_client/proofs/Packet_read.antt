@@ -4,25 +4,25 @@ use Rattle.std.specs.Option.{option_to_list}
 use Rattle.gx_units.specs.{declared.names.{LoginRejection.{LoginRejection, TheVariants.{NotAuthorized, SessionNotAvailable}}, SessionName.SessionName}, Spelling.folded_session}
 use Rattle.gx_soup.specs.{declared.packet.ServerPacket.ServerPacket, Standard.{login_accepted, login_rejected, sequenced_data, server_heartbeat, end_of_session, debug, unsequenced_data}, Login.number_of, Writing.{framed_packet, number_field, session_field, reason_code, server_bytes}}
 use Rattle.gx_soup.proofs.{Number_read.number_read, Packet_read.{not_zero, enough, cut_at, count_is, past, padded_len}}
-use Rattle.gx_client.specs.{declared.front.{Front.{Front, TheVariants.{Short, Faulty, Whole}}, ServerFault.{ServerFault, TheVariants.ZeroLength}}, ServerPackets.{server_front, counted_front, typed_front, whole_front, accepted_front, is_server_type, has_its_length, packets_behind, server_packets_of, IsServerPacket}}
+use Rattle.gx_client.specs.{declared.front.{ServerFront.{ServerFront, TheVariants.{Short, Faulty, Whole}}, ServerFault.{ServerFault, TheVariants.ZeroLength}}, ServerPackets.{server_front, server_counted_front, server_typed_front, server_whole_front, accepted_front, is_server_type, has_its_length, packets_behind, server_packets_of, IsServerPacket}}
 use Rattle.gx_client.proofs.{Packets_next.packets_whole, SessionName_read.{name_back, name_length}}
 
-told : (u l s : Bool) (x y : ServerFault) (w : Front) → u ≡ true → l ≡ true → s ≡ false → cond (not u) (Faulty x) (cond (not l) (Faulty y) (cond s Short w)) ≡ w
+told : (u l s : Bool) (x y : ServerFault) (w : ServerFront) → u ≡ true → l ≡ true → s ≡ false → cond (not u) (Faulty x) (cond (not l) (Faulty y) (cond s Short w)) ≡ w
 told true true false x y w a b c = refl
 told true true true x y w a b c = cc
 told true false s x y w a b c = cc
 told false l s x y w a b c = cc
 
-typed_is : (kind : ℕ) (payload rest : List ℕ) → is_server_type kind ≡ true → has_its_length kind (length payload + 1) ≡ true → typed_front (length payload + 1) (kind ∷ (payload ++ rest)) ≡ whole_front kind payload
+typed_is : (kind : ℕ) (payload rest : List ℕ) → is_server_type kind ≡ true → has_its_length kind (length payload + 1) ≡ true → server_typed_front (length payload + 1) (kind ∷ (payload ++ rest)) ≡ server_whole_front kind payload
 typed_is kind payload rest known sized =
-    told (is_server_type kind) (has_its_length kind (length payload + 1)) (nat_lt (length (payload ++ rest)) (length payload + 1 - 1)) _ _ (whole_front kind (take (length payload + 1 - 1) (payload ++ rest))) known sized (enough payload rest) ∙ ap (whole_front kind) (cut_at payload rest)
+    told (is_server_type kind) (has_its_length kind (length payload + 1)) (nat_lt (length (payload ++ rest)) (length payload + 1 - 1)) _ _ (server_whole_front kind (take (length payload + 1 - 1) (payload ++ rest))) known sized (enough payload rest) ∙ ap (server_whole_front kind) (cut_at payload rest)
 
-framed_front : (kind : ℕ) (payload rest : List ℕ) → is_server_type kind ≡ true → has_its_length kind (length payload + 1) ≡ true → server_front (framed_packet kind payload ++ rest) ≡ whole_front kind payload
+framed_front : (kind : ℕ) (payload rest : List ℕ) → is_server_type kind ≡ true → has_its_length kind (length payload + 1) ≡ true → server_front (framed_packet kind payload ++ rest) ≡ server_whole_front kind payload
 unfolding server_front
 framed_front kind payload rest known sized =
-    ap (λ n. counted_front n (kind ∷ (payload ++ rest))) (count_is (length payload + 1)) ∙ (ap (λ b. cond b (Faulty ZeroLength) (typed_front (length payload + 1) (kind ∷ (payload ++ rest)))) (not_zero (length payload)) ∙ typed_is kind payload rest known sized)
+    ap (λ n. server_counted_front n (kind ∷ (payload ++ rest))) (count_is (length payload + 1)) ∙ (ap (λ b. cond b (Faulty ZeroLength) (server_typed_front (length payload + 1) (kind ∷ (payload ++ rest)))) (not_zero (length payload)) ∙ typed_is kind payload rest known sized)
 
-framed_read : (kind : ℕ) (payload rest : List ℕ) (p : Option ServerPacket) → is_server_type kind ≡ true → has_its_length kind (length payload + 1) ≡ true → whole_front kind payload ≡ Whole p (length payload + 3) → server_packets_of (framed_packet kind payload ++ rest) ≡ packets_behind (option_to_list p) (server_packets_of rest)
+framed_read : (kind : ℕ) (payload rest : List ℕ) (p : Option ServerPacket) → is_server_type kind ≡ true → has_its_length kind (length payload + 1) ≡ true → server_whole_front kind payload ≡ Whole p (length payload + 3) → server_packets_of (framed_packet kind payload ++ rest) ≡ packets_behind (option_to_list p) (server_packets_of rest)
 framed_read kind payload rest p known sized e =
     packets_whole (framed_packet kind payload ++ rest) p (length payload + 3) (framed_front kind payload rest known sized ∙ e) ∙ ap (λ r. packets_behind (option_to_list p) (server_packets_of r)) (past kind payload rest)
 

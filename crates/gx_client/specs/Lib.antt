@@ -2,7 +2,6 @@ pub mod Letters
 pub mod Messages
 pub mod Reading
 pub mod Reports
-pub mod Contents
 pub mod ServerPackets
 pub mod ServerFeeding
 pub mod Session

@@ -2,9 +2,9 @@
 
 ghost use Rattle.std.specs.{Prelude.{◌≡◌, ℕ, ◌≤◌, ◌<◌, List, [], ◌++◌, drop, length, is_some, IsTrue, IfOk, OnOk, OnErr}, Option.option_to_list};
 ghost use Rattle.gx_soup.specs.Standard.{longest_packet};
-ghost use Rattle.gx_client.specs.{ServerPackets.server_packets_of, ServerFeeding.{HasRead, Gives}};
+ghost use Rattle.gx_client.specs.{ServerPackets.server_packets_of, ServerFeeding.{HasReadServerBytes, GivesServerPackets}};
 
-use crate::front::{Front, ServerFault, read_front};
+use crate::front::{ServerFault, ServerFront, read_front};
 use gx_soup::ServerPacket;
 use gx_units::OutOfMemory;
 use std::alloc::Global;
@@ -33,9 +33,9 @@ pub struct ServerFeeder {
 impl Model for ServerFeeder {
     ghost use Rattle.std.specs.Prelude.{◌<◌, length};
     ghost use Rattle.gx_soup.specs.Standard.{longest_packet};
-    ghost use Rattle.gx_client.specs.ServerFeeding.{Held};
+    ghost use Rattle.gx_client.specs.ServerFeeding.{HeldServerBytes};
 
-    ghost Value = { Held };
+    ghost Value = { HeldServerBytes };
 
     ghost view = { λ f. record { rest = f.rest.items; fault = f.fault } };
 
@@ -45,7 +45,7 @@ impl Model for ServerFeeder {
 impl ServerFeeder {
     /// A feeder that has read nothing. It takes no memory.
     pub fn new(alloc: Global) -> ServerFeeder
-        ensures { HasRead result [] }
+        ensures { HasReadServerBytes result [] }
     {
         ServerFeeder {
             alloc,
@@ -59,8 +59,9 @@ impl ServerFeeder {
     /// shows. After a fault each piece gives no packet and the same fault. At an `Err` nothing has changed, and the
     /// same piece may be fed again.
     pub fn feed(&mut self, piece: &[u8]) -> Result<ServerFed, OutOfMemory>
-        ensures fed { IfOk result (λ fed. (before : List ℕ) → HasRead self.old before
-            → Gives fed.packets.items fed.fault self.new before piece.now) }
+        ensures fed { IfOk result (λ fed. (before : List ℕ)
+            → HasReadServerBytes self.old before
+            → GivesServerPackets fed.packets.items fed.fault self.new before piece.now) }
         ensures faulted { IsTrue (is_some self.old.fault)
             → IfOk result (λ fed. (fed.packets.items ≡ []) × (fed.fault ≡ self.old.fault)) }
         ensures bounded { length self.new.rest < longest_packet }
@@ -93,14 +94,14 @@ impl ServerFeeder {
 
 /// Packets, the fault after them, and how many bytes they and it take.
 #[derive(Drop)]
-struct Split {
+struct PacketSplit {
     packets: Vec<ServerPacket>,
     fault: Option<ServerFault>,
     used: usize,
 }
 
 /// Cuts off what is told of these bytes. While nothing is told it takes no longer for more bytes.
-fn cut(alloc: Global, bytes: &[u8]) -> Result<Split, OutOfMemory>
+fn cut(alloc: Global, bytes: &[u8]) -> Result<PacketSplit, OutOfMemory>
     ensures within { IfOk result (λ s. s.used ≤ length bytes.now) }
     ensures bounded { IfOk result (λ s. length (drop s.used bytes.now) < longest_packet) }
     ensures packets { IfOk result (λ s.
@@ -114,27 +115,27 @@ fn cut(alloc: Global, bytes: &[u8]) -> Result<Split, OutOfMemory>
     let mut used = 0;
     while used < bytes.len() {
         match read_front(alloc, &bytes[used..])? {
-            Front::Short => {
-                return Ok(Split {
+            ServerFront::Short => {
+                return Ok(PacketSplit {
                     packets,
                     fault: None,
                     used,
                 });
             }
-            Front::Faulty(fault) => {
-                return Ok(Split {
+            ServerFront::Faulty(fault) => {
+                return Ok(PacketSplit {
                     packets,
                     fault: Some(fault),
                     used: bytes.len(),
                 });
             }
-            Front::Whole(packet, taken) => {
+            ServerFront::Whole(packet, taken) => {
                 push_heard(&mut packets, packet)?;
                 used += taken;
             }
         }
     }
-    Ok(Split {
+    Ok(PacketSplit {
         packets,
         fault: None,
         used,

@@ -2,7 +2,7 @@
 
 ghost use Rattle.std.specs.{Prelude.{◌≡◌, ◌<◌, length, slice_index, slice_range, IfOk}, Char.is_ascii_digit, List.list_all};
 ghost use Rattle.gx_soup.specs.Login.{number_of};
-ghost use Rattle.gx_client.specs.ServerPackets.{server_front, typed_front, whole_front, accepted_front, rejected_front, plain_packet, is_server_type, has_its_length, rejection_of};
+ghost use Rattle.gx_client.specs.ServerPackets.{server_front, server_typed_front, server_whole_front, accepted_front, rejected_front, plain_server_packet, is_server_type, has_its_length, rejection_of};
 
 use gx_ouch::text;
 use gx_soup::{Payload, ServerPacket, spelled_value};
@@ -26,7 +26,7 @@ pub enum ServerFault {
 
 /// What stands first in some bytes.
 #[derive(Drop)]
-pub(crate) enum Front {
+pub(crate) enum ServerFront {
     /// Less than a packet.
     Short,
     Faulty(ServerFault),
@@ -37,36 +37,36 @@ pub(crate) enum Front {
 /// What stands first in the bytes. It looks at no more than the bytes of one packet, and at three while they are
 /// not all there.
 #[tactic(auto, unfolding(crate::specs::ServerPackets::server_front))]
-pub(crate) fn read_front(alloc: Global, bytes: &[u8]) -> Result<Front, OutOfMemory>
+pub(crate) fn read_front(alloc: Global, bytes: &[u8]) -> Result<ServerFront, OutOfMemory>
     ensures { IfOk result (λ f. f ≡ server_front bytes.now) }
 {
     let [high, low, body @ ..] = bytes else {
-        return Ok(Front::Short);
+        return Ok(ServerFront::Short);
     };
     let count = 256 * (*high as usize) + *low as usize;
     if count == 0 {
-        return Ok(Front::Faulty(ServerFault::ZeroLength));
+        return Ok(ServerFront::Faulty(ServerFault::ZeroLength));
     }
     typed_front(alloc, count, body)
 }
 
-fn typed_front(alloc: Global, count: usize, body: &[u8]) -> Result<Front, OutOfMemory>
+fn typed_front(alloc: Global, count: usize, body: &[u8]) -> Result<ServerFront, OutOfMemory>
     requires above { 0 < count }
     requires below { count < 65536 }
-    ensures { IfOk result (λ f. f ≡ typed_front count body.now) }
+    ensures { IfOk result (λ f. f ≡ server_typed_front count body.now) }
 {
     let [kind, body @ ..] = body else {
-        return Ok(Front::Short);
+        return Ok(ServerFront::Short);
     };
     let kind = *kind;
     if !is_server_type(kind) {
-        return Ok(Front::Faulty(ServerFault::UnknownType));
+        return Ok(ServerFront::Faulty(ServerFault::UnknownType));
     }
     if !has_its_length(kind, count) {
-        return Ok(Front::Faulty(ServerFault::WrongLength));
+        return Ok(ServerFront::Faulty(ServerFault::WrongLength));
     }
     if body.len() < count - 1 {
-        return Ok(Front::Short);
+        return Ok(ServerFront::Short);
     }
     whole_front(alloc, kind, &body[..count - 1])
 }
@@ -89,11 +89,11 @@ fn has_its_length(kind: u8, count: usize) -> bool
     }
 }
 
-fn whole_front(alloc: Global, kind: u8, payload: &[u8]) -> Result<Front, OutOfMemory>
+fn whole_front(alloc: Global, kind: u8, payload: &[u8]) -> Result<ServerFront, OutOfMemory>
     requires accepted { kind ≡ 65 → length payload.now ≡ 30 }
     requires rejected { kind ≡ 74 → length payload.now ≡ 1 }
     requires below { length payload.now < 65535 }
-    ensures { IfOk result (λ f. f ≡ whole_front kind payload.now) }
+    ensures { IfOk result (λ f. f ≡ server_whole_front kind payload.now) }
 {
     if kind == b'A' {
         return Ok(accepted_front(payload));
@@ -102,7 +102,7 @@ fn whole_front(alloc: Global, kind: u8, payload: &[u8]) -> Result<Front, OutOfMe
         return Ok(rejected_front(payload));
     }
     let packet = plain_packet(alloc, kind, payload)?;
-    Ok(Front::Whole(packet, payload.len() + 3))
+    Ok(ServerFront::Whole(packet, payload.len() + 3))
 }
 
 /// A packet of a type that answers no login. Debug and Unsequenced Data are passed over.
@@ -111,7 +111,7 @@ fn plain_packet(
     kind: u8,
     payload: &[u8],
 ) -> Result<Option<ServerPacket>, OutOfMemory>
-    ensures { IfOk result (λ packet. packet ≡ plain_packet kind payload.now) }
+    ensures { IfOk result (λ packet. packet ≡ plain_server_packet kind payload.now) }
 {
     Ok(match kind {
         b'S' => Some(ServerPacket::Sequenced(Payload::new(alloc, payload)?)),
@@ -121,28 +121,28 @@ fn plain_packet(
     })
 }
 
-fn accepted_front(payload: &[u8]) -> Front
+fn accepted_front(payload: &[u8]) -> ServerFront
     requires { length payload.now ≡ 30 }
     ensures { result ≡ accepted_front payload.now (number_of (slice_range payload.now 10 30)) }
 {
     let Some(next) = number_of(&payload[10..30]) else {
-        return Front::Faulty(ServerFault::BadAnswer);
+        return ServerFront::Faulty(ServerFault::BadAnswer);
     };
     let session = SessionName {
         bytes: text(&payload[..10]),
     };
     let packet = ServerPacket::Accepted(session.folded(), next);
-    Front::Whole(Some(packet), payload.len() + 3)
+    ServerFront::Whole(Some(packet), payload.len() + 3)
 }
 
-fn rejected_front(payload: &[u8]) -> Front
+fn rejected_front(payload: &[u8]) -> ServerFront
     requires { length payload.now ≡ 1 }
     ensures { result ≡ rejected_front payload.now (rejection_of (slice_index payload.now 0)) }
 {
     let Some(why) = rejection(payload[0]) else {
-        return Front::Faulty(ServerFault::BadAnswer);
+        return ServerFront::Faulty(ServerFault::BadAnswer);
     };
-    Front::Whole(Some(ServerPacket::Rejected(why)), payload.len() + 3)
+    ServerFront::Whole(Some(ServerPacket::Rejected(why)), payload.len() + 3)
 }
 
 /// The reason that has this code.

@@ -3,8 +3,7 @@
 ghost use Rattle.std.specs.Prelude.{◌≡◌, ◌≤◌, length, Some, IfOk};
 ghost use Rattle.gx_ouch.specs.{Layout.{HasSizes, laid_out}, Reading.inbound_of};
 ghost use Rattle.gx_ouch.specs.declared.inbound.Inbound.TheVariants as inbounds;
-ghost use Rattle.gx_desk.specs.Reading.{command_of};
-ghost use Rattle.gx_client.specs.Contents.{command_contents, command_layout, LimitFits};
+ghost use Rattle.gx_desk.specs.{Reading.command_of, Contents.{command_contents, command_layout, LimitFits}};
 
 use gx_desk::{Action, Command};
 use gx_ouch::{CancelOrder, EnterOrder, Inbound, MESSAGE_ROOM, MessageDraft, ReplaceOrder};
@@ -55,7 +54,7 @@ fn inbound_draft(message: &Inbound) -> MessageDraft
     }
 }
 
-#[tactic(auto, using(crate::proofs::Requests_read::enter_read))]
+#[tactic(auto, using(gx_ouch::proofs::Requests_read::enter_read))]
 fn enter_order(order: &EnterOrder) -> MessageDraft
     ensures { inbound_of result ≡ Some (inbounds.Enter order.now) }
 {
@@ -77,7 +76,7 @@ fn enter_order(order: &EnterOrder) -> MessageDraft
     draft
 }
 
-#[tactic(auto, using(crate::proofs::Requests_read::replace_read))]
+#[tactic(auto, using(gx_ouch::proofs::Requests_read::replace_read))]
 fn replace_order(order: &ReplaceOrder) -> MessageDraft
     ensures { inbound_of result ≡ Some (inbounds.Replace order.now) }
 {
@@ -94,7 +93,7 @@ fn replace_order(order: &ReplaceOrder) -> MessageDraft
     draft
 }
 
-#[tactic(auto, using(crate::proofs::Requests_read::cancel_read))]
+#[tactic(auto, using(gx_ouch::proofs::Requests_read::cancel_read))]
 fn cancel_order(order: &CancelOrder) -> MessageDraft
     ensures { inbound_of result ≡ Some (inbounds.Cancel order.now) }
 {
@@ -105,7 +104,7 @@ fn cancel_order(order: &CancelOrder) -> MessageDraft
     draft
 }
 
-#[tactic(auto, using(crate::proofs::Requests_read::command_read))]
+#[tactic(auto, using(gx_desk::proofs::Commands_read::command_read))]
 fn command_draft(command: &Command) -> MessageDraft
     ensures { command_of result ≡ Some command.now }
 {

@@ -4,7 +4,7 @@ use clap::ArgMatches;
 use std::alloc::{AllocFailed, Global};
 
 /// The most milliseconds between two looks: an hour.
-const LONGEST: u64 = 3_600_000;
+const LONGEST_MILLIS: u64 = 3_600_000;
 
 /// How often a journal that has nothing new is looked at.
 #[derive(Clone, Copy, PartialEq, Eq)]
@@ -29,7 +29,7 @@ impl Every {
 
     /// So many milliseconds, from one to an hour.
     fn of(milliseconds: u64) -> Option<Every> {
-        if milliseconds == 0 || milliseconds > LONGEST {
+        if milliseconds == 0 || milliseconds > LONGEST_MILLIS {
             return None;
         }
         Some(Every { milliseconds })
@@ -47,7 +47,7 @@ impl Every {
 
 /// The shares of limits, in hundredths, of which is warned.
 #[derive(Clone, Copy)]
-pub struct Shares<'a> {
+pub struct WarnedShares<'a> {
     text: &'a str,
 }
 
@@ -59,16 +59,16 @@ fn share(text: &str) -> Option<u8> {
     }
 }
 
-impl<'a> Shares<'a> {
+impl<'a> WarnedShares<'a> {
     /// Three quarters, and nine tenths.
-    pub const USUAL: Shares<'static> = Shares { text: "75,90" };
+    pub const USUAL: WarnedShares<'static> = WarnedShares { text: "75,90" };
 
     /// What the value of `--warn` says: shares from 1 to 100 with commas between them.
-    pub fn parse(text: &'a str) -> Option<Shares<'a>> {
+    pub fn parse(text: &'a str) -> Option<WarnedShares<'a>> {
         for part in text.split(",") {
             share(part)?;
         }
-        Some(Shares { text })
+        Some(WarnedShares { text })
     }
 
     /// The shares, as they are written.
@@ -93,7 +93,7 @@ pub struct FollowAsked<'a> {
     /// How often it is looked at.
     pub every: Every,
     /// Of what is warned.
-    pub shares: Shares<'a>,
+    pub shares: WarnedShares<'a>,
     /// Whether each line is a JSON object.
     pub is_json: bool,
     /// Whether it ends where the journal ends now.
@@ -113,8 +113,8 @@ pub(crate) fn follow_asked<'a>(
         None => Every::SECOND,
     };
     let shares = match given.get_str(warn) {
-        Some(text) => Shares::parse(text)?,
-        None => Shares::USUAL,
+        Some(text) => WarnedShares::parse(text)?,
+        None => WarnedShares::USUAL,
     };
     Some(FollowAsked {
         every,

@@ -14,10 +14,10 @@ use commands::{
     TO, UNDER, UNTIL, WARN, WORDS, command_line,
 };
 use follow::follow_asked;
-pub use follow::{Every, FollowAsked, Shares};
+pub use follow::{Every, FollowAsked, WarnedShares};
 use gx_clock::{TimeOfDay, UtcOffset};
 use gx_text::Form;
-use refused::told_of;
+use refused::shown_fault;
 use state::state_asked;
 pub use state::{Behind, StateOptions};
 use std::alloc::Global;
@@ -475,7 +475,7 @@ fn bad_value<'a>(given: &ArgMatches<'a>) -> Option<BadValue<'a>> {
 fn matches_of<'a>(alloc: Global, words: &'a [String]) -> Result<ArgMatches<'a>, Error> {
     match command_line(alloc)?.try_get_matches_from(words) {
         Ok(given) => Ok(given),
-        Err(error) => Err(told_of(alloc, words, error)),
+        Err(error) => Err(shown_fault(alloc, words, error)),
     }
 }
 

@@ -31,7 +31,7 @@ fn fault_of_shortened(alloc: Global, words: &[String], error: Error) -> Result<E
 }
 
 /// The fault of the words as it is told, where this is their own.
-pub(crate) fn told_of(alloc: Global, words: &[String], error: Error) -> Error {
+pub(crate) fn shown_fault(alloc: Global, words: &[String], error: Error) -> Error {
     if words.iter().all(|word| word.len() <= MOST) {
         return error;
     }

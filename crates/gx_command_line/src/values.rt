@@ -3,7 +3,7 @@
 ghost use Rattle.std.specs.Prelude.{◌≡◌, ◌↔◌, IsSome, IfSome, None};
 ghost use Rattle.gx_clock.specs.{Offsets.offset_of, Times.time_of};
 
-use crate::follow::{Every, Shares};
+use crate::follow::{Every, WarnedShares};
 use crate::state::Behind;
 use gx_clock::{TimeOfDay, UtcOffset};
 use std::fmt;
@@ -126,7 +126,7 @@ impl<'a> BadValue<'a> {
     pub fn of_shares(text: &'a str) -> Option<BadValue<'a>>
         ensures text { IfSome result (λ bad. bad.text ≡ text.entry) }
     {
-        match Shares::parse(text) {
+        match WarnedShares::parse(text) {
             Some(_) => None,
             None => Some(BadValue {
                 option: ReadOption::Warn,

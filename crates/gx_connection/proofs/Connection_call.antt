@@ -6,9 +6,9 @@ use Rattle.gx_units.specs.{Spelling.folded_user, declared.names.UserName.UserNam
 use Rattle.gx_soup.specs.declared.packet.{LoginRequest.LoginRequest, ClientPacket.ClientPacket}
 use Rattle.gx_history.specs.{declared.{«record».{Request.Request, RecordData.RecordData}, report.Report.Report}, InForce.is_closed, Streams.stream}
 use Rattle.gx_policy.specs.Lists.{slice}
-use Rattle.gx_access_gate.specs.{Gates.GateData, Told.ends_before, declared.outcome.{LoginAnswer.LoginAnswer, StepFault.StepFault}, Asking.{asked_by, gate_after_step}}
-use Rattle.gx_connection.specs.{declared.{connection.Connection.Connection, fault.PipeFault.PipeFault}, Serving.IsOnLine, Faults.{fault_of_send, fault_of_step, IsToldFull}, Piping.{RunState, mark, cause_of, Refused, logout_of, IsRunOf, IsTaken, IsUnwritten, IsGivenUp, IsTurnGivenUp, GivesAll, reported_of, told_of, pull_marks, IsThere, StopsIn}, Steps.{login_asked_at, login_told}, Transcript.{Run, run_at, and_then, with_text, nothing_written, gate_after_act, on_event, first_told, logged_in, with_login, run_of_login, run_of_sending, unsent_reports, run_of_pull}}
-use Rattle.gx_session.specs.{declared.{event.{Control.Control, Next.Next, Reply.Reply}, session.Phase.{Phase, TheVariants.{Fresh, Waiting, On}}}, Events.{asks_step, is_on, login_in}, Happenings.Happening, Table.{SessionData, row_in, turn}, Sending.{control_bytes, control_text, reports_text}}
+use Rattle.gx_access_gate.specs.{Gates.GateData, Reports.ends_before, declared.outcome.{LoginAnswer.LoginAnswer, StepFault.StepFault}, Asking.{request_on_line_1, gate_after_step}}
+use Rattle.gx_connection.specs.{declared.{connection.Connection.Connection, fault.PipeFault.PipeFault}, Serving.IsOnLine, Faults.{fault_of_send, fault_of_step, IsToldFull}, Piping.{RunState, mark, cause_of, Refused, logout_of, IsRunOf, IsTaken, IsUnwritten, IsGivenUp, IsTurnGivenUp, GivesAll, reported_of, pulled_of, pull_marks, IsRunThere, PipeStopsIn}, Steps.{login_asked_at, login_told}, Transcript.{Run, run_at, and_then, with_text, nothing_written, gate_after_act, on_event, first_told, logged_in, with_login, run_of_login, run_of_sending, unsent_reports, run_of_pull}}
+use Rattle.gx_session.specs.{declared.{event.{Control.Control, Next.Next, Reply.Reply}, session.Phase.{Phase, TheVariants.{Fresh, Waiting, On}}}, Events.{asks_step, is_phase_on, login_in}, Happenings.Happening, Table.{SessionData, row_in, turn}, Sending.{control_bytes, control_text, reports_text}}
 use Rattle.gx_devices.proofs.Run_stopped.{fewer_then, first_same}
 use Rattle.gx_devices.proofs.Run_pieces as pieces
 use Rattle.gx_connection.proofs.{Records_next.{event_adds, answer_on, login_adds}, Line_kept.pull_keeps, Step_call.of_step}
@@ -37,7 +37,7 @@ packet_is_silent session packet moment = row_packet session.phase packet _ _
 
 -- a login is asked for by one who is not on, and then waits
 record WaitsFor (before after : Phase) : Type 0 where
-  fresh : is_on before ≡ false
+  fresh : is_phase_on before ≡ false
   waiting : after ≡ Waiting
 
 row_login : (p : Phase) (packet : ClientPacket) (silent quiet : Bool) → (row_in p (happens.Packet packet) silent quiet).reply.next ≡ Next.Login → WaitsFor p (row_in p (happens.Packet packet) silent quiet).phase
@@ -55,8 +55,8 @@ pub taken_behind : (text : List ℕ) (run : Run) (now : GateData) (state : Conne
 taken_behind text run now state output mid left w t = record { gate = t.gate; connection = t.connection; text = Appends-trans output mid left text run.text w t.text }
 
 -- a run that a growth stopped where it stood
-pub pauses : (run : Run) (marks : List (Mark RecordData RunState)) (now : GateData) (state : Connection) (output : Option (List ℕ)) → now ≡ run.gate → state ≡ run.connection → StopsIn run marks PipeFault.OutOfMemory now state output output
-pauses run marks now state output same still = pieces.pauses Refused (IsThere now state run) (mark run) marks output (record { gate = same; logout = ap logout_of still; line = λ h. h })
+pub pauses : (run : Run) (marks : List (Mark RecordData RunState)) (now : GateData) (state : Connection) (output : Option (List ℕ)) → now ≡ run.gate → state ≡ run.connection → PipeStopsIn run marks PipeFault.OutOfMemory now state output output
+pauses run marks now state output same still = pieces.pauses Refused (IsRunThere now state run) (mark run) marks output (record { gate = same; logout = ap logout_of still; line = λ h. h })
 
 -- what was written, where sending failed
 sending : (fault : WriteFault) (text : List ℕ) (output left : Option (List ℕ)) → IsFront output left text → (fault ≡ WriteFault.OutOfMemory → Appends output left []) → (f : IsFront output left text) × IsOfSending (cause_of (fault_of_send fault)) (f.front ≡ [])
@@ -166,13 +166,13 @@ module _ (gate : GateData) (c : Connection) (packet : ClientPacket) (moment : �
   nothing_sent = subst (λ s. Appends output mid (control_text s)) (packet_is_silent c.session packet moment) told.text
 
   before_is_out : logout_of c ≡ None
-  before_is_out = ap (λ b. cond b (Some (asked_by c.user Request.Logout c.session.heard)) None) (login_waits c.session packet moment asks).fresh
+  before_is_out = ap (λ b. cond b (Some (request_on_line_1 c.user Request.Logout c.session.heard)) None) (login_waits c.session packet moment asks).fresh
 
   after_is_out : logout_of state ≡ None
   unfolding on_event
   after_is_out =
       ap logout_of told.connection
-      ∙ ap (λ p. cond (is_on p) (Some (asked_by c.user Request.Logout (turn c.session (happens.Packet packet) moment).session.heard)) None) (login_waits c.session packet moment asks).waiting
+      ∙ ap (λ p. cond (is_phase_on p) (Some (request_on_line_1 c.user Request.Logout (turn c.session (happens.Packet packet) moment).session.heard)) None) (login_waits c.session packet moment asks).waiting
 
   answered_is : run_of_login gate c packet moment ≡ logged_in now state login moment
   unfolding run_of_login on_event
@@ -216,7 +216,7 @@ gives_all gate c user reports next ended most u given few n e =
       ended_is = e ∙ (ap (λ b. is_closed gate.records && b) past ∙ and_true (is_closed gate.records));
     }
 
-module _ (gate : GateData) (c : Connection) (moment : ℕ) (reports : List Report) (count next : ℕ) (ended : Bool) (on : is_on c.session.phase ≡ true) (all : GivesAll gate c reports next ended) (counted : count ≡ length reports) where
+module _ (gate : GateData) (c : Connection) (moment : ℕ) (reports : List Report) (count next : ℕ) (ended : Bool) (on : is_phase_on c.session.phase ≡ true) (all : GivesAll gate c reports next ended) (counted : count ≡ length reports) where
   abbrev pub turned : Run
   turned = on_event gate (record c { next = next }) (happens.Pulled count ended) moment
 
@@ -243,7 +243,7 @@ module _ (gate : GateData) (c : Connection) (moment : ℕ) (reports : List Repor
     -- the marks are these
     marks_are : pull_marks here moment ≡ mark behind ∷ mark (and_then behind (λ g k. on_event g k (happens.Pulled count ended) moment)) ∷ []
     marks_are =
-        ap (λ b. cond b (mark (reported_of here) ∷ mark (told_of (reported_of here) (length (unsent_reports gate c)) moment) ∷ []) []) on
+        ap (λ b. cond b (mark (reported_of here) ∷ mark (pulled_of (reported_of here) (length (unsent_reports gate c)) moment) ∷ []) []) on
         ∙ ap (λ xs. marks_by (reports_text xs) (max 1 c.next + length xs) (length xs) (is_closed gate.records)) (sym all.reports_are)
         ∙ ap (λ n. marks_by (reports_text reports) n (length reports) (is_closed gate.records)) (sym all.next_is)
         ∙ ap (λ b. marks_by (reports_text reports) next (length reports) b) (sym all.ended_is)
@@ -255,30 +255,30 @@ module _ (gate : GateData) (c : Connection) (moment : ℕ) (reports : List Repor
             mark run ∷ mark (and_then run (λ g k. on_event g k (happens.Pulled n closed) moment)) ∷ []
 
     stops_there : (fault : PipeFault) (now : GateData) (state : Connection) (output left : Option (List ℕ))
-        → StopsIn here ((mark behind ∷ mark (and_then behind (λ g k. on_event g k (happens.Pulled count ended) moment)) ∷ []) ++ more) fault now state output left
-        → StopsIn here (pull_marks here moment ++ more) fault now state output left
-    stops_there fault now state output left h = subst (λ ms. StopsIn here (ms ++ more) fault now state output left) (sym marks_are) h
+        → PipeStopsIn here ((mark behind ∷ mark (and_then behind (λ g k. on_event g k (happens.Pulled count ended) moment)) ∷ []) ++ more) fault now state output left
+        → PipeStopsIn here (pull_marks here moment ++ more) fault now state output left
+    stops_there fault now state output left h = subst (λ ms. PipeStopsIn here (ms ++ more) fault now state output left) (sym marks_are) h
 
     pub pull_unsent : (fault : WriteFault) (output left : Option (List ℕ)) → IsFront output left (reports_text reports) → (fault ≡ WriteFault.OutOfMemory → Appends output left [])
-        → StopsIn here (pull_marks here moment ++ more) (fault_of_send fault) gate c output left
+        → PipeStopsIn here (pull_marks here moment ++ more) (fault_of_send fault) gate c output left
     pull_unsent fault output left f none =
         let s = sending fault (reports_text reports) output left f none in
         stops_there (fault_of_send fault) gate c output left
-        (pieces.unsent Refused (IsThere gate c here) (cause_of (fault_of_send fault)) (mark here) (mark behind) _ output left (reports_text reports) s.0 refl s.1 (record { gate = refl; logout = refl; line = λ h. h }))
+        (pieces.unsent Refused (IsRunThere gate c here) (cause_of (fault_of_send fault)) (mark here) (mark behind) _ output left (reports_text reports) s.0 refl s.1 (record { gate = refl; logout = refl; line = λ h. h }))
 
     pub pull_unturned : (fault : PipeFault) (now : GateData) (state : Connection) (output mid left : Option (List ℕ)) → Appends output mid (reports_text reports) → IsTurnGivenUp gate (record c { next = next }) (happens.Pulled count ended) moment fault now state mid left
-        → StopsIn here (pull_marks here moment ++ more) fault now state output left
+        → PipeStopsIn here (pull_marks here moment ++ more) fault now state output left
     pull_unturned fault now state output mid left w (inl h) = stops_there fault now state output left
-        (pieces.behind Refused (IsThere now state here) (cause_of fault) (mark here) (mark behind) _ output left (IsThere now state here) mid (reports_text reports) (λ m k. k) refl w
-        (pieces.refused Refused (IsThere now state here) (cause_of fault) (mark behind) _ _ mid left (mark behind) h.1.cause
+        (pieces.behind Refused (IsRunThere now state here) (cause_of fault) (mark here) (mark behind) _ output left (IsRunThere now state here) mid (reports_text reports) (λ m k. k) refl w
+        (pieces.refused Refused (IsRunThere now state here) (cause_of fault) (mark behind) _ _ mid left (mark behind) h.1.cause
         (record { made = first_same gate.records gate.records refl; left = event_adds gate (record c { next = next }) (happens.Pulled count ended) moment h.0; text = refl; known = refl })
         (record { gate = h.1.gate_is; logout = h.1.logout; line = λ k. k }) h.1.written))
     pull_unturned fault now state output mid left w (inr h) = stops_there fault now state output left
-        (pieces.behind Refused (IsThere now state here) (cause_of fault) (mark here) (mark behind) _ output left (IsThere now state here) mid (reports_text reports) (λ m k. k) refl w
-        (pieces.unsent Refused (IsThere now state here) (cause_of fault) (mark behind) (mark (and_then behind (λ g k. on_event g k (happens.Pulled count ended) moment))) _ mid left turned.text h.1.text refl h.1.sending
+        (pieces.behind Refused (IsRunThere now state here) (cause_of fault) (mark here) (mark behind) _ output left (IsRunThere now state here) mid (reports_text reports) (λ m k. k) refl w
+        (pieces.unsent Refused (IsRunThere now state here) (cause_of fault) (mark behind) (mark (and_then behind (λ g k. on_event g k (happens.Pulled count ended) moment))) _ mid left turned.text h.1.text refl h.1.sending
         (record { gate = h.1.gate; logout = h.1.logout; line = λ k. subst (λ (r : Run). IsOnLine r.gate r.connection) pulled_is (pull_keeps gate c moment k) })))
 
 -- a growth that no step asked for
 pub pull_pauses : (gate : GateData) (c : Connection) (moment : ℕ) (output : Option (List ℕ)) (text : List ℕ) (more : List (Mark RecordData RunState))
-    → StopsIn (run_at gate c text) (pull_marks (run_at gate c text) moment ++ more) PipeFault.OutOfMemory gate c output output
+    → PipeStopsIn (run_at gate c text) (pull_marks (run_at gate c text) moment ++ more) PipeFault.OutOfMemory gate c output output
 pull_pauses gate c moment output text more = pauses (run_at gate c text) (pull_marks (run_at gate c text) moment ++ more) gate c output refl refl

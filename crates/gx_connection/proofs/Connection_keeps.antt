@@ -5,8 +5,8 @@ use Rattle.gx_units.specs.declared.names.UserName.{UserName}
 use Rattle.gx_soup.specs.declared.packet.{LoginRequest.LoginRequest, ClientPacket.ClientPacket}
 use Rattle.gx_history.specs.declared.record.Asked.{Asked}
 use Rattle.gx_access_gate.specs.{Gates.GateData, Asking.gate_after_step, Matches.settled_gate}
-use Rattle.gx_connection.specs.{declared.connection.Connection.Connection, Steps.login_asked_at, Transcript.{Run, nothing_written, and_then, gate_after_act, on_event, logged_in, with_login, run_of_login, run_of_matching, unsent_reports, run_of_sending, run_of_pull, connection_after_tick, run_of_packet, on_packet}}
-use Rattle.gx_session.specs.{declared.event.Next.Next, Events.{is_on, is_over, login_in}, Happenings.Happening, Table.turn}
+use Rattle.gx_connection.specs.{declared.connection.Connection.Connection, Steps.login_asked_at, Transcript.{Run, nothing_written, and_then, gate_after_act, on_event, logged_in, with_login, run_of_login, run_of_matching, unsent_reports, run_of_sending, run_of_pull, connection_after_tick, run_of_packet, run_on_packet}}
+use Rattle.gx_session.specs.{declared.event.Next.Next, Events.{is_phase_on, is_over, login_in}, Happenings.Happening, Table.turn}
 use Rattle.gx_session.specs.Happenings as happens
 
 module _ (P : GateData → Type 0) (step : (gate : GateData) (a : Asked) → P gate → P (gate_after_step gate a)) (settle : (gate : GateData) (moment : ℕ) → P gate → P (settled_gate gate moment)) where
@@ -40,7 +40,7 @@ module _ (P : GateData → Type 0) (step : (gate : GateData) (a : Asked) → P g
 
   pub pull_keeps : (gate : GateData) (c : Connection) (moment : ℕ) → P gate → P (run_of_pull gate c moment).gate
   unfolding run_of_pull run_of_sending
-  pull_keeps gate c moment p = elim (is_on c.session.phase) as (λ b. P (cond b (run_of_sending gate c (unsent_reports gate c) moment) (nothing_written gate c)).gate) [ true ↦ event_keeps gate _ _ moment p | false ↦ p ]
+  pull_keeps gate c moment p = elim (is_phase_on c.session.phase) as (λ b. P (cond b (run_of_sending gate c (unsent_reports gate c) moment) (nothing_written gate c)).gate) [ true ↦ event_keeps gate _ _ moment p | false ↦ p ]
 
 -- all that a packet leads to, while the session is not over
 abbrev pub taken : GateData → Connection → ClientPacket → Run
@@ -55,6 +55,6 @@ handled_by P gate c packet over goes = at (is_over c.session.phase) refl
     at true e = over e
     at false e = goes e
 
-pub all_keep : (P : Run → Type 0) → ((run : Run) (packet : ClientPacket) → P run → P (on_packet run packet)) → (packets : List ClientPacket) (run : Run) → P run → P (fold on_packet run packets)
+pub all_keep : (P : Run → Type 0) → ((run : Run) (packet : ClientPacket) → P run → P (run_on_packet run packet)) → (packets : List ClientPacket) (run : Run) → P run → P (fold run_on_packet run packets)
 all_keep P next [] run p = p
-all_keep P next (packet ∷ packets) run p = all_keep P next packets (on_packet run packet) (next run packet p)
+all_keep P next (packet ∷ packets) run p = all_keep P next packets (run_on_packet run packet) (next run packet p)

@@ -9,15 +9,15 @@ use Rattle.gx_soup.specs.{declared.packet.{LoginRequest.LoginRequest, ClientPack
 use Rattle.gx_policy.specs.{declared.policy.PolicyData.PolicyData, Lists.where_true}
 use Rattle.gx_history.specs.{declared.record.{Asked.Asked, RecordData.RecordData, Request.Request, Step.Step, Verdict.Verdict}, InForce.{is_closed, line_by, line_of, login_or_logout_of}, Payloads.{asked_by as meant_by, request_of, unreadable_request}, Requests.{asked_of, is_granted}, Verdicts.verdict}
 use Rattle.gx_laws.proofs.{Logouts_granted.logouts_are_granted, InForce_next.line_of_next, Orders_added.granted_is, Matches_end.settled_adds}
-use Rattle.gx_access_gate.specs.{Gates.GateData, Asking.{asked_by, gate_after_step}, Logins.login_answered, Matches.{settled_gate, IsSettling}, declared.outcome.LoginAnswer.LoginAnswer}
-use Rattle.gx_connection.specs.{declared.connection.Connection.Connection, Serving.IsOnLine, Steps.{login_asked_at, login_told}, Transcript.{Run, on_event, first_told, logged_in, run_of_login, run_of_matching, run_of_sending, run_of_pull, connection_after_tick, on_packet, run_opened, run_of}}
+use Rattle.gx_access_gate.specs.{Gates.GateData, Asking.{request_on_line_1, gate_after_step}, Logins.login_answered, Matches.{settled_gate, IsSettling}, declared.outcome.LoginAnswer.LoginAnswer}
+use Rattle.gx_connection.specs.{declared.connection.Connection.Connection, Serving.IsOnLine, Steps.{login_asked_at, login_told}, Transcript.{Run, on_event, first_told, logged_in, run_of_login, run_of_matching, run_of_sending, run_of_pull, connection_after_tick, run_on_packet, run_opened, run_of}}
 use Rattle.gx_session.specs.{declared.session.Phase.{Phase, TheVariants.{Fresh, Waiting, On, Abandoned, Done}}, Events.is_over, Table.turn}
 use Rattle.gx_session.specs.Happenings as happens
 use Rattle.gx_connection.proofs.{Connection_keeps.{all_keep, handled_by, taken}, Sent_next.{left_of, left_is, rejects, never}}
 
 -- No rule forbids the Logout of a user who is on this line.
 pub logout_is_granted : (policy : PolicyData) (history : List RecordData) (user : UserName) (moment : ℕ) → line_of history (folded_user user) ≡ Some 1
-    → verdict policy history (asked_by user Request.Logout moment) ≡ Verdict.Granted
+    → verdict policy history (request_on_line_1 user Request.Logout moment) ≡ Verdict.Granted
 logout_is_granted policy history user moment on = logouts_are_granted policy history 1 (folded_user user) moment on
 
 -- What changes no line.
@@ -51,10 +51,10 @@ after_step_is : (gate : GateData) (a : Asked) (user : UserName) → line_of (gat
 after_step_is gate a user = ap (λ (found : Option RecordData). line_of (option_map_or (λ (r : RecordData). gate.records ++ r ∷ []) found gate.records) user) (left_is gate a)
 
 payload_keeps : (gate : GateData) (user asker : UserName) (payload : List ℕ) (moment : ℕ)
-    → line_of (gate_after_step gate (asked_by asker (request_of payload) moment)).records user ≡ line_of gate.records user
+    → line_of (gate_after_step gate (request_on_line_1 asker (request_of payload) moment)).records user ≡ line_of gate.records user
 unfolding left_of
 payload_keeps gate user asker payload moment =
-    let a : Asked = asked_by asker (request_of payload) moment in
+    let a : Asked = request_on_line_1 asker (request_of payload) moment in
     after_step_is gate a user
     ∙ stays gate.records (left_of gate a) user
     (puts_nowhere user a (is_granted (verdict gate.policy gate.records a)) (payload_puts_nowhere user a payload))
@@ -166,10 +166,10 @@ taken_keeps gate c packet on =
     let met = run_of_matching row.gate row.connection c.coming in
     pull_keeps met.gate met.connection c.coming (match_keeps row.gate row.connection c.coming (row_keeps gate c packet c.coming on))
 
-packet_keeps : (run : Run) (packet : ClientPacket) → RunIsOnLine run → RunIsOnLine (on_packet run packet)
+packet_keeps : (run : Run) (packet : ClientPacket) → RunIsOnLine run → RunIsOnLine (run_on_packet run packet)
 packet_keeps run packet on = handled_by RunIsOnLine run.gate run.connection packet (λ over. on) (λ goes. taken_keeps run.gate run.connection packet on)
 
-pub packets_keep : (packets : List ClientPacket) (run : Run) → RunIsOnLine run → RunIsOnLine (fold on_packet run packets)
+pub packets_keep : (packets : List ClientPacket) (run : Run) → RunIsOnLine run → RunIsOnLine (fold run_on_packet run packets)
 packets_keep packets run on = all_keep RunIsOnLine packet_keeps packets run on
 
 pub nobody_is_on : (gate : GateData) (first : ℕ) → RunIsOnLine (run_opened gate first)

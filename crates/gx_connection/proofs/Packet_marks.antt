@@ -2,25 +2,25 @@
 use Rattle.std.proofs.Common.{◌≡◌, ℕ, Bool, true, false, cond, [], ◌∷◌, length, refl, sym, ap, ◌∙◌, append_assoc, append-nil}
 use Rattle.gx_soup.specs.declared.packet.ClientPacket.{ClientPacket}
 use Rattle.gx_devices.proofs.Run_stopped.{Rises, first_same, last_of}
-use Rattle.gx_session.specs.{Events.{is_on, is_over}, Sending.reports_text}
-use Rattle.gx_connection.specs.{Piping.{mark, row_of, matched_of, reported_of, told_of, pull_marks, packet_marks}, Transcript.{Run, run_at, nothing_written, and_then, connection_after_tick, run_of_login, run_of_matching, unsent_reports, run_of_sending, run_of_pull, run_of_packet, on_packet}}
+use Rattle.gx_session.specs.{Events.{is_phase_on, is_over}, Sending.reports_text}
+use Rattle.gx_connection.specs.{Piping.{mark, row_of, matched_of, reported_of, pulled_of, pull_marks, packet_marks}, Transcript.{Run, run_at, nothing_written, and_then, connection_after_tick, run_of_login, run_of_matching, unsent_reports, run_of_sending, run_of_pull, run_of_packet, run_on_packet}}
 use Rattle.gx_connection.proofs.Records_next.{event_on, row_on, match_on}
 
 abbrev told : Run → ℕ → Run
-told run moment = told_of (reported_of run) (length (unsent_reports run.gate run.connection)) moment
+told run moment = pulled_of (reported_of run) (length (unsent_reports run.gate run.connection)) moment
 
 abbrev met : Run → ClientPacket → Run
 met run packet = matched_of (row_of run packet) run.connection.coming
 
 pull_ends : (run : Run) (moment : ℕ) → last_of (mark run) (pull_marks run moment) ≡ mark (and_then run (λ g c. run_of_pull g c moment))
 unfolding run_of_pull run_of_sending
-pull_ends run moment = by (is_on run.connection.session.phase)
+pull_ends run moment = by (is_phase_on run.connection.session.phase)
   where
     by : (b : Bool) → last_of (mark run) (cond b (mark (reported_of run) ∷ mark (told run moment) ∷ []) []) ≡ mark (and_then run (λ g c. cond b (run_of_sending g c (unsent_reports g c) moment) (nothing_written g c)))
     by true = ap (λ t. mark (run_at (told run moment).gate (told run moment).connection t)) (append_assoc run.text (reports_text (unsent_reports run.gate run.connection)) _)
     by false = ap (λ t. mark (run_at run.gate run.connection t)) (sym (append-nil run.text))
 
-pub packet_ends : (run : Run) (packet : ClientPacket) → last_of (mark run) (packet_marks run packet) ≡ mark (on_packet run packet)
+pub packet_ends : (run : Run) (packet : ClientPacket) → last_of (mark run) (packet_marks run packet) ≡ mark (run_on_packet run packet)
 unfolding run_of_packet run_of_matching
 packet_ends run packet = by (is_over run.connection.session.phase)
   where
@@ -30,7 +30,7 @@ packet_ends run packet = by (is_over run.connection.session.phase)
     by false = pull_ends (met run packet) run.connection.coming ∙ ap (λ t. mark (run_at (run_of_pull (met run packet).gate (met run packet).connection run.connection.coming).gate (run_of_pull (met run packet).gate (met run packet).connection run.connection.coming).connection t)) (append_assoc run.text (run_of_login run.gate (connection_after_tick run.connection) packet run.connection.coming).text (run_of_pull (met run packet).gate (met run packet).connection run.connection.coming).text)
 
 pull_rises : (run : Run) (moment : ℕ) → Rises (mark run) (pull_marks run moment)
-pull_rises run moment = by (is_on run.connection.session.phase)
+pull_rises run moment = by (is_phase_on run.connection.session.phase)
   where
     by : (b : Bool) → Rises (mark run) (cond b (mark (reported_of run) ∷ mark (told run moment) ∷ []) [])
     by true = (

@@ -2,10 +2,10 @@
 use Rattle.std.proofs.Common.{◌≡◌, ℕ, ◌⊎◌, inl, inr, Bool, true, false, cond, List, refl, sym, ap, ◌∙◌, Some, None, Result, Ok, Err, OnOk, OnErr}
 use Rattle.gx_history.specs.{Reserved.is_never_refused, declared.«record».Request.Request}
 use Rattle.gx_devices.specs.Pieces.{Flow}
-use Rattle.gx_access_gate.specs.{Gates.GateData, Asking.asked_by}
+use Rattle.gx_access_gate.specs.{Gates.GateData, Asking.request_on_line_1}
 use Rattle.gx_units.specs.declared.names.UserName.{UserName}
-use Rattle.gx_connection.specs.{declared.{connection.Connection.Connection, fault.PipeFault.PipeFault}, Piping.{gate_at, is_never_refused_in, logout_of, IsLeaving, IsCutShort, IsAfterFault}, Serving.IsOnLine, Transcript.{nothing_written, gate_after_act, after_step, step_of, on_event, run_of, run_to_its_end}}
-use Rattle.gx_session.specs.{declared.{event.{Next.Next, Reply.Reply}, session.Phase.{Phase, TheVariants.{Fresh, On}}}, Events.{asks_step, is_on}, Happenings.Happening, Table.{SessionData, row_in, turn}}
+use Rattle.gx_connection.specs.{declared.{connection.Connection.Connection, fault.PipeFault.PipeFault}, Piping.{gate_at, is_never_refused_in, logout_of, IsLeaving, IsPipeCutShort, IsAfterFault}, Serving.IsOnLine, Transcript.{nothing_written, gate_after_act, gate_after_asked, step_of, on_event, run_of, run_to_its_end}}
+use Rattle.gx_session.specs.{declared.{event.{Next.Next, Reply.Reply}, session.Phase.{Phase, TheVariants.{Fresh, On}}}, Events.{asks_step, is_phase_on}, Happenings.Happening, Table.{SessionData, row_in, turn}}
 use Rattle.gx_session.specs.Happenings as happens
 use Rattle.gx_connection.proofs.Line_kept.{logout_is_granted, run_keeps}
 
@@ -27,7 +27,7 @@ leaves_as_at_the_end gate c e reply moment k m r =
 
 -- a user who is on is logged out, and nobody else
 abbrev AsksAtTheEnd : Phase → Next → Type 0
-AsksAtTheEnd p next = ((next ≡ Next.Logout) × (is_on p ≡ true)) ⊎ ((asks_step next ≡ false) × (is_on p ≡ false))
+AsksAtTheEnd p next = ((next ≡ Next.Logout) × (is_phase_on p ≡ true)) ⊎ ((asks_step next ≡ false) × (is_phase_on p ≡ false))
 
 row_asks : (p : Phase) (silent quiet : Bool) → AsksAtTheEnd p (row_in p happens.End silent quiet).reply.next
 row_asks On silent quiet = inl (refl, refl)
@@ -42,11 +42,11 @@ no_step user moment (Next.Act request) h = cc
 no_step user moment Next.Logout h = cc
 no_step user moment next h = refl
 
-logout_when_on : (c : Connection) → is_on c.session.phase ≡ true → logout_of c ≡ Some (asked_by c.user Request.Logout c.session.heard)
-logout_when_on c on = ap (λ b. cond b (Some (asked_by c.user Request.Logout c.session.heard)) None) on
+logout_when_on : (c : Connection) → is_phase_on c.session.phase ≡ true → logout_of c ≡ Some (request_on_line_1 c.user Request.Logout c.session.heard)
+logout_when_on c on = ap (λ b. cond b (Some (request_on_line_1 c.user Request.Logout c.session.heard)) None) on
 
-no_logout : (c : Connection) → is_on c.session.phase ≡ false → logout_of c ≡ None
-no_logout c off = ap (λ b. cond b (Some (asked_by c.user Request.Logout c.session.heard)) None) off
+no_logout : (c : Connection) → is_phase_on c.session.phase ≡ false → logout_of c ≡ None
+no_logout c off = ap (λ b. cond b (Some (request_on_line_1 c.user Request.Logout c.session.heard)) None) off
 
 -- what the session asks for at the end is that logout
 step_at_the_end : (c : Connection) (next : Next) → AsksAtTheEnd c.session.phase next → step_of c.user c.session.heard next ≡ logout_of c
@@ -64,7 +64,7 @@ refused_as_at_the_end gate c e reply moment k m r not =
     ∙ not
 
 -- the logout of a user who is on is never refused
-never_refused_when_on : (gate : GateData) (c : Connection) → IsOnLine gate c → is_on c.session.phase ≡ true → is_never_refused_in gate (logout_of c) ≡ true
+never_refused_when_on : (gate : GateData) (c : Connection) → IsOnLine gate c → is_phase_on c.session.phase ≡ true → is_never_refused_in gate (logout_of c) ≡ true
 never_refused_when_on gate c line on =
     ap (is_never_refused_in gate) (logout_when_on c on)
     ∙ ap (is_never_refused Request.Logout) (logout_is_granted gate.policy gate.records c.user c.session.heard (line on))
@@ -73,48 +73,48 @@ pub run_may_leave : (gate : GateData) (first : ℕ) (bytes : List ℕ) → (run_
     → is_never_refused_in (run_of gate first bytes).gate (logout_of (run_of gate first bytes).connection) ≡ true
 run_may_leave gate first bytes on =
     let run = run_of gate first bytes in
-    never_refused_when_on run.gate run.connection (run_keeps gate first bytes) (ap is_on on)
+    never_refused_when_on run.gate run.connection (run_keeps gate first bytes) (ap is_phase_on on)
 
 -- a logout that was refused is none of a user who is on line 1
-pub not_refused : {Q : Type 0} (gate : GateData) (c : Connection) → IsOnLine gate c → is_on c.session.phase ≡ true → is_never_refused_in gate (logout_of c) ≡ false → Q
+pub not_refused : {Q : Type 0} (gate : GateData) (c : Connection) → IsOnLine gate c → is_phase_on c.session.phase ≡ true → is_never_refused_in gate (logout_of c) ≡ false → Q
 not_refused gate c line on not = let clash : true ≡ false = sym (never_refused_when_on gate c line on) ∙ not in cc
 
 -- so at the end of its input a connection is not cut short by the logout
-pub never_cut : (flow : Flow) (before : GateData) (first : ℕ) (fault : PipeFault) (now : GateData) (state : Connection) (gate : GateData) (c : Connection) → IsOnLine gate c → is_on c.session.phase ≡ true → is_never_refused_in gate (logout_of c) ≡ false
-    → IsCutShort flow before first fault now state
+pub never_cut : (flow : Flow) (before : GateData) (first : ℕ) (fault : PipeFault) (now : GateData) (state : Connection) (gate : GateData) (c : Connection) → IsOnLine gate c → is_phase_on c.session.phase ≡ true → is_never_refused_in gate (logout_of c) ≡ false
+    → IsPipeCutShort flow before first fault now state
 never_cut flow before first fault now state gate c line on not = not_refused gate c line on not
 
-is_on_at : (p : Phase) (next : Next) → AsksAtTheEnd p next → asks_step next ≡ true → is_on p ≡ true
+is_on_at : (p : Phase) (next : Next) → AsksAtTheEnd p next → asks_step next ≡ true → is_phase_on p ≡ true
 is_on_at p next (inl asks) h = asks.1
 is_on_at p next (inr asks) h = let clash : true ≡ false = sym h ∙ asks.0 in cc
 
 -- a step is asked for where a user is on
-pub asks_as_at_the_end : (c : Connection) (e : Happening) (reply : Reply) (moment : ℕ) → IsLeaving e → reply ≡ (turn c.session e moment).reply → asks_step reply.next ≡ true → is_on c.session.phase ≡ true
+pub asks_as_at_the_end : (c : Connection) (e : Happening) (reply : Reply) (moment : ℕ) → IsLeaving e → reply ≡ (turn c.session e moment).reply → asks_step reply.next ≡ true → is_phase_on c.session.phase ≡ true
 unfolding turn
 asks_as_at_the_end c e reply moment k r asks =
     is_on_at c.session.phase (turn c.session happens.End moment).reply.next (end_asks c.session moment)
     (ap asks_step (sym (ap (λ (x : Reply). x.next) r ∙ row_leaves c.session.phase e _ _ k)) ∙ asks)
 
 -- a user who is on where the run stopped, as the connection has it
-on_there : (now : GateData) (state c : Connection) (gate : GateData) → now ≡ gate → logout_of state ≡ logout_of c → IsOnLine gate c → is_on state.session.phase ≡ true → is_never_refused_in now (logout_of state) ≡ true
-on_there now state c gate same out line on = by (is_on c.session.phase) refl
+on_there : (now : GateData) (state c : Connection) (gate : GateData) → now ≡ gate → logout_of state ≡ logout_of c → IsOnLine gate c → is_phase_on state.session.phase ≡ true → is_never_refused_in now (logout_of state) ≡ true
+on_there now state c gate same out line on = by (is_phase_on c.session.phase) refl
   where
-    by : (b : Bool) → is_on c.session.phase ≡ b → is_never_refused_in now (logout_of state) ≡ true
+    by : (b : Bool) → is_phase_on c.session.phase ≡ b → is_never_refused_in now (logout_of state) ≡ true
     by true there = ap (λ g. is_never_refused_in g (logout_of state)) same ∙ ap (is_never_refused_in gate) out ∙ never_refused_when_on gate c line there
     by false off =
-        let clash : Some (asked_by state.user Request.Logout state.session.heard) ≡ None = sym (logout_when_on state on) ∙ out ∙ no_logout c off in
+        let clash : Some (request_on_line_1 state.user Request.Logout state.session.heard) ≡ None = sym (logout_when_on state on) ∙ out ∙ no_logout c off in
         cc
 
 -- the first packets bring nobody on who is not on line 1
-pub line_there : (flow : Flow) (before : GateData) (first : ℕ) (fault : PipeFault) (now : GateData) (state : Connection) → (f : IsCutShort flow before first fault now state)
+pub line_there : (flow : Flow) (before : GateData) (first : ℕ) (fault : PipeFault) (now : GateData) (state : Connection) → (f : IsPipeCutShort flow before first fault now state)
     → IsOnLine (gate_at f.broken.cut.stop) f.broken.cut.stop.known.connection
 line_there flow before first fault now state f = f.broken.cut.there.line (run_keeps before first f.bytes)
 
-pub after_either : {T E : Type 0} (flow : Flow) (before : GateData) (first : ℕ) (now after : GateData) (state state' : Connection) (fault : PipeFault) (r : Result T E) → IsCutShort flow before first fault now state → OnOk r (after ≡ (run_to_its_end (nothing_written now state)).gate)
-    → OnErr r (is_on state.session.phase ≡ true) → OnErr r (is_never_refused_in now (logout_of state) ≡ false) → IsAfterFault flow before first after fault
+pub after_either : {T E : Type 0} (flow : Flow) (before : GateData) (first : ℕ) (now after : GateData) (state state' : Connection) (fault : PipeFault) (r : Result T E) → IsPipeCutShort flow before first fault now state → OnOk r (after ≡ (run_to_its_end (nothing_written now state)).gate)
+    → OnErr r (is_phase_on state.session.phase ≡ true) → OnErr r (is_never_refused_in now (logout_of state) ≡ false) → IsAfterFault flow before first after fault
 unfolding run_to_its_end on_event
 after_either flow before first now after state state' fault (Ok x) f ok on not =
-    record { now = now; state = state; cut = f; logged_out = ok ∙ ap (after_step now) (step_at_the_end state (turn state.session happens.End state.session.heard).reply.next (end_asks state.session state.session.heard)) }
+    record { now = now; state = state; cut = f; logged_out = ok ∙ ap (gate_after_asked now) (step_at_the_end state (turn state.session happens.End state.session.heard).reply.next (end_asks state.session state.session.heard)) }
 after_either flow before first now after state state' fault (Err x) f ok on not =
     let stop = f.broken.cut.stop in
     let clash : true ≡ false = sym (on_there now state stop.known.connection (gate_at stop) f.broken.cut.there.gate f.broken.cut.there.logout (line_there flow before first fault now state f) on) ∙ not in

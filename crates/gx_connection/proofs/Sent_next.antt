@@ -7,8 +7,8 @@ use Rattle.gx_soup.specs.{declared.packet.{LoginRequest.LoginRequest, ClientPack
 use Rattle.gx_policy.specs.declared.{policy.PolicyData.PolicyData, rule_name.RuleName.{RuleName, TheVariants.{L3}}}
 use Rattle.gx_history.specs.{declared.{«record».{Asked.Asked, RecordData.RecordData, Step.Step, Verdict.Verdict}, report.Report.Report}, Asking.facts, Logins.first_wanted, Payloads.request_of, Requests.asked_of, Rules.forbids, Streams.{stream, reports_of}, Verdicts.{next, verdict, facts_now, moment_of}, InForce.is_closed}
 use Rattle.gx_laws.proofs.{Requests_judged.{left_by_request, is_no_bar}, Streams_next.stream_next, Matches_end.settled_adds}
-use Rattle.gx_access_gate.specs.{Gates.GateData, Matches.settled_gate, Logins.login_answered, declared.outcome.LoginAnswer.LoginAnswer, Asking.{asked_by, gate_after_step}}
-use Rattle.gx_connection.specs.{declared.connection.Connection.Connection, Serving.{reports_owed, IsServed, HasOnlyMatched, Serves}, Steps.{login_asked_at, login_told}, Transcript.{Run, with_text, on_event, first_told, logged_in, run_of_login, run_of_sending, run_of_matching, run_of_pull, run_of_packet, on_packet, run_opened, run_of, later}}
+use Rattle.gx_access_gate.specs.{Gates.GateData, Matches.settled_gate, Logins.login_answered, declared.outcome.LoginAnswer.LoginAnswer, Asking.{request_on_line_1, gate_after_step}}
+use Rattle.gx_connection.specs.{declared.connection.Connection.Connection, Serving.{reports_owed, IsServed, HasOnlyMatched, Serves}, Steps.{login_asked_at, login_told}, Transcript.{Run, with_text, on_event, first_told, logged_in, run_of_login, run_of_sending, run_of_matching, run_of_pull, run_of_packet, run_on_packet, run_opened, run_of, later}}
 use Rattle.gx_session.specs.{declared.session.Phase.{Phase, TheVariants.{Fresh, Waiting, On, Abandoned}}, Table.turn, Sending.{report_packet, reports_text}}
 use Rattle.gx_session.specs.Happenings as happens
 use Rattle.gx_connection.proofs.Connection_keeps.{all_keep}
@@ -221,14 +221,14 @@ after_login before gate text heard spoke login coming moment none (LoginAnswer.R
 
 -- what was sent by one packet more
 serves_next : (before gate : GateData) (text : List ℕ) (phase : Phase) (heard spoke : ℕ) (user : UserName) (number coming : ℕ) (packet : ClientPacket) → Serves before gate text user number phase
-    → ServesRun before (on_packet (record { gate = gate; connection = record { session = record { phase = phase; heard = heard; sent = spoke }; user = user; next = number; coming = coming }; text = text }) packet)
+    → ServesRun before (run_on_packet (record { gate = gate; connection = record { session = record { phase = phase; heard = heard; sent = spoke }; user = user; next = number; coming = coming }; text = text }) packet)
 unfolding run_of_packet run_of_login on_event turn logged_in run_of_matching run_of_pull
 serves_next before gate text Fresh heard spoke user number coming (ClientPacket.Login login) h =
     after_login before gate text (max heard coming) spoke login (later coming) coming h.1 _ refl
 serves_next before gate text Fresh heard spoke user number coming ClientPacket.Heartbeat h = (only_matched before gate coming h.0, append-nil text ∙ h.1)
 serves_next before gate text Fresh heard spoke user number coming ClientPacket.Debug h = (only_matched before gate coming h.0, append-nil text ∙ h.1)
 serves_next before gate text On heard spoke user number coming (ClientPacket.Data payload) h =
-    let a = asked_by user (request_of payload) coming in
+    let a = request_on_line_1 user (request_of payload) coming in
     let more = step_settled_on gate a coming user in
     after_pull before (settled_gate (gate_after_step gate a) coming) text [] (max heard coming) spoke user number (later coming) coming
     (served_more gate (settled_gate (gate_after_step gate a) coming) text user number more.0 h refl more.1)

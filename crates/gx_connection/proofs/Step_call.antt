@@ -3,7 +3,7 @@ use Rattle.std.specs.Prelude.{is_ok}
 use Rattle.std.proofs.{lemmas.Bool.cases_lt, Common.{◌≡◌, ℕ, ◌<◌, ◌≤◌, ◌⊎◌, inl, inr, subst, Bool, true, false, Result, Ok, Err, is_some, List, [], ◌∷◌, ◌++◌, length, Option, None, Some, option_map, refl, sym, ap, ◌∙◌, append-nil}}
 use Rattle.gx_history.specs.{Verdicts.{day_limit, next, verdict, IsLegal}, declared.record.{Asked.Asked, RecordData.RecordData, Step.Step, Verdict.Verdict}, Matching.matching, Settling.AddsMatches}
 use Rattle.gx_access_gate.specs.{Steps.IsFull, declared.outcome.{StepFault.StepFault, LoginAnswer.LoginAnswer, Outcome.Outcome}, Gates.{GateData, left_by, matched_by}, Matches.{matching_of, next_match, with_match, settled_gate, IsSettling}, Logins.login_answered, Asking.gate_after_step}
-use Rattle.gx_connection.specs.{Faults.{fault_of_step, HasRoom, IsToldFull}, Piping.{cause_of, Refused}, Steps.{login_asked_at, login_told}}
+use Rattle.gx_connection.specs.{Faults.{fault_of_step, HasRoomForRecord, IsToldFull}, Piping.{cause_of, Refused}, Steps.{login_asked_at, login_told}}
 use Rattle.gx_devices.specs.Stopping.{AreFewer}
 use Rattle.gx_units.specs.{Spelling.folded_user, declared.names.UserName.UserName}
 use Rattle.gx_soup.specs.declared.packet.LoginRequest.{LoginRequest}
@@ -34,9 +34,9 @@ settled_here before now after moment (Some o) none s left e = cc
 -- want of memory is told only where the day has room, and a full day only where it has none
 told_by : (gate after : GateData) (e : StepFault) → after ≡ gate → (e ≡ StepFault.OutOfMemory → day_limit ≤ length gate.records → ⊥) → (e ≡ StepFault.DayFull → day_limit ≤ length gate.records) → IsToldFull after e
 told_by gate after StepFault.DayFull same room day = subst IsFull (sym same) (day refl)
-told_by gate after StepFault.OutOfMemory same room day = subst HasRoom (sym same) (by (cases_lt (length gate.records) day_limit))
+told_by gate after StepFault.OutOfMemory same room day = subst HasRoomForRecord (sym same) (by (cases_lt (length gate.records) day_limit))
   where
-    by : (length gate.records < day_limit) ⊎ (day_limit ≤ length gate.records) → HasRoom gate
+    by : (length gate.records < day_limit) ⊎ (day_limit ≤ length gate.records) → HasRoomForRecord gate
     by (inl h) = h
     by (inr h) = absurd (room refl h)
 
@@ -58,7 +58,7 @@ match_told_full {T} {F} gate after found none r e same idle full day is = told_b
 
 -- as a connection tells it
 pub of_step : (gate after : GateData) (e : StepFault) → after ≡ gate → IsToldFull after e → Refused (cause_of (fault_of_step e)) gate.records
-of_step gate after StepFault.OutOfMemory same h = subst HasRoom same h
+of_step gate after StepFault.OutOfMemory same h = subst HasRoomForRecord same h
 of_step gate after StepFault.DayFull same h = subst IsFull same h
 
 -- where an order waits, one record more is to be made

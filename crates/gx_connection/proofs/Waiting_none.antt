@@ -6,7 +6,7 @@ use Rattle.gx_soup.specs.{declared.packet.{ClientPacket.ClientPacket}, Packets.p
 use Rattle.gx_history.specs.{declared.record.{Asked.Asked, RecordData.RecordData, Step.Step}, InForce.is_closed, Settling.{most_matches, settled_records}, Verdicts.{next, IsLegal}}
 use Rattle.gx_laws.proofs.{Runs_legal.step_left, Runs_orderly.{IsOrderly, legal_is_orderly, orderly_next}, Matches_end.{match_is_orderly, settled_keeps, settled_ends}}
 use Rattle.gx_access_gate.specs.{Gates.GateData, Matches.{matching_of, settled_gate}, Asking.gate_after_step}
-use Rattle.gx_connection.specs.{declared.connection.Connection.Connection, Transcript.{Run, opened_at, nothing_written, on_event, run_of_login, run_of_matching, run_of_sending, run_of_pull, connection_after_tick, on_packet, run_of}}
+use Rattle.gx_connection.specs.{declared.connection.Connection.Connection, Transcript.{Run, opened_at, nothing_written, on_event, run_of_login, run_of_matching, run_of_sending, run_of_pull, connection_after_tick, run_on_packet, run_of}}
 use Rattle.gx_session.specs.{declared.{session.Phase.{Phase, TheVariants.{On, Abandoned, Done}}}, Events.{is_over}, Happenings.Happening, Table.turn}
 use Rattle.gx_session.specs.Happenings as happens
 use Rattle.gx_connection.proofs.Connection_keeps.{all_keep, handled_by, match_keeps, pull_keeps, row_keeps, taken}
@@ -81,14 +81,14 @@ quiet_taken gate c packet orderly =
     let q = quiet_pull row.gate row.connection c.coming (row_keeps HasOrder stepped_has_order settled_has_order gate (connection_after_tick c) packet c.coming orderly) in
     record { has_order = q.has_order; none_waits = q.none_waits }
 
-quiet_next : (run : Run) (packet : ClientPacket) → HasOrder run.gate → IsQuiet (on_packet run packet)
+quiet_next : (run : Run) (packet : ClientPacket) → HasOrder run.gate → IsQuiet (run_on_packet run packet)
 quiet_next run packet orderly =
     let q = handled_by IsQuiet run.gate run.connection packet (λ over. record { has_order = orderly; none_waits = λ alive. cc }) (λ goes. quiet_taken run.gate run.connection packet orderly) in
     record { has_order = q.has_order; none_waits = q.none_waits }
 
-none_waits_after : (gate : GateData) (c : Connection) (packets : List ClientPacket) → HasOrder gate → 0 < length packets → IsQuiet (fold on_packet (nothing_written gate c) packets)
+none_waits_after : (gate : GateData) (c : Connection) (packets : List ClientPacket) → HasOrder gate → 0 < length packets → IsQuiet (fold run_on_packet (nothing_written gate c) packets)
 none_waits_after gate c [] orderly some = absurd (omega arith)
-none_waits_after gate c (packet ∷ packets) orderly some = all_keep IsQuiet (λ run p quiet. quiet_next run p quiet.has_order) packets (on_packet (nothing_written gate c) packet) (quiet_next (nothing_written gate c) packet orderly)
+none_waits_after gate c (packet ∷ packets) orderly some = all_keep IsQuiet (λ run p quiet. quiet_next run p quiet.has_order) packets (run_on_packet (nothing_written gate c) packet) (quiet_next (nothing_written gate c) packet orderly)
 
 -- after one packet at least, where the session goes on, no order waits
 pub none_waits : (gate : GateData) (first : ℕ) (bytes : List ℕ) → IsLegal gate.policy gate.records → 0 < length (packets_of bytes).packets

@@ -6,12 +6,12 @@ use Rattle.gx_access_gate.specs.{Gates.GateData, declared.outcome.StepFault.Step
 use Rattle.gx_connection.specs.declared.fault.PipeFault.{PipeFault}
 
 -- the gate holds fewer records than a day may have
-abbrev pub HasRoom : GateData → Type 0
-HasRoom gate = length gate.records < day_limit
+abbrev pub HasRoomForRecord : GateData → Type 0
+HasRoomForRecord gate = length gate.records < day_limit
 
 -- a step is refused for a full day exactly where the gate holds as many records as a day may have
 abbrev pub IsToldFull : GateData → StepFault → Type 0
-IsToldFull gate StepFault.OutOfMemory = HasRoom gate
+IsToldFull gate StepFault.OutOfMemory = HasRoomForRecord gate
 IsToldFull gate StepFault.DayFull = day_limit ≤ length gate.records
 
 -- what is told of a fault

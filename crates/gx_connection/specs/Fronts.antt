@@ -16,7 +16,7 @@ IsLogoutAtMost (r ∷ []) = IsLogout r
 IsLogoutAtMost (r ∷ others) = ⊥
 
 -- the first of all these records, and behind them at most that of a granted Logout
-pub record AreFirst (records all : List RecordData) : Type 0 where
+pub record AreFirstWithLogout (records all : List RecordData) : Type 0 where
   pub first : List RecordData
   pub others : List RecordData
   pub whole : all ≡ first ++ others

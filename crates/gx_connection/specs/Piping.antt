@@ -3,17 +3,17 @@ use Rattle.std.specs.{Option.option_map_or, Prelude.{◌≡◌, ℕ, ◌+◌, �
 use Rattle.gx_soup.specs.{declared.packet.ClientPacket.ClientPacket, Packets.packets_of, Feeding.{Held, HasRead}}
 use Rattle.gx_history.specs.{InForce.is_closed, Verdicts.day_limit, declared.{report.Report.Report, «record».{Asked.Asked, RecordData.RecordData, Request.Request}}}
 use Rattle.gx_policy.specs.declared.policy.PolicyData.{PolicyData}
-use Rattle.gx_access_gate.specs.{Gates.GateData, Matches.{settled_gate, IsSettling}, Steps.never_refuses, Asking.asked_by}
+use Rattle.gx_access_gate.specs.{Gates.GateData, Matches.{settled_gate, IsSettling}, Steps.never_refuses, Asking.request_on_line_1}
 use Rattle.gx_devices.specs.{Devices.IsFront, Pieces.{Flow, Way, TakesPiece, IsBroken, IsWhole, IsWholeOfAll}, Stopping.{AreFewer, Cause, Memory, Full, Writing, Reading, IsOfSending, Mark}}
 use Rattle.gx_devices.specs.Pieces as pieces
-use Rattle.gx_connection.specs.{declared.{connection.Connection.Connection, fault.PipeFault.PipeFault}, Serving.IsOnLine, Transcript.{Run, after_step, and_then, unsent_reports, connection_after_tick, on_event, run_of_login, run_of_matching, reports_written, on_packet, run_of, pipe, is_ended}}
-use Rattle.gx_session.specs.{Events.{asks_step, is_on, is_over}, Happenings.Happening, Table.turn}
+use Rattle.gx_connection.specs.{declared.{connection.Connection.Connection, fault.PipeFault.PipeFault}, Serving.IsOnLine, Transcript.{Run, gate_after_asked, and_then, unsent_reports, connection_after_tick, on_event, run_of_login, run_of_matching, reports_written, run_on_packet, run_of, pipe, is_ended}}
+use Rattle.gx_session.specs.{Events.{asks_step, is_phase_on, is_over}, Happenings.Happening, Table.turn}
 use Rattle.gx_session.specs.Happenings as happens
 
 -- the logout of the user who is logged in, at the moment of the last packet heard
 abbrev pub logout_of : Connection → Option Asked
 logout_of connection =
-    if is_on connection.session.phase then Some (asked_by connection.user Request.Logout connection.session.heard) else None
+    if is_phase_on connection.session.phase then Some (request_on_line_1 connection.user Request.Logout connection.session.heard) else None
 
 -- a granted Kill or Logout, which no gate refuses
 abbrev pub is_never_refused_in : GateData → Option Asked → Bool
@@ -114,14 +114,14 @@ abbrev pub reported_of : Run → Run
 reported_of run = and_then run (λ g c. reports_written g c (unsent_reports g c))
 
 -- and once the session is told of these
-abbrev pub told_of : Run → ℕ → ℕ → Run
-told_of run count moment = and_then run (λ g c. on_event g c (happens.Pulled count (is_closed g.records)) moment)
+abbrev pub pulled_of : Run → ℕ → ℕ → Run
+pulled_of run count moment = and_then run (λ g c. on_event g c (happens.Pulled count (is_closed g.records)) moment)
 
 -- the marks of a pull, where a user is logged in
 abbrev pub pull_marks : Run → ℕ → List (Mark RecordData RunState)
 pull_marks run moment =
-    if is_on run.connection.session.phase
-    then mark (reported_of run) ∷ mark (told_of (reported_of run) (length (unsent_reports run.gate run.connection)) moment) ∷ [] else []
+    if is_phase_on run.connection.session.phase
+    then mark (reported_of run) ∷ mark (pulled_of (reported_of run) (length (unsent_reports run.gate run.connection)) moment) ∷ [] else []
 
 -- the marks of a packet; none once the session is over
 abbrev pub packet_marks : Run → ClientPacket → List (Mark RecordData RunState)
@@ -133,28 +133,28 @@ packet_marks run packet =
     mark row ∷ mark met ∷ pull_marks met run.connection.coming)
 
 -- Where a run stopped, as the gate and the connection show it. A user who is on is on line 1, so that his Logout is granted.
-pub record IsThere (now : GateData) (state : Connection) (run : Run) (stop : Mark RecordData RunState) : Type 0 where
+pub record IsRunThere (now : GateData) (state : Connection) (run : Run) (stop : Mark RecordData RunState) : Type 0 where
   pub gate : now ≡ gate_at stop
   pub logout : logout_of state ≡ logout_of stop.known.connection
   pub line : IsOnLine run.gate run.connection → IsOnLine (gate_at stop) stop.known.connection
 
 -- a fault stopped the run on the way through these marks
-abbrev pub StopsIn : Run → List (Mark RecordData RunState) → PipeFault → GateData → Connection → (output left : Option (List ℕ)) → Type 0
-StopsIn run marks fault now state output left = pieces.StopsIn Refused (IsThere now state run) (cause_of fault) (mark run) marks output left
+abbrev pub PipeStopsIn : Run → List (Mark RecordData RunState) → PipeFault → GateData → Connection → (output left : Option (List ℕ)) → Type 0
+PipeStopsIn run marks fault now state output left = pieces.StopsIn Refused (IsRunThere now state run) (cause_of fault) (mark run) marks output left
 
 -- the way of a connection through its packets
 abbrev pub way : GateData → ℕ → Way Run ClientPacket RecordData RunState
-way before first = record { mark = mark; marks = packet_marks; next = on_packet; so_far = run_of before first }
+way before first = record { mark = mark; marks = packet_marks; next = run_on_packet; so_far = run_of before first }
 
 -- after these bytes: what the feeder keeps, the gate and the connection
-pub record Follows (before : GateData) (first : ℕ) (now : GateData) (state : Connection) (feeder : Held) (bytes : List ℕ) : Type 0 where
+pub record IsRunAfter (before : GateData) (first : ℕ) (now : GateData) (state : Connection) (feeder : Held) (bytes : List ℕ) : Type 0 where
   pub reads : HasRead feeder bytes
   pub gate : now ≡ (run_of before first bytes).gate
   pub connection : state ≡ (run_of before first bytes).connection
 
 -- a piece was read and answered; no further byte counts where it is over
 pub record Exchanged (before : GateData) (first : ℕ) (bytes piece : List ℕ) (over : Bool) (now : GateData) (state : Connection) (feeder : Held) (output left : Option (List ℕ)) : Type 0 where
-  pub takes : TakesPiece (way before first) (Follows before first now state feeder) bytes piece output left
+  pub takes : TakesPiece (way before first) (IsRunAfter before first now state feeder) bytes piece output left
   pub ends : over ≡ is_ended before first (bytes ++ piece)
 
 -- of the bytes read, the gate and the bytes written are the pipe's; the bytes read are all, or no further one counts
@@ -171,15 +171,15 @@ ArePackets bytes piece packets = (packets_of (bytes ++ piece)).packets ≡ (pack
 
 -- of the packets that end in a piece, one was cut short
 abbrev pub Broken : GateData → ℕ → (bytes piece : List ℕ) → PipeFault → GateData → Connection → (output left : Option (List ℕ)) → Type 0
-Broken before first bytes piece fault now state output left = IsBroken (way before first) Refused (IsThere now state) ArePackets (cause_of fault) bytes piece output left
+Broken before first bytes piece fault now state output left = IsBroken (way before first) Refused (IsRunThere now state) ArePackets (cause_of fault) bytes piece output left
 
 -- the packets of what was read before the last piece were answered whole; among the packets of that piece the run stopped
-abbrev pub IsCutShort : Flow → (before : GateData) (first : ℕ) → PipeFault → GateData → Connection → Type 0
-IsCutShort flow before first fault now state = pieces.IsCutShort (way before first) Refused (IsThere now state) ArePackets (cause_of fault) flow
+abbrev pub IsPipeCutShort : Flow → (before : GateData) (first : ℕ) → PipeFault → GateData → Connection → Type 0
+IsPipeCutShort flow before first fault now state = pieces.IsCutShort (way before first) Refused (IsRunThere now state) ArePackets (cause_of fault) flow
 
 -- After a fault: where the run stopped, and the gate with the logout of the user who was logged in there.
 pub record IsAfterFault (flow : Flow) (before : GateData) (first : ℕ) (after : GateData) (fault : PipeFault) : Type 0 where
   pub now : GateData
   pub state : Connection
-  pub cut : IsCutShort flow before first fault now state
-  pub logged_out : after ≡ after_step now (logout_of state)
+  pub cut : IsPipeCutShort flow before first fault now state
+  pub logged_out : after ≡ gate_after_asked now (logout_of state)

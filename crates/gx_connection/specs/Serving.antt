@@ -5,7 +5,7 @@ use Rattle.gx_soup.specs.{declared.packet.ServerPacket.ServerPacket, Writing.ser
 use Rattle.gx_history.specs.{declared.{«record».RecordData.RecordData, report.Report.Report}, InForce.line_of, Requests.asked_of, Streams.stream}
 use Rattle.gx_access_gate.specs.Gates.{GateData}
 use Rattle.gx_connection.specs.{declared.connection.Connection.Connection, Transcript.Run}
-use Rattle.gx_session.specs.{declared.session.Phase.{Phase, TheVariants.{Fresh, Waiting, On, Abandoned, Done}}, Sending.reports_text, Events.is_on}
+use Rattle.gx_session.specs.{declared.session.Phase.{Phase, TheVariants.{Fresh, Waiting, On, Abandoned, Done}}, Sending.reports_text, Events.is_phase_on}
 
 -- the user's stream
 abbrev pub reports_owed : GateData → UserName → List Report
@@ -45,4 +45,4 @@ WasServed run = IsServed run.gate run.text run.connection.user run.connection.ne
 
 -- where a user is on, the gate has him on line 1
 abbrev pub IsOnLine : GateData → Connection → Type 0
-IsOnLine gate c = IsTrue (is_on c.session.phase) → line_of gate.records (folded_user c.user) ≡ Some 1
+IsOnLine gate c = IsTrue (is_phase_on c.session.phase) → line_of gate.records (folded_user c.user) ≡ Some 1

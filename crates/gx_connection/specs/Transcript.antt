@@ -3,9 +3,9 @@ use Rattle.std.specs.{Prelude.{ℕ, ◌+◌, ◌-◌, ◌^◌, min, max, Bool, �
 use Rattle.gx_units.specs.{Spelling.folded_user, declared.names.UserName.UserName}
 use Rattle.gx_soup.specs.{declared.packet.{LoginRequest.LoginRequest, ClientPacket.ClientPacket}, Packets.packets_of}
 use Rattle.gx_history.specs.{declared.{«record».{Asked.Asked, Request.Request}, report.Report.Report}, InForce.is_closed, Streams.stream}
-use Rattle.gx_access_gate.specs.{Gates.GateData, Matches.settled_gate, declared.outcome.LoginAnswer.LoginAnswer, Asking.{asked_by, gate_after_step}}
+use Rattle.gx_access_gate.specs.{Gates.GateData, Matches.settled_gate, declared.outcome.LoginAnswer.LoginAnswer, Asking.{request_on_line_1, gate_after_step}}
 use Rattle.gx_connection.specs.{declared.connection.Connection.Connection, Steps.{login_asked_at, login_told}}
-use Rattle.gx_session.specs.{declared.event.Next.Next, Events.{is_on, is_over, login_in}, Happenings.Happening, Sending.{control_text, reports_text}, Table.{Turn, turn, new_session}}
+use Rattle.gx_session.specs.{declared.event.Next.Next, Events.{is_phase_on, is_over, login_in}, Happenings.Happening, Sending.{control_text, reports_text}, Table.{SessionTurn, turn, new_session}}
 use Rattle.gx_session.specs.Happenings as happens
 
 -- a gate, a connection, and the text written so far
@@ -30,19 +30,19 @@ and_then run more = with_text run.text (more run.gate run.connection)
 
 -- the step that the session asks for, if it asks for one
 abbrev pub step_of : UserName → ℕ → Next → Option Asked
-step_of user moment (Next.Act request) = Some (asked_by user request moment)
-step_of user moment Next.Logout = Some (asked_by user Request.Logout moment)
+step_of user moment (Next.Act request) = Some (request_on_line_1 user request moment)
+step_of user moment Next.Logout = Some (request_on_line_1 user Request.Logout moment)
 step_of user moment other = None
 
 -- the gate after this step, if there is one
-abbrev pub after_step : GateData → Option Asked → GateData
-after_step gate found = option_map_or (gate_after_step gate) found gate
+abbrev pub gate_after_asked : GateData → Option Asked → GateData
+gate_after_asked gate found = option_map_or (gate_after_step gate) found gate
 
 -- the gate once the step that the session asks for is made
 abbrev pub gate_after_act : GateData → UserName → ℕ → Next → GateData
-gate_after_act gate user moment next = after_step gate (step_of user moment next)
+gate_after_act gate user moment next = gate_after_asked gate (step_of user moment next)
 
-abbrev pub by_turn : GateData → Connection → ℕ → Turn → Run
+abbrev pub by_turn : GateData → Connection → ℕ → SessionTurn → Run
 by_turn gate connection moment t = record {
   gate = gate_after_act gate connection.user moment t.reply.next;
   connection = record connection { session = t.session };
@@ -97,7 +97,7 @@ unsent_reports gate connection = drop (connection.next - 1) (stream gate.policy 
 -- where a user is logged in, all reports that are there are sent
 unfoldable pub run_of_pull : GateData → Connection → ℕ → Run
 run_of_pull gate connection moment =
-    if is_on connection.session.phase then run_of_sending gate connection (unsent_reports gate connection) moment else nothing_written gate connection
+    if is_phase_on connection.session.phase then run_of_sending gate connection (unsent_reports gate connection) moment else nothing_written gate connection
 
 -- one moment later, as long as 64 bits hold it
 abbrev pub later : ℕ → ℕ
@@ -114,8 +114,8 @@ run_of_packet gate connection packet =
     else and_then (run_of_login gate (connection_after_tick connection) packet connection.coming) (λ g c.
     and_then (run_of_matching g c connection.coming) (λ g c. run_of_pull g c connection.coming))
 
-abbrev pub on_packet : Run → ClientPacket → Run
-on_packet run packet = and_then run (λ g c. run_of_packet g c packet)
+abbrev pub run_on_packet : Run → ClientPacket → Run
+run_on_packet run packet = and_then run (λ g c. run_of_packet g c packet)
 
 -- a name of spaces, before a login
 abbrev pub nobody : UserName
@@ -130,7 +130,7 @@ run_opened gate first = nothing_written gate (opened_at first)
 
 -- after all packets of the bytes, each one moment later than the one before
 unfoldable pub run_of : GateData → ℕ → List ℕ → Run
-run_of gate first bytes = fold on_packet (run_opened gate first) (packets_of bytes).packets
+run_of gate first bytes = fold run_on_packet (run_opened gate first) (packets_of bytes).packets
 
 -- at a fault of the input or at its end, at the last packet's moment, a user who is logged in is logged out
 unfoldable pub run_to_its_end : Run → Run

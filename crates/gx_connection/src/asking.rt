@@ -3,7 +3,7 @@
 ghost use Rattle.std.specs.Prelude.{◌≡◌, IsTrue, IfOk, IfErr, OnOk, OnErr};
 ghost use Rattle.gx_history.specs.Showing.{has_its_first};
 ghost use Rattle.gx_access_gate.specs.Asking.{gate_after_step};
-ghost use Rattle.gx_connection.specs.{Faults.IsToldFull, Steps.{login_of, login_asked_at, login_told}};
+ghost use Rattle.gx_connection.specs.{Faults.IsToldFull, Steps.{login_request_of, login_asked_at, login_told}};
 
 use gx_access_gate::{AccessGate, LoginAnswer, StepFault, asked};
 use gx_history::record::Request;
@@ -12,7 +12,7 @@ use gx_soup::LoginRequest;
 /// The request of a Login Request packet: whether the password and the session name are right, and the
 /// number wanted.
 fn login_request<G: AccessGate>(gate: &G, login: &LoginRequest) -> Request
-    ensures asked { result ≡ login_of (G.seen gate.now) login.now }
+    ensures asked { result ≡ login_request_of (G.state gate.now) login.now }
     ensures first { IsTrue (has_its_first result) }
 {
     gate.login_request(login.user, login.password, login.session, login.wanted)
@@ -26,12 +26,13 @@ pub(crate) fn login_step<G: AccessGate>(
     login: &LoginRequest,
 ) -> Result<LoginAnswer, StepFault>
     ensures gate { OnOk result
-        (G.seen gate.new
-        ≡ gate_after_step (G.seen gate.old) (login_asked_at (G.seen gate.old) moment login.now)) }
+        (G.state gate.new
+        ≡ gate_after_step (G.state gate.old)
+        (login_asked_at (G.state gate.old) moment login.now)) }
     ensures told { IfOk result
-        (λ answer. answer ≡ login_told (G.seen gate.old) moment login.now) }
-    ensures err { OnErr result (G.seen gate.new ≡ G.seen gate.old) }
-    ensures full { IfErr result (IsToldFull (G.seen gate.new)) }
+        (λ answer. answer ≡ login_told (G.state gate.old) moment login.now) }
+    ensures err { OnErr result (G.state gate.new ≡ G.state gate.old) }
+    ensures full { IfErr result (IsToldFull (G.state gate.new)) }
 {
     let request = login_request(gate, login);
     let outcome = gate.step(asked(login.user, request, moment))?;

@@ -6,9 +6,9 @@ ghost use Rattle.gx_history.specs.{declared.record.RecordData.RecordData, Showin
 ghost use Rattle.gx_access_gate.specs.Matches.{settled_gate, IsSettling};
 ghost use Rattle.gx_soup.specs.declared.packet.ClientPacket.TheVariants.{Data};
 ghost use Rattle.gx_devices.specs.Stopping.{AreFewer, Mark};
-ghost use Rattle.gx_session.specs.{declared.{event.Next.TheVariants.Act, session.Phase.TheVariants.Waiting}, Events.{CanAsk, asks_step, is_on}, Happenings.happening_of, Table.turn};
+ghost use Rattle.gx_session.specs.{declared.{event.Next.TheVariants.Act, session.Phase.TheVariants.Waiting}, Events.{CanAsk, asks_step, is_phase_on}, Happenings.happening_of, Table.turn};
 ghost use Rattle.gx_session.specs.Happenings as happens;
-ghost use Rattle.gx_connection.specs.{Faults.{IsToldFull, IsTold, fault_of_step}, Piping.{is_never_refused_in, logout_of, IsRunOf, IsTaken, IsGivenUp, IsTurnGivenUp, RunState, pull_marks, packet_marks, StopsIn, GivesAll, IsLeaving, IsMatchedInPart}, Transcript.{gate_after_act, nothing_written, step_of, on_event, logged_in, run_of_login, run_of_matching, run_of_pull, run_of_packet, opened_at, run_at, run_to_its_end, first_told}};
+ghost use Rattle.gx_connection.specs.{Faults.{IsToldFull, IsTold, fault_of_step}, Piping.{is_never_refused_in, logout_of, IsRunOf, IsTaken, IsGivenUp, IsTurnGivenUp, RunState, pull_marks, packet_marks, PipeStopsIn, GivesAll, IsLeaving, IsMatchedInPart}, Transcript.{gate_after_act, nothing_written, step_of, on_event, logged_in, run_of_login, run_of_matching, run_of_pull, run_of_packet, opened_at, run_at, run_to_its_end, first_told}};
 
 use crate::asking::login_step;
 use crate::fault::PipeFault;
@@ -54,13 +54,13 @@ fn ask_gate<G: AccessGate>(
 ) -> Result<(), StepFault>
     requires { CanAsk next }
     ensures ok { OnOk result
-        (G.seen gate.new ≡ gate_after_act (G.seen gate.old) user moment next) }
-    ensures err { OnErr result (G.seen gate.new ≡ G.seen gate.old) }
+        (G.state gate.new ≡ gate_after_act (G.state gate.old) user moment next) }
+    ensures err { OnErr result (G.state gate.new ≡ G.state gate.old) }
     ensures step { OnErr result (IsTrue (asks_step next)) }
     ensures sure { OnErr result
-        (IsFalse (is_never_refused_in (G.seen gate.old) (step_of user moment next))) }
-    ensures grows { length (G.seen gate.old).records ≤ length (G.seen gate.new).records }
-    ensures full { IfErr result (IsToldFull (G.seen gate.new)) }
+        (IsFalse (is_never_refused_in (G.state gate.old) (step_of user moment next))) }
+    ensures grows { length (G.state gate.old).records ≤ length (G.state gate.new).records }
+    ensures full { IfErr result (IsToldFull (G.state gate.new)) }
 {
     match next {
         Next::Act(request) => {
@@ -87,9 +87,9 @@ fn make_step<G: AccessGate>(
     requires { IsTrue (has_its_first request) }
     ensures name { IfOk result (λ name. name ≡ folded_user user) }
     ensures ok { OnOk result
-        (G.seen gate.new ≡ gate_after_act (G.seen gate.old) user moment (Act request)) }
-    ensures err { OnErr result (G.seen gate.new ≡ G.seen gate.old) }
-    ensures full { IfErr result (IsToldFull (G.seen gate.new)) }
+        (G.state gate.new ≡ gate_after_act (G.state gate.old) user moment (Act request)) }
+    ensures err { OnErr result (G.state gate.new ≡ G.state gate.old) }
+    ensures full { IfErr result (IsToldFull (G.state gate.new)) }
 {
     let asked = asked(user, request, moment);
     let name = asked.user;
@@ -102,12 +102,12 @@ fn make_step<G: AccessGate>(
 /// A refused step ends it. Those before it stand, and an order still waits.
 #[tactic(auto, using(crate::proofs::Step_call::match_told_full))]
 fn settle<G: AccessGate>(gate: &mut G, moment: u64) -> Result<(), StepFault>
-    ensures ok { OnOk result (G.seen gate.new ≡ settled_gate (G.seen gate.old) moment) }
-    ensures err { OnErr result (IsSettling (G.seen gate.old) moment (G.seen gate.new)) }
+    ensures ok { OnOk result (G.state gate.new ≡ settled_gate (G.state gate.old) moment) }
+    ensures err { OnErr result (IsSettling (G.state gate.old) moment (G.state gate.new)) }
     ensures left { OnErr result (AreFewer
-        (G.seen gate.new).records (settled_gate (G.seen gate.old) moment).records) }
-    ensures grows { length (G.seen gate.old).records ≤ length (G.seen gate.new).records }
-    ensures full { IfErr result (IsToldFull (G.seen gate.new)) }
+        (G.state gate.new).records (settled_gate (G.state gate.old) moment).records) }
+    ensures grows { length (G.state gate.old).records ≤ length (G.state gate.new).records }
+    ensures full { IfErr result (IsToldFull (G.state gate.new)) }
 {
     loop {
         // What this ensures: the records are those of a legal day, on which what settles rests.
@@ -148,14 +148,15 @@ impl Connection {
         ensures next { IfOk result (λ next.
             next ≡ (turn self.old.session (happening_of event.entry) moment).reply.next) }
         ensures ok { OnOk result (IsTaken
-            (on_event (G.seen gate.old) self.old (happening_of event.entry) moment)
-            (G.seen gate.new) self.new
+            (on_event (G.state gate.old) self.old (happening_of event.entry) moment)
+            (G.state gate.new) self.new
             (W.contents writer.old.device) (W.contents writer.new.device)) }
-        ensures err { IfErr result (λ fault. IsTurnGivenUp (G.seen gate.old) self.old
-            (happening_of event.entry) moment fault (G.seen gate.new) self.new
+        ensures err { IfErr result (λ fault. IsTurnGivenUp (G.state gate.old) self.old
+            (happening_of event.entry) moment fault (G.state gate.new) self.new
             (W.contents writer.old.device) (W.contents writer.new.device)) }
         ensures kept { OnOk result (writer.new.failed ≡ writer.old.failed) }
-        ensures told { IfErr result (IsTold writer.old.failed writer.new.failed (G.seen gate.new)) }
+        ensures told { IfErr result
+            (IsTold writer.old.failed writer.new.failed (G.state gate.new)) }
     {
         let mut session = self.session;
         let reply = session.on(event, moment);
@@ -179,15 +180,16 @@ impl Connection {
     ) -> Result<(), PipeFault>
         requires waiting { self.old.session.phase ≡ Waiting }
         requires writer { writer.old.failed < 2 ^ 64 - 1 }
-        ensures ok { OnOk result (IsTaken (logged_in (G.seen gate.old) self.old login.now moment)
-            (G.seen gate.new) self.new
+        ensures ok { OnOk result (IsTaken (logged_in (G.state gate.old) self.old login.now moment)
+            (G.state gate.new) self.new
             (W.contents writer.old.device) (W.contents writer.new.device)) }
-        ensures err { IfErr result (λ fault. IsGivenUp (G.seen gate.old) self.old
-            (logged_in (G.seen gate.old) self.old login.now moment) fault
-            (G.seen gate.new) self.new
+        ensures err { IfErr result (λ fault. IsGivenUp (G.state gate.old) self.old
+            (logged_in (G.state gate.old) self.old login.now moment) fault
+            (G.state gate.new) self.new
             (W.contents writer.old.device) (W.contents writer.new.device)) }
         ensures kept { OnOk result (writer.new.failed ≡ writer.old.failed) }
-        ensures told { IfErr result (IsTold writer.old.failed writer.new.failed (G.seen gate.new)) }
+        ensures told { IfErr result
+            (IsTold writer.old.failed writer.new.failed (G.state gate.new)) }
     {
         let answer = login_step(gate, moment, login)?;
         self.user = login.user;
@@ -208,15 +210,16 @@ impl Connection {
     ) -> Result<(), PipeFault>
         requires { writer.old.failed < 2 ^ 64 - 1 }
         ensures ok { OnOk result (IsTaken
-            (run_of_login (G.seen gate.old) self.old packet.now moment)
-            (G.seen gate.new) self.new
+            (run_of_login (G.state gate.old) self.old packet.now moment)
+            (G.state gate.new) self.new
             (W.contents writer.old.device) (W.contents writer.new.device)) }
-        ensures err { IfErr result (λ fault. IsGivenUp (G.seen gate.old) self.old
-            (run_of_login (G.seen gate.old) self.old packet.now moment) fault
-            (G.seen gate.new) self.new
+        ensures err { IfErr result (λ fault. IsGivenUp (G.state gate.old) self.old
+            (run_of_login (G.state gate.old) self.old packet.now moment) fault
+            (G.state gate.new) self.new
             (W.contents writer.old.device) (W.contents writer.new.device)) }
         ensures kept { OnOk result (writer.new.failed ≡ writer.old.failed) }
-        ensures told { IfErr result (IsTold writer.old.failed writer.new.failed (G.seen gate.new)) }
+        ensures told { IfErr result
+            (IsTold writer.old.failed writer.new.failed (G.state gate.new)) }
     {
         let next = self.turn(alloc, gate, Event::Packet(packet), moment, writer)?;
         match (next, packet) {
@@ -234,16 +237,16 @@ impl Connection {
         payload: &Payload,
         moment: u64,
     ) -> Result<UserName, StepFault>
-        requires { IsTrue (is_on self.old.session.phase) }
+        requires { IsTrue (is_phase_on self.old.session.phase) }
         ensures name { IfOk result (λ name. name ≡ folded_user self.new.user) }
         ensures ok { OnOk result (IsRunOf
-            (on_event (G.seen gate.old) self.old (happens.Packet (Data payload.now)) moment)
-            (G.seen gate.new) self.new) }
+            (on_event (G.state gate.old) self.old (happens.Packet (Data payload.now)) moment)
+            (G.state gate.new) self.new) }
         ensures err { OnErr result
-            ((G.seen gate.new ≡ G.seen gate.old) × (self.new ≡ self.old)) }
+            ((G.state gate.new ≡ G.state gate.old) × (self.new ≡ self.old)) }
         ensures asks { IsTrue (asks_step
             (turn self.old.session (happens.Packet (Data payload.now)) moment).reply.next) }
-        ensures full { IfErr result (IsToldFull (G.seen gate.new)) }
+        ensures full { IfErr result (IsToldFull (G.state gate.new)) }
     {
         let mut session = self.session;
         let request = session.take_message(payload, moment);
@@ -265,15 +268,16 @@ impl Connection {
         requires { writer.old.failed < 2 ^ 64 - 1 }
         ensures name { IfOk result (λ name. name ≡ folded_user self.new.user) }
         ensures ok { OnOk result (IsTaken
-            (run_of_login (G.seen gate.old) self.old packet.now moment)
-            (G.seen gate.new) self.new
+            (run_of_login (G.state gate.old) self.old packet.now moment)
+            (G.state gate.new) self.new
             (W.contents writer.old.device) (W.contents writer.new.device)) }
-        ensures err { IfErr result (λ fault. IsGivenUp (G.seen gate.old) self.old
-            (run_of_login (G.seen gate.old) self.old packet.now moment) fault
-            (G.seen gate.new) self.new
+        ensures err { IfErr result (λ fault. IsGivenUp (G.state gate.old) self.old
+            (run_of_login (G.state gate.old) self.old packet.now moment) fault
+            (G.state gate.new) self.new
             (W.contents writer.old.device) (W.contents writer.new.device)) }
         ensures kept { OnOk result (writer.new.failed ≡ writer.old.failed) }
-        ensures told { IfErr result (IsTold writer.old.failed writer.new.failed (G.seen gate.new)) }
+        ensures told { IfErr result
+            (IsTold writer.old.failed writer.new.failed (G.state gate.new)) }
     {
         match packet {
             ClientPacket::Data(payload) if self.session.is_on() => {
@@ -290,10 +294,10 @@ impl Connection {
     #[tactic(auto, using(crate::proofs::Step_call::of_matching), unfolding(crate::specs::Transcript::run_of_matching))]
     fn match_orders<G: AccessGate>(&self, gate: &mut G, moment: u64) -> Result<(), StepFault>
         ensures ok { OnOk result
-            (G.seen gate.new ≡ (run_of_matching (G.seen gate.old) self.now moment).gate) }
+            (G.state gate.new ≡ (run_of_matching (G.state gate.old) self.now moment).gate) }
         ensures err { IfErr result (λ refused. IsMatchedInPart
-            (G.seen gate.old) self.now moment (fault_of_step refused) (G.seen gate.new)) }
-        ensures full { IfErr result (IsToldFull (G.seen gate.new)) }
+            (G.state gate.old) self.now moment (fault_of_step refused) (G.state gate.new)) }
+        ensures full { IfErr result (IsToldFull (G.state gate.new)) }
     {
         if self.session.is_over() {
             return Ok(());
@@ -312,7 +316,7 @@ impl Connection {
     ) -> Result<Reached, OutOfMemory>
         requires { name ≡ folded_user self.now.user }
         ensures all { IfOk result (λ r.
-            GivesAll (G.seen gate.now) self.now list.new.items r.next r.ended) }
+            GivesAll (G.state gate.now) self.now list.new.items r.next r.ended) }
     {
         let reached = gate.put_reports(name, near, self.next, u64::MAX, list)?;
         let _few = count_of(list.as_slice());
@@ -331,14 +335,15 @@ impl Connection {
     ) -> Result<(), PipeFault>
         requires { writer.old.failed < 2 ^ 64 - 1 }
         ensures ok { OnOk result (IsTaken
-            (on_event (G.seen gate.old) self.old (happens.Pulled pull.count pull.ended) moment)
-            (G.seen gate.new) self.new
+            (on_event (G.state gate.old) self.old (happens.Pulled pull.count pull.ended) moment)
+            (G.state gate.new) self.new
             (W.contents writer.old.device) (W.contents writer.new.device)) }
-        ensures err { IfErr result (λ fault. IsTurnGivenUp (G.seen gate.old) self.old
-            (happens.Pulled pull.count pull.ended) moment fault (G.seen gate.new) self.new
+        ensures err { IfErr result (λ fault. IsTurnGivenUp (G.state gate.old) self.old
+            (happens.Pulled pull.count pull.ended) moment fault (G.state gate.new) self.new
             (W.contents writer.old.device) (W.contents writer.new.device)) }
         ensures kept { OnOk result (writer.new.failed ≡ writer.old.failed) }
-        ensures told { IfErr result (IsTold writer.old.failed writer.new.failed (G.seen gate.new)) }
+        ensures told { IfErr result
+            (IsTold writer.old.failed writer.new.failed (G.state gate.new)) }
     {
         let Pull { count, ended } = pull;
         if ended {
@@ -362,17 +367,18 @@ impl Connection {
     ) -> Result<(), PipeFault>
         requires name { name ≡ folded_user self.old.user }
         requires writer { writer.old.failed < 2 ^ 64 - 1 }
-        ensures ok { OnOk result (IsTaken (run_of_pull (G.seen gate.old) self.old moment)
-            (G.seen gate.new) self.new
+        ensures ok { OnOk result (IsTaken (run_of_pull (G.state gate.old) self.old moment)
+            (G.state gate.new) self.new
             (W.contents writer.old.device) (W.contents writer.new.device)) }
         ensures err { IfErr result (λ fault. (text : List ℕ)
-            (more : List (Mark RecordData RunState)) → StopsIn
-            (run_at (G.seen gate.old) self.old text)
-            (pull_marks (run_at (G.seen gate.old) self.old text) moment ++ more)
-            fault (G.seen gate.new) self.new
+            (more : List (Mark RecordData RunState)) → PipeStopsIn
+            (run_at (G.state gate.old) self.old text)
+            (pull_marks (run_at (G.state gate.old) self.old text) moment ++ more)
+            fault (G.state gate.new) self.new
             (W.contents writer.old.device) (W.contents writer.new.device)) }
         ensures kept { OnOk result (writer.new.failed ≡ writer.old.failed) }
-        ensures told { IfErr result (IsTold writer.old.failed writer.new.failed (G.seen gate.new)) }
+        ensures told { IfErr result
+            (IsTold writer.old.failed writer.new.failed (G.state gate.new)) }
     {
         if !self.session.is_on() {
             return Ok(());
@@ -403,17 +409,18 @@ impl Connection {
         writer: &mut CallCounter<W>,
     ) -> Result<(), PipeFault>
         requires { writer.old.failed < 2 ^ 64 - 1 }
-        ensures ok { OnOk result (IsTaken (run_of_packet (G.seen gate.old) self.old packet.now)
-            (G.seen gate.new) self.new
+        ensures ok { OnOk result (IsTaken (run_of_packet (G.state gate.old) self.old packet.now)
+            (G.state gate.new) self.new
             (W.contents writer.old.device) (W.contents writer.new.device)) }
         ensures err { IfErr result (λ fault. (text : List ℕ)
-            (more : List (Mark RecordData RunState)) → StopsIn
-            (run_at (G.seen gate.old) self.old text)
-            (packet_marks (run_at (G.seen gate.old) self.old text) packet.now ++ more)
-            fault (G.seen gate.new) self.new
+            (more : List (Mark RecordData RunState)) → PipeStopsIn
+            (run_at (G.state gate.old) self.old text)
+            (packet_marks (run_at (G.state gate.old) self.old text) packet.now ++ more)
+            fault (G.state gate.new) self.new
             (W.contents writer.old.device) (W.contents writer.new.device)) }
         ensures kept { OnOk result (writer.new.failed ≡ writer.old.failed) }
-        ensures told { IfErr result (IsTold writer.old.failed writer.new.failed (G.seen gate.new)) }
+        ensures told { IfErr result
+            (IsTold writer.old.failed writer.new.failed (G.state gate.new)) }
     {
         if self.session.is_over() {
             return Ok(());
@@ -436,14 +443,15 @@ impl Connection {
     ) -> Result<(), StepFault>
         requires { IsLeaving (happening_of event) }
         ensures ok { OnOk result
-            (G.seen gate.new ≡ (run_to_its_end (nothing_written (G.seen gate.old) self.old)).gate) }
+            (G.state gate.new
+            ≡ (run_to_its_end (nothing_written (G.state gate.old) self.old)).gate) }
         ensures err { OnErr result
-            ((G.seen gate.new ≡ G.seen gate.old) × (self.new ≡ self.old)) }
-        ensures asks { OnErr result (IsTrue (is_on self.old.session.phase)) }
+            ((G.state gate.new ≡ G.state gate.old) × (self.new ≡ self.old)) }
+        ensures asks { OnErr result (IsTrue (is_phase_on self.old.session.phase)) }
         ensures sure { OnErr result
-            (IsFalse (is_never_refused_in (G.seen gate.old) (logout_of self.old))) }
-        ensures grows { length (G.seen gate.old).records ≤ length (G.seen gate.new).records }
-        ensures full { IfErr result (IsToldFull (G.seen gate.new)) }
+            (IsFalse (is_never_refused_in (G.state gate.old) (logout_of self.old))) }
+        ensures grows { length (G.state gate.old).records ≤ length (G.state gate.new).records }
+        ensures full { IfErr result (IsToldFull (G.state gate.new)) }
     {
         let moment = self.session.heard();
         let mut session = self.session;

@@ -6,7 +6,7 @@ ghost use Rattle.gx_history.specs.Verdicts.{IsLegal};
 ghost use Rattle.gx_access_gate.specs.{Gates.GateData, Matches.matching_of};
 ghost use Rattle.gx_devices.specs.{Devices.IsFront, Pieces.Flow};
 ghost use Rattle.gx_session.specs.{declared.session.Phase.TheVariants.{Fresh, On}, Events.is_over};
-ghost use Rattle.gx_connection.specs.{declared.fault.PipeFault.PipeFault, Fronts.AreFirst, Piping.{is_never_refused_in, logout_of, IsAfterFault}, Serving.{WasServed, IsSilent, IsOnLine}, Transcript.{run_of, pipe, is_ended}};
+ghost use Rattle.gx_connection.specs.{declared.fault.PipeFault.PipeFault, Fronts.AreFirstWithLogout, Piping.{is_never_refused_in, logout_of, IsAfterFault}, Serving.{WasServed, IsSilent, IsOnLine}, Transcript.{run_of, pipe, is_ended}};
 
 /// Before a login is answered nothing is written, and no step is made but matching steps: each record that is there then
 /// and was not before is of one.
@@ -58,5 +58,6 @@ pub fn faults_leave_a_front()
         → IfSome flow.input (λ all. IsFront flow.output flow.written (pipe before first all).text) }
     ensures records { (flow : Flow) (before : GateData) (first : ℕ) (after : GateData)
         (fault : PipeFault) → IsAfterFault flow before first after fault
-        → IfSome flow.input (λ all. AreFirst after.records (pipe before first all).gate.records) }
+        → IfSome flow.input (λ all.
+        AreFirstWithLogout after.records (pipe before first all).gate.records) }
 {}

@@ -3,7 +3,7 @@
 ghost use Rattle.std.specs.Prelude.{◌≡◌, ℕ, ◌-◌, ◌^◌, ◌<◌, ◌≤◌, List, fold, IfOk, IfErr, IsErrOf, OnOk};
 ghost use Rattle.gx_access_gate.specs.Gates.{GateData};
 ghost use Rattle.gx_devices.specs.{Devices.{IsUnfailing, counted_on}, Pieces.flow_of, Stopping.trail};
-ghost use Rattle.gx_connection.specs.{Faults.{IsTold, IsToldRightly}, Piping.{IsTaken, StopsIn, IsCutShort, Follows, Exchanged, Broken, IsAfterFault, IsLeaving, IsTranscript, IsPipe, packet_marks}, Transcript.{run_at, nothing_written, on_packet, opened_at}};
+ghost use Rattle.gx_connection.specs.{Faults.{IsTold, IsToldRightly}, Piping.{IsTaken, PipeStopsIn, IsPipeCutShort, IsRunAfter, Exchanged, Broken, IsAfterFault, IsLeaving, IsTranscript, IsPipe, packet_marks}, Transcript.{run_at, nothing_written, run_on_packet, opened_at}};
 ghost use Rattle.gx_session.specs.Happenings.{happening_of};
 
 use crate::connection::Connection;
@@ -29,16 +29,18 @@ fn take_packets<G: AccessGate, W: Write>(
 ) -> Result<(), PipeFault>
     requires { writer.old.failed < 2 ^ 64 - 1 }
     ensures ok { OnOk result
-        (IsTaken (fold on_packet (nothing_written (G.seen gate.old) connection.old) packets.now)
-        (G.seen gate.new) connection.new
+        (IsTaken
+        (fold run_on_packet (nothing_written (G.state gate.old) connection.old) packets.now)
+        (G.state gate.new) connection.new
         (W.contents writer.old.device) (W.contents writer.new.device)) }
-    ensures err { IfErr result (λ fault. (text : List ℕ) → StopsIn
-        (run_at (G.seen gate.old) connection.old text)
-        (trail packet_marks on_packet (run_at (G.seen gate.old) connection.old text) packets.now)
-        fault (G.seen gate.new) connection.new
+    ensures err { IfErr result (λ fault. (text : List ℕ) → PipeStopsIn
+        (run_at (G.state gate.old) connection.old text)
+        (trail packet_marks run_on_packet
+        (run_at (G.state gate.old) connection.old text) packets.now)
+        fault (G.state gate.new) connection.new
         (W.contents writer.old.device) (W.contents writer.new.device)) }
     ensures kept { OnOk result (writer.new.failed ≡ writer.old.failed) }
-    ensures told { IfErr result (IsTold writer.old.failed writer.new.failed (G.seen gate.new)) }
+    ensures told { IfErr result (IsTold writer.old.failed writer.new.failed (G.state gate.new)) }
 {
     let mut left = packets.len();
     for packet in packets {
@@ -60,15 +62,15 @@ fn exchange<G: AccessGate, W: Write>(
 ) -> Result<bool, PipeFault>
     requires { writer.old.failed < 2 ^ 64 - 1 }
     ensures ok { IfOk result (λ over. (before : GateData) (first : ℕ) (bytes : List ℕ)
-        → Follows before first (G.seen gate.old) connection.old feeder.old bytes
-        → Exchanged before first bytes piece.now over (G.seen gate.new) connection.new feeder.new
+        → IsRunAfter before first (G.state gate.old) connection.old feeder.old bytes
+        → Exchanged before first bytes piece.now over (G.state gate.new) connection.new feeder.new
         (W.contents writer.old.device) (W.contents writer.new.device)) }
     ensures err { IfErr result (λ fault. (before : GateData) (first : ℕ) (bytes : List ℕ)
-        → Follows before first (G.seen gate.old) connection.old feeder.old bytes
-        → Broken before first bytes piece.now fault (G.seen gate.new) connection.new
+        → IsRunAfter before first (G.state gate.old) connection.old feeder.old bytes
+        → Broken before first bytes piece.now fault (G.state gate.new) connection.new
         (W.contents writer.old.device) (W.contents writer.new.device)) }
     ensures kept { OnOk result (writer.new.failed ≡ writer.old.failed) }
-    ensures told { IfErr result (IsTold writer.old.failed writer.new.failed (G.seen gate.new)) }
+    ensures told { IfErr result (IsTold writer.old.failed writer.new.failed (G.state gate.new)) }
 {
     let fault = feeder.feed_into(piece, &mut room.packets)?;
     take_packets(
@@ -97,17 +99,17 @@ fn serve<G: AccessGate, R: Read, W: Write>(
     requires writer { writer.old.failed < 2 ^ 64 - 1 }
     ensures pipe { OnOk result (IsTranscript
         (flow_of R.remaining W.contents reader.old reader.new writer.old writer.new)
-        (G.seen gate.old) first (G.seen gate.new)) }
-    ensures cut { IfErr result (λ fault. IsCutShort
+        (G.state gate.old) first (G.state gate.new)) }
+    ensures cut { IfErr result (λ fault. IsPipeCutShort
         (flow_of R.remaining W.contents reader.old reader.new writer.old writer.new)
-        (G.seen gate.old) first fault (G.seen gate.new) connection.new) }
+        (G.state gate.old) first fault (G.state gate.new) connection.new) }
     ensures unfailing { OnOk result (IsUnfailing
         reader.old.failed reader.new.failed writer.old.failed writer.new.failed) }
     ensures endless { IsErrOf result PipeFault.Endless
         → counted_on reader.old.calls reads ≤ reader.new.calls }
     ensures told { IfErr result (IsToldRightly
         reader.old.failed reader.new.failed writer.old.failed writer.new.failed
-        (G.seen gate.new)) }
+        (G.state gate.new)) }
 {
     let mut feeder = Feeder::new(alloc);
     let mut room = Room::new(alloc);
@@ -169,22 +171,22 @@ pub fn run_pipe_within<G: AccessGate, R: Read, W: Write>(
     requires writer { writer.old.failed < 2 ^ 64 - 1 }
     ensures pipe { OnOk result (IsTranscript
         (flow_of R.remaining W.contents reader.old reader.new writer.old writer.new)
-        (G.seen gate.old) first (G.seen gate.new)) }
+        (G.state gate.old) first (G.state gate.new)) }
     // Where the reader tells its bytes: the gate and the bytes written are the pipe's of all.
     ensures all { OnOk result (IsPipe
         (flow_of R.remaining W.contents reader.old reader.new writer.old writer.new)
-        (G.seen gate.old) first (G.seen gate.new)) }
+        (G.state gate.old) first (G.state gate.new)) }
     // The first packets were taken and answered whole; at a failed read or an endless input, all.
     ensures fault { IfErr result (λ fault. IsAfterFault
         (flow_of R.remaining W.contents reader.old reader.new writer.old writer.new)
-        (G.seen gate.old) first (G.seen gate.new) fault) }
+        (G.state gate.old) first (G.state gate.new) fault) }
     ensures unfailing { OnOk result (IsUnfailing
         reader.old.failed reader.new.failed writer.old.failed writer.new.failed) }
     ensures endless { IsErrOf result PipeFault.Endless
         → counted_on reader.old.calls reads ≤ reader.new.calls }
     ensures told { IfErr result (IsToldRightly
         reader.old.failed reader.new.failed writer.old.failed writer.new.failed
-        (G.seen gate.new)) }
+        (G.state gate.new)) }
 {
     let mut connection = Connection::new(first);
     match serve(alloc, gate, first, &mut connection, reader, writer, reads) {
@@ -208,22 +210,22 @@ pub fn run_pipe<G: AccessGate, R: Read, W: Write>(
     requires writer { writer.old.failed < 2 ^ 64 - 1 }
     ensures pipe { OnOk result (IsTranscript
         (flow_of R.remaining W.contents reader.old reader.new writer.old writer.new)
-        (G.seen gate.old) first (G.seen gate.new)) }
+        (G.state gate.old) first (G.state gate.new)) }
     // Where the reader tells its bytes: the gate and the bytes written are the pipe's of all.
     ensures all { OnOk result (IsPipe
         (flow_of R.remaining W.contents reader.old reader.new writer.old writer.new)
-        (G.seen gate.old) first (G.seen gate.new)) }
+        (G.state gate.old) first (G.state gate.new)) }
     // The first packets were taken and answered whole; at a failed read or an endless input, all.
     ensures fault { IfErr result (λ fault. IsAfterFault
         (flow_of R.remaining W.contents reader.old reader.new writer.old writer.new)
-        (G.seen gate.old) first (G.seen gate.new) fault) }
+        (G.state gate.old) first (G.state gate.new) fault) }
     ensures unfailing { OnOk result (IsUnfailing
         reader.old.failed reader.new.failed writer.old.failed writer.new.failed) }
     ensures endless { IsErrOf result PipeFault.Endless
         → counted_on reader.old.calls 1000000000 ≤ reader.new.calls }
     ensures told { IfErr result (IsToldRightly
         reader.old.failed reader.new.failed writer.old.failed writer.new.failed
-        (G.seen gate.new)) }
+        (G.state gate.new)) }
 {
     run_pipe_within(alloc, gate, first, reader, writer, READS)
 }

@@ -13,7 +13,7 @@ use std::time::{Clock, Duration, Instant};
 const AT_ONCE: u8 = 5;
 
 /// After so many seconds they are counted anew.
-const MINUTE: u64 = 60;
+const COUNTED_SECONDS: u64 = 60;
 
 /// Of so many users and addresses they are counted; of any other, none is answered at once.
 const MOST: usize = 4_096;
@@ -38,7 +38,7 @@ impl Guesses {
     /// Whether they are counted for a minute.
     fn is_old<R: Clock>(&self, rt: &R) -> bool {
         match self.began.map(|began| began.elapsed(rt)) {
-            Some(Ok(since)) => since >= Duration::from_secs(MINUTE),
+            Some(Ok(since)) => since >= Duration::from_secs(COUNTED_SECONDS),
             Some(Err(_)) => false,
             None => true,
         }

@@ -17,11 +17,11 @@ const CROWD: usize = 16;
 
 /// Those who have not logged in, by the number of their connection, so that the one who came first is the first.
 #[derive(Drop)]
-struct Queue<P: Drop> {
+struct NewcomerQueue<P: Drop> {
     by_number: BTreeMap<u64, P>,
 }
 
-impl<P: Drop> Queue<P> {
+impl<P: Drop> NewcomerQueue<P> {
     /// The one who came first, who is none of them any more.
     fn take_first(&mut self) -> Option<P>
         ensures some { IfSome result (λ p.
@@ -56,12 +56,12 @@ struct Newcomer {
 /// his place is wanted.
 #[derive(Drop)]
 pub struct Newcomers {
-    queue: Mutex<Queue<Newcomer>>,
+    queue: Mutex<NewcomerQueue<Newcomer>>,
     patience: Duration,
     closed: AtomicBool,
 }
 
-impl Queue<Newcomer> {
+impl NewcomerQueue<Newcomer> {
     /// The one who came first, if he had so long for his login.
     fn take_late<R: Clock>(&mut self, rt: &R, patience: Duration) -> Option<Newcomer>
         ensures some { IfSome result (λ p.
@@ -89,7 +89,7 @@ impl Newcomers {
     /// None yet. Each has so many seconds for his login.
     pub fn new(alloc: Global, seconds: u64) -> Newcomers {
         Newcomers {
-            queue: Mutex::new(Queue {
+            queue: Mutex::new(NewcomerQueue {
                 by_number: BTreeMap::new(alloc),
             }),
             patience: Duration::from_secs(seconds),

@@ -5,7 +5,7 @@ use crate::run::{Phase, Run};
 use crate::timer::Timer;
 use crossbeam_channel::Receiver;
 use gx_operator::ClientRequest;
-use gx_terminal::{HELP, Wish, Wrong};
+use gx_terminal::{HELP, Wish, WrongWord};
 use std::alloc::Global;
 use std::io::{Read, Write};
 use std::sync::Wait;
@@ -72,7 +72,7 @@ impl<S: Read + Write + Drop, O: Write + Drop, E: Write + Drop> Run<S, O, E> {
         }
     }
 
-    fn tell_wrong(&mut self, wrong: Wrong) {
+    fn tell_wrong(&mut self, wrong: WrongWord) {
         self.has_bad_words = true;
         let _ = writeln!(self.err, "gate: {wrong}");
     }

@@ -15,19 +15,19 @@ use std::sync::Wait;
 use std::time::Clock;
 
 /// So many milliseconds behind the last packet it sent, a client sends a heartbeat.
-const BEAT: u64 = 1_000;
+const HEARTBEAT_AFTER_MILLIS: u64 = 1_000;
 
 /// Behind so many milliseconds in which nothing was heard the line is taken for broken.
-const SILENCE: u64 = 15_000;
+const IDLE_TIMEOUT_MILLIS: u64 = 15_000;
 
 /// An answer is waited for so many milliseconds.
-const PATIENCE: u64 = 5_000;
+const ANSWER_WAIT_MILLIS: u64 = 5_000;
 
 /// That of a replace or a cancel, which may never come, so many.
-const SHORT_PATIENCE: u64 = 1_000;
+const CHANGE_WAIT_MILLIS: u64 = 1_000;
 
 /// Behind its logout a client waits so many milliseconds for the server to close the line.
-const FAREWELL: u64 = 1_000;
+const LOGOUT_WAIT_MILLIS: u64 = 1_000;
 
 /// What is told of a line that broke, where the gate is called again.
 const BROKEN: &[u8] = b"gate: the line broke; the gate is called again each second\n";
@@ -231,7 +231,7 @@ impl<S: Read + Write + Drop, O: Write + Drop, E: Write + Drop> Run<S, O, E> {
     }
 
     fn keep_time<R: Clock>(&mut self, rt: &R) -> Result<(), Fault> {
-        if self.heard.has_passed(rt, SILENCE) {
+        if self.heard.has_passed(rt, IDLE_TIMEOUT_MILLIS) {
             return Err(Fault::LineBroke);
         }
         match self.phase {
@@ -246,21 +246,21 @@ impl<S: Read + Write + Drop, O: Write + Drop, E: Write + Drop> Run<S, O, E> {
     }
 
     fn await_login<R: Clock>(&mut self, rt: &R) -> Result<(), Fault> {
-        if self.asked.has_passed(rt, PATIENCE) {
+        if self.asked.has_passed(rt, ANSWER_WAIT_MILLIS) {
             return Err(Fault::NoAnswer);
         }
         Ok(())
     }
 
     fn await_close<R: Clock>(&mut self, rt: &R) {
-        if self.asked.has_passed(rt, FAREWELL) {
+        if self.asked.has_passed(rt, LOGOUT_WAIT_MILLIS) {
             self.phase = Phase::Over;
         }
     }
 
     fn await_answers<R: Clock>(&mut self, rt: &R) -> Result<(), Fault> {
         if !self.operator.waiting().is_empty() {
-            if self.asked.has_passed(rt, PATIENCE) {
+            if self.asked.has_passed(rt, ANSWER_WAIT_MILLIS) {
                 self.lose()?;
             }
             self.look_for_unmet(rt);
@@ -280,7 +280,7 @@ impl<S: Read + Write + Drop, O: Write + Drop, E: Write + Drop> Run<S, O, E> {
     }
 
     fn beat<R: Clock>(&mut self, rt: &R) -> Result<(), Fault> {
-        if !self.sent.has_passed(rt, BEAT) {
+        if !self.sent.has_passed(rt, HEARTBEAT_AFTER_MILLIS) {
             return Ok(());
         }
         let packet = heartbeat_packet(self.alloc)?;
@@ -289,7 +289,9 @@ impl<S: Read + Write + Drop, O: Write + Drop, E: Write + Drop> Run<S, O, E> {
 
     /// A replace or a cancel that is not answered in a second names no live order.
     fn look_for_unmet<R: Clock>(&mut self, rt: &R) {
-        if all_name_orders(self.operator.waiting()) && self.asked.has_passed(rt, SHORT_PATIENCE) {
+        if all_name_orders(self.operator.waiting())
+            && self.asked.has_passed(rt, CHANGE_WAIT_MILLIS)
+        {
             self.tell_unmet();
             self.operator.give_up();
             self.is_unmet = true;

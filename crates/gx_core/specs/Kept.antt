@@ -28,8 +28,8 @@ pub record IsWhole (policy : PolicyData) (records : List RecordData) (reserved :
   pub places : HaveReserved policy records reserved k
 
 -- the reports of the user
-abbrev pub reports_of_user : GateState → UserName → List Report
-reports_of_user k user = reports_in k.streams user
+abbrev pub reports_kept_for : GateState → UserName → List Report
+reports_kept_for k user = reports_in k.streams user
 
 -- the day is closed, and no report of the user has this number
 abbrev pub is_past_the_end : GateState → UserName → ℕ → Bool

@@ -51,7 +51,7 @@ impl Model for Gate {
 }
 
 impl AccessGate for Gate {
-    ghost seen = { λ g. g };
+    ghost state = { λ g. g };
 
     fn open(alloc: Global, policy: &Policy) -> Result<Gate, OutOfMemory> {
         let policy = policy.copied(alloc)?;

@@ -3,7 +3,7 @@
 ghost use Rattle.std.specs.{Prelude.{◌≡◌, ◌+◌, length, max, IfOk, OnOk}, List.AllByRecursion};
 ghost use Rattle.gx_policy.specs.Lists.{slice};
 ghost use Rattle.gx_streams.specs.Recorded.{IsRecorded};
-ghost use Rattle.gx_core.specs.Kept.{is_past_the_end, reports_of_user};
+ghost use Rattle.gx_core.specs.Kept.{is_past_the_end, reports_kept_for};
 
 use gx_access_gate::Reached;
 use gx_gate_state::GateState;
@@ -29,9 +29,9 @@ pub(crate) fn put_pull(
     list: &mut Vec<Report>,
 ) -> Result<Reached, OutOfMemory>
     requires recorded { AllByRecursion (IsRecorded house records.now)
-        (slice (reports_of_user state.now user) from most) }
+        (slice (reports_kept_for state.now user) from most) }
     ensures reports { OnOk result
-        (list.new.items ≡ slice (reports_of_user state.now user) from most) }
+        (list.new.items ≡ slice (reports_kept_for state.now user) from most) }
     ensures next { IfOk result (λ r. r.next ≡ max 1 from + length list.new.items) }
     ensures ended { IfOk result (λ r. r.ended ≡ is_past_the_end state.now user r.next) }
 {

@@ -21,10 +21,10 @@ use std::time::{Clock, Duration};
 use std::{env, io, thread};
 
 /// A read of the line waits so many milliseconds at most.
-const LOOK: u64 = 50;
+const READ_TIMEOUT_MILLIS: u64 = 50;
 
 /// A write of which the gate takes nothing for so many milliseconds fails.
-const WRITE_PATIENCE: u64 = 5_000;
+const WRITE_TIMEOUT_MILLIS: u64 = 5_000;
 
 /// So many times, a second apart, the gate is called again where the line broke.
 const CALLS: u32 = 60;
@@ -33,9 +33,9 @@ const CALLS: u32 = 60;
 const LINES_AHEAD: usize = 64;
 
 /// The nanoseconds of a millisecond, and the milliseconds of a day.
-const MILLISECOND: u64 = 1_000_000;
+const NANOS_A_MILLISECOND: u64 = 1_000_000;
 
-const DAY: u64 = 86_400_000;
+const DAY_MILLIS: u64 = 86_400_000;
 
 /// The gate's address, where none is given.
 const OWN_ADDRESS: &str = "127.0.0.1";
@@ -48,7 +48,7 @@ type Lines = Receiver<Option<Vec<u8>>, Global>;
 
 /// Why there is no run.
 #[derive(Drop)]
-enum Stop<'a> {
+enum DeskError<'a> {
     /// The program gave up.
     Failure(Failure<'a>),
     /// The arguments, or what they name, can't be meant; what is told of that.
@@ -59,15 +59,15 @@ enum Stop<'a> {
     Fault(Fault, u8),
 }
 
-impl<'a> From<Failure<'a>> for Stop<'a> {
-    fn from(ended: Failure<'a>) -> Stop<'a> {
-        Stop::Failure(ended)
+impl<'a> From<Failure<'a>> for DeskError<'a> {
+    fn from(ended: Failure<'a>) -> DeskError<'a> {
+        DeskError::Failure(ended)
     }
 }
 
-impl<'a> From<OutOfMemory> for Stop<'a> {
-    fn from(refused: OutOfMemory) -> Stop<'a> {
-        Stop::Failure(refused.into())
+impl<'a> From<OutOfMemory> for DeskError<'a> {
+    fn from(refused: OutOfMemory) -> DeskError<'a> {
+        DeskError::Failure(refused.into())
     }
 }
 
@@ -125,7 +125,7 @@ fn password_in(text: &[u8]) -> Option<Password> {
 fn kept_password<'a>(
     host: &HostRuntime,
     path: Option<&'a str>,
-) -> Result<Option<Vec<u8>>, Stop<'a>> {
+) -> Result<Option<Vec<u8>>, DeskError<'a>> {
     if let Some(path) = path {
         return Ok(Some(bytes_of(host, path, Content::Password)?));
     }
@@ -133,7 +133,7 @@ fn kept_password<'a>(
         Ok(text) => Ok(Some(text.into_bytes())),
         Err(VarError::NotPresent) => Ok(None),
         Err(VarError::OutOfMemory) => Err(OutOfMemory.into()),
-        Err(_) => Err(Stop::Words("GATE_PASSWORD is no text")),
+        Err(_) => Err(DeskError::Words("GATE_PASSWORD is no text")),
     }
 }
 
@@ -201,56 +201,59 @@ fn password_of<'a, R: Wait>(
     rt: &R,
     kept: Option<Vec<u8>>,
     lines: &Lines,
-) -> Result<Password, Stop<'a>> {
+) -> Result<Password, DeskError<'a>> {
     let text = match kept {
         Some(text) => text,
         None => match lines.recv(rt) {
             Ok(Some(line)) => line,
-            _ => return Err(Stop::Words("no password is given; `gate desk --help` says how")),
+            _ => return Err(DeskError::Words("no password is given; `gate desk --help` says how")),
         },
     };
     match password_in(text.as_slice()) {
         Some(password) => Ok(password),
-        None => Err(Stop::Words("a password has at most 10 characters")),
+        None => Err(DeskError::Words("a password has at most 10 characters")),
     }
 }
 
 /// The user in its field.
-fn user_of<'a>(name: &str) -> Result<UserName, Stop<'a>> {
+fn user_of<'a>(name: &str) -> Result<UserName, DeskError<'a>> {
     match padded(name.as_bytes()) {
         Some(bytes) => Ok(UserName { bytes }),
-        None => Err(Stop::Words("a user's name has at most 6 characters")),
+        None => Err(DeskError::Words("a user's name has at most 6 characters")),
     }
 }
 
 /// A line to the gate.
-fn connect<'a, R: Net<Stream = TcpStream>>(rt: &R, desk: &Desk) -> Result<TcpStream, Stop<'a>> {
+fn connect<'a, R: Net<Stream = TcpStream>>(
+    rt: &R,
+    desk: &Desk,
+) -> Result<TcpStream, DeskError<'a>> {
     let host = desk.host.unwrap_or(OWN_ADDRESS);
     match TcpStream::connect(rt, (host, desk.port)) {
         Ok(stream) => Ok(stream),
-        Err(error) => Err(Stop::Unreached(error)),
+        Err(error) => Err(DeskError::Unreached(error)),
     }
 }
 
 /// Sets a stream up: small packets go out at once, and reads and writes end in time.
 fn set_up(stream: &TcpStream) -> io::Result<()> {
     stream.set_nodelay(true)?;
-    stream.set_read_timeout(Some(Duration::from_millis(LOOK)))?;
-    stream.set_write_timeout(Some(Duration::from_millis(WRITE_PATIENCE)))
+    stream.set_read_timeout(Some(Duration::from_millis(READ_TIMEOUT_MILLIS)))?;
+    stream.set_write_timeout(Some(Duration::from_millis(WRITE_TIMEOUT_MILLIS)))
 }
 
 /// The milliseconds past midnight, by UTC.
 fn start_of<R: Clock>(rt: &R) -> u32 {
     let moment = DayClock::begin(rt, UtcOffset::UTC, 0).now(rt);
-    (moment / MILLISECOND % DAY) as u32
+    (moment / NANOS_A_MILLISECOND % DAY_MILLIS) as u32
 }
 
 /// A line to the gate, set up.
-fn call<'a, R: Net<Stream = TcpStream>>(rt: &R, desk: &Desk) -> Result<TcpStream, Stop<'a>> {
+fn call<'a, R: Net<Stream = TcpStream>>(rt: &R, desk: &Desk) -> Result<TcpStream, DeskError<'a>> {
     let stream = connect(rt, desk)?;
     match set_up(&stream) {
         Ok(()) => Ok(stream),
-        Err(error) => Err(Stop::Unreached(error)),
+        Err(error) => Err(DeskError::Unreached(error)),
     }
 }
 
@@ -302,7 +305,7 @@ fn talk<'a, R>(
     desk: &Desk,
     setup: Setup,
     lines: &Lines,
-) -> Result<u8, Stop<'a>>
+) -> Result<u8, DeskError<'a>>
 where
     R: Net<Stream = TcpStream> + Wait + Clock,
 {
@@ -319,7 +322,7 @@ where
     );
     match follow(rt, desk, &mut run, lines) {
         Ok(()) => Ok(run.status()),
-        Err(fault) => Err(Stop::Fault(fault, run.status())),
+        Err(fault) => Err(DeskError::Fault(fault, run.status())),
     }
 }
 
@@ -329,13 +332,13 @@ fn form_of(desk: &Desk) -> Form {
 }
 
 /// Whether lines come behind the one command; where it can't be meant, what is told of that.
-fn goes_on<'a>(host: &HostRuntime, desk: &Desk, command: &[u8]) -> Result<bool, Stop<'a>> {
+fn goes_on<'a>(host: &HostRuntime, desk: &Desk, command: &[u8]) -> Result<bool, DeskError<'a>> {
     match Wish::read(command) {
-        Ok(Wish::KillAll) if desk.policy.is_none() => Err(Stop::Words(NO_ACCOUNTS)),
+        Ok(Wish::KillAll) if desk.policy.is_none() => Err(DeskError::Words(NO_ACCOUNTS)),
         Ok(wish) => Ok(wish == Wish::Watch),
         Err(wrong) => {
             let _ = eprintln!(host; "gate: {wrong}");
-            Err(Stop::Words(""))
+            Err(DeskError::Words(""))
         }
     }
 }
@@ -346,7 +349,7 @@ fn wants_input<'a>(
     desk: &Desk,
     command: &Option<Vec<u8>>,
     has_password: bool,
-) -> Result<bool, Stop<'a>> {
+) -> Result<bool, DeskError<'a>> {
     match command {
         Some(line) => Ok(goes_on(host, desk, line.as_slice())? || !has_password),
         None => Ok(true),
@@ -364,7 +367,7 @@ fn login_of(user: UserName, password: Password) -> LoginRequest {
 }
 
 /// Runs the terminal: the status of what was answered.
-fn run_desk<'a, R>(rt: &R, host: &HostRuntime, desk: Desk<'a>) -> Result<u8, Stop<'a>>
+fn run_desk<'a, R>(rt: &R, host: &HostRuntime, desk: Desk<'a>) -> Result<u8, DeskError<'a>>
 where
     R: Net<Stream = TcpStream> + Threads + Wait + Clock + Copy + Send + 'static,
 {
@@ -406,12 +409,12 @@ fn tell_fault(host: &HostRuntime, fault: &Fault, status: u8) -> ExitCode {
 }
 
 /// Tells why there is no run, or why it ended early: the status that says so.
-fn tell_stop(host: &HostRuntime, stop: Stop) -> ExitCode {
-    match stop {
-        Stop::Failure(ended) => tell(host, ended),
-        Stop::Words(text) => tell_words(host, text),
-        Stop::Unreached(error) => tell_unreached(host, &error),
-        Stop::Fault(fault, status) => tell_fault(host, &fault, status),
+fn tell_error(host: &HostRuntime, error: DeskError) -> ExitCode {
+    match error {
+        DeskError::Failure(ended) => tell(host, ended),
+        DeskError::Words(text) => tell_words(host, text),
+        DeskError::Unreached(error) => tell_unreached(host, &error),
+        DeskError::Fault(fault, status) => tell_fault(host, &fault, status),
     }
 }
 
@@ -422,6 +425,6 @@ where
 {
     match run_desk(rt, host, desk) {
         Ok(status) => ExitCode::from(status),
-        Err(stop) => tell_stop(host, stop),
+        Err(stop) => tell_error(host, stop),
     }
 }

@@ -4,7 +4,7 @@ use Rattle.gx_policy.proofs.KindLetters_apart.{same_kind}
 use Rattle.std.proofs.{Common.{◌≡◌, ℕ, ◌<◌, ◌^◌, ◌==◌, Bool, true, false, List, [], ◌∷◌, ◌++◌, length, map, take, drop, refl, sym, ap, ◌∙◌, append_assoc}, lemmas.{List.{take_at, drop_at, append-nil}, Nat.from_be_bytes-to_be_bytes_8}}
 use Rattle.std.specs.{Prelude.{codes, if◌then◌else◌}, List.AllByRecursion, Int.{w64, to_be_bytes, from_be_bytes}}
 use Rattle.gx_units.specs.declared.names.{AccountName.AccountName, Symbol.Symbol}
-use Rattle.gx_digest.specs.{PolicyText.{policy_text, items_text, list_text, number_text, account_name_text, symbol_text, account_text, stock_text, scope_text, power_text, powers_text, role_text, user_text, count_text, stocks_of, limit_of, back_of, count_of, kind_text, rule_text, lifters_text}, Told.{without_password, IsAccountNameSized, IsSymbolSized, IsAccountSized, IsStockSized, IsScopeSized, IsRoleSized, IsUserSized, IsKindSized, IsRuleSized, IsToldApart, HasNoPasswords}}
+use Rattle.gx_digest.specs.{PolicyText.{policy_text, items_text, list_text, number_text, account_name_text, symbol_text, account_text, stock_text, scope_text, power_text, powers_text, role_text, user_text, count_text, stocks_or_none, limit_or_zero, back_of, count_of, kind_text, rule_text, lifters_text}, PoliciesApart.{without_password, IsAccountNameSized, IsSymbolSized, IsAccountSized, IsStockSized, IsScopeSized, IsRoleSized, IsUserSized, IsKindSized, IsRuleSized, IsToldApart, HasNoPasswords}}
 
 -- where two texts with more behind them are the same, so is what they tell of two values, and so is what stands behind
 abbrev Tells : {X Y : Type 0} → (X → Type 0) → (X → List ℕ) → (X → Y) → Type 0
@@ -169,7 +169,7 @@ kind_by (KindName.Exposure kind) stocks limit back count = RuleKind.Exposure kin
 kind_by KindName.Rate stocks limit back count = RuleKind.Rate (record { limit = limit; window = back }) count
 kind_by KindName.Repeat stocks limit back count = RuleKind.Repeat (record { limit = limit; span = back }) count
 
-kind_is : (k : RuleKind) → kind_by (kind_name k) (stocks_of k) (limit_of k) (back_of k) (count_of k) ≡ k
+kind_is : (k : RuleKind) → kind_by (kind_name k) (stocks_or_none k) (limit_or_zero k) (back_of k) (count_of k) ≡ k
 kind_is (RuleKind.Listed kind stocks) = refl
 kind_is (RuleKind.Plain kind) = refl
 kind_is (RuleKind.Order kind limit) = refl
@@ -183,11 +183,11 @@ five a b c d e r = simp append_assoc
 
 kind_told : Tells IsKindSized kind_text (λ (k : RuleKind). k)
 kind_told a b r s one other e =
-    let whole = sym (five (kind_letter (kind_name a) ∷ []) (list_text symbol_text (stocks_of a)) (number_text (limit_of a)) (number_text (back_of a)) (count_text (count_of a)) r)
-    ∙ e ∙ five (kind_letter (kind_name b) ∷ []) (list_text symbol_text (stocks_of b)) (number_text (limit_of b)) (number_text (back_of b)) (count_text (count_of b)) s in
+    let whole = sym (five (kind_letter (kind_name a) ∷ []) (list_text symbol_text (stocks_or_none a)) (number_text (limit_or_zero a)) (number_text (back_of a)) (count_text (count_of a)) r)
+    ∙ e ∙ five (kind_letter (kind_name b) ∷ []) (list_text symbol_text (stocks_or_none b)) (number_text (limit_or_zero b)) (number_text (back_of b)) (count_text (count_of b)) s in
     let name = same_kind (kind_name a) (kind_name b) (same_head (kind_letter (kind_name a)) (kind_letter (kind_name b)) _ _ whole) in
-    let stocks = whole_list IsSymbolSized symbol_text symbol_told (stocks_of a) (stocks_of b) _ _ one.0 other.0 (same_tail (kind_letter (kind_name a)) (kind_letter (kind_name b)) _ _ whole) in
-    let limit = number_told (limit_of a) (limit_of b) _ _ one.1 other.1 stocks.1 in
+    let stocks = whole_list IsSymbolSized symbol_text symbol_told (stocks_or_none a) (stocks_or_none b) _ _ one.0 other.0 (same_tail (kind_letter (kind_name a)) (kind_letter (kind_name b)) _ _ whole) in
+    let limit = number_told (limit_or_zero a) (limit_or_zero b) _ _ one.1 other.1 stocks.1 in
     let back = number_told (back_of a) (back_of b) _ _ one.2 other.2 limit.1 in
     let count = count_told (count_of a) (count_of b) r s back.1 in
     (sym (kind_is a) ∙ (λ i. kind_by (name i) (stocks.0 i) (limit.0 i) (back.0 i) (count.0 i)) ∙ kind_is b, count.1)

@@ -1,3 +1,3 @@
 pub mod Hashing
 pub mod PolicyText
-pub mod Told
+pub mod PoliciesApart

@@ -60,17 +60,17 @@ count_text Count.Each = codes "E"
 count_text Count.Together = codes "T"
 
 -- the stocks that it names
-abbrev pub stocks_of : RuleKind → List Symbol
-stocks_of (RuleKind.Listed kind stocks) = stocks
-stocks_of other = []
+abbrev pub stocks_or_none : RuleKind → List Symbol
+stocks_or_none (RuleKind.Listed kind stocks) = stocks
+stocks_or_none other = []
 
 -- its limit, 0 where it has none
-abbrev pub limit_of : RuleKind → ℕ
-limit_of (RuleKind.Order kind limit) = limit
-limit_of (RuleKind.Exposure kind limit count) = limit
-limit_of (RuleKind.Rate rate count) = rate.limit
-limit_of (RuleKind.Repeat repeat count) = repeat.limit
-limit_of other = 0
+abbrev pub limit_or_zero : RuleKind → ℕ
+limit_or_zero (RuleKind.Order kind limit) = limit
+limit_or_zero (RuleKind.Exposure kind limit count) = limit
+limit_or_zero (RuleKind.Rate rate count) = rate.limit
+limit_or_zero (RuleKind.Repeat repeat count) = repeat.limit
+limit_or_zero other = 0
 
 -- its window or its span, 0 where it has none
 abbrev pub back_of : RuleKind → ℕ
@@ -88,7 +88,7 @@ count_of other = Count.Each
 -- the letter of the kind, the stocks, the limit, the window or the span, and how the limit is counted
 abbrev pub kind_text : RuleKind → List ℕ
 kind_text k =
-    (kind_letter (kind_name k) ∷ []) ++ list_text symbol_text (stocks_of k) ++ number_text (limit_of k) ++ number_text (back_of k)
+    (kind_letter (kind_name k) ∷ []) ++ list_text symbol_text (stocks_or_none k) ++ number_text (limit_or_zero k) ++ number_text (back_of k)
     ++ count_text (count_of k)
 
 -- its name, its kind and its scope

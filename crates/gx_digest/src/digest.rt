@@ -2,7 +2,7 @@
 
 ghost use Rattle.std.specs.Prelude.{◌≡◌};
 ghost use Rattle.sha2.specs.Sha256.{sha256};
-ghost use Rattle.gx_digest.specs.{Hashing.TakesIn, PolicyText.{policy_text, lifters_text}, Told.{HasNoPasswords, IsToldApart}};
+ghost use Rattle.gx_digest.specs.{Hashing.TakesIn, PolicyText.{policy_text, lifters_text}, PoliciesApart.{HasNoPasswords, IsToldApart}};
 
 use crate::writing::{put, write_list};
 use gx_policy::{Lifters, Policy};

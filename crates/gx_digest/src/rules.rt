@@ -1,7 +1,7 @@
 //! The file's rules.
 
 ghost use Rattle.std.specs.Prelude.{◌≡◌};
-ghost use Rattle.gx_digest.specs.{Hashing.TakesIn, PolicyText.{back_of, count_of, count_text, kind_text, limit_of, rule_text, stocks_of}};
+ghost use Rattle.gx_digest.specs.{Hashing.TakesIn, PolicyText.{back_of, count_of, count_text, kind_text, limit_or_zero, rule_text, stocks_or_none}};
 
 use crate::lists::put_number;
 use crate::people::put_scope;
@@ -11,7 +11,7 @@ use gx_units::Symbol;
 use sha2::Sha256;
 
 fn stocks(kind: &RuleKind) -> &[Symbol]
-    ensures { result.now ≡ stocks_of kind.now }
+    ensures { result.now ≡ stocks_or_none kind.now }
 {
     match kind {
         RuleKind::Listed(_, stocks) => stocks.as_slice(),
@@ -20,7 +20,7 @@ fn stocks(kind: &RuleKind) -> &[Symbol]
 }
 
 fn limit(kind: &RuleKind) -> u64
-    ensures { result ≡ limit_of kind.now }
+    ensures { result ≡ limit_or_zero kind.now }
 {
     match kind {
         RuleKind::Order(_, limit) | RuleKind::Exposure(_, limit, _) => *limit,

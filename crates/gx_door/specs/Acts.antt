@@ -4,7 +4,7 @@ use mathlib.Core.List.{IsPrefix}
 use Rattle.gx_units.specs.{declared.names.{Password.Password, SessionName.SessionName, UserName.UserName}, Spelling.{folded_password, folded_session, folded_user}}
 use Rattle.gx_policy.specs.{declared.policy.PolicyData.PolicyData, Lists.slice}
 use Rattle.gx_history.specs.{declared.record.{Asked.Asked, RecordData.RecordData, Request.Request}, Logins.login_asked, Verdicts.IsLegal}
-use Rattle.gx_access_gate.specs.{declared.{outcome.{LoginAnswer.LoginAnswer, Outcome.Outcome, StepFault.StepFault}, pulled.Pulled.Pulled}, Gates.{GateData, left_by}, Logins.login_answered, Steps.{IsFull, never_refuses}, Told.{ends_before, stream_of}}
+use Rattle.gx_access_gate.specs.{declared.{outcome.{LoginAnswer.LoginAnswer, Outcome.Outcome, StepFault.StepFault}, pulled.Pulled.Pulled}, Gates.{GateData, left_by}, Logins.login_answered, Steps.{IsFull, never_refuses}, Reports.{ends_before, stream_of}}
 use Rattle.gx_pass.specs.{declared.view.LineView.LineView, Views.{line_view, mine}}
 
 -- what a pass has met that may be away for the time of a call

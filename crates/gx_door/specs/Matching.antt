@@ -8,22 +8,22 @@ use Rattle.gx_pass.specs.{declared.view.LineView.LineView, Views.mine}
 use Rattle.gx_door.specs.{Acts.IsToldFull, Endings.{ended_by, sums_of}, declared.{ended.EndedTotals.EndedTotals, matched.MatchEnd.MatchEnd}}
 
 -- the records of so many matching steps were added, all handed in at this moment
-pub record AddsMatches (moment made : ℕ) (earlier later : List RecordData) : Type 0 where
+pub record AddsMatchingSteps (moment made : ℕ) (earlier later : List RecordData) : Type 0 where
   pub outcomes : List Outcome
   pub behind : later ≡ earlier ++ map (matched_by moment) outcomes
   pub count : length outcomes ≡ made
 
 -- they stand behind all that had been met
-pub record Matches (was is : LineView) (moment made : ℕ) : Type 0 where
+pub record MatchesBehind (was is : LineView) (moment made : ℕ) : Type 0 where
   pub earlier : List RecordData
   pub begins : IsPrefix was.front earlier
-  pub adds : AddsMatches moment made earlier is.front
+  pub adds : AddsMatchingSteps moment made earlier is.front
 
 -- the record stands behind all that had been met, and these behind it; it is one more of the pass's own, and they are not; and so much it ended itself
 pub record Turns (policy : PolicyData) (was is : LineView) (r : RecordData) (ended : EndedTotals) (moment made : ℕ) : Type 0 where
   pub earlier : List RecordData
   pub begins : IsPrefix was.front earlier
-  pub adds : AddsMatches moment made (earlier ++ r ∷ []) is.front
+  pub adds : AddsMatchingSteps moment made (earlier ++ r ∷ []) is.front
   pub own : mine is ≡ mine was ++ r ∷ []
   pub ends : ended ≡ sums_of (ended_by policy earlier r)
 

@@ -8,7 +8,7 @@ ghost use Rattle.gx_policy.specs.Lists.{slice};
 ghost use Rattle.gx_access_gate.specs.{Gates.{left_by, matched_by}, Matches.matching_of};
 ghost use Rattle.gx_pass.specs.Views.{mine, with_told};
 ghost use Rattle.gx_door.specs.declared.fault.PullFault.TheVariants as pull_faults;
-ghost use Rattle.gx_door.specs.{Acts.{asked_on, gate_met, login_on, AddsOwn, EndsWith, IsLater, IsPulled, IsToldFull, LogsIn, MayBeRefused}, Callers.caller_of, Matching.{EndsSo, Matches, Turns}};
+ghost use Rattle.gx_door.specs.{Acts.{asked_on, gate_met, login_on, AddsOwn, EndsWith, IsLater, IsPulled, IsToldFull, LogsIn, MayBeRefused}, Callers.caller_of, Matching.{EndsSo, MatchesBehind, Turns}};
 
 use crate::caller::Caller;
 use crate::dial::Dial;
@@ -38,14 +38,14 @@ pub trait Door {
     ghost policy: { PolicyData };
 
     // What the pass has met.
-    ghost held: { Self.Pass → LineView };
+    ghost observed: { Self.Pass → LineView };
 
     // How many records were added with the pass.
     ghost added: { Self.Pass → ℕ };
 
     /// The number of the connection that holds the pass.
     fn line_of(&self, pass: &Self::Pass) -> u16
-        ensures { result ≡ (held pass.now).line };
+        ensures { result ≡ (observed pass.now).line };
 
     /// Who asks to log in so. No step is made.
     fn caller<R: Wait>(&self, rt: &R, user: UserName, password: Password) -> Caller
@@ -63,11 +63,11 @@ pub trait Door {
         moment: Moment,
     ) -> (Self::Pass, Result<LoginAnswer, StepFault>)
         requires clock { R.shown moment }
-        ensures later { IsLater policy (held pass) (held result.0) }
-        ensures done { IfOk result.1 (LogsIn policy (held pass) (held result.0)
-            (login_on policy (held pass).line user password session wanted moment) wanted) }
-        ensures refused { OnErr result.1 (mine (held result.0) ≡ mine (held pass)) }
-        ensures full { IfErr result.1 (IsToldFull (gate_met policy (held result.0))) }
+        ensures later { IsLater policy (observed pass) (observed result.0) }
+        ensures done { IfOk result.1 (LogsIn policy (observed pass) (observed result.0)
+            (login_on policy (observed pass).line user password session wanted moment) wanted) }
+        ensures refused { OnErr result.1 (mine (observed result.0) ≡ mine (observed pass)) }
+        ensures full { IfErr result.1 (IsToldFull (gate_met policy (observed result.0))) }
         ensures adds_one { OnOk result.1 (added result.0 ≡ added pass + 1) }
         ensures adds_none { OnErr result.1 (added result.0 ≡ added pass) };
 
@@ -82,13 +82,13 @@ pub trait Door {
     ) -> (Self::Pass, Result<Outcome, StepFault>)
         requires clock { R.shown moment }
         requires first { IsTrue (has_its_first request) }
-        ensures later { IsLater policy (held pass) (held result.0) }
-        ensures done { IfOk result.1 (λ o. AddsOwn (held pass) (held result.0)
-            (left_by (asked_on (held pass).line user request moment) o)) }
-        ensures refused { OnErr result.1 (mine (held result.0) ≡ mine (held pass)) }
-        ensures never_refused { OnErr result.1 (MayBeRefused (gate_met policy (held result.0))
-            (asked_on (held pass).line user request moment)) }
-        ensures full { IfErr result.1 (IsToldFull (gate_met policy (held result.0))) }
+        ensures later { IsLater policy (observed pass) (observed result.0) }
+        ensures done { IfOk result.1 (λ o. AddsOwn (observed pass) (observed result.0)
+            (left_by (asked_on (observed pass).line user request moment) o)) }
+        ensures refused { OnErr result.1 (mine (observed result.0) ≡ mine (observed pass)) }
+        ensures never_refused { OnErr result.1 (MayBeRefused (gate_met policy (observed result.0))
+            (asked_on (observed pass).line user request moment)) }
+        ensures full { IfErr result.1 (IsToldFull (gate_met policy (observed result.0))) }
         ensures adds_one { OnOk result.1 (added result.0 ≡ added pass + 1) }
         ensures adds_none { OnErr result.1 (added result.0 ≡ added pass) };
 
@@ -100,15 +100,15 @@ pub trait Door {
         moment: Moment,
     ) -> (Self::Pass, Result<Option<Outcome>, StepFault>)
         requires clock { R.shown moment }
-        ensures later { IsLater policy (held pass) (held result.0) }
-        ensures own { mine (held result.0) ≡ mine (held pass) }
+        ensures later { IsLater policy (observed pass) (observed result.0) }
+        ensures own { mine (observed result.0) ≡ mine (observed pass) }
         ensures found { IfOk result.1 (λ found. IfSome found (λ o.
-            EndsWith (held pass) (held result.0) (matched_by moment o))) }
+            EndsWith (observed pass) (observed result.0) (matched_by moment o))) }
         ensures idle { IfOk result.1 (λ found. IfNone found
-            (matching_of (gate_met policy (held result.0)) ≡ None)) }
+            (matching_of (gate_met policy (observed result.0)) ≡ None)) }
         ensures waits { OnErr result.1
-            (IsTrue (is_some (matching_of (gate_met policy (held result.0))))) }
-        ensures full { IfErr result.1 (IsToldFull (gate_met policy (held result.0))) }
+            (IsTrue (is_some (matching_of (gate_met policy (observed result.0))))) }
+        ensures full { IfErr result.1 (IsToldFull (gate_met policy (observed result.0))) }
         ensures adds_one { IfOk result.1 (λ found. IfSome found (λ _.
             added result.0 ≡ added pass + 1)) }
         ensures adds_none_idle { IfOk result.1 (λ found. IfNone found
@@ -124,10 +124,11 @@ pub trait Door {
         most: u64,
     ) -> (Self::Pass, Matched)
         requires clock { R.shown moment }
-        ensures later { IsLater policy (held pass) (held result.0) }
-        ensures made { Matches (held pass) (held result.0) moment result.1.made }
-        ensures own { mine (held result.0) ≡ mine (held pass) }
-        ensures ended { EndsSo result.1.end (gate_met policy (held result.0)) result.1.made most }
+        ensures later { IsLater policy (observed pass) (observed result.0) }
+        ensures made { MatchesBehind (observed pass) (observed result.0) moment result.1.made }
+        ensures own { mine (observed result.0) ≡ mine (observed pass) }
+        ensures ended { EndsSo result.1.end (gate_met policy (observed result.0))
+            result.1.made most }
         ensures adds { added result.0 ≡ added pass + result.1.made };
 
     /// A request on the pass's line, and behind it matching steps, as [`Door::match_some`] makes them: nobody comes between.
@@ -144,16 +145,16 @@ pub trait Door {
     ) -> (Self::Pass, Result<Turned, StepFault>)
         requires clock { R.shown moment }
         requires first { IsTrue (has_its_first request) }
-        ensures later { IsLater policy (held pass) (held result.0) }
-        ensures done { IfOk result.1 (λ t. Turns policy (held pass) (held result.0)
-            (left_by (asked_on (held pass).line user request moment) t.outcome)
+        ensures later { IsLater policy (observed pass) (observed result.0) }
+        ensures done { IfOk result.1 (λ t. Turns policy (observed pass) (observed result.0)
+            (left_by (asked_on (observed pass).line user request moment) t.outcome)
             t.ended moment t.matched.made) }
         ensures ended { IfOk result.1 (λ t. EndsSo t.matched.end
-            (gate_met policy (held result.0)) t.matched.made most) }
-        ensures refused { OnErr result.1 (mine (held result.0) ≡ mine (held pass)) }
-        ensures never_refused { OnErr result.1 (MayBeRefused (gate_met policy (held result.0))
-            (asked_on (held pass).line user request moment)) }
-        ensures full { IfErr result.1 (IsToldFull (gate_met policy (held result.0))) }
+            (gate_met policy (observed result.0)) t.matched.made most) }
+        ensures refused { OnErr result.1 (mine (observed result.0) ≡ mine (observed pass)) }
+        ensures never_refused { OnErr result.1 (MayBeRefused (gate_met policy (observed result.0))
+            (asked_on (observed pass).line user request moment)) }
+        ensures full { IfErr result.1 (IsToldFull (gate_met policy (observed result.0))) }
         ensures adds { IfOk result.1 (λ t.
             added result.0 ≡ added pass + 1 + t.matched.made) }
         ensures adds_none { OnErr result.1 (added result.0 ≡ added pass) };
@@ -168,14 +169,15 @@ pub trait Door {
         from: u64,
         most: u64,
     ) -> (Self::Pass, Result<Pulled, PullFault>)
-        ensures later { IsLater policy (held pass) (held result.0) }
-        ensures own { mine (held result.0) ≡ mine (held pass) }
+        ensures later { IsLater policy (observed pass) (observed result.0) }
+        ensures own { mine (observed result.0) ≡ mine (observed pass) }
         ensures on { OnOk result.1
-            (line_of (held result.0).front (folded_user user) ≡ Some (held pass).line) }
+            (line_of (observed result.0).front (folded_user user) ≡ Some (observed pass).line) }
         ensures not_on { IfErr result.1 (λ e. e ≡ pull_faults.NotOn
-            ↔ line_of (held result.0).front (folded_user user) ≢ Some (held pass).line) }
+            ↔ line_of (observed result.0).front (folded_user user)
+            ≢ Some (observed pass).line) }
         ensures pulled { IfOk result.1
-            (IsPulled (gate_met policy (held result.0)) (folded_user user) from most) }
+            (IsPulled (gate_met policy (observed result.0)) (folded_user user) from most) }
         ensures adds_none { added result.0 ≡ added pass };
 
     /// A logout on the pass's line.
@@ -187,13 +189,13 @@ pub trait Door {
         moment: Moment,
     ) -> (Self::Pass, Result<Outcome, StepFault>)
         requires clock { R.shown moment }
-        ensures later { IsLater policy (held pass) (held result.0) }
-        ensures done { IfOk result.1 (λ o. AddsOwn (held pass) (held result.0)
-            (left_by (asked_on (held pass).line user requests.Logout moment) o)) }
-        ensures refused { OnErr result.1 (mine (held result.0) ≡ mine (held pass)) }
-        ensures never_refused { OnErr result.1 (MayBeRefused (gate_met policy (held result.0))
-            (asked_on (held pass).line user requests.Logout moment)) }
-        ensures full { IfErr result.1 (IsToldFull (gate_met policy (held result.0))) }
+        ensures later { IsLater policy (observed pass) (observed result.0) }
+        ensures done { IfOk result.1 (λ o. AddsOwn (observed pass) (observed result.0)
+            (left_by (asked_on (observed pass).line user requests.Logout moment) o)) }
+        ensures refused { OnErr result.1 (mine (observed result.0) ≡ mine (observed pass)) }
+        ensures never_refused { OnErr result.1 (MayBeRefused (gate_met policy (observed result.0))
+            (asked_on (observed pass).line user requests.Logout moment)) }
+        ensures full { IfErr result.1 (IsToldFull (gate_met policy (observed result.0))) }
         ensures adds_one { OnOk result.1 (added result.0 ≡ added pass + 1) }
         ensures adds_none { OnErr result.1 (added result.0 ≡ added pass) };
 
@@ -205,10 +207,10 @@ pub trait Door {
         from: u64,
         most: u64,
     ) -> (Self::Pass, Result<Vec<Record>, OutOfMemory>)
-        ensures later { IsLater policy (held pass) (held result.0) }
-        ensures own { mine (held result.0) ≡ mine (held pass) }
+        ensures later { IsLater policy (observed pass) (observed result.0) }
+        ensures own { mine (observed result.0) ≡ mine (observed pass) }
         ensures records { IfOk result.1
-            (λ v. v.items ≡ slice (held result.0).front from most) }
+            (λ v. v.items ≡ slice (observed result.0).front from most) }
         ensures adds_none { added result.0 ≡ added pass };
 
     /// Whether what was done so far may be told: a door that keeps its records elsewhere keeps all that there are by
@@ -217,19 +219,19 @@ pub trait Door {
 
     /// Both passes have met the same records.
     fn meet<R: Wait>(&self, rt: &R, one: Self::Pass, other: Self::Pass) -> (Self::Pass, Self::Pass)
-        ensures first { IsLater policy (held one) (held result.0) }
-        ensures second { IsLater policy (held other) (held result.1) }
-        ensures first_own { mine (held result.0) ≡ mine (held one) }
-        ensures second_own { mine (held result.1) ≡ mine (held other) }
-        ensures front { (held result.0).front ≡ (held result.1).front }
-        ensures apart { (held one).line ≢ (held other).line }
+        ensures first { IsLater policy (observed one) (observed result.0) }
+        ensures second { IsLater policy (observed other) (observed result.1) }
+        ensures first_own { mine (observed result.0) ≡ mine (observed one) }
+        ensures second_own { mine (observed result.1) ≡ mine (observed other) }
+        ensures front { (observed result.0).front ≡ (observed result.1).front }
+        ensures apart { (observed one).line ≢ (observed other).line }
         ensures first_adds_none { added result.0 ≡ added one }
         ensures second_adds_none { added result.1 ≡ added other };
 
     /// How many records there are: at least as many as were met, and as were told before. It waits for nobody.
     fn length(&self, pass: &mut Self::Pass) -> u64
-        ensures told { held pass.new ≡ with_told (held pass.old) result }
-        ensures more { (held pass.old).told ≤ result }
-        ensures front { length (held pass.old).front ≤ result }
+        ensures told { observed pass.new ≡ with_told (observed pass.old) result }
+        ensures more { (observed pass.old).told ≤ result }
+        ensures front { length (observed pass.old).front ≤ result }
         ensures adds_none { added pass.new ≡ added pass.old };
 }

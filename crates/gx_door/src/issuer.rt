@@ -27,10 +27,10 @@ pub trait Issuer<D: Door> {
     ///
     /// `NoLines` only where the last line was issued, 65,535.
     fn issue<R: Wait>(&mut self, rt: &R) -> Result<D::Pass, PassFault>
-        ensures legal { IfOk result (λ p. IsLegal D.policy (D.held p).front) }
-        ensures own { IfOk result (λ p. mine (D.held p) ≡ []) }
+        ensures legal { IfOk result (λ p. IsLegal D.policy (D.observed p).front) }
+        ensures own { IfOk result (λ p. mine (D.observed p) ≡ []) }
         ensures adds_none { IfOk result (λ p. D.added p ≡ 0) }
-        ensures line { IfOk result (λ p. (D.held p).line ≡ last self.new) }
+        ensures line { IfOk result (λ p. (D.observed p).line ≡ last self.new) }
         ensures next { OnOk result (last self.new ≡ last self.old + 1) }
         ensures same { OnErr result (last self.new ≡ last self.old) }
         ensures no_lines { IfErr result (λ e. e ≡ faults.NoLines → last self.old ≡ 65535) }

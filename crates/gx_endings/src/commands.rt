@@ -39,7 +39,8 @@ pub struct Commands {
     pub list: Vec<CommandRow>,
 }
 
-fn denied_by(verdict: &Verdict) -> Option<RuleName>
+/// The rule that denied the request, if it was denied.
+pub fn denied_by(verdict: &Verdict) -> Option<RuleName>
     ensures { result ≡ denied_by verdict.now }
 {
     match verdict {
@@ -50,7 +51,7 @@ fn denied_by(verdict: &Verdict) -> Option<RuleName>
 
 fn limit_before<G: ShowsState>(gate: &G, action: &Action) -> Option<u64>
     ensures { result
-        ≡ limit_before (G.seen gate.now).policy (G.seen gate.now).records action.now }
+        ≡ limit_before (G.state gate.now).policy (G.state gate.now).records action.now }
 {
     match action {
         Action::SetLimit(rule, _) => gate.limit(*rule),
@@ -60,7 +61,7 @@ fn limit_before<G: ShowsState>(gate: &G, action: &Action) -> Option<u64>
 
 fn was_killed<G: ShowsState>(gate: &G, action: &Action) -> Option<bool>
     ensures { result
-        ≡ was_killed (G.seen gate.now).policy (G.seen gate.now).records action.now }
+        ≡ was_killed (G.state gate.now).policy (G.state gate.now).records action.now }
 {
     match action {
         Action::Kill(account) => Some(gate.is_killed(*account)),
@@ -76,7 +77,7 @@ fn command_row<G: ShowsState>(
     officer: UserName,
     action: &Action,
 ) -> CommandRow
-    ensures { result ≡ command_row (G.seen gate.now).policy (G.seen gate.now).records
+    ensures { result ≡ command_row (G.state gate.now).policy (G.state gate.now).records
         next.now officer action.now }
 {
     CommandRow {
@@ -91,7 +92,7 @@ fn command_row<G: ShowsState>(
 }
 
 fn command_asked<G: ShowsState>(gate: &G, next: &RecordData, asked: &Asked) -> Option<CommandRow>
-    ensures { result ≡ command_asked (G.seen gate.now).policy (G.seen gate.now).records
+    ensures { result ≡ command_asked (G.state gate.now).policy (G.state gate.now).records
         next.now asked.now }
 {
     match &asked.request {
@@ -103,7 +104,7 @@ fn command_asked<G: ShowsState>(gate: &G, next: &RecordData, asked: &Asked) -> O
 /// The command that the record which comes next shows, if it shows one.
 fn command_by<G: ShowsState>(gate: &G, next: &RecordData) -> Option<CommandRow>
     ensures { result
-        ≡ command_by (G.seen gate.now).policy (G.seen gate.now).records next.now }
+        ≡ command_by (G.state gate.now).policy (G.state gate.now).records next.now }
 {
     match &next.step {
         Step::Asked(asked) => command_asked(gate, next, asked),

@@ -72,7 +72,7 @@ pub(crate) fn granted_action(shown: &RecordData) -> Option<Action>
 #[tactic(auto, using(crate::proofs::LiveOrders_bounds::live_are_few, crate::proofs::LiveOrders_bounds::those_are_few))]
 fn ending_by<G: ShowsState>(gate: &G, next: &RecordData) -> Option<Ending>
     ensures { result
-        ≡ ending_by (G.seen gate.now).policy (G.seen gate.now).records next.now }
+        ≡ ending_by (G.state gate.now).policy (G.state gate.now).records next.now }
 {
     // That the records are fewer than 2^63, and so the live orders.
     gate.length();

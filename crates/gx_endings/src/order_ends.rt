@@ -52,7 +52,7 @@ fn note_ends<G: ShowsState>(
     next: &RecordData,
 ) -> Result<(), OutOfMemory>
     ensures { OnOk result (list.new.items ≡ list.old.items
-        ++ order_ends_by (G.seen gate.now).policy (G.seen gate.now).records next.now) }
+        ++ order_ends_by (G.state gate.now).policy (G.state gate.now).records next.now) }
 {
     match granted_action(next) {
         Some(Action::Kill(account)) => note_each(list, next.number, gate.live_orders_of(account)),

@@ -4,15 +4,15 @@ use Rattle.std.specs.Prelude.{flat_map}
 use Rattle.gx_policy.specs.{declared.policy.PolicyData.PolicyData, Lists.each_after}
 use Rattle.gx_history.specs.{declared.record.RecordData.RecordData, InForce.rules_in_force}
 use Rattle.gx_text.specs.declared.form.Form.{Form}
-use Rattle.gx_events.specs.{Known.{Known, known_next, known_of}, Laws.{LimitsAreInForce, LogsGoOn}, Lines.{line_of, lines_behind, record_lines}}
+use Rattle.gx_events.specs.{Known.{Known, known_next, known_of}, Laws.{LimitsAreInForce, LogsGoOn}, Lines.{lines_of_record, lines_behind, record_lines}}
 use Rattle.gx_events.proofs.{Known_next.known_more, Limits_next.limit_is_in}
 use Rattle.gx_laws.proofs.Exposure_later.{each_after-append}
 
 lines_both : (form : Form) (policy : PolicyData) (before xs ys : List RecordData)
     → lines_behind form policy before (xs ++ ys) ≡ lines_behind form policy before xs ++ lines_behind form policy (before ++ xs) ys
 lines_both form policy before xs ys =
-    ap (flat_map (λ (e : List RecordData × RecordData). line_of form policy e.0 e.1)) (each_after-append before xs ys)
-    ∙ flat_map-append (λ (e : List RecordData × RecordData). line_of form policy e.0 e.1) (each_after before xs) (each_after (before ++ xs) ys)
+    ap (flat_map (λ (e : List RecordData × RecordData). lines_of_record form policy e.0 e.1)) (each_after-append before xs ys)
+    ∙ flat_map-append (λ (e : List RecordData × RecordData). lines_of_record form policy e.0 e.1) (each_after before xs) (each_after (before ++ xs) ys)
 
 pub logs_go_on : LogsGoOn
 logs_go_on form policy records more = lines_both form policy [] records more
@@ -40,7 +40,7 @@ pub lines_further : (form : Form) (policy : PolicyData) (before records : List R
 lines_further form policy before records i d known text after within now so_far next =
     next
     ∙ ap (λ (k : Known). text ++ record_lines form k (get_or records i d)) now
-    ∙ ap (λ (front : List ℕ). front ++ line_of form policy (before ++ take i records) (get_or records i d)) so_far
-    ∙ ap (λ (line : List ℕ). lines_behind form policy before (take i records) ++ line) (sym (append-nil (line_of form policy (before ++ take i records) (get_or records i d))))
+    ∙ ap (λ (front : List ℕ). front ++ lines_of_record form policy (before ++ take i records) (get_or records i d)) so_far
+    ∙ ap (λ (line : List ℕ). lines_behind form policy before (take i records) ++ line) (sym (append-nil (lines_of_record form policy (before ++ take i records) (get_or records i d))))
     ∙ sym (lines_both form policy before (take i records) (get_or records i d ∷ []))
     ∙ ap (lines_behind form policy before) (sym (take_more records i d within))

@@ -5,20 +5,20 @@ use Rattle.gx_policy.specs.RuleNames.{written_rule}
 use Rattle.gx_text.specs.{Moments.minute_text, Shown.json_name}
 use Rattle.gx_events.specs.declared.event.Event.{Event}
 
--- a key, behind what stands in front of it
-abbrev pub key : List ℕ → List ℕ
-key word = codes ",\"" ++ word ++ codes "\":"
+-- a event_key, behind what stands in front of it
+abbrev pub event_key : List ℕ → List ℕ
+event_key word = codes ",\"" ++ word ++ codes "\":"
 
 abbrev pub name_field : List ℕ → List ℕ → List ℕ
-name_field word name = key word ++ json_name name
+name_field word name = event_key word ++ json_name name
 
 abbrev pub minute_field : ℕ → List ℕ
-minute_field minute = key (codes "minute") ++ codes "\"" ++ minute_text minute ++ codes "\""
+minute_field minute = event_key (codes "minute") ++ codes "\"" ++ minute_text minute ++ codes "\""
 
 abbrev pub number_field : List ℕ → ℕ → List ℕ
-number_field word number = key word ++ decimal number
+number_field word number = event_key word ++ decimal number
 
--- the value of the key `event`
+-- the value of the event_key `event`
 abbrev pub event_field : List ℕ → List ℕ
 event_field word = codes ",\"event\":\"" ++ word ++ codes "\""
 

@@ -20,12 +20,12 @@ is_denied (Verdict.Denied rule) = true
 is_denied other = false
 
 -- the login that is asked for, if one is
-abbrev pub login_asked : RecordData → Option Asked
-login_asked r = option_and_then (λ (a : Asked). where_true (is_login a.request) a) (asked_of r.step)
+abbrev pub login_step : RecordData → Option Asked
+login_step r = option_and_then (λ (a : Asked). where_true (is_login a.request) a) (asked_of r.step)
 
 -- the record denies a login
 abbrev pub denies_login : RecordData → Bool
-denies_login r = is_some (login_asked r) && is_denied r.verdict
+denies_login r = is_some (login_step r) && is_denied r.verdict
 
 -- the most that is counted
 abbrev pub most_counted : ℕ
@@ -37,7 +37,7 @@ denied_within minute records = min most_counted (length (filter denies_login (wi
 
 -- the line on which a login was asked for
 abbrev pub login_line : RecordData → Option ℕ
-login_line r = option_map (λ (a : Asked). a.line) (login_asked r)
+login_line r = option_map (λ (a : Asked). a.line) (login_step r)
 
 -- the highest line on which a login was asked for, or 0
 abbrev pub highest_line : List RecordData → ℕ

@@ -34,12 +34,12 @@ record_lines form known r =
     ++ maybe_line form r.moment r.number (lines_used known r) ++ maybe_line form r.moment r.number (records_used r)
 
 -- the lines of a record behind those before it
-abbrev pub line_of : Form → PolicyData → List RecordData → RecordData → List ℕ
-line_of form policy before r = record_lines form (known_of policy before) r
+abbrev pub lines_of_record : Form → PolicyData → List RecordData → RecordData → List ℕ
+lines_of_record form policy before r = record_lines form (known_of policy before) r
 
 -- the lines of these records behind those before them
 abbrev pub lines_behind : Form → PolicyData → List RecordData → List RecordData → List ℕ
-lines_behind form policy before records = flat_map (λ (e : List RecordData × RecordData). line_of form policy e.0 e.1) (each_after before records)
+lines_behind form policy before records = flat_map (λ (e : List RecordData × RecordData). lines_of_record form policy e.0 e.1) (each_after before records)
 
 -- the log of a day
 abbrev pub log_of : Form → PolicyData → List RecordData → List ℕ

@@ -1,7 +1,7 @@
 //! An event as the fields of a JSON object.
 
 ghost use Rattle.std.specs.Prelude.{◌≡◌, ◌++◌, codes, OnOk};
-ghost use Rattle.gx_events.specs.{Fields.{command_word, count_fields, event_field, event_fields, from_field, key, login_fields, minute_field, name_field, named_fields, number_field, used_fields}, declared.event.Event.TheVariants.{LoginDenied, MoreDenied, Commanded, CommandDenied}};
+ghost use Rattle.gx_events.specs.{Fields.{command_word, count_fields, event_field, event_fields, from_field, event_key, login_fields, minute_field, name_field, named_fields, number_field, used_fields}, declared.event.Event.TheVariants.{LoginDenied, MoreDenied, Commanded, CommandDenied}};
 ghost use Rattle.gx_desk.specs.declared.Action.TheVariants.{SetLimit};
 
 use crate::event::Event;
@@ -12,7 +12,7 @@ use gx_units::{OutOfMemory, RuleId, UserName};
 
 /// Puts a key at the end of the text, with the comma in front of it.
 fn append_key(text: &mut Vec<u8>, word: &[u8]) -> Result<(), OutOfMemory>
-    ensures { OnOk result (text.new.items ≡ text.old.items ++ key word.now) }
+    ensures { OnOk result (text.new.items ≡ text.old.items ++ event_key word.now) }
 {
     append(text, b",\"")?;
     append(text, word)?;

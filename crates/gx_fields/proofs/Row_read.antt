@@ -4,10 +4,10 @@ use Rattle.std.specs.Prelude.{Option, Some, option_map}
 use Rattle.gx_desk.specs.declared.Action.{Action}
 use Rattle.gx_history.specs.declared.record.{RecordData.RecordData, Request.Request, Step.Step, Verdict.Verdict}
 use Rattle.gx_script_text.specs.Words.{◌>>=◌}
-use Rattle.gx_fields.specs.{declared.row.{Row.Row, RowVerdict.RowVerdict}, Rows.{blank_row, record_of, row_of, step_in, verdict_in, with_action, with_request, with_step, with_verdict}}
+use Rattle.gx_fields.specs.{declared.row.{Row.Row, RowVerdict.RowVerdict}, Rows.{blank_row, record_of, row_of, row_step, row_verdict, with_action, with_request, with_step, with_verdict}}
 
 -- a verdict is read from its fields
-verdict_read : (v : Verdict) (row : Row) → verdict_in (with_verdict v row).verdict (with_verdict v row) ≡ Some v
+verdict_read : (v : Verdict) (row : Row) → row_verdict (with_verdict v row).verdict (with_verdict v row) ≡ Some v
 verdict_read Verdict.Granted row = refl
 verdict_read (Verdict.Denied rule) row = refl
 verdict_read (Verdict.Filled f) row = refl
@@ -15,14 +15,14 @@ verdict_read (Verdict.Rested order) row = refl
 verdict_read (Verdict.Expired order) row = refl
 
 -- a step is read from its fields
-step_read : (s : Step) (row : Row) → step_in (with_step s row).kind (with_step s row) ≡ Some s
+step_read : (s : Step) (row : Row) → row_step (with_step s row).kind (with_step s row) ≡ Some s
 step_read (Step.Matching handed) row = refl
 step_read (Step.Asked a) row = by a.request
   where
     base : Row
     base = record row { handed = a.handed; line = Some a.line; user = Some a.user }
 
-    by : (q : Request) → step_in (with_request q base).kind (with_request q base) ≡ Some (Step.Asked (record { line = a.line; user = a.user; request = q; handed = a.handed }))
+    by : (q : Request) → row_step (with_request q base).kind (with_request q base) ≡ Some (Step.Asked (record { line = a.line; user = a.user; request = q; handed = a.handed }))
     by (Request.Login m) = refl
     by Request.Logout = refl
     by (Request.Unreadable m) = refl
@@ -31,7 +31,7 @@ step_read (Step.Asked a) row = by a.request
     by (Request.Cancel m) = refl
     by (Request.Command c) = commanded c.action
       where
-        commanded : (action : Action) → step_in (with_action action (record base { tag = Some c.tag })).kind (with_action action (record base { tag = Some c.tag }))
+        commanded : (action : Action) → row_step (with_action action (record base { tag = Some c.tag })).kind (with_action action (record base { tag = Some c.tag }))
             ≡ Some (Step.Asked (record { line = a.line; user = a.user; request = Request.Command (record { tag = c.tag; action = action }); handed = a.handed }))
         commanded (Action.Kill account) = refl
         commanded (Action.Lift account) = refl
@@ -77,7 +77,7 @@ same_by_step : (s : Step) (row : Row) → IsBeside row (with_step s row)
 same_by_step (Step.Matching handed) row = record { number = refl; moment = refl; verdict = refl; rule = refl; order = refl; taker = refl; maker = refl; fill_shares = refl; fill_price = refl }
 same_by_step (Step.Asked a) row = let kept = same_by_request a.request (record row { handed = a.handed; line = Some a.line; user = Some a.user }) in record { number = kept.number; moment = kept.moment; verdict = kept.verdict; rule = kept.rule; order = kept.order; taker = kept.taker; maker = kept.maker; fill_shares = kept.fill_shares; fill_price = kept.fill_price }
 
-verdict_same : (k : RowVerdict) (row after : Row) → IsBeside row after → verdict_in k after ≡ verdict_in k row
+verdict_same : (k : RowVerdict) (row after : Row) → IsBeside row after → row_verdict k after ≡ row_verdict k row
 verdict_same RowVerdict.Granted row after kept = refl
 verdict_same RowVerdict.Denied row after kept = ap (option_map Verdict.Denied) kept.rule
 verdict_same RowVerdict.Filled row after kept =
@@ -118,13 +118,13 @@ read_back r =
     let base : Row = record blank_row { number = r.number; moment = r.moment } in
     let told : Row = with_verdict r.verdict base in
     let kept : IsBeside told (row_of r) = same_by_step r.step told in
-    let step : step_in (row_of r).kind (row_of r) ≡ Some r.step = step_read r.step told in
-    let verdict : verdict_in (row_of r).verdict (row_of r) ≡ Some r.verdict =
-    ap (λ (k : RowVerdict). verdict_in k (row_of r)) kept.verdict ∙ verdict_same told.verdict told (row_of r) kept ∙ verdict_read r.verdict base
+    let step : row_step (row_of r).kind (row_of r) ≡ Some r.step = step_read r.step told in
+    let verdict : row_verdict (row_of r).verdict (row_of r) ≡ Some r.verdict =
+    ap (λ (k : RowVerdict). row_verdict k (row_of r)) kept.verdict ∙ verdict_same told.verdict told (row_of r) kept ∙ verdict_read r.verdict base
     in
     let number : (row_of r).number ≡ r.number = kept.number ∙ same_number r.verdict base in
     let moment : (row_of r).moment ≡ r.moment = kept.moment ∙ same_moment r.verdict base in
-    whole (step_in (row_of r).kind (row_of r)) (verdict_in (row_of r).verdict (row_of r)) (row_of r).number (row_of r).moment step verdict number moment
+    whole (row_step (row_of r).kind (row_of r)) (row_verdict (row_of r).verdict (row_of r)) (row_of r).number (row_of r).moment step verdict number moment
   where
     whole : (s : Option Step) (v : Option Verdict) (number moment : ℕ) → s ≡ Some r.step → v ≡ Some r.verdict → number ≡ r.number → moment ≡ r.moment
         → (s >>= λ step. v >>= λ verdict. Some (record { number = number; moment = moment; step = step; verdict = verdict })) ≡ Some r

@@ -219,26 +219,26 @@ asked_in row = do
   Some (Step.Asked (record { line = line; user = user; request = request; handed = row.handed }))
 
 -- the step of a row of this kind
-abbrev pub step_in : RowKind → Row → Option Step
-step_in RowKind.Match row = Some (Step.Matching row.handed)
-step_in other row = asked_in row
+abbrev pub row_step : RowKind → Row → Option Step
+row_step RowKind.Match row = Some (Step.Matching row.handed)
+row_step other row = asked_in row
 
 -- the verdict of a row
-abbrev pub verdict_in : RowVerdict → Row → Option Verdict
-verdict_in RowVerdict.Granted row = Some Verdict.Granted
-verdict_in RowVerdict.Denied row = option_map Verdict.Denied row.rule
-verdict_in RowVerdict.Filled row = do
+abbrev pub row_verdict : RowVerdict → Row → Option Verdict
+row_verdict RowVerdict.Granted row = Some Verdict.Granted
+row_verdict RowVerdict.Denied row = option_map Verdict.Denied row.rule
+row_verdict RowVerdict.Filled row = do
   taker ← row.taker
   maker ← row.maker
   shares ← row.fill_shares
   price ← row.fill_price
   Some (Verdict.Filled (record { taker = taker; maker = maker; shares = shares; price = price }))
-verdict_in RowVerdict.Rested row = option_map Verdict.Rested row.order
-verdict_in RowVerdict.Expired row = option_map Verdict.Expired row.order
+row_verdict RowVerdict.Rested row = option_map Verdict.Rested row.order
+row_verdict RowVerdict.Expired row = option_map Verdict.Expired row.order
 
 -- the record of a row, if it is one's
 unfoldable pub record_of : Row → Option RecordData
 record_of row = do
-  step ← step_in row.kind row
-  verdict ← verdict_in row.verdict row
+  step ← row_step row.kind row
+  verdict ← row_verdict row.verdict row
   Some (record { number = row.number; moment = row.moment; step = step; verdict = verdict })

@@ -3,7 +3,7 @@
 ghost use Rattle.std.specs.Prelude.{◌≡◌};
 ghost use Rattle.gx_fields.specs.declared.row.RowKind.TheVariants as kinds;
 ghost use Rattle.gx_fields.specs.declared.row.RowVerdict.TheVariants as row_verdicts;
-ghost use Rattle.gx_fields.specs.Rows.{action_in, asked_in, command_in, record_of, request_in, step_in, verdict_in};
+ghost use Rattle.gx_fields.specs.Rows.{action_in, asked_in, command_in, record_of, request_in, row_step, row_verdict};
 
 use crate::row::{Row, RowKind, RowVerdict};
 use gx_desk::{Action, Command};
@@ -136,7 +136,7 @@ fn asked_in(row: &Row) -> Option<Step>
 
 /// The step of the row.
 fn step_in(row: &Row) -> Option<Step>
-    ensures { result ≡ step_in row.now.kind row.now }
+    ensures { result ≡ row_step row.now.kind row.now }
 {
     match row.kind {
         RowKind::Match => Some(Step::Matching(row.handed)),
@@ -146,7 +146,7 @@ fn step_in(row: &Row) -> Option<Step>
 
 /// The fill of the row.
 fn fill_in(row: &Row) -> Option<Verdict>
-    ensures { result ≡ verdict_in row_verdicts.Filled row.now }
+    ensures { result ≡ row_verdict row_verdicts.Filled row.now }
 {
     Some(Verdict::Filled(Fill {
         taker: row.taker?,
@@ -158,7 +158,7 @@ fn fill_in(row: &Row) -> Option<Verdict>
 
 /// The verdict of the row.
 fn verdict_in(row: &Row) -> Option<Verdict>
-    ensures { result ≡ verdict_in row.now.verdict row.now }
+    ensures { result ≡ row_verdict row.now.verdict row.now }
 {
     match row.verdict {
         RowVerdict::Granted => Some(Verdict::Granted),

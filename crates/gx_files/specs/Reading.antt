@@ -16,7 +16,7 @@ pub record ReadsMore (left left' : Option (List ℕ)) (before after : List ℕ) 
   pub size : length piece ≡ count
 
 -- of the counts of failed calls of a reader, before and after: it is blamed exactly where a call of it failed
-abbrev pub IsBlamed : (reads reads' : ℕ) → ReadFault → Type 0
-IsBlamed reads reads' ReadFault.ReadFailed = reads < reads'
-IsBlamed reads reads' ReadFault.OutOfMemory = reads' ≡ reads
-IsBlamed reads reads' ReadFault.TooLong = reads' ≡ reads
+abbrev pub IsReaderBlamed : (reads reads' : ℕ) → ReadFault → Type 0
+IsReaderBlamed reads reads' ReadFault.ReadFailed = reads < reads'
+IsReaderBlamed reads reads' ReadFault.OutOfMemory = reads' ≡ reads
+IsReaderBlamed reads reads' ReadFault.TooLong = reads' ≡ reads

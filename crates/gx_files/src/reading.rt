@@ -2,7 +2,7 @@
 
 ghost use Rattle.std.specs.{Prelude.{◌≡◌, ◌≢◌, ◌+◌, ◌-◌, ◌^◌, ◌<◌, ◌≤◌, ◌++◌, length, IfErr, IfOk, IfSome, OnErr, OnOk}, Io.KnownBytes.{Consumes, IsAtEnd}};
 ghost use Rattle.gx_files.specs.declared.reading.ReadFault.TheVariants as faults;
-ghost use Rattle.gx_files.specs.Reading.{IsBlamed, ReadsMore, TakesAtMost};
+ghost use Rattle.gx_files.specs.Reading.{IsReaderBlamed, ReadsMore, TakesAtMost};
 
 use gx_devices::CallCounter;
 use gx_units::OutOfMemory;
@@ -48,7 +48,7 @@ fn read_more<R: Read>(
     ensures bounded { TakesAtMost
         (R.remaining reader.old.device) (R.remaining reader.new.device) most }
     ensures kept { OnOk result (reader.new.failed ≡ reader.old.failed) }
-    ensures told { IfErr result (IsBlamed reader.old.failed reader.new.failed) }
+    ensures told { IfErr result (IsReaderBlamed reader.old.failed reader.new.failed) }
     ensures not_long { IfErr result (λ e. e ≢ faults.TooLong) }
 {
     let size = most.min(PIECE);
@@ -93,7 +93,7 @@ pub fn read_within<R: Read>(
     ensures too_long { IfErr result (λ e. e ≡ faults.TooLong
         → IfSome (R.remaining reader.old.device) (λ bytes. most < length bytes)) }
     ensures kept { OnOk result (reader.new.failed ≡ reader.old.failed) }
-    ensures told { IfErr result (IsBlamed reader.old.failed reader.new.failed) }
+    ensures told { IfErr result (IsReaderBlamed reader.old.failed reader.new.failed) }
 {
     let mut bytes = Vec::new(alloc);
     if bytes.reserve(expected.min(most)).is_err() {

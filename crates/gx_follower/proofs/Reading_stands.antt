@@ -2,7 +2,7 @@
 use Rattle.std.proofs.{Common.{◌≡◌, ℕ, ◌≤◌, ◌<◌, true, false, List, ◌++◌, length, drop, refl, sym, ap, ◌∙◌, subst, arith, inl, inr}, lemmas.List.{drop_at, take_at, take-append-drop, length-append}}
 use Rattle.std.specs.Prelude.{Option, Some, None, unwrap_or, IfSome, IsTrue}
 use Rattle.gx_access_gate.specs.Gates.{GateData}
-use Rattle.gx_audit.specs.{declared.fault.AuditFault.AuditFault, Replaying.{EndsAt, IsReplayFault}, Resuming.{IsNew, Stands}}
+use Rattle.gx_audit.specs.{declared.fault.AuditFault.AuditFault, Replaying.{EndsAt, IsReplayFault}, Resuming.{IsNewFile, Stands}}
 use Rattle.gx_audit_bytes.specs.{declared.version.AuditVersion.AuditVersion, Versions.{has_header, version_of}, Audits.whole_audit}
 use Rattle.gx_audit.proofs.Header_call.{is_headed}
 use Rattle.gx_follower.specs.{Followers.AreWhole, Readings.{read_of, whole_of, HasBegun, IsKnown, IsSettled}, declared.piece.Reading.Reading}
@@ -66,10 +66,10 @@ is_day reading gate version settled is headed =
         })
 
 -- no day was begun there
-pub is_new_day : (reading : Reading) (gate : GateData) → IsSettled reading gate → reading.version ≡ None → IsNew gate.policy reading.rest.items → Stands gate.policy (read_of reading gate) gate.records 0
+pub is_new_day : (reading : Reading) (gate : GateData) → IsSettled reading gate → reading.version ≡ None → IsNewFile gate.policy reading.rest.items → Stands gate.policy (read_of reading gate) gate.records 0
 is_new_day reading gate settled is new = new_by reading.version gate reading.rest.items settled.0.begun is new
   where
-    new_by : (found : Option AuditVersion) (gate : GateData) (rest : List ℕ) → HasBegun found gate → found ≡ None → IsNew gate.policy rest → Stands gate.policy (whole_of found gate ++ rest) gate.records 0
+    new_by : (found : Option AuditVersion) (gate : GateData) (rest : List ℕ) → HasBegun found gate → found ≡ None → IsNewFile gate.policy rest → Stands gate.policy (whole_of found gate ++ rest) gate.records 0
     new_by None gate rest begun is new = inl (begun, refl, new)
     new_by (Some found) gate rest begun is new = cc
 

@@ -37,14 +37,14 @@ impl<G: AccessGate> Model for Follower<G> {
     ghost Value = { FollowerData };
 
     ghost view = { λ f. record {
-      policy = (G.seen f.gate).policy;
-      read = read_of f.reading (G.seen f.gate);
-      records = (G.seen f.gate).records;
+      policy = (G.state f.gate).policy;
+      read = read_of f.reading (G.state f.gate);
+      records = (G.state f.gate).records;
       whole = f.reading.whole;
       fault = f.fault;
     } };
 
-    ghost invariant = { λ f. f.fault ≡ None → IsSettled f.reading (G.seen f.gate) };
+    ghost invariant = { λ f. f.fault ≡ None → IsSettled f.reading (G.state f.gate) };
 }
 
 impl<G: AccessGate> Follower<G> {
@@ -151,8 +151,8 @@ impl<G: AccessGate> Follower<G> {
 
     /// The gate.
     pub fn gate(&self) -> &G
-        ensures policy { (G.seen result.now).policy ≡ self.now.policy }
-        ensures records { (G.seen result.now).records ≡ self.now.records }
+        ensures policy { (G.state result.now).policy ≡ self.now.policy }
+        ensures records { (G.state result.now).records ≡ self.now.records }
     {
         &self.gate
     }
@@ -165,11 +165,11 @@ impl<G: AccessGate> Follower<G> {
     /// `Truncated` where the bytes are too few for a header, and no front of the policy's. `OtherPolicy` where they begin with
     /// none. A follower that stopped answers its fault.
     pub fn into_resumed(self) -> Result<Resumed<G>, AuditFault>
-        ensures policy { IfOk result (λ r. (G.seen r.gate).policy ≡ self.policy) }
-        ensures records { IfOk result (λ r. (G.seen r.gate).records ≡ self.records) }
-        ensures legal { IfOk result (λ r. IsLegal self.policy (G.seen r.gate).records) }
+        ensures policy { IfOk result (λ r. (G.state r.gate).policy ≡ self.policy) }
+        ensures records { IfOk result (λ r. (G.state r.gate).records ≡ self.records) }
+        ensures legal { IfOk result (λ r. IsLegal self.policy (G.state r.gate).records) }
         ensures stands { IfOk result
-            (λ r. Stands self.policy self.read (G.seen r.gate).records r.kept) }
+            (λ r. Stands self.policy self.read (G.state r.gate).records r.kept) }
         ensures fault { IfErr result (λ e. self.fault ≡ None
             → IsReplayFault self.policy self.read e) }
         ensures again { IfSome self.fault (λ e. result ≡ Err e) }
@@ -201,13 +201,13 @@ impl<G: AccessGate> Follower<G> {
 
 /// The day that goes on.
 fn resumed<G: AccessGate>(gate: G, reading: &Reading) -> Result<Resumed<G>, AuditFault>
-    requires settled { IsSettled reading.now (G.seen gate) }
-    ensures seen { IfOk result (λ r. G.seen r.gate ≡ G.seen gate) }
-    ensures legal { IsLegal (G.seen gate).policy (G.seen gate).records }
-    ensures stands { IfOk result (λ r. Stands (G.seen gate).policy
-        (read_of reading.now (G.seen gate)) (G.seen gate).records r.kept) }
-    ensures fault { IfErr result (λ e. IsReplayFault (G.seen gate).policy
-        (read_of reading.now (G.seen gate)) e) }
+    requires settled { IsSettled reading.now (G.state gate) }
+    ensures seen { IfOk result (λ r. G.state r.gate ≡ G.state gate) }
+    ensures legal { IsLegal (G.state gate).policy (G.state gate).records }
+    ensures stands { IfOk result (λ r. Stands (G.state gate).policy
+        (read_of reading.now (G.state gate)) (G.state gate).records r.kept) }
+    ensures fault { IfErr result (λ e. IsReplayFault (G.state gate).policy
+        (read_of reading.now (G.state gate)) e) }
 {
     gate.is_legal();
     match kept_of(&gate, reading) {

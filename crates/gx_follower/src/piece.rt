@@ -32,14 +32,14 @@ fn begin_headed<G: AccessGate>(
     version: AuditVersion,
     block: &[u8; RECORD_SIZE],
 ) -> Result<(), AuditFault>
-    requires new { (G.seen gate.now).records ≡ [] }
+    requires new { (G.state gate.now).records ≡ [] }
     requires version { version_of block.now ≡ version }
     requires headed { IsTrue (has_header version) }
     ensures known { OnOk result
-        (IsKnown version (G.seen gate.now).policy (G.seen gate.now).records) }
+        (IsKnown version (G.state gate.now).policy (G.state gate.now).records) }
     ensures whole { OnOk result (whole_audit
-        version (G.seen gate.now).policy (G.seen gate.now).records ≡ block.now) }
-    ensures fault { IfErr result (λ e. IsTold (G.seen gate.now).policy block.now e) }
+        version (G.state gate.now).policy (G.state gate.now).records ≡ block.now) }
+    ensures fault { IfErr result (λ e. IsTold (G.state gate.now).policy block.now e) }
 {
     match header_end(gate.policy(), version, block) {
         Ok(_) => Ok(()),
@@ -55,23 +55,23 @@ fn take_record<G: AccessGate, W: Watches<G>>(
     version: AuditVersion,
     block: &[u8; RECORD_SIZE],
 ) -> Result<AuditVersion, AuditFault>
-    requires shown { AreShown version (G.seen gate.old).records }
+    requires shown { AreShown version (G.state gate.old).records }
     requires version { version_of
-        (whole_audit version (G.seen gate.old).policy (G.seen gate.old).records ++ block.now)
+        (whole_audit version (G.state gate.old).policy (G.state gate.old).records ++ block.now)
         ≡ version }
-    requires saw { W.saw watcher.old (G.seen gate.old).policy (G.seen gate.old).records }
-    ensures policy { (G.seen gate.new).policy ≡ (G.seen gate.old).policy }
+    requires saw { W.saw watcher.old (G.state gate.old).policy (G.state gate.old).records }
+    ensures policy { (G.state gate.new).policy ≡ (G.state gate.old).policy }
     ensures known { IfOk result
-        (λ v. IsKnown v (G.seen gate.new).policy (G.seen gate.new).records) }
+        (λ v. IsKnown v (G.state gate.new).policy (G.state gate.new).records) }
     ensures whole { IfOk result (λ v. whole_audit
-        v (G.seen gate.new).policy (G.seen gate.new).records
-        ≡ whole_audit version (G.seen gate.old).policy (G.seen gate.old).records
+        v (G.state gate.new).policy (G.state gate.new).records
+        ≡ whole_audit version (G.state gate.old).policy (G.state gate.old).records
         ++ block.now) }
     ensures saw { OnOk result
-        (W.saw watcher.new (G.seen gate.new).policy (G.seen gate.new).records) }
+        (W.saw watcher.new (G.state gate.new).policy (G.state gate.new).records) }
     ensures asked { W.asked watcher.new ≡ W.asked watcher.old }
-    ensures fault { IfErr result (λ e. IsTold (G.seen gate.old).policy
-        (whole_audit version (G.seen gate.old).policy (G.seen gate.old).records
+    ensures fault { IfErr result (λ e. IsTold (G.state gate.old).policy
+        (whole_audit version (G.state gate.old).policy (G.state gate.old).records
         ++ block.now) e) }
 {
     match check_watched(gate, watcher, version, block) {
@@ -87,17 +87,17 @@ fn begin<G: AccessGate, W: Watches<G>>(
     watcher: &mut W,
     block: &[u8; RECORD_SIZE],
 ) -> Result<AuditVersion, AuditFault>
-    requires new { (G.seen gate.old).records ≡ [] }
-    requires saw { W.saw watcher.old (G.seen gate.old).policy (G.seen gate.old).records }
-    ensures policy { (G.seen gate.new).policy ≡ (G.seen gate.old).policy }
+    requires new { (G.state gate.old).records ≡ [] }
+    requires saw { W.saw watcher.old (G.state gate.old).policy (G.state gate.old).records }
+    ensures policy { (G.state gate.new).policy ≡ (G.state gate.old).policy }
     ensures known { IfOk result
-        (λ v. IsKnown v (G.seen gate.new).policy (G.seen gate.new).records) }
+        (λ v. IsKnown v (G.state gate.new).policy (G.state gate.new).records) }
     ensures whole { IfOk result (λ v. whole_audit
-        v (G.seen gate.new).policy (G.seen gate.new).records ≡ block.now) }
+        v (G.state gate.new).policy (G.state gate.new).records ≡ block.now) }
     ensures saw { OnOk result
-        (W.saw watcher.new (G.seen gate.new).policy (G.seen gate.new).records) }
+        (W.saw watcher.new (G.state gate.new).policy (G.state gate.new).records) }
     ensures asked { W.asked watcher.new ≡ W.asked watcher.old }
-    ensures fault { IfErr result (λ e. IsTold (G.seen gate.old).policy block.now e) }
+    ensures fault { IfErr result (λ e. IsTold (G.state gate.old).policy block.now e) }
 {
     let version = AuditVersion::of(block);
     if version.has_header() {
@@ -116,17 +116,17 @@ fn take_block<G: AccessGate, W: Watches<G>>(
     version: Option<AuditVersion>,
     block: &[u8; RECORD_SIZE],
 ) -> Result<AuditVersion, AuditFault>
-    requires begun { HasBegun version (G.seen gate.old) }
-    requires saw { W.saw watcher.old (G.seen gate.old).policy (G.seen gate.old).records }
-    ensures policy { (G.seen gate.new).policy ≡ (G.seen gate.old).policy }
-    ensures known { IfOk result (λ v. HasBegun (Some v) (G.seen gate.new)) }
-    ensures whole { IfOk result (λ v. whole_of (Some v) (G.seen gate.new)
-        ≡ whole_of version (G.seen gate.old) ++ block.now) }
+    requires begun { HasBegun version (G.state gate.old) }
+    requires saw { W.saw watcher.old (G.state gate.old).policy (G.state gate.old).records }
+    ensures policy { (G.state gate.new).policy ≡ (G.state gate.old).policy }
+    ensures known { IfOk result (λ v. HasBegun (Some v) (G.state gate.new)) }
+    ensures whole { IfOk result (λ v. whole_of (Some v) (G.state gate.new)
+        ≡ whole_of version (G.state gate.old) ++ block.now) }
     ensures saw { OnOk result
-        (W.saw watcher.new (G.seen gate.new).policy (G.seen gate.new).records) }
+        (W.saw watcher.new (G.state gate.new).policy (G.state gate.new).records) }
     ensures asked { W.asked watcher.new ≡ W.asked watcher.old }
-    ensures fault { IfErr result (λ e. IsTold (G.seen gate.old).policy
-        (whole_of version (G.seen gate.old) ++ block.now) e) }
+    ensures fault { IfErr result (λ e. IsTold (G.state gate.old).policy
+        (whole_of version (G.state gate.old) ++ block.now) e) }
 {
     match version {
         Some(known) => take_record(gate, watcher, known, block),
@@ -141,17 +141,17 @@ fn settle<G: AccessGate, W: Watches<G>>(
     watcher: &mut W,
     reading: &mut Reading,
 ) -> Result<(), AuditFault>
-    requires reading { IsReading reading.old (G.seen gate.old) }
-    requires saw { W.saw watcher.old (G.seen gate.old).policy (G.seen gate.old).records }
-    ensures policy { (G.seen gate.new).policy ≡ (G.seen gate.old).policy }
-    ensures settled { OnOk result (IsSettled reading.new (G.seen gate.new)) }
+    requires reading { IsReading reading.old (G.state gate.old) }
+    requires saw { W.saw watcher.old (G.state gate.old).policy (G.state gate.old).records }
+    ensures policy { (G.state gate.new).policy ≡ (G.state gate.old).policy }
+    ensures settled { OnOk result (IsSettled reading.new (G.state gate.new)) }
     ensures read { OnOk result
-        (read_of reading.new (G.seen gate.new) ≡ read_of reading.old (G.seen gate.old)) }
+        (read_of reading.new (G.state gate.new) ≡ read_of reading.old (G.state gate.old)) }
     ensures saw { OnOk result
-        (W.saw watcher.new (G.seen gate.new).policy (G.seen gate.new).records) }
+        (W.saw watcher.new (G.state gate.new).policy (G.state gate.new).records) }
     ensures asked { W.asked watcher.new ≡ W.asked watcher.old }
-    ensures fault { IfErr result (λ e. IsTold (G.seen gate.old).policy
-        (read_of reading.old (G.seen gate.old)) e) }
+    ensures fault { IfErr result (λ e. IsTold (G.state gate.old).policy
+        (read_of reading.old (G.state gate.old)) e) }
 {
     if !reading.rest.is_full() {
         return Ok(());
@@ -189,18 +189,18 @@ pub(crate) fn take_all<G: AccessGate, W: Watches<G>>(
     reading: &mut Reading,
     bytes: &[u8],
 ) -> Result<(), AuditFault>
-    requires settled { IsSettled reading.old (G.seen gate.old) }
-    requires room { length (read_of reading.old (G.seen gate.old)) + length bytes.now < 2 ^ 64 }
-    requires saw { W.saw watcher.old (G.seen gate.old).policy (G.seen gate.old).records }
-    ensures policy { (G.seen gate.new).policy ≡ (G.seen gate.old).policy }
-    ensures settled { OnOk result (IsSettled reading.new (G.seen gate.new)) }
-    ensures read { OnOk result (read_of reading.new (G.seen gate.new)
-        ≡ read_of reading.old (G.seen gate.old) ++ bytes.now) }
+    requires settled { IsSettled reading.old (G.state gate.old) }
+    requires room { length (read_of reading.old (G.state gate.old)) + length bytes.now < 2 ^ 64 }
+    requires saw { W.saw watcher.old (G.state gate.old).policy (G.state gate.old).records }
+    ensures policy { (G.state gate.new).policy ≡ (G.state gate.old).policy }
+    ensures settled { OnOk result (IsSettled reading.new (G.state gate.new)) }
+    ensures read { OnOk result (read_of reading.new (G.state gate.new)
+        ≡ read_of reading.old (G.state gate.old) ++ bytes.now) }
     ensures saw { OnOk result
-        (W.saw watcher.new (G.seen gate.new).policy (G.seen gate.new).records) }
+        (W.saw watcher.new (G.state gate.new).policy (G.state gate.new).records) }
     ensures asked { W.asked watcher.new ≡ W.asked watcher.old }
-    ensures fault { IfErr result (λ e. IsAnswer (G.seen gate.old).policy
-        (read_of reading.old (G.seen gate.old) ++ bytes.now) (Err e)) }
+    ensures fault { IfErr result (λ e. IsAnswer (G.state gate.old).policy
+        (read_of reading.old (G.state gate.old) ++ bytes.now) (Err e)) }
 {
     let mut left = bytes;
     while !left.is_empty() {
@@ -216,11 +216,11 @@ pub(crate) fn take_all<G: AccessGate, W: Watches<G>>(
 /// How many of the bytes stand: those of a journal that goes on, or none, where no day was begun in them.
 #[tactic(auto, using(crate::proofs::Reading_stands::is_day, crate::proofs::Reading_stands::is_new_day, crate::proofs::Reading_stands::is_cut, crate::proofs::Reading_stands::is_bare))]
 pub(crate) fn kept_of<G: AccessGate>(gate: &G, reading: &Reading) -> Result<u64, AuditFault>
-    requires settled { IsSettled reading.now (G.seen gate.now) }
-    ensures stands { IfOk result (λ kept. Stands (G.seen gate.now).policy
-        (read_of reading.now (G.seen gate.now)) (G.seen gate.now).records kept) }
-    ensures fault { IfErr result (λ e. IsReplayFault (G.seen gate.now).policy
-        (read_of reading.now (G.seen gate.now)) e) }
+    requires settled { IsSettled reading.now (G.state gate.now) }
+    ensures stands { IfOk result (λ kept. Stands (G.state gate.now).policy
+        (read_of reading.now (G.state gate.now)) (G.state gate.now).records kept) }
+    ensures fault { IfErr result (λ e. IsReplayFault (G.state gate.now).policy
+        (read_of reading.now (G.state gate.now)) e) }
 {
     match reading.version {
         Some(version) => {

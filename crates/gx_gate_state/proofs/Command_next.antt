@@ -5,7 +5,7 @@ use Rattle.std.specs.{Prelude.{Option, Some, None, is_some, option_and_then, opt
 use Rattle.gx_units.specs.{Names.same_user, declared.names.{AccountName.AccountName, UserName.UserName}}
 use Rattle.gx_units.proofs.Names_equal.{same_user_flip, user_is, user_is_itself}
 use Rattle.gx_desk.specs.declared.{Action.Action, AnswerCode.AnswerCode, Command.Command}
-use Rattle.gx_history.specs.{declared.{moves.Move.Move, «record».{RecordData.RecordData, Step.Step}, report.Report.Report, live_order.LiveOrder.LiveOrder}, Asking.{knows_limit, knows_names, rule_in_force}, InForce.{rules_after, rules_in_force}, Readers.reader_in, Streams.{answer, day_end, granted_code, lift_code, report_of, reports_of, stream, to_user, ended_of}, Verdicts.next, Live.live}
+use Rattle.gx_history.specs.{declared.{moves.Move.Move, «record».{RecordData.RecordData, Step.Step}, report.Report.Report, live_order.LiveOrder.LiveOrder}, Asking.{knows_limit, knows_names, rule_in_force}, InForce.{rules_after, rules_in_force}, Readers.reader_in, Streams.{command_answer, day_end, granted_code, lift_code, report_of, reports_of, stream, to_user, ended_of}, Verdicts.next, Live.live}
 use Rattle.gx_laws.proofs.{Names_differ.users_differ, Streams_next.stream_next, Commands_granted.{grants_the_command, told_by_command}, Moves_known.{IsCommanded, command_does, may_do}}
 use Rattle.gx_trading_status.specs.{StatusData.{TradingStatusData, at_moment}, InForce.{day_commanded, status_in_force, status_moved}}
 use Rattle.gx_trading_status.proofs.{Status_next.day_next, Status_answers.known_kill_is_kept}
@@ -17,7 +17,7 @@ use Rattle.gx_people.proofs.Users_sound.{readers_have_room}
 use Rattle.gx_streams.specs.{Kept.{UserList, reserved_in}, Streams.{AllStreams, ReaderMask}, Telling.{each_with_more, reports_to, shown_streams, with_all_reports, with_report, end_message, end_messages, report_to}}
 use Rattle.gx_streams.proofs.{EndedOrders_owed.{owed_both, ended_are_owed}, Places_kept.{owed_taken, count_of_both}, Reports_told.{GoesOn, all_owed_shown, more_told}}
 use Rattle.gx_ledger.specs.Following.{ClosesAll}
-use Rattle.gx_gate_state.specs.{declared.state.GateState.GateState, Ends.{HaveReservedFor, code_by, is_ended, answer_report, close_reports, command_reports, day_end_report, day_end_reports, end_report, end_reports, trades, day_end_message}, State.{AreInForceAfter, AreSentTo, HaveReservedForRecord, Takes}, Ledgers.ended_orders, Settings.{HasRoom, HasSetting, sent_on}}
+use Rattle.gx_gate_state.specs.{declared.state.GateState.GateState, Ends.{HaveReservedFor, code_by, is_ended, answer_report, close_reports, command_reports, day_end_report, day_end_reports, end_report, end_reports, trades, day_end_message}, State.{AreInForceAfter, AreSentTo, HaveReservedForRecord, Takes}, Ledgers.ended_orders, Settings.{HasRoomForReader, HasSetting, sent_on}}
 use Rattle.gx_gate_state.proofs.{State_next.goes_on, Ledger_next.{command_figured, none_end}, Readers_next.{owed_masks, sent_after, sent_told, shown_by_told}}
 
 -- ---- what is owed to one user
@@ -104,26 +104,26 @@ close_is policy r (Action.Unrestrict rule stock) user sound = refl
 close_is policy r (Action.Grant reader account) user sound = refl
 close_is policy r (Action.Revoke reader account) user sound = refl
 
-answer_is : (r : RecordData) (officer user : UserName) (c : Command) (code : AnswerCode) → reports_to (answer_report r officer c code ∷ []) user ≡ map (report_of r) (to_user officer user (answer r c code))
+answer_is : (r : RecordData) (officer user : UserName) (c : Command) (code : AnswerCode) → reports_to (answer_report r officer c code ∷ []) user ≡ map (report_of r) (to_user officer user (command_answer r c code))
 answer_is r officer user c code =
-    elim (same_user officer user) as (λ b. map (λ (x : UserName × Report). x.1) (cond b (answer_report r officer c code ∷ []) []) ≡ map (report_of r) (cond b (answer r c code) []))
+    elim (same_user officer user) as (λ b. map (λ (x : UserName × Report). x.1) (cond b (answer_report r officer c code ∷ []) []) ≡ map (report_of r) (cond b (command_answer r c code) []))
     [ true ↦ refl | false ↦ refl ]
 
 -- ---- what is told of a granted command
 
--- the code of its answer, by the records
+-- the code of its command_answer, by the records
 abbrev pub code_left : PolicyData → List RecordData → RecordData → Command → AnswerCode
 code_left policy history r c = granted_code policy (history ++ r ∷ []) c.action
 
 -- what its record owes
 pub command_owes : {policy : PolicyData} {history : List RecordData} (r : RecordData) (officer : UserName) (c : Command) (k : GateState) (user : UserName) → Takes policy history (Move.Commands officer c) r k
-    → reports_of policy user (history, r) ≡ map (report_of r) (ended_of (live policy history) c.action user ++ day_end policy c.action user ++ to_user officer user (answer r c (code_left policy history r c)))
+    → reports_of policy user (history, r) ≡ map (report_of r) (ended_of (live policy history) c.action user ++ day_end policy c.action user ++ to_user officer user (command_answer r c (code_left policy history r c)))
 command_owes {policy} {history} r officer c k user t =
     let is : IsCommanded r.verdict r.step officer c = command_does r officer c t.does in
     let left : next policy history (Step.Asked is.asked) ≡ Some r = ap (next policy history) (sym is.asks) ∙ t.does.is_next in
     append_cancel_left (stream policy history user) _ _
     (sym (stream_next policy history r user) ∙ told_by_command policy history r is.asked c c.action user (grants_the_command policy history is.asked r c c.action left is.commands refl is.granted) is.commands refl)
-    ∙ ap (λ (who : UserName). map (report_of r) (ended_of (live policy history) c.action user ++ day_end policy c.action user ++ to_user who user (answer r c (code_left policy history r c)))) is.is_his
+    ∙ ap (λ (who : UserName). map (report_of r) (ended_of (live policy history) c.action user ++ day_end policy c.action user ++ to_user who user (command_answer r c (code_left policy history r c)))) is.is_his
 
 -- as the state tell it
 owed_now : {policy : PolicyData} {history : List RecordData} (r : RecordData) (officer : UserName) (c : Command) (k : GateState) (user : UserName)
@@ -136,11 +136,11 @@ owed_now {policy} {history} r officer c k user t sound =
     let told : map (report_of r) (ended_of (live policy history) c.action user) ≡ reports_to ends user =
     ended_are_owed (live policy history) r c.action user ∙ ap (λ (os : List (UserName × Report)). reports_to os user) (ends_are r c.action (live policy history)) in
     command_owes r officer c k user t
-    ∙ map-append (report_of r) (ended_of (live policy history) c.action user ++ day_end policy c.action user) (to_user officer user (answer r c (code_left policy history r c)))
-    ∙ ap (λ (rs : List Report). rs ++ map (report_of r) (to_user officer user (answer r c (code_left policy history r c)))) (map-append (report_of r) (ended_of (live policy history) c.action user) (day_end policy c.action user))
-    ∙ append_assoc (map (report_of r) (ended_of (live policy history) c.action user)) (map (report_of r) (day_end policy c.action user)) (map (report_of r) (to_user officer user (answer r c (code_left policy history r c))))
-    ∙ ap (λ (rs : List Report). rs ++ (map (report_of r) (day_end policy c.action user) ++ map (report_of r) (to_user officer user (answer r c (code_left policy history r c))))) told
-    ∙ ap (λ (rs : List Report). reports_to ends user ++ (rs ++ map (report_of r) (to_user officer user (answer r c (code_left policy history r c))))) (sym (close_is policy r c.action user sound))
+    ∙ map-append (report_of r) (ended_of (live policy history) c.action user ++ day_end policy c.action user) (to_user officer user (command_answer r c (code_left policy history r c)))
+    ∙ ap (λ (rs : List Report). rs ++ map (report_of r) (to_user officer user (command_answer r c (code_left policy history r c)))) (map-append (report_of r) (ended_of (live policy history) c.action user) (day_end policy c.action user))
+    ∙ append_assoc (map (report_of r) (ended_of (live policy history) c.action user)) (map (report_of r) (day_end policy c.action user)) (map (report_of r) (to_user officer user (command_answer r c (code_left policy history r c))))
+    ∙ ap (λ (rs : List Report). rs ++ (map (report_of r) (day_end policy c.action user) ++ map (report_of r) (to_user officer user (command_answer r c (code_left policy history r c))))) told
+    ∙ ap (λ (rs : List Report). reports_to ends user ++ (rs ++ map (report_of r) (to_user officer user (command_answer r c (code_left policy history r c))))) (sym (close_is policy r c.action user sound))
     ∙ ap (λ (rs : List Report). reports_to ends user ++ (reports_to close user ++ rs)) (sym (answer_is r officer user c (code_left policy history r c)))
     ∙ ap (λ (rs : List Report). reports_to ends user ++ rs) (sym (owed_both user close done))
     ∙ sym (owed_both user ends (close ++ done))
@@ -163,7 +163,7 @@ code_kept policy history now (Action.Unrestrict rule stock) known = refl
 code_kept policy history now (Action.Grant reader account) known = refl
 code_kept policy history now (Action.Revoke reader account) known = refl
 
--- the day that the command leaves tells the code of its answer
+-- the day that the command leaves tells the code of its command_answer
 pub code_is_left : {policy : PolicyData} {history : List RecordData} (r : RecordData) (officer : UserName) (c : Command) (k : GateState) (status : TradingStatusData) (code : AnswerCode) → Takes policy history (Move.Commands officer c) r k
     → status ≡ at_moment r.moment (day_commanded officer c.action k.status) → code ≡ code_by status c.action → code ≡ code_left policy history r c
 code_is_left {policy} {history} r officer c k status code t day_is code_is =
@@ -300,12 +300,12 @@ has_setting {policy} {history} r officer c k t =
 
 -- the reader whom a granted Grant names has room for the account
 pub has_room_for : {policy : PolicyData} {history : List RecordData} (r : RecordData) (officer : UserName) (c : Command) (k : GateState)
-    → Takes policy history (Move.Commands officer c) r k → is_sound policy ≡ true → HasRoom k.people c.action
+    → Takes policy history (Move.Commands officer c) r k → is_sound policy ≡ true → HasRoomForReader k.people c.action
 has_room_for {policy} {history} r officer c k t sound =
-    subst (λ (people : List User). HasRoom people c.action) (sym t.in_force.people)
+    subst (λ (people : List User). HasRoomForReader people c.action) (sym t.in_force.people)
     (by c.action (may_do r (Move.Commands officer c) t.does))
   where
-    by : (action : Action) → knows_names policy history action ≡ true → HasRoom (people_in_force policy history) action
+    by : (action : Action) → knows_names policy history action ≡ true → HasRoomForReader (people_in_force policy history) action
     by (Action.Grant written account) known = named (reader_in (people_in_force policy history) written)
       where
         named : (found : Option User) → option_map_or (λ (u : User). has_room (people_in_force policy history) u.name account) found true ≡ true

@@ -11,7 +11,7 @@ use Rattle.gx_laws.proofs.{Streams_next.legal_next, Runs_legal.step_left, Moves_
 use Rattle.gx_orders.specs.{Changes.is_lasting, LiveOrders.OrdersData}
 use Rattle.gx_orders.proofs.Orders_found.{finds_orders}
 use Rattle.gx_matching.specs.Changes.{cut_from}
-use Rattle.gx_laws.specs.{Changing.{executed_by, no_positions, positions_with}, Sound.{AreSound, MayChange, MayCome, MayReplace, MaySize}}
+use Rattle.gx_laws.specs.{Changing.{executed_by, no_positions, positions_with}, Sound.{AreSound, MayChange, MayCome, MayReplaceHeld, MaySizeHeld}}
 use Rattle.gx_ledger.specs.{Following.{AreHeld, ClosesAll, Replaces}, Keeping.LedgerData, StandsFor.{Accepts, Carries, Closes, Cuts, Fills, IsHeld, StandsFor}}
 use Rattle.gx_ledger.proofs.{Ledger_next.stays_for, EndedOrders_followed.{all_are_ended, distinct_filtered, none_closes}}
 use Rattle.gx_gate_state.specs.{declared.state.GateState.GateState, State.Takes, Ends.is_ended, Ledgers.{StandsForDay, ended_orders}}
@@ -196,7 +196,7 @@ cancel_figured {policy} {history} r cut size before fewer new t fewer_is cuts =
     let m : Move = Move.Sizes cut size in
     let does : Turns policy history r (turns.Sizes cut.number size) [] = record { of_turn = turn_does r m t.does; of_grants = grants_does r m t.does } in
     let held : IsHeld (positions policy history) cut = finds_orders policy history r m t.does in
-    let may : MaySize (positions policy history) cut.number size = may_come policy history m r before (turns.Sizes cut.number size) [] t does in
+    let may : MaySizeHeld (positions policy history) cut.number size = may_come policy history m r before (turns.Sizes cut.number size) [] t does in
     let less : size - cut.done < cut.total - cut.done = subst (λ (x : LiveOrder). size - x.done < x.total - x.done) (same_Some _ _ (sym may.is_there.is_found ∙ held)) may.is_less in
     carried policy history m r before (turns.Sizes cut.number size) [] t does new _ (cuts size) (record { is_held = held; is_less = omega (arith, less, fewer_is) })
 
@@ -207,7 +207,7 @@ pub replace_figured : {policy : PolicyData} {history : List RecordData} (r : Rec
 replace_figured {policy} {history} r o coming before new t replaces =
     let m : Move = Move.Replaces o coming in
     let turns_so : turn_of policy (world policy history) r ≡ turns.Replaces o.number coming = turn_does r m t.does in
-    let may : MayReplace policy (positions policy history) o.number coming (orders_added policy (orders policy history) r) =
+    let may : MayReplaceHeld policy (positions policy history) o.number coming (orders_added policy (orders policy history) r) =
     may_come policy history m r before (turns.Replaces o.number coming) (orders_added policy (orders policy history) r) t (record { of_turn = turns_so; of_grants = refl }) in
     let grant : Order = may.may_come.grant in
     let does : Turns policy history r (turns.Replaces o.number coming) (grant ∷ []) = record { of_turn = turns_so; of_grants = may.may_come.is_granted } in

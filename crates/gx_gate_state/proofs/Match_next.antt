@@ -10,7 +10,7 @@ use Rattle.gx_laws.proofs.{Masks_bits.same_mask, Names_differ.accounts_few, Orde
 use Rattle.gx_book.specs.{Resting.resting_of, Books.{StockOrders, resting_in}, Changes.put_to_rest, Queue.IsLatest}
 use Rattle.gx_orders.specs.{Laws.{CanFill, ComesFirst}, Changes.orders_moved, LiveOrders.{OrdersData, first_waiting}}
 use Rattle.gx_matching.proofs.Resting_order.{first_is_latest}
-use Rattle.gx_streams.specs.{declared.fill.{FillSide.FillSide, FillRole.FillRole, ReportedFill.ReportedFill}, Fills.{liquidity_of, side_of}, Kept.reserved_in, Laws.TellsOne, Sending.{AreSent, IsMadeBy, IsSide, is_fill as makes_fill}, Streams.{AllStreams, has_own_stream, with_fill}, Telling.shown_streams}
+use Rattle.gx_streams.specs.{declared.fill.{FillSide.FillSide, FillRole.FillRole, ReportedFill.ReportedFill}, Fills.{liquidity_of, fill_side}, Kept.reserved_in, Laws.TellsOne, Sending.{AreSent, IsMadeBy, IsSide, is_fill as makes_fill}, Streams.{AllStreams, has_own_stream, with_fill}, Telling.shown_streams}
 use Rattle.gx_streams.proofs.{Fills_told.{sides_are_his, stays_by_fill}, Reports_told.stays_by_none}
 use Rattle.gx_people.specs.Entitled.{sees}
 use Rattle.gx_people.proofs.Grants_next as entitling
@@ -82,7 +82,7 @@ place_is accounts name there = by (position test accounts) refl (ap is_some (pos
 -- a live order's side, as it is told, is this side of the fill that the record makes
 side_told : {policy : PolicyData} {history : List RecordData} (r : RecordData) (f : Fill) (o lives : LiveOrder) (of : IsOfKnown policy history lives) (liquidity : Liquidity) (party : FillRole) (made : ReportedFill)
     → is_sound policy ≡ true → o ≡ lives → account_of policy of.order.user ≡ Some of.order.account
-    → side_of made party ≡ told_side policy o → made.match_number ≡ r.number → made.shares ≡ f.shares → made.price ≡ f.price → liquidity_of party ≡ liquidity
+    → fill_side made party ≡ told_side policy o → made.match_number ≡ r.number → made.shares ≡ f.shares → made.price ≡ f.price → liquidity_of party ≡ liquidity
     → IsSide policy r (record { fill = f; liquidity = liquidity; order = of.order }) made party
 side_told {policy} r f o lives of liquidity party made sound is his side_is number_is shares_are price_is liquid =
     let all = side_is ∙ ap (told_side policy) (is ∙ sym of.is_it) in

@@ -10,7 +10,7 @@ use Rattle.gx_orders.specs.LiveOrders.{OrdersData}
 use Rattle.gx_people.proofs.Users_laws.{officers_stay}
 use Rattle.gx_streams.specs.{Kept.{reserved_in, with_reserved}, Laws.TellsOne, Sending.{KnowsReaders, is_fill}, Streams.{AllStreams, has_own_stream, on_list_of}}
 use Rattle.gx_streams.proofs.{UserLists_found.told_are, Copies_only.{copies_alone, none_sent, only_known, readers_are}, Places_kept.{others_keep, places_kept}}
-use Rattle.gx_gate_state.specs.{declared.state.GateState.GateState, State.{AreInForce, HasEnough, HasReserved, HaveReservedWithRecord, HaveEnough, HaveNoFewer, HaveReservedForRecord, HaveReservedReports, KnowTheSame, KnowsUsers, TakesAsked, count_of, enough_of}}
+use Rattle.gx_gate_state.specs.{declared.state.GateState.GateState, State.{AreInForce, HasEnough, HasReserved, HaveReservedWithRecord, HaveEnough, HaveNoFewer, HaveReservedForRecord, HaveReservedReports, KnowTheSame, KnowsUsers, TakesAsked, count_of_user, enough_of}}
 use Rattle.gx_gate_state.proofs.Ledger_next.{legal_after}
 
 -- places that are reserved take none from anybody
@@ -44,8 +44,8 @@ more_have_enough live people policy before after users i u same more within at a
 enough_is : {policy : PolicyData} {history : List RecordData} (k : GateState) (user : UserName) → AreInForce policy history k
     → enough_of k.orders.live k.people policy user ≡ enough_reserved policy history user
 enough_is {policy} {history} k user in_force =
-    let orders : count_of k.orders.live user ≡ orders_held policy history user =
-    ap (λ (d : OrdersData). count_of d.live user) in_force.orders in
+    let orders : count_of_user k.orders.live user ≡ orders_held policy history user =
+    ap (λ (d : OrdersData). count_of_user d.live user) in_force.orders in
     let kills : cond (is_officer (role_in k.people user)) (length policy.accounts) 0 ≡ most_kills policy user =
     ap (λ (people : List User). cond (is_officer (role_in people user)) (length policy.accounts) 0) in_force.people
     ∙ ap (λ (b : Bool). cond b (length policy.accounts) 0) (officers_stay policy history user) in

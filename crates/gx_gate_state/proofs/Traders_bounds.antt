@@ -7,7 +7,7 @@ use Rattle.gx_history.specs.{declared.{live_order.LiveOrder.LiveOrder, moves.Mov
 use Rattle.gx_laws.proofs.Moves_known.{may_do}
 use Rattle.gx_people.proofs.Users_laws.{officers_stay}
 use Rattle.gx_streams.specs.Streams.{AllStreams, has_own_stream}
-use Rattle.gx_gate_state.specs.{declared.state.GateState.GateState, State.{HasEnough, HasReserved, Takes, count_of, kills_of}}
+use Rattle.gx_gate_state.specs.{declared.state.GateState.GateState, State.{HasEnough, HasReserved, Takes, count_of_user, kills_at_most}}
 use Rattle.gx_gate_state.proofs.{Reserved_next.known_told, Match_next.trader_told}
 
 no_officer : (role : Option Role) (account : AccountName) → option_and_then account_of_role role ≡ Some account → is_officer role ≡ false
@@ -62,10 +62,10 @@ module _ (policy : PolicyData) (history : List RecordData) (a : Asked) (r : Reco
   pub trader_is_told : has_own_stream k.streams a.user ≡ true
   trader_is_told = known_told k t.in_force a.user ∙ trader_told new.account (user_in policy.users a.user) his_account
 
-  kills_none : kills_of k.people policy a.user ≡ 0
+  kills_none : kills_at_most k.people policy a.user ≡ 0
   kills_none = ap (λ (b : Bool). if b then length policy.accounts else 0)
       (ap (λ (users : List User). is_officer (role_in users a.user)) t.in_force.people ∙ officers_stay policy history a.user ∙ trades)
 
   -- so two more than one for each of his orders are enough
-  pub trader_has_enough : (streams : AllStreams) → HasReserved a.user (count_of k.orders.live a.user + 2) streams → HasEnough k.orders.live k.people policy streams a.user
+  pub trader_has_enough : (streams : AllStreams) → HasReserved a.user (count_of_user k.orders.live a.user + 2) streams → HasEnough k.orders.live k.people policy streams a.user
   trader_has_enough streams has = λ known. omega (arith, has known, kills_none)

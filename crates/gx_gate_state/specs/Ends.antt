@@ -68,7 +68,7 @@ next_reports n officer c code live = command_reports n.policy.now n.data.now off
 abbrev pub HaveReservedFor : List (UserName × Report) → AllStreams → Type 0
 HaveReservedFor owed streams = (user : UserName) → length (reports_to owed user) ≤ reserved_in streams.lists user
 
--- the orders that end told to their users, in places that were kept
+-- the orders that end told to their users, in reserved slots
 abbrev pub with_end_reports : Action → ℕ → List LiveOrder → AllStreams → AllStreams
 with_end_reports action moment live streams = with_all_reports (end_reports action moment live) streams
 

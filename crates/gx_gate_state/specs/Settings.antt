@@ -19,15 +19,15 @@ HasSetting rules (Action.Lift account) = Unit {0}
 HasSetting rules Action.CloseDay = Unit {0}
 
 -- the reader whom a Grant names has room for the account
-abbrev pub HasRoom : List User → Action → Type 0
-HasRoom people (Action.Grant written account) = IsTrue (option_map_or (λ (u : User). has_room people u.name account) (reader_in people written) true)
-HasRoom people (Action.Revoke written account) = Unit {0}
-HasRoom people (Action.SetLimit rule limit) = Unit {0}
-HasRoom people (Action.Restrict rule stock) = Unit {0}
-HasRoom people (Action.Unrestrict rule stock) = Unit {0}
-HasRoom people (Action.Kill account) = Unit {0}
-HasRoom people (Action.Lift account) = Unit {0}
-HasRoom people Action.CloseDay = Unit {0}
+abbrev pub HasRoomForReader : List User → Action → Type 0
+HasRoomForReader people (Action.Grant written account) = IsTrue (option_map_or (λ (u : User). has_room people u.name account) (reader_in people written) true)
+HasRoomForReader people (Action.Revoke written account) = Unit {0}
+HasRoomForReader people (Action.SetLimit rule limit) = Unit {0}
+HasRoomForReader people (Action.Restrict rule stock) = Unit {0}
+HasRoomForReader people (Action.Unrestrict rule stock) = Unit {0}
+HasRoomForReader people (Action.Kill account) = Unit {0}
+HasRoomForReader people (Action.Lift account) = Unit {0}
+HasRoomForReader people Action.CloseDay = Unit {0}
 
 -- the reader of this name gets the fills of what he sees among these people
 abbrev pub sent_to : PolicyData → List User → AllStreams → Option User → AllStreams

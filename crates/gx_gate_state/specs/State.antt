@@ -50,16 +50,16 @@ abbrev pub HasReserved : UserName → ℕ → AllStreams → Type 0
 HasReserved user places streams = IsTrue (has_own_stream streams user) → places ≤ reserved_in streams.lists user
 
 -- how many of the live orders are the user's
-abbrev pub count_of : List LiveOrder → UserName → ℕ
-count_of live user = length (filter (is_of_user user) live)
+abbrev pub count_of_user : List LiveOrder → UserName → ℕ
+count_of_user live user = length (filter (is_of_user user) live)
 
 -- the most accounts that there can be for the user to kill
-abbrev pub kills_of : List User → PolicyData → UserName → ℕ
-kills_of people policy user = if is_officer (role_in people user) then length policy.accounts else 0
+abbrev pub kills_at_most : List User → PolicyData → UserName → ℕ
+kills_at_most people policy user = if is_officer (role_in people user) then length policy.accounts else 0
 
 -- so many places are enough for the user, whatever one record tells him and leaves to be kept for him
 abbrev pub enough_of : List LiveOrder → List User → PolicyData → UserName → ℕ
-enough_of live people policy user = count_of live user + kills_of people policy user + 2
+enough_of live people policy user = count_of_user live user + kills_at_most people policy user + 2
 
 -- the user, if he is known, has them
 abbrev pub HasEnough : List LiveOrder → List User → PolicyData → AllStreams → UserName → Type 0
@@ -85,7 +85,7 @@ pub record HaveReservedReports (policy : PolicyData) (history : List RecordData)
 pub record HaveReservedWithRecord (policy : PolicyData) (history : List RecordData) (r : RecordData) (streams : AllStreams) : Type 0 where
   pub all : (user : UserName) → HasReserved user (length (reports_of policy user (history, r)) + reserved_reports policy (history ++ r ∷ []) user) streams
 
--- a report put last in the user's stream, in a place that was kept, if there is one
+-- a report put last in the user's stream, in a reserved slot, if there is one
 abbrev pub with_message : UserName → ℕ → Option Message → AllStreams → AllStreams
 with_message user moment None streams = streams
 with_message user moment (Some message) streams = on_list_of user (with_reserved_last (record { timestamp = moment; message = message })) streams
@@ -112,8 +112,8 @@ abbrev pub IsNext : NextRecord → GateState → Type 0
 IsNext n k = Takes n.policy.now n.history.now.records n.moves.now n.data.now k
 
 -- it is the request's
-abbrev pub IsOf : Asked → NextRecord → Type 0
-IsOf a n = n.data.now.step ≡ Step.Asked a
+abbrev pub IsRequestOf : Asked → NextRecord → Type 0
+IsRequestOf a n = n.data.now.step ≡ Step.Asked a
 
 -- it is a matching step's
 abbrev pub IsMatch : NextRecord → Type 0

@@ -1,12 +1,12 @@
 //! What each kind of request does to the state.
 //!
 //! Each function begins with the one call that can be refused, if it makes one; nothing has changed
-//! then. What follows takes no memory: the places for reports were kept before.
+//! then. What follows takes no memory: the slots for reports were reserved before.
 
 ghost use Rattle.std.specs.Prelude.{◌≡◌, IsOk, OnOk, OnErr};
 ghost use Rattle.gx_history.specs.declared.moves.Move.TheVariants as moves;
 ghost use Rattle.gx_matching.specs.Changes.{cut_from};
-ghost use Rattle.gx_gate_state.specs.State.{AreAfter, AreBefore, IsNext, IsOf, IsReserved, IsNeverRefused, HaveReservedAfter, HaveReservedBefore, KeepRoom};
+ghost use Rattle.gx_gate_state.specs.State.{AreAfter, AreBefore, IsNext, IsRequestOf, IsReserved, IsNeverRefused, HaveReservedAfter, HaveReservedBefore, KeepRoom};
 
 use crate::commands::apply_command;
 use crate::next_record::NextRecord;
@@ -143,7 +143,7 @@ fn apply_replace(
 /// What the record of a request does; an `OutOfMemory` comes before anything has changed.
 fn apply_asked(state: &mut GateState, next: NextRecord<'_>, a: &Asked) -> Result<(), OutOfMemory>
     requires takes { IsNext next state.old }
-    requires asks { IsOf a.now next }
+    requires asks { IsRequestOf a.now next }
     requires places { IsReserved next state.old }
     ensures ok { OnOk result (AreAfter next.entry state.new) }
     ensures err { OnErr result (AreBefore next.entry state.new) }
@@ -173,14 +173,14 @@ fn apply_asked(state: &mut GateState, next: NextRecord<'_>, a: &Asked) -> Result
 /// # Errors
 ///
 /// `OutOfMemory` where a stream, an order, an answered denial or a setting finds no memory; then
-/// they are as they were, but for places that were kept.
+/// they are as they were, but for slots that were reserved.
 pub fn apply_record(
     state: &mut GateState,
     next: NextRecord<'_>,
     a: &Asked,
 ) -> Result<(), OutOfMemory>
     requires takes { IsNext next state.old }
-    requires asks { IsOf a.now next }
+    requires asks { IsRequestOf a.now next }
     requires kept { HaveReservedBefore next state.old }
     ensures ok { OnOk result (AreAfter next.entry state.new) }
     ensures kept_after { OnOk result (HaveReservedAfter next.entry state.new) }

@@ -117,7 +117,7 @@ fn apply_rest(state: &mut GateState, next: NextRecord<'_>, number: u64) -> Resul
 }
 
 /// An order that meets nothing and may not rest: it ends, is counted no more, and its user is told
-/// what was open, in a place that was kept.
+/// what was open, in a reserved slot.
 fn end_order(state: &mut GateState, next: NextRecord<'_>, order: &LiveOrder)
     requires takes { IsNext next state.old }
     requires places { IsReserved next state.old }
@@ -162,7 +162,7 @@ fn apply_expiry(state: &mut GateState, next: NextRecord<'_>, number: u64) -> Res
 /// # Errors
 ///
 /// `OutOfMemory` where a stream, or the book at a rest, finds no memory; then they are as they
-/// were, but for a place that was kept.
+/// were, but for a reserved slot.
 pub fn apply_match(state: &mut GateState, next: NextRecord<'_>) -> Result<(), OutOfMemory>
     requires takes { IsNext next state.old }
     requires matches { IsMatch next }

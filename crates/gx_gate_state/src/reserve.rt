@@ -8,7 +8,7 @@ ghost use Rattle.gx_history.specs.declared.moves.Move.TheVariants as moves;
 ghost use Rattle.gx_history.specs.Verdicts.{day_limit};
 ghost use Rattle.gx_orders.specs.LiveOrders.{live_numbered};
 ghost use Rattle.gx_streams.specs.{Streams.has_own_stream, Telling.shown_streams};
-ghost use Rattle.gx_gate_state.specs.State.{count_of, enough_of, kills_of, AreBefore, HasEnough, HasReserved, HaveEnough, HaveNoFewer, IsNext, IsOf, IsReserved, IsReservedWhole, IsNeverRefused, HaveReservedBefore, KnowTheSame};
+ghost use Rattle.gx_gate_state.specs.State.{count_of_user, enough_of, kills_at_most, AreBefore, HasEnough, HasReserved, HaveEnough, HaveNoFewer, IsNext, IsRequestOf, IsReserved, IsReservedWhole, IsNeverRefused, HaveReservedBefore, KnowTheSame};
 
 use crate::next_record::NextRecord;
 use crate::state::GateState;
@@ -45,7 +45,7 @@ fn reserve_for_user(
 
 /// The most accounts that there can be for the user to kill: none, unless he is an officer.
 fn most_kills(people: &People, policy: &Policy, user: UserName, near: usize) -> usize
-    ensures most { result ≡ kills_of people.now policy.now user }
+    ensures most { result ≡ kills_at_most people.now policy.now user }
     ensures few { result < 2 ^ 63 }
 {
     if people.is_officer(user, near) {
@@ -109,7 +109,7 @@ fn reserve_enough_for_trader(
     ensures known { KnowTheSame streams.old streams.new }
     ensures more { HaveNoFewer streams.old streams.new }
     ensures places { OnOk result
-        (HasReserved user (count_of orders.now.live user + 2) streams.new) }
+        (HasReserved user (count_of_user orders.now.live user + 2) streams.new) }
 {
     streams.reserve(user, near, orders.count_of(user, near) + 2)?;
     Ok(())
@@ -152,7 +152,7 @@ pub fn reserve_reports(
     a: &Asked,
 ) -> Result<(), OutOfMemory>
     requires takes { IsNext next state.old }
-    requires asks { IsOf a.now next }
+    requires asks { IsRequestOf a.now next }
     requires kept { HaveReservedBefore next state.old }
     ensures before { AreBefore next.entry state.new }
     ensures kept { HaveReservedBefore next.entry state.new }

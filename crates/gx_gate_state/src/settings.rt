@@ -4,7 +4,7 @@ ghost use Rattle.std.specs.Prelude.{◌≡◌, IsFalse, IsOk, OnOk, OnErr};
 ghost use Rattle.gx_desk.specs.declared.Action.TheVariants as actions;
 ghost use Rattle.gx_history.specs.InForce.{rules_after};
 ghost use Rattle.gx_people.specs.Entitled.{users_after};
-ghost use Rattle.gx_gate_state.specs.Settings.{grows, sent_on, HasRoom, HasSetting};
+ghost use Rattle.gx_gate_state.specs.Settings.{grows, sent_on, HasRoomForReader, HasSetting};
 
 use gx_desk::{Action, WrittenName};
 use gx_people::People;
@@ -21,7 +21,7 @@ fn grant(
     written: WrittenName,
     account: AccountName,
 ) -> Result<(), OutOfMemory>
-    requires room { HasRoom people.old (actions.Grant written account) }
+    requires room { HasRoomForReader people.old (actions.Grant written account) }
     ensures people { OnOk result
         (people.new ≡ users_after people.old (actions.Grant written account)) }
     ensures streams { OnOk result (streams.new
@@ -74,7 +74,7 @@ pub fn set(
     policy: &Policy,
     action: &Action,
 ) -> Result<(), OutOfMemory>
-    requires room { HasRoom people.old action.now }
+    requires room { HasRoomForReader people.old action.now }
     requires known { HasSetting rules.old action.now }
     ensures people { OnOk result (people.new ≡ users_after people.old action.now) }
     ensures streams { OnOk result (streams.new

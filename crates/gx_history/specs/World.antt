@@ -1,6 +1,6 @@
 -- All that a record can change, as one value, and what each record makes of it.
 use Rattle.gx_policy.specs.{Kinds.{with_limit, with_stocks}, declared.{policy.{FileRule.FileRule, PolicyData.PolicyData}, rule_name.RuleName.RuleName}, People.{account_of, is_reader, role_in}}
-use Rattle.gx_history.specs.{declared.{moves.Move.{Move, TheVariants.{Nothing, Denies, PutsOn, Adds, Sizes, Replaces, Commands, Fills, Rests, Expires}}, live_order.LiveOrder.LiveOrder, «record».{Asked.Asked, RecordData.RecordData, Request.Request, Step.Step, Verdict.Verdict}, report.{Message.Message, Report.Report}}, Executions.{Execution, executions, sides_in}, InForce.{with_stock, change_rule, is_closed, is_entitled, kill_after, kill_in_force, line_of, without_stock, rules_in_force}, Live.{live, live_under, side, waiting}, LiveOrders.{replacement_order, shares_open}, Orders.{Order, is_token_used, orders, orders_with, record_uses}, Streams.{answer, canceled_of, copy_of, day_end, ended_of, expired_of, lift_code, replaced_of, report_of, reports_of_denial, reports_of_execution, stream, to_user}, Turns.{Turn, new_order, side_after, live_after, waiting_after}, Verdicts.{IsLegal, last_moment, next}}
+use Rattle.gx_history.specs.{declared.{moves.Move.{Move, TheVariants.{Nothing, Denies, PutsOn, Adds, Sizes, Replaces, Commands, Fills, Rests, Expires}}, live_order.LiveOrder.LiveOrder, «record».{Asked.Asked, RecordData.RecordData, Request.Request, Step.Step, Verdict.Verdict}, report.{Message.Message, Report.Report}}, Executions.{Execution, executions, sides_in}, InForce.{with_stock, change_rule, is_closed, is_entitled, kill_after, kill_in_force, line_of, without_stock, rules_in_force}, Live.{live, live_under, side, waiting}, LiveOrders.{replacement_order, shares_open}, Orders.{Order, is_token_used, orders, orders_with, record_uses}, Streams.{command_answer, canceled_of, copy_of, day_end, ended_of, expired_of, lift_code, replaced_of, report_of, reports_of_denial, reports_of_execution, stream, to_user}, Turns.{Turn, new_order, side_after, live_after, waiting_after}, Verdicts.{IsLegal, last_moment, next}}
 use Rattle.std.specs.{Option.option_map_or, Prelude.{◌≡◌, ℕ, ◌+◌, ◌-◌, Bool, true, false, ◌&&◌, ◌||◌, is_some, length, List, [], ◌∷◌, ◌++◌, map, fold, Option, Some, None, if◌then◌else◌}, List.flat_map}
 use Rattle.gx_units.specs.{declared.names.{AccountName.AccountName, Symbol.Symbol, Token.Token, UserName.UserName}, Names.{same_account, same_user}}
 use Rattle.gx_ouch.specs.declared.{letters.CancelReason.CancelReason, outbound.Outbound.Outbound}
@@ -110,9 +110,9 @@ tell_each r told streams user = streams user ++ map (report_of r) (told user)
 abbrev pub accepted_of : LiveOrder → List Message
 accepted_of o = Message.Order (Outbound.Accepted (record { token = o.token; terms = o.terms; order_reference = o.number })) ∷ []
 
--- the rules so, and the officer has his answer
+-- the rules so, and the officer has his command_answer
 abbrev pub with_rule : RecordData → UserName → Command → List FileRule → World → World
-with_rule r officer c rules w = record w { rules = rules; streams = tell r officer (answer r c AnswerCode.Done) w.streams }
+with_rule r officer c rules w = record w { rules = rules; streams = tell r officer (command_answer r c AnswerCode.Done) w.streams }
 
 -- the reader so written sees the account from now on, or does not
 abbrev pub with_sight : PolicyData → WrittenName → AccountName → Bool → (UserName → AccountName → Bool) → UserName → AccountName → Bool
@@ -127,20 +127,20 @@ with_kill account change kills other = if same_account account other then change
 abbrev pub world_after_command : PolicyData → RecordData → UserName → Command → Action → World → World
 world_after_command policy r officer c (Action.Kill account) w = record (world_after_turn (turns.EndsAll (Action.Kill account)) w) {
   kills = with_kill account (λ before. Some []) w.kills;
-  streams = tell_each r (λ user. ended_of w.live (Action.Kill account) user ++ to_user officer user (answer r c AnswerCode.Done)) w.streams;
+  streams = tell_each r (λ user. ended_of w.live (Action.Kill account) user ++ to_user officer user (command_answer r c AnswerCode.Done)) w.streams;
 }
 world_after_command policy r officer c (Action.Lift account) w = record w {
   kills = with_kill account (kill_after policy.lifters (Some (Some officer))) w.kills;
-  streams = tell r officer (answer r c (lift_code (is_some (kill_after policy.lifters (Some (Some officer)) (w.kills account))))) w.streams;
+  streams = tell r officer (command_answer r c (lift_code (is_some (kill_after policy.lifters (Some (Some officer)) (w.kills account))))) w.streams;
 }
 world_after_command policy r officer c (Action.SetLimit name limit) w = with_rule r officer c (map (change_rule name (with_limit limit)) w.rules) w
 world_after_command policy r officer c (Action.Restrict name stock) w = with_rule r officer c (map (change_rule name (with_stocks (with_stock stock))) w.rules) w
 world_after_command policy r officer c (Action.Unrestrict name stock) w = with_rule r officer c (map (change_rule name (with_stocks (without_stock stock))) w.rules) w
-world_after_command policy r officer c (Action.Grant written account) w = record w { sight = with_sight policy written account true w.sight; streams = tell r officer (answer r c AnswerCode.Done) w.streams }
-world_after_command policy r officer c (Action.Revoke written account) w = record w { sight = with_sight policy written account false w.sight; streams = tell r officer (answer r c AnswerCode.Done) w.streams }
+world_after_command policy r officer c (Action.Grant written account) w = record w { sight = with_sight policy written account true w.sight; streams = tell r officer (command_answer r c AnswerCode.Done) w.streams }
+world_after_command policy r officer c (Action.Revoke written account) w = record w { sight = with_sight policy written account false w.sight; streams = tell r officer (command_answer r c AnswerCode.Done) w.streams }
 world_after_command policy r officer c Action.CloseDay w = record (world_after_turn (turns.EndsAll Action.CloseDay) w) {
   closed = true;
-  streams = tell_each r (λ user. ended_of w.live Action.CloseDay user ++ day_end policy Action.CloseDay user ++ to_user officer user (answer r c AnswerCode.Done)) w.streams;
+  streams = tell_each r (λ user. ended_of w.live Action.CloseDay user ++ day_end policy Action.CloseDay user ++ to_user officer user (command_answer r c AnswerCode.Done)) w.streams;
 }
 
 -- what a move makes of the world

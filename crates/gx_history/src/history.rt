@@ -4,7 +4,7 @@ ghost use Rattle.std.specs.Prelude.{◌≡◌, ◌+◌, ◌<◌, ◌≤◌, ◌^
 
 use crate::record::Record;
 use crate::records::Records;
-use crate::rows::{Details, Row};
+use crate::rows::{Details, RecordRow};
 use gx_units::OutOfMemory;
 use std::alloc::Global;
 use std::marker::Model;
@@ -12,7 +12,7 @@ use std::marker::Model;
 /// The records of a day so far, the oldest first, and places reserved for more.
 #[derive(Drop)]
 pub struct History {
-    rows: Vec<Row>,
+    rows: Vec<RecordRow>,
     details: Details,
 }
 
@@ -96,7 +96,7 @@ impl History {
     {
         let left = added.as_content();
         let event = self.details.put(&left.step, &left.verdict);
-        self.rows.push_reserved(Row {
+        self.rows.push_reserved(RecordRow {
             number: left.number,
             moment: left.moment,
             event,

@@ -5,7 +5,7 @@ ghost use Rattle.gx_policy.specs.Lists.{slice};
 ghost use Rattle.gx_history.specs.{Requests.{asked_of, kind_of}, Rows.{AllShowable, records_in}};
 
 use crate::record::{Asked, Record, VerdictKind};
-use crate::rows::{Details, Row};
+use crate::rows::{Details, RecordRow};
 use crate::slices::{at_most, count_before, past};
 use gx_units::{Moment, OutOfMemory};
 use std::alloc::Global;
@@ -15,7 +15,7 @@ use std::marker::Model;
 #[derive(Drop)]
 pub struct Records<'a> {
     details: &'a Details,
-    rows: &'a [Row],
+    rows: &'a [RecordRow],
 }
 
 impl<'a> Model for Records<'a> {
@@ -31,7 +31,7 @@ impl<'a> Model for Records<'a> {
 
 impl<'a> Records<'a> {
     /// Those of these rows.
-    pub(crate) fn new(details: &'a Details, rows: &'a [Row]) -> Records<'a>
+    pub(crate) fn new(details: &'a Details, rows: &'a [RecordRow]) -> Records<'a>
         requires { AllShowable (records_in details.now.lists rows.now) }
         ensures { result ≡ records_in details.now.lists rows.now }
     {

@@ -11,7 +11,7 @@ use std::marker::Model;
 
 /// What happened, and what became of it. What is long is named by its place in its list.
 #[derive(Clone, Copy)]
-pub(crate) enum Event {
+pub(crate) enum RowContent {
     /// The request at this place was granted.
     Granted(usize),
     /// The request at the first place was denied, by the rule at the second.
@@ -26,13 +26,13 @@ pub(crate) enum Event {
 
 /// A record.
 #[derive(Clone, Copy)]
-pub(crate) struct Row {
+pub(crate) struct RecordRow {
     /// The number of the record.
     pub(crate) number: u64,
     /// The moment of the record.
     pub(crate) moment: Moment,
     /// All else.
-    pub(crate) event: Event,
+    pub(crate) event: RowContent,
 }
 
 /// What is long in the records, each kind in the order of its records, and places reserved for more.
@@ -96,7 +96,7 @@ impl Details {
     /// Puts what is long in them last, and names it by its place.
     #[inline(always)]
     #[tactic(auto, using(gx_units::proofs::Lists_found::get_last))]
-    pub(crate) fn put(&mut self, step: &Step, verdict: &Verdict) -> Event
+    pub(crate) fn put(&mut self, step: &Step, verdict: &Verdict) -> RowContent
         requires of_step { IsTrue (is_verdict_of step.now verdict.now) }
         requires room { 0 < self.old.reserved }
         ensures lists { self.new.lists ≡ with_details step.now verdict.now self.old.lists }
@@ -111,10 +111,10 @@ impl Details {
             (Step::Asked(asked), Verdict::Granted) => {
                 let place = self.asked.len();
                 self.asked.push_reserved(*asked);
-                Event::Granted(place)
+                RowContent::Granted(place)
             }
             (Step::Asked(asked), Verdict::Denied(rule)) => {
-                let event = Event::Denied(self.asked.len(), self.rules.len());
+                let event = RowContent::Denied(self.asked.len(), self.rules.len());
                 self.asked.push_reserved(*asked);
                 self.rules.push_reserved(*rule);
                 event
@@ -122,10 +122,12 @@ impl Details {
             (Step::Matching(handed), Verdict::Filled(fill)) => {
                 let place = self.fills.len();
                 self.fills.push_reserved(*fill);
-                Event::Filled(*handed, place)
+                RowContent::Filled(*handed, place)
             }
-            (Step::Matching(handed), Verdict::Rested(order)) => Event::Rested(*handed, *order),
-            (Step::Matching(handed), Verdict::Expired(order)) => Event::Expired(*handed, *order),
+            (Step::Matching(handed), Verdict::Rested(order)) => RowContent::Rested(*handed, *order),
+            (Step::Matching(handed), Verdict::Expired(order)) => RowContent::Expired(
+                *handed, *order,
+            ),
             _ => unreachable!(),
         }
     }
@@ -141,65 +143,66 @@ impl Details {
     }
 
     #[inline(always)]
-    fn step(&self, event: &Event) -> Step
+    fn step(&self, event: &RowContent) -> Step
         ensures { result ≡ step_in self.now.lists.asked event.now }
     {
         match event {
-            Event::Granted(place) | Event::Denied(place, _) => self.step_at(*place),
-            Event::Filled(handed, _) | Event::Rested(handed, _) | Event::Expired(handed, _) => {
-                Step::Matching(*handed)
-            }
+            RowContent::Granted(place) | RowContent::Denied(place, _) => self.step_at(*place),
+            RowContent::Filled(handed, _)
+            | RowContent::Rested(handed, _)
+            | RowContent::Expired(handed, _) => { Step::Matching(*handed) }
         }
     }
 
     #[inline(always)]
-    fn verdict(&self, event: &Event) -> Verdict
+    fn verdict(&self, event: &RowContent) -> Verdict
         ensures { result ≡ verdict_in self.now.lists.rules self.now.lists.fills event.now }
     {
         match event {
-            Event::Granted(_) => Verdict::Granted,
-            Event::Denied(_, place) => match self.rules.get(*place) {
+            RowContent::Granted(_) => Verdict::Granted,
+            RowContent::Denied(_, place) => match self.rules.get(*place) {
                 Some(rule) => Verdict::Denied(*rule),
                 None => Verdict::Granted,
             },
-            Event::Filled(_, place) => match self.fills.get(*place) {
+            RowContent::Filled(_, place) => match self.fills.get(*place) {
                 Some(fill) => Verdict::Filled(*fill),
                 None => Verdict::Granted,
             },
-            Event::Rested(_, order) => Verdict::Rested(*order),
-            Event::Expired(_, order) => Verdict::Expired(*order),
+            RowContent::Rested(_, order) => Verdict::Rested(*order),
+            RowContent::Expired(_, order) => Verdict::Expired(*order),
         }
     }
 
     /// What was asked for in this event, where it lies, if it is no matching step.
     #[inline(always)]
-    pub(crate) fn asked(&self, event: &Event) -> Option<&Asked>
+    pub(crate) fn asked(&self, event: &RowContent) -> Option<&Asked>
         ensures { option_copied result ≡ asked_of (step_in self.now.lists.asked event.now) }
     {
         match event {
-            Event::Granted(place) | Event::Denied(place, _) => self.asked.get(*place),
-            Event::Filled(_, _) | Event::Rested(_, _) | Event::Expired(_, _) => None,
+            RowContent::Granted(place) | RowContent::Denied(place, _) => self.asked.get(*place),
+            RowContent::Filled(_, _) | RowContent::Rested(_, _) | RowContent::Expired(_, _) => None,
         }
     }
 
     /// Which verdict this event has. It looks at no rule and no fill.
     #[inline(always)]
-    pub(crate) fn kind(&self, event: &Event) -> VerdictKind
+    pub(crate) fn kind(&self, event: &RowContent) -> VerdictKind
         ensures { result
             ≡ kind_of (verdict_in self.now.lists.rules self.now.lists.fills event.now) }
     {
         match event {
-            Event::Denied(_, place) if *place < self.rules.len() => VerdictKind::Denied,
-            Event::Filled(_, place) if *place < self.fills.len() => VerdictKind::Filled,
-            Event::Granted(_) | Event::Denied(_, _) | Event::Filled(_, _) => VerdictKind::Granted,
-            Event::Rested(_, _) => VerdictKind::Rested,
-            Event::Expired(_, _) => VerdictKind::Expired,
+            RowContent::Denied(_, place) if *place < self.rules.len() => VerdictKind::Denied,
+            RowContent::Filled(_, place) if *place < self.fills.len() => VerdictKind::Filled,
+            RowContent::Granted(_) | RowContent::Denied(_, _) | RowContent::Filled(_, _) =>
+                VerdictKind::Granted,
+            RowContent::Rested(_, _) => VerdictKind::Rested,
+            RowContent::Expired(_, _) => VerdictKind::Expired,
         }
     }
 
     /// The record that this row stands for.
     #[inline(always)]
-    pub(crate) fn record(&self, row: &Row) -> RecordData
+    pub(crate) fn record(&self, row: &RecordRow) -> RecordData
         ensures { result ≡ record_in self.now.lists row.now }
     {
         RecordData {

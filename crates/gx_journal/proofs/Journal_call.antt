@@ -7,7 +7,7 @@ use Rattle.gx_history.specs.declared.record.RecordData.{RecordData}
 use Rattle.gx_audit_bytes.specs.declared.version.AuditVersion.{AuditVersion}
 use Rattle.gx_pass.specs.declared.view.LineView.{LineView}
 use Rattle.gx_pass.proofs.Lists_prefix.{prefix_length}
-use Rattle.gx_journal.specs.Journals.{records_between, is_broken, journal_bytes, known_length, IsGrown, IsKept, JournalData, JournalWriterData}
+use Rattle.gx_journal.specs.Journals.{records_between, is_broken, journal_bytes, known_length, IsGrown, IsJournalKept, JournalData, JournalWriterData}
 use Rattle.gx_journal.proofs.Journal_next.{added_later, cut_there, cut_written, more_written, none_added}
 
 pub sound_of : (writer : JournalWriterData) → writer.fault ≡ None → is_broken writer ≡ false
@@ -26,7 +26,7 @@ begins_later earlier was is begins later =
     ap (take (length earlier)) (sym later.1) ∙ take-append-le (length earlier) was later.0 longer ∙ begins
 
 -- nothing is written yet
-pub kept_begun : (begun : Option (List ℕ)) (count : ℕ) (earlier : List RecordData) (version : AuditVersion) (met : LineView) (writer : JournalWriterData) → met.front ≡ earlier → count ≤ length earlier → writer.contents ≡ begun → writer.done ≡ count → writer.fault ≡ None → writer.version ≡ version → IsKept begun count earlier version (journal met writer)
+pub kept_begun : (begun : Option (List ℕ)) (count : ℕ) (earlier : List RecordData) (version : AuditVersion) (met : LineView) (writer : JournalWriterData) → met.front ≡ earlier → count ≤ length earlier → writer.contents ≡ begun → writer.done ≡ count → writer.fault ≡ None → writer.version ≡ version → IsJournalKept begun count earlier version (journal met writer)
 kept_begun begun count earlier version met writer same within held done none is = record {
   version_is = is;
   begins = ap (take (length earlier)) same ∙ take_all (length earlier) earlier (omega arith);
@@ -39,7 +39,7 @@ kept_begun begun count earlier version met writer same within held done none is 
 }
 
 -- the pass has met more
-pub kept_later : (begun : Option (List ℕ)) (count : ℕ) {earlier : List RecordData} (version : AuditVersion) (was is : LineView) (writer : JournalWriterData) → is_broken writer ≡ false → IsPrefix was.front is.front → IsKept begun count earlier version (journal was writer) → IsKept begun count earlier version (journal is writer)
+pub kept_later : (begun : Option (List ℕ)) (count : ℕ) {earlier : List RecordData} (version : AuditVersion) (was is : LineView) (writer : JournalWriterData) → is_broken writer ≡ false → IsPrefix was.front is.front → IsJournalKept begun count earlier version (journal was writer) → IsJournalKept begun count earlier version (journal is writer)
 kept_later begun count {earlier} version was is writer sound begins kept = record {
   version_is = kept.version_is;
   begins = begins_later earlier was.front is.front kept.begins begins;
@@ -52,7 +52,7 @@ kept_later begun count {earlier} version was is writer sound begins kept = recor
 
 -- nothing is written any more
 pub kept_stopped : (begun : Option (List ℕ)) (count : ℕ) {earlier : List RecordData} (version : AuditVersion) (met : LineView) (was is : JournalWriterData) → is_broken was ≡ false → is_broken is ≡ true → is.contents ≡ was.contents → is.done ≡ was.done → is.version ≡ was.version
-    → IsKept begun count earlier version (journal met was) → IsKept begun count earlier version (journal met is)
+    → IsJournalKept begun count earlier version (journal met was) → IsJournalKept begun count earlier version (journal met is)
 kept_stopped begun count version met was is sound broken same done goes kept = record {
   version_is = goes ∙ kept.version_is;
   begins = kept.begins;
@@ -79,7 +79,7 @@ next_fit records all done next met =
 
 -- the next records were put on the device, or a front of them
 pub kept_put : (begun : Option (List ℕ)) (count : ℕ) {earlier : List RecordData} (version : AuditVersion) (met : LineView) (answer : Bool) {records : List RecordData} (was is : JournalWriterData) → is_broken was ≡ false
-    → records ≡ take (length records) (drop was.done met.front) → WasPut answer records was is → IsKept begun count earlier version (journal met was) → IsKept begun count earlier version (journal met is)
+    → records ≡ take (length records) (drop was.done met.front) → WasPut answer records was is → IsJournalKept begun count earlier version (journal met was) → IsJournalKept begun count earlier version (journal met is)
 kept_put begun count version met true {records} was is sound next put kept =
     let done = put.done refl in
     let fits = next_fit records met.front was.done next kept.met in

@@ -48,7 +48,7 @@ known_length h = max h.told (length h.front)
 
 -- The day begins with its earlier records. The device holds what it held at first, and behind it the bytes of the records that are done; once it is broken, a
 -- front of the bytes of all records that the pass has met.
-pub record IsKept (begun : Option (List ℕ)) (count : ℕ) (earlier : List RecordData) (version : AuditVersion) (j : JournalData) : Type 0 where
+pub record IsJournalKept (begun : Option (List ℕ)) (count : ℕ) (earlier : List RecordData) (version : AuditVersion) (j : JournalData) : Type 0 where
   pub version_is : j.writer.version ≡ version
   pub begins : take (length earlier) j.met.front ≡ earlier
   pub first : count ≤ j.writer.done

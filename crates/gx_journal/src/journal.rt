@@ -6,7 +6,7 @@ ghost use Rattle.gx_devices.specs.Devices.{IsFront};
 ghost use Rattle.gx_policy.specs.Lists.{slice};
 ghost use Rattle.gx_pass.specs.Views.{with_told};
 ghost use Rattle.gx_door.specs.Acts.{IsLater};
-ghost use Rattle.gx_journal.specs.Journals.{records_between, is_broken, journal_bytes, known_length, IsGrown, IsKept};
+ghost use Rattle.gx_journal.specs.Journals.{records_between, is_broken, journal_bytes, known_length, IsGrown, IsJournalKept};
 
 use crate::name::JournalName;
 use crate::writer::JournalWriter;
@@ -34,15 +34,15 @@ pub struct Journal<D: Door, W: Write, J: JournalName> {
 
 impl<D: Door, W: Write, J: JournalName> Model for Journal<D, W, J> {
     ghost use Rattle.std.specs.Prelude.{◌≡◌, is_some, IsTrue};
-    ghost use Rattle.gx_journal.specs.Journals.{added_by, met_by, IsKept, JournalData};
+    ghost use Rattle.gx_journal.specs.Journals.{added_by, met_by, IsJournalKept, JournalData};
 
     ghost Value = { JournalData };
 
-    ghost view = { λ j. record { met = met_by D.held j.pass; writer = j.writer } };
+    ghost view = { λ j. record { met = met_by D.observed j.pass; writer = j.writer } };
 
     ghost invariant = { λ j. IsTrue (is_some j.pass) × (added_by D.added j.pass ≡ 0)
-        × IsKept J.begun J.count J.earlier J.version
-        (record { met = met_by D.held j.pass; writer = j.writer }) };
+        × IsJournalKept J.begun J.count J.earlier J.version
+        (record { met = met_by D.observed j.pass; writer = j.writer }) };
 }
 
 impl<D: Door, W: Write, J: JournalName> Journal<D, W, J> {
@@ -57,10 +57,10 @@ impl<D: Door, W: Write, J: JournalName> Journal<D, W, J> {
         requires version { version ≡ J.version }
         requires begun { W.contents device ≡ J.begun }
         requires count { count ≡ J.count }
-        requires met { (D.held pass).front ≡ J.earlier }
+        requires met { (D.observed pass).front ≡ J.earlier }
         requires none_added { D.added pass ≡ 0 }
         requires within { count ≤ length J.earlier }
-        ensures met { result.met ≡ D.held pass }
+        ensures met { result.met ≡ D.observed pass }
         ensures contents { result.writer.contents ≡ J.begun }
         ensures version { result.writer.version ≡ version }
         ensures done { result.writer.done ≡ count }
@@ -187,10 +187,10 @@ impl<D: Door, W: Write, J: JournalName> Journal<D, W, J> {
 
     /// The pass, and the device with the day's records that are on it.
     pub fn into_parts(self) -> (D::Pass, JournalWriter<W>)
-        ensures met { D.held result.0 ≡ self.met }
+        ensures met { D.observed result.0 ≡ self.met }
         ensures none_added { D.added result.0 ≡ 0 }
         ensures writer { result.1 ≡ self.writer }
-        ensures kept { IsKept J.begun J.count J.earlier J.version self }
+        ensures kept { IsJournalKept J.begun J.count J.earlier J.version self }
     {
         let Journal {
             pass,

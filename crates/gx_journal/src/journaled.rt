@@ -35,7 +35,7 @@ impl<'x, D: Door, W: Write, J: JournalName> Journaled<'x, D, W, J> {
         requires version { version ≡ J.version }
         requires begun { W.contents device ≡ J.begun }
         requires count { count ≡ J.count }
-        requires met { (D.held pass).front ≡ J.earlier }
+        requires met { (D.observed pass).front ≡ J.earlier }
         requires none_added { D.added pass ≡ 0 }
         requires within { count ≤ length J.earlier }
     {
@@ -57,7 +57,7 @@ impl<D: Door, W: Write, J: JournalName> Door for Journaled<'_, D, W, J> {
 
     ghost policy = { D.policy };
 
-    ghost held = { D.held };
+    ghost observed = { D.observed };
 
     ghost added = { D.added };
 

@@ -5,7 +5,7 @@ use Rattle.gx_units.specs.{declared.names.{AccountName.AccountName, UserName.Use
 use Rattle.gx_ouch.specs.declared.letters.CancelReason.{CancelReason}
 use Rattle.gx_desk.specs.declared.{Action.Action, Command.Command}
 use Rattle.gx_policy.specs.declared.policy.PolicyData.{PolicyData}
-use Rattle.gx_history.specs.{declared.{live_order.LiveOrder.LiveOrder, «record».{Asked.Asked, RecordData.RecordData, Request.Request, Step.Step, Verdict.Verdict}, report.Report.Report}, Book.rested_of, Executions.sides, InForce.{kill_or_lift_of, is_entitled, kill_after, kill_in_force}, Live.live, LiveOrders.shares_open, Orders.{Order, orders, size_asked, size_set, ends, ends_account, ends_by_request, expires}, Requests.{granted_of, granted_action, granted_mark, action_of, is_granted, asked_of}, Streams.{stream, answer, canceled_of, granted_code, reports_of_verdict, reports_of_grant, report_of, copy_of, ended_of, day_end, to_user}, Verdicts.next}
+use Rattle.gx_history.specs.{declared.{live_order.LiveOrder.LiveOrder, «record».{Asked.Asked, RecordData.RecordData, Request.Request, Step.Step, Verdict.Verdict}, report.Report.Report}, Book.rested_of, Executions.sides, InForce.{kill_or_lift_of, is_entitled, kill_after, kill_in_force}, Live.live, LiveOrders.shares_open, Orders.{Order, orders, size_asked, size_set, ends, ends_account, ends_by_request, expires}, Requests.{granted_of, granted_action, granted_mark, action_of, is_granted, asked_of}, Streams.{stream, command_answer, canceled_of, granted_code, reports_of_verdict, reports_of_grant, report_of, copy_of, ended_of, day_end, to_user}, Verdicts.next}
 use Rattle.gx_laws.proofs.{Orders_added.granted_is, Orders_ended.none_added, Records_idle.AddsNothing, Kills_next.kill_in_force_next, Streams_next.stream_next, Runs_legal.step_left}
 
 -- the record grants the user's command, which asks for the action
@@ -89,7 +89,7 @@ tells policy history r user v s = map (report_of r) (reports_of_verdict policy h
 pub told_by_command : (policy : PolicyData) (history : List RecordData) (r : RecordData) (a : Asked) (c : Command) (action : Action) (user : UserName)
     → GrantsCommand r a action → a.request ≡ Request.Command c → c.action ≡ action
     → stream policy (history ++ r ∷ []) user
-    ≡ stream policy history user ++ map (report_of r) (ended_of (live policy history) action user ++ day_end policy action user ++ to_user a.user user (answer r c (granted_code policy (history ++ r ∷ []) action)))
+    ≡ stream policy history user ++ map (report_of r) (ended_of (live policy history) action user ++ day_end policy action user ++ to_user a.user user (command_answer r c (granted_code policy (history ++ r ∷ []) action)))
 told_by_command policy history r a c action user g asks is =
     stream_next policy history r user
     ∙ ap (λ (more : List Report). stream policy history user ++ more)
@@ -97,7 +97,7 @@ told_by_command policy history r a c action user g asks is =
     ∙ ap (λ (s : Step). tells policy history r user Verdict.Granted s) g.asks
     ∙ ap (λ (q : Request). map (report_of r) (reports_of_grant policy history r a.user q user) ++ []) asks
     ∙ append-nil (map (report_of r) (reports_of_grant policy history r a.user (Request.Command c) user))
-    ∙ ap (λ (x : Action). map (report_of r) (ended_of (live policy history) x user ++ day_end policy x user ++ to_user a.user user (answer r c (granted_code policy (history ++ r ∷ []) x)))) is)
+    ∙ ap (λ (x : Action). map (report_of r) (ended_of (live policy history) x user ++ day_end policy x user ++ to_user a.user user (command_answer r c (granted_code policy (history ++ r ∷ []) x)))) is)
 
 -- and nobody is told of the end of an order by it
 pub none_ended : (policy : PolicyData) (history : List RecordData) (action : Action) (user : UserName) → ((account : AccountName) → ends_account account action ≡ false)

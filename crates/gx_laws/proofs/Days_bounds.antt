@@ -5,7 +5,7 @@ use Rattle.gx_units.proofs.Lists_hold.{all_both}
 use Rattle.gx_policy.specs.declared.policy.PolicyData.{PolicyData}
 use Rattle.gx_history.specs.{declared.record.{Fill.Fill, RecordData.RecordData, Request.Request, Step.Step, Verdict.Verdict}, Executions.{Execution, executions, sides_in}, Figures.{Positions, positions}, Live.live, Orders.{Order, orders}, Requests.is_order, Verdicts.{day_limit, Follows, IsGrantedKillOrLogout, IsKillOrLogout, IsLegal}, World.{turn_by, world}}
 use Rattle.gx_laws.proofs.{Orders_added.{AddsNone, AddsOne, what_is_added}, Requests_judged.legal_keeps, Orders_next.{executions_next, executions_none, orders_next, orders_none}, Streams_next.{legal_next, legal_none}, Orders_numbered.next_number, Turns_allowed.{numbers_apart, records_may_come}, Positions_next.{live_none, positions_go_on}, Moments_ordered.granted_last, SmallDays_next.{AreFew, HasRoom, IsSmall, IsSmallSide, few_then, fill_small, live_then, never_fall_next}, Sums_turn.sides_are}
-use Rattle.gx_laws.specs.{PositionLaws.{granted_after, turn_after}, Sound.{IsNoLater, MayChange, MayFill, NeverFall}}
+use Rattle.gx_laws.specs.{PositionLaws.{granted_after, turn_after}, Sound.{IsNoLater, MayChange, MayFillHeld, NeverFall}}
 
 -- at most as many orders as records, twice as many sides of fills, and both as few as a day has
 pub record IsSized (policy : PolicyData) (history : List RecordData) : Type 0 where
@@ -77,7 +77,7 @@ module _ (policy : PolicyData) (history : List RecordData) (r : RecordData) (leg
   sides_made : AreTwo (sides_in (orders policy history) r.verdict)
   sides_made = by r.verdict refl
     where
-      of_fill : (f : Fill) → r.verdict ≡ Verdict.Filled f → MayFill (positions policy history) f → AreTwo (sides_in (orders policy history) (Verdict.Filled f))
+      of_fill : (f : Fill) → r.verdict ≡ Verdict.Filled f → MayFillHeld (positions policy history) f → AreTwo (sides_in (orders policy history) (Verdict.Filled f))
       of_fill f e fills =
           let is = fill_small (positions policy history) f fills sized.small_live in
           let space = room (λ kills. subst (λ (v : Verdict). IsGrantedKillOrLogout v r.step) e kills) in

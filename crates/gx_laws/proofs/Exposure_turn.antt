@@ -7,7 +7,7 @@ use Rattle.gx_ouch.specs.declared.outbound.OrderTerms.{OrderTerms}
 use Rattle.gx_policy.specs.declared.policy.PolicyData.{PolicyData}
 use Rattle.gx_history.specs.{declared.{live_order.LiveOrder.LiveOrder, «record».Fill.Fill}, Executions.Execution, Figures.{Positions, done_of_chosen, done_value, live_value, of_accounts, open_of_chosen}, Orders.Order, Turns.{Turn, Adds, EndsAll, Ends, Fills, Keeps, Replaces, Rests, Sizes, becomes, new_in, live_after}}
 use Rattle.gx_laws.proofs.{Fills_executed.{both_sides, maker_side, taker_side}, SmallDays_next.new_ones, Sums_turn.{IsOpenSum, done_shares_filled, done_value_filled, filled_by, is_chosen, joined, no_rise_by, none_gains, none_of, shares_of, sides_are, sum_of_filter, sum_where-append, value_of}}
-use Rattle.gx_laws.specs.{Changing.{executed_by, positions_with}, Sound.{IsThere, MayChange, MayCome, MayFill, numbers_of}, Exposure.{gain_of_sell, gains_of_sells, is_such}}
+use Rattle.gx_laws.specs.{Changing.{executed_by, positions_with}, Sound.{IsLiveThere, MayChange, MayCome, MayFillHeld, numbers_of}, Exposure.{gain_of_sell, gains_of_sells, is_such}}
 
 -- what the orders that are chosen have in all
 abbrev pub shares_held : Positions → (AccountName → OrderTerms → Bool) → ℕ
@@ -51,7 +51,7 @@ module _ (policy : PolicyData) (held : Positions) (granted : List Order) (distin
       omega (arith, both, fall, new)
 
   -- where two are filled, by their shares
-  open_fills : {figure : List LiveOrder → ℕ} {chosen : AccountName → OrderTerms → Bool} {weight : ℕ → ℕ → ℕ} → IsOpenSum figure chosen weight → (f : Fill) (may : MayFill held f)
+  open_fills : {figure : List LiveOrder → ℕ} {chosen : AccountName → OrderTerms → Bool} {weight : ℕ → ℕ → ℕ} → IsOpenSum figure chosen weight → (f : Fill) (may : MayFillHeld held f)
       → figure (live_after (Fills f) held.live)
       + (cond (is_chosen chosen may.taker.order) (weight f.shares may.taker.order.terms.price) 0 + cond (is_chosen chosen may.maker.order) (weight f.shares may.maker.order.terms.price) 0)
       ≡ figure held.live
@@ -94,7 +94,7 @@ module _ (policy : PolicyData) (held : Positions) (granted : List Order) (distin
         let gains = ap (λ (es : List Execution). gains_of_sells es among) (same_made turn idle) in
         omega (arith, fall, made, gains)
 
-    gained_filled : (f : Fill) (may : MayFill held f)
+    gained_filled : (f : Fill) (may : MayFillHeld held f)
         → gains_of_sells (executed_by (Fills f) held.grants) among
         ≡ cond (among may.taker.order.account) (gain_of_sell (taker_side f may.taker.grant)) 0 + (cond (among may.maker.order.account) (gain_of_sell (maker_side f may.maker.grant)) 0 + 0)
     unfolding gains_of_sells
@@ -108,7 +108,7 @@ module _ (policy : PolicyData) (held : Positions) (granted : List Order) (distin
     within false paid asked more h = omega arith
 
     -- one side, at the price of the live order
-    side_worth : (f : Fill) (number : ℕ) (there : IsThere held number) (gains : ℕ) → value f.shares f.price ≤ value f.shares there.grant.terms.price + gains
+    side_worth : (f : Fill) (number : ℕ) (there : IsLiveThere held number) (gains : ℕ) → value f.shares f.price ≤ value f.shares there.grant.terms.price + gains
         → cond (among there.order.account) (value f.shares f.price) 0 ≤ cond (among there.order.account) (value f.shares there.order.terms.price) 0 + cond (among there.order.account) gains 0
     side_worth f number there gains h =
         within (among there.order.account) (value f.shares f.price) (value f.shares there.order.terms.price) gains

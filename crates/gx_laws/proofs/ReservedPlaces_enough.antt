@@ -6,7 +6,7 @@ use Rattle.gx_units.proofs.{Names_equal.{user_is, user_is_itself}, Lists_found.f
 use Rattle.gx_ouch.specs.declared.{inbound.EnterOrder.EnterOrder, letters.CancelReason.CancelReason}
 use Rattle.gx_desk.specs.declared.{Action.Action, AnswerCode.AnswerCode, Command.Command}
 use Rattle.gx_policy.specs.{declared.{policy.{PolicyData.PolicyData, User.User}, rule_name.RuleName.RuleName}, People.{account_of, is_trader, role_in, user_in}}
-use Rattle.gx_history.specs.{declared.{«record».{Asked.Asked, RecordData.RecordData, Request.Request, Verdict.Verdict, Step.Step}, report.Message.Message, live_order.LiveOrder.LiveOrder, moves.Move.{TheVariants.{Nothing, Denies, Adds, Sizes, Replaces}, Move}}, InForce.{line_of, kill_after}, Reasons.denial_code, Verdicts.{IsLegal, next}, Live.live_under, LiveOrders.{is_under, replacement_order, shares_open}, Requests.is_judged, Streams.{answer, canceled_of, day_end, ended_of, lift_code, rejected_of, replaced_of, report_of, reports_of, reports_of_denial, stream, to_user}, Turns.new_order, World.{World, accepted_of, world_after_command, move_asked, move_by, world_after_move, world}, Reserved.{may_notify_all_users, enough_reserved, is_never_refused, can_be_killed, is_logged_in, kills_left, most_reserved_records, orders_held, reserved_records, reserved_reports}}
+use Rattle.gx_history.specs.{declared.{«record».{Asked.Asked, RecordData.RecordData, Request.Request, Verdict.Verdict, Step.Step}, report.Message.Message, live_order.LiveOrder.LiveOrder, moves.Move.{TheVariants.{Nothing, Denies, Adds, Sizes, Replaces}, Move}}, InForce.{line_of, kill_after}, Reasons.denial_code, Verdicts.{IsLegal, next}, Live.live_under, LiveOrders.{is_under, replacement_order, shares_open}, Requests.is_judged, Streams.{command_answer, canceled_of, day_end, ended_of, lift_code, rejected_of, replaced_of, report_of, reports_of, reports_of_denial, stream, to_user}, Turns.new_order, World.{World, accepted_of, world_after_command, move_asked, move_by, world_after_move, world}, Reserved.{may_notify_all_users, enough_reserved, is_never_refused, can_be_killed, is_logged_in, kills_left, most_reserved_records, orders_held, reserved_records, reserved_reports}}
 use Rattle.gx_laws.proofs.{Orders_added.found_passes, Requests_judged.asked_is_judged, Streams_next.stream_next, Runs_legal.step_left, World_kinds.{denials_tell_who_asked, granted_world, kills_leave_the_others, logouts_put_off}, World_next.world_next, Lines_known.unknown_on_no_line, Lists_counted.{fewer_pass, one_less_passes}, ReservedOrders_next.{held_and_ended, held_turned, his_of}, ReservedKills_next.{Kills, StayKilled, commands_lift_none, fewer_alive, fewer_kills_left, kill_finds, lifts, no_more_kills, one_kill_less, one_less_alive, was_on, there}}
 use Rattle.gx_history.specs.Turns as turns
 
@@ -51,7 +51,7 @@ denied_few policy r rule (Request.Replace m) = rejected_few policy (Request.Repl
 denied_few policy r rule (Request.Cancel m) = rejected_few policy (Request.Cancel m) rule
 denied_few policy r rule (Request.Command c) = by (denial_code rule)
   where
-    by : (found : Option AnswerCode) → length (flat_map (answer r c) (option_to_list found)) ≤ 1
+    by : (found : Option AnswerCode) → length (flat_map (command_answer r c) (option_to_list found)) ≤ 1
     by None = omega arith
     by (Some code) = omega arith
 
@@ -115,16 +115,16 @@ command policy w r officer c action user = by action
     after : Action → World
     after x = world_after_command policy r officer c x w
 
-    alone : (x : Action) (code : AnswerCode) → (after x).streams user ≡ w.streams user ++ map (report_of r) (to_user officer user (answer r c code)) → held (after x) user ≤ held w user → Wants w (after x) r user (length {A = Message} [] + cond (same_user officer user) 1 0)
-    alone x code is left = answered w (after x) r officer user [] [] (answer r c code) (omega arith) is (omega (arith, left))
+    alone : (x : Action) (code : AnswerCode) → (after x).streams user ≡ w.streams user ++ map (report_of r) (to_user officer user (command_answer r c code)) → held (after x) user ≤ held w user → Wants w (after x) r user (length {A = Message} [] + cond (same_user officer user) 1 0)
+    alone x code is left = answered w (after x) r officer user [] [] (command_answer r c code) (omega arith) is (omega (arith, left))
 
     by : (x : Action) → Wants w (after x) r user (length (day_end policy x user) + cond (same_user officer user) 1 0)
     by (Action.Kill account) =
         let ends : List Message = ended_of w.live (Action.Kill account) user in
-        answered w (after (Action.Kill account)) r officer user ends [] (answer r c AnswerCode.Done) (omega arith)
-        (ap (λ (ms : List Message). w.streams user ++ map (report_of r) (ms ++ to_user officer user (answer r c AnswerCode.Done))) (sym (append-nil ends))) (omega (arith, held_and_ended (Action.Kill account) user w.live))
+        answered w (after (Action.Kill account)) r officer user ends [] (command_answer r c AnswerCode.Done) (omega arith)
+        (ap (λ (ms : List Message). w.streams user ++ map (report_of r) (ms ++ to_user officer user (command_answer r c AnswerCode.Done))) (sym (append-nil ends))) (omega (arith, held_and_ended (Action.Kill account) user w.live))
     by Action.CloseDay =
-        answered w (after Action.CloseDay) r officer user (ended_of w.live Action.CloseDay user) (day_end policy Action.CloseDay user) (answer r c AnswerCode.Done) (omega arith) refl (omega (arith, held_and_ended Action.CloseDay user w.live))
+        answered w (after Action.CloseDay) r officer user (ended_of w.live Action.CloseDay user) (day_end policy Action.CloseDay user) (command_answer r c AnswerCode.Done) (omega arith) refl (omega (arith, held_and_ended Action.CloseDay user w.live))
     by (Action.Lift account) = alone (Action.Lift account) (lift_code (is_some (kill_after policy.lifters (Some (Some officer)) (w.kills account)))) refl (omega arith)
     by (Action.SetLimit rule limit) = alone (Action.SetLimit rule limit) AnswerCode.Done refl (omega arith)
     by (Action.Restrict rule stock) = alone (Action.Restrict rule stock) AnswerCode.Done refl (omega arith)

@@ -6,7 +6,7 @@ use Rattle.gx_units.proofs.Lists_hold.{all_both, all_and, all_found_of, found_is
 use Rattle.gx_policy.specs.declared.policy.PolicyData.{PolicyData}
 use Rattle.gx_history.specs.{declared.{live_order.LiveOrder.LiveOrder, «record».Fill.Fill}, Executions.Execution, Figures.Positions, LiveOrders.shares_open, Orders.Order, Turns.{Turn, Adds, EndsAll, Ends, Fills, Keeps, Replaces, Rests, Sizes, becomes, new_in, live_after}}
 use Rattle.gx_laws.proofs.{BookSides_next.becomes_same, Sums_turn.{IsNoMore, none_gains}}
-use Rattle.gx_laws.specs.Sound.{IsNoLater, IsThere, MayChange, MayCome, MayFill, NeverFall, numbers_of}
+use Rattle.gx_laws.specs.Sound.{IsNoLater, IsLiveThere, MayChange, MayCome, MayFillHeld, NeverFall, numbers_of}
 
 -- few shares open and a low price
 abbrev pub IsSmall : LiveOrder → Type 0
@@ -52,11 +52,11 @@ live_then policy held turn granted distinct may small =
         (omega (arith, same, few, less), subst (λ terms. terms.price < 2 ^ 32) (sym (becomes_same turn x o e).1) was.1)
 
 -- one that is there
-small_there : (held : Positions) (number : ℕ) (there : IsThere held number) → AllByRecursion IsSmall held.live → IsSmall there.order
+small_there : (held : Positions) (number : ℕ) (there : IsLiveThere held number) → AllByRecursion IsSmall held.live → IsSmall there.order
 small_there held number there small = found_is IsSmall (λ (x : LiveOrder). nat_eq x.number number) held.live there.order small there.is_found
 
 -- the shares and the price of a fill between small orders
-pub fill_small : (held : Positions) (f : Fill) → MayFill held f → AllByRecursion IsSmall held.live → (f.shares < 2 ^ 32) × (f.price < 2 ^ 32)
+pub fill_small : (held : Positions) (f : Fill) → MayFillHeld held f → AllByRecursion IsSmall held.live → (f.shares < 2 ^ 32) × (f.price < 2 ^ 32)
 fill_small held f may small =
     let few = (small_there held f.taker may.taker small).0 in
     let has = may.taker_has in

@@ -7,7 +7,7 @@ use Rattle.gx_ouch.specs.declared.{letters.Liquidity.Liquidity, outbound.OrderTe
 use Rattle.gx_policy.specs.declared.policy.PolicyData.{PolicyData}
 use Rattle.gx_history.specs.{declared.{live_order.LiveOrder.LiveOrder, «record».Fill.Fill}, Executions.{Execution, side_of}, Figures.{Positions, live_value, of_accounts, open_of_chosen, done_of_chosen, done_value}, Live.live_numbered, LiveOrders.shares_open, Orders.{Order, ends_account, order_numbered}, Turns.{Turn, Keeps, Adds, Sizes, Replaces, EndsAll, Fills, Rests, Ends, becomes, while_open}}
 use Rattle.gx_laws.proofs.{Figures_next.{done_more, done_value_more}, Fills_executed.both_sides, LiveOrders_known.number_found, BookSides_next.becomes_same}
-use Rattle.gx_laws.specs.{Changing.executed_by, Sound.{MayChange, MayFill, numbers_of}}
+use Rattle.gx_laws.specs.{Changing.executed_by, Sound.{MayChange, MayFillHeld, numbers_of}}
 
 -- the sum over those that pass
 abbrev pub sum_where : {X : Type 0} → (X → Bool) → (X → ℕ) → List X → ℕ
@@ -168,7 +168,7 @@ each_loses turn number os o lost distinct is =
     at false x h one = let same = is.of_others x h in omega (arith, same)
 
 -- two orders trade so many shares
-each_fills : (held : Positions) (f : Fill) → IsDistinct nat_eq (numbers_of held.live) → MayFill held f
+each_fills : (held : Positions) (f : Fill) → IsDistinct nat_eq (numbers_of held.live) → MayFillHeld held f
     → AllByRecursion (λ (x : LiveOrder). left_by (Fills f) x + (cond (is_numbered f.taker x) f.shares 0 + cond (is_numbered f.maker x) f.shares 0) ≡ shares_open x) held.live
 each_fills held f distinct may =
     all held.live (only_one_numbered held.live f.taker may.taker.order distinct may.taker.is_found) (only_one_numbered held.live f.maker may.maker.order distinct may.maker.is_found)
@@ -319,7 +319,7 @@ module _ {figure : List LiveOrder → ℕ} {chosen : AccountName → OrderTerms 
       omega (arith, fall, one)
 
   -- two orders trade so many shares
-  pub filled_by : (held : Positions) (f : Fill) → IsDistinct nat_eq (numbers_of held.live) → (may : MayFill held f)
+  pub filled_by : (held : Positions) (f : Fill) → IsDistinct nat_eq (numbers_of held.live) → (may : MayFillHeld held f)
       → figure (filter_map (becomes (Fills f)) held.live)
       + (cond (is_chosen chosen may.taker.order) (weight f.shares may.taker.order.terms.price) 0 + cond (is_chosen chosen may.maker.order) (weight f.shares may.maker.order.terms.price) 0)
       ≡ figure held.live
@@ -377,12 +377,12 @@ side_is : (grants : List Order) (f : Fill) (liquidity : Liquidity) (number : ℕ
 side_is grants f liquidity number grant found = ap (λ found. map (λ (o : Order). record { fill = f; liquidity = liquidity; order = o }) (option_to_list found)) found
 
 -- Fills: one side for the taker, one for the maker
-pub sides_are : (held : Positions) (f : Fill) (may : MayFill held f) → executed_by (Fills f) held.grants ≡ both_sides f may.taker.grant may.maker.grant
+pub sides_are : (held : Positions) (f : Fill) (may : MayFillHeld held f) → executed_by (Fills f) held.grants ≡ both_sides f may.taker.grant may.maker.grant
 sides_are held f may =
     λ i. side_is held.grants f Liquidity.Removed f.taker may.taker.grant may.taker.is_granted i ++ side_is held.grants f Liquidity.Added f.maker may.maker.grant may.maker.is_granted i
 
 -- Fills: what is executed rises on each side
-pub done_shares_filled : (chosen : AccountName → OrderTerms → Bool) (held : Positions) (f : Fill) (may : MayFill held f)
+pub done_shares_filled : (chosen : AccountName → OrderTerms → Bool) (held : Positions) (f : Fill) (may : MayFillHeld held f)
     → done_of_chosen (held.executions ++ executed_by (Fills f) held.grants) chosen
     ≡ done_of_chosen held.executions chosen + (cond (is_chosen chosen may.taker.order) f.shares 0 + cond (is_chosen chosen may.maker.order) f.shares 0)
 done_shares_filled chosen held f may =
@@ -393,7 +393,7 @@ done_shares_filled chosen held f may =
     omega (arith, more, sums)
 
 -- Fills: and its value, at the price of the fill
-pub done_value_filled : (among : AccountName → Bool) (held : Positions) (f : Fill) (may : MayFill held f)
+pub done_value_filled : (among : AccountName → Bool) (held : Positions) (f : Fill) (may : MayFillHeld held f)
     → done_value (held.executions ++ executed_by (Fills f) held.grants) among
     ≡ done_value held.executions among + (cond (among may.taker.order.account) (value f.shares f.price) 0 + cond (among may.maker.order.account) (value f.shares f.price) 0)
 done_value_filled among held f may =

@@ -7,7 +7,7 @@ use Rattle.gx_ouch.specs.declared.inbound.{CancelOrder.CancelOrder, EnterOrder.E
 use Rattle.gx_policy.specs.{declared.policy.PolicyData.PolicyData, People.{account_of, stock_named}}
 use Rattle.gx_history.specs.{declared.{live_order.LiveOrder.LiveOrder, «record».{Asked.Asked, Fill.Fill, RecordData.RecordData, Request.Request, Step.Step, Verdict.Verdict}, moves.Move.{Move, TheVariants.{Adds, Expires, Fills, Nothing, Replaces, Sizes}}}, Book.is_on, Figures.{Positions, positions}, Live.{is_buy_order, live, live_numbered, live_under}, LiveOrders.{is_under, replacement_order, terms_then}, Matched.IsFair, MayMove.{MayExpire, MayMove}, Orders.{Order, order_entered, order_numbered, orders, orders_added, order_replacing}, Requests.is_judged, Turns.new_order, Verdicts.{IsLegal, next}, World.{move_asked, move_by, turn_by, turn_in, world}}
 use Rattle.gx_laws.proofs.{Enters_granted.entered_has_shares, Requests_judged.asked_is_judged, Orders_listed.{entered_is_listed, orders_are_listed}, Orders_numbered.{number_left, numbers_are_within}, Orders_owned.last_such_is, Runs_legal.step_left, Lists_members.of_all, Keys_differ.{AreApart, IsApartFrom}, Fills_fair.fills_are_fair, LiveOrders_known.{IsKnown, IsWaiting, all_waiting, live_apart, live_known, number_found, number_in}, Moves_allowed.may_by, NamedOrders_only.{FindsOne, finds_one}, Runs_orderly.legal_is_orderly, Requests_granted.{adds_by, it_grants}, Terms_bounds.{entered_price, entered_shares, replaced_price, replaced_shares}, Moments_ordered.granted_last}
-use Rattle.gx_laws.specs.{PositionLaws.RecordsMayCome, Sound.{IsListed, IsLive, IsNoLater, IsOf, IsThere, MayChange, MayCome, numbers_of}}
+use Rattle.gx_laws.specs.{PositionLaws.RecordsMayCome, Sound.{IsListed, IsLive, IsNoLater, IsOf, IsLiveThere, MayChange, MayCome, numbers_of}}
 
 -- what is known of a live order says of which grant it is
 is_of_known : {policy : PolicyData} {history : List RecordData} (o : LiveOrder) (known : IsKnown policy history o) → IsOf o known.of.order
@@ -66,7 +66,7 @@ module _ (policy : PolicyData) (history : List RecordData) (r : RecordData) (leg
   Comes m = MayChange policy held (turn_in m) granted
 
   -- a live order is there under its number
-  abbrev there : (number : ℕ) (o : LiveOrder) → live_numbered (live policy history) number ≡ Some o → IsThere held number
+  abbrev there : (number : ℕ) (o : LiveOrder) → live_numbered (live policy history) number ≡ Some o → IsLiveThere held number
   there number o found =
       let known : IsKnown policy history o = found_is (IsKnown policy history) (λ (x : LiveOrder). x.number == number) (live policy history) o (all_known legal) found in
       record {

@@ -6,7 +6,7 @@ use Rattle.gx_units.proofs.Names_equal.{account_is_itself, user_is}
 use Rattle.gx_ouch.specs.declared.letters.CancelReason.{CancelReason}
 use Rattle.gx_desk.specs.declared.{Action.Action, AnswerCode.AnswerCode, Command.Command}
 use Rattle.gx_policy.specs.{declared.policy.PolicyData.PolicyData, Lists.{in_order, where_true}, People.account_of}
-use Rattle.gx_history.specs.{declared.{live_order.LiveOrder.LiveOrder, «record».{Asked.Asked, RecordData.RecordData, Request.Request, Step.Step, Verdict.Verdict}, report.{Message.Message, Report.Report}, moves.Move.{Move, TheVariants.{Nothing, Denies, PutsOn, Adds, Sizes, Replaces, Commands, Fills, Rests, Expires}}}, Book.rest_numbers, Executions.{executions, sides, sides_in}, InForce.{is_entitled, is_killed, kill_or_lift_of}, Live.{ahead, is_there, waiting, side, live, live_numbered, live_under}, LiveOrders.{replacement_order, shares_open}, Orders.{ends_account, order_entered}, Streams.{accepted_of_order, answer, canceled_of, day_end, copy_of, ended_of, expired_of, granted_code, lift_code, replaced_of, report_of, reports_of_denial, reports_of_execution, reports_of_grant, stream, to_user}, Turns.{Turn, new_order, side_after, live_after, waiting_after}, Verdicts.IsLegal, World.{World, world, world_after_command, move_asked, move_by, move_of, world_after_move, world_after_record, turn_in, turn_of, WorldGoesOn, WorldsAreRuns}}
+use Rattle.gx_history.specs.{declared.{live_order.LiveOrder.LiveOrder, «record».{Asked.Asked, RecordData.RecordData, Request.Request, Step.Step, Verdict.Verdict}, report.{Message.Message, Report.Report}, moves.Move.{Move, TheVariants.{Nothing, Denies, PutsOn, Adds, Sizes, Replaces, Commands, Fills, Rests, Expires}}}, Book.rest_numbers, Executions.{executions, sides, sides_in}, InForce.{is_entitled, is_killed, kill_or_lift_of}, Live.{ahead, is_there, waiting, side, live, live_numbered, live_under}, LiveOrders.{replacement_order, shares_open}, Orders.{ends_account, order_entered}, Streams.{accepted_of_order, command_answer, canceled_of, day_end, copy_of, ended_of, expired_of, granted_code, lift_code, replaced_of, report_of, reports_of_denial, reports_of_execution, reports_of_grant, stream, to_user}, Turns.{Turn, new_order, side_after, live_after, waiting_after}, Verdicts.IsLegal, World.{World, world, world_after_command, move_asked, move_by, move_of, world_after_move, world_after_record, turn_in, turn_of, WorldGoesOn, WorldsAreRuns}}
 use Rattle.gx_history.specs.Turns as turns
 use Rattle.gx_laws.proofs.{Orders_added.found_passes, Requests_judged.legal_keeps, Records_idle.{AddsNothing, EndsNone}, InForce_moved.{InForce, in_force_next}, InForce_next.last_moment_next, Orders_next.{executions_next, is_token_used_next, orders_next, rested_next}, Streams_next.{legal_next, legal_none, stream_next}, Commands_granted.{GrantsCommand, kill_by_command, none_ended, tells}, LiveOrders_next.{live_next, live_stays}, BookSides_next.{side_next, waiting_next}}
 
@@ -79,18 +79,18 @@ lasting : (policy : PolicyData) (history : List RecordData) (r : RecordData) (ac
 lasting policy history r action user told stays no_end = ap (λ (ms : List Message). ms ++ day_end policy action user ++ told) (none_ended policy history action user stays) ∙ ap (λ (ms : List Message). ms ++ told) no_end
 
 tells_action : (policy : PolicyData) (history : List RecordData) (a : Asked) (r : RecordData) (c : Command) → GrantsCommand r a c.action → (action : Action) → c.action ≡ action → (user : UserName)
-    → stream policy history user ++ map (report_of r) (ended_of (live policy history) action user ++ day_end policy action user ++ to_user a.user user (answer r c (granted_code policy (history ++ r ∷ []) action))) ≡ (world_after_command policy r a.user c action (world policy history)).streams user
+    → stream policy history user ++ map (report_of r) (ended_of (live policy history) action user ++ day_end policy action user ++ to_user a.user user (command_answer r c (granted_code policy (history ++ r ∷ []) action))) ≡ (world_after_command policy r a.user c action (world policy history)).streams user
 tells_action policy history a r c g (Action.Kill account) acts user =
-    ap (λ (ms : List Message). stream policy history user ++ map (report_of r) (ms ++ to_user a.user user (answer r c AnswerCode.Done))) (append-nil (ended_of (live policy history) (Action.Kill account) user))
+    ap (λ (ms : List Message). stream policy history user ++ map (report_of r) (ms ++ to_user a.user user (command_answer r c AnswerCode.Done))) (append-nil (ended_of (live policy history) (Action.Kill account) user))
 tells_action policy history a r c g (Action.Lift account) acts user =
-    ap (λ (ms : List Message). stream policy history user ++ map (report_of r) ms) (lasting policy history r (Action.Lift account) user (to_user a.user user (answer r c (lift_code (is_killed policy (history ++ r ∷ []) account)))) (λ account. refl) refl)
-    ∙ ap (λ (x : Option (List UserName)). stream policy history user ++ map (report_of r) (to_user a.user user (answer r c (lift_code (is_some x)))))
+    ap (λ (ms : List Message). stream policy history user ++ map (report_of r) ms) (lasting policy history r (Action.Lift account) user (to_user a.user user (command_answer r c (lift_code (is_killed policy (history ++ r ∷ []) account)))) (λ account. refl) refl)
+    ∙ ap (λ (x : Option (List UserName)). stream policy history user ++ map (report_of r) (to_user a.user user (command_answer r c (lift_code (is_some x)))))
     (kill_by_command policy history r a c.action account (Some (Some a.user)) g (ap (kill_or_lift_of account a.user) acts ∙ ap (λ (b : Bool). where_true b (Some a.user)) (account_is_itself account)))
-tells_action policy history a r c g (Action.SetLimit rule limit) acts user = ap (λ (ms : List Message). stream policy history user ++ map (report_of r) ms) (lasting policy history r (Action.SetLimit rule limit) user (to_user a.user user (answer r c AnswerCode.Done)) (λ account. refl) refl)
-tells_action policy history a r c g (Action.Restrict rule stock) acts user = ap (λ (ms : List Message). stream policy history user ++ map (report_of r) ms) (lasting policy history r (Action.Restrict rule stock) user (to_user a.user user (answer r c AnswerCode.Done)) (λ account. refl) refl)
-tells_action policy history a r c g (Action.Unrestrict rule stock) acts user = ap (λ (ms : List Message). stream policy history user ++ map (report_of r) ms) (lasting policy history r (Action.Unrestrict rule stock) user (to_user a.user user (answer r c AnswerCode.Done)) (λ account. refl) refl)
-tells_action policy history a r c g (Action.Grant written account) acts user = ap (λ (ms : List Message). stream policy history user ++ map (report_of r) ms) (lasting policy history r (Action.Grant written account) user (to_user a.user user (answer r c AnswerCode.Done)) (λ account. refl) refl)
-tells_action policy history a r c g (Action.Revoke written account) acts user = ap (λ (ms : List Message). stream policy history user ++ map (report_of r) ms) (lasting policy history r (Action.Revoke written account) user (to_user a.user user (answer r c AnswerCode.Done)) (λ account. refl) refl)
+tells_action policy history a r c g (Action.SetLimit rule limit) acts user = ap (λ (ms : List Message). stream policy history user ++ map (report_of r) ms) (lasting policy history r (Action.SetLimit rule limit) user (to_user a.user user (command_answer r c AnswerCode.Done)) (λ account. refl) refl)
+tells_action policy history a r c g (Action.Restrict rule stock) acts user = ap (λ (ms : List Message). stream policy history user ++ map (report_of r) ms) (lasting policy history r (Action.Restrict rule stock) user (to_user a.user user (command_answer r c AnswerCode.Done)) (λ account. refl) refl)
+tells_action policy history a r c g (Action.Unrestrict rule stock) acts user = ap (λ (ms : List Message). stream policy history user ++ map (report_of r) ms) (lasting policy history r (Action.Unrestrict rule stock) user (to_user a.user user (command_answer r c AnswerCode.Done)) (λ account. refl) refl)
+tells_action policy history a r c g (Action.Grant written account) acts user = ap (λ (ms : List Message). stream policy history user ++ map (report_of r) ms) (lasting policy history r (Action.Grant written account) user (to_user a.user user (command_answer r c AnswerCode.Done)) (λ account. refl) refl)
+tells_action policy history a r c g (Action.Revoke written account) acts user = ap (λ (ms : List Message). stream policy history user ++ map (report_of r) ms) (lasting policy history r (Action.Revoke written account) user (to_user a.user user (command_answer r c AnswerCode.Done)) (λ account. refl) refl)
 tells_action policy history a r c g Action.CloseDay acts user = refl
 
 tells_request : (policy : PolicyData) (history : List RecordData) (a : Asked) (r : RecordData) → r.step ≡ Step.Asked a → r.verdict ≡ Verdict.Granted → (q : Request) → a.request ≡ q → (user : UserName)

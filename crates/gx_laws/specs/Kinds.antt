@@ -4,7 +4,7 @@ use Rattle.std.specs.{Prelude.{◌≡◌, ℕ, ◌+◌, ◌-◌, ◌<◌, true, 
 use Rattle.gx_units.specs.{declared.names.{AccountName.AccountName, RuleId.RuleId, Symbol.Symbol}, Names.same_user}
 use Rattle.gx_ouch.specs.declared.{inbound.{CancelOrder.CancelOrder, EnterOrder.EnterOrder, ReplaceOrder.ReplaceOrder}, letters.CancelReason.CancelReason}
 use Rattle.gx_desk.specs.declared.{Action.Action, AnswerCode.AnswerCode, Command.Command, WrittenName.WrittenName}
-use Rattle.gx_history.specs.{declared.{live_order.LiveOrder.LiveOrder, «record».{Asked.Asked, Fill.Fill, Login.Login, RecordData.RecordData, Request.Request, Step.Step, Verdict.Verdict}}, Executions.sides_in, InForce.{with_stock, change_rule, kill_after, without_stock}, Live.{live, live_under, of_others}, LiveOrders.{replacement_order, shares_open}, Orders.{order_entered, orders, orders_made, record_uses}, Streams.{answer, canceled_of, copy_of, day_end, ended_of, expired_of, lift_code, replaced_of, reports_of_denial, reports_of_execution, stream, to_user}, Turns.new_order, Verdicts.{IsLegal, next}, World.{World, accepted_of, tell, tell_each, world_after_turn, with_kill, with_rule, with_sight, world}}
+use Rattle.gx_history.specs.{declared.{live_order.LiveOrder.LiveOrder, «record».{Asked.Asked, Fill.Fill, Login.Login, RecordData.RecordData, Request.Request, Step.Step, Verdict.Verdict}}, Executions.sides_in, InForce.{with_stock, change_rule, kill_after, without_stock}, Live.{live, live_under, of_others}, LiveOrders.{replacement_order, shares_open}, Orders.{order_entered, orders, orders_made, record_uses}, Streams.{command_answer, canceled_of, copy_of, day_end, ended_of, expired_of, lift_code, replaced_of, reports_of_denial, reports_of_execution, stream, to_user}, Turns.new_order, Verdicts.{IsLegal, next}, World.{World, accepted_of, tell, tell_each, world_after_turn, with_kill, with_rule, with_sight, world}}
 use Rattle.gx_history.specs.Turns as turns
 
 -- the world so, with one record more than before: its number and its moment
@@ -96,7 +96,7 @@ KillsLeaveTheOthers = (c : Command) (account : AccountName) → c.action ≡ Act
       waiting = of_others account w.waiting;
       resting = λ stock buy. of_others account (w.resting stock buy);
       kills = with_kill account (λ before. Some []) w.kills;
-      streams = tell_each r (λ user. ended_of w.live (Action.Kill account) user ++ to_user a.user user (answer r c AnswerCode.Done)) w.streams;
+      streams = tell_each r (λ user. ended_of w.live (Action.Kill account) user ++ to_user a.user user (command_answer r c AnswerCode.Done)) w.streams;
     })
 
 -- a Lift counts its officer, and brings no order back
@@ -106,7 +106,7 @@ LiftsBringNoneBack = (c : Command) (account : AccountName) → c.action ≡ Acti
     let lifted = kill_after policy.lifters (Some (Some a.user)) in
     record w {
       kills = with_kill account lifted w.kills;
-      streams = tell r a.user (answer r c (lift_code (is_some (lifted (w.kills account))))) w.streams;
+      streams = tell r a.user (command_answer r c (lift_code (is_some (lifted (w.kills account))))) w.streams;
     })
 
 -- Set Limit, Restrict and Unrestrict change the one rule of their name, and nothing else; the officer is told
@@ -125,11 +125,11 @@ UnrestrictsChangeOneRule = (c : Command) (name : RuleId) (stock : Symbol) → c.
 -- Grant and Revoke change whether the reader so written sees the one account, and nothing else; the officer is told
 abbrev pub GrantsChangeOneSight : Type 0
 GrantsChangeOneSight = (c : Command) (written : WrittenName) (account : AccountName) → c.action ≡ Action.Grant written account
-    → Makes (Request.Command c) (λ policy a r w. record w { sight = with_sight policy written account true w.sight; streams = tell r a.user (answer r c AnswerCode.Done) w.streams })
+    → Makes (Request.Command c) (λ policy a r w. record w { sight = with_sight policy written account true w.sight; streams = tell r a.user (command_answer r c AnswerCode.Done) w.streams })
 
 abbrev pub RevokesChangeOneSight : Type 0
 RevokesChangeOneSight = (c : Command) (written : WrittenName) (account : AccountName) → c.action ≡ Action.Revoke written account
-    → Makes (Request.Command c) (λ policy a r w. record w { sight = with_sight policy written account false w.sight; streams = tell r a.user (answer r c AnswerCode.Done) w.streams })
+    → Makes (Request.Command c) (λ policy a r w. record w { sight = with_sight policy written account false w.sight; streams = tell r a.user (command_answer r c AnswerCode.Done) w.streams })
 
 -- Close Day leaves no order, and the day closed; each user is told of his orders that ended, and each trader of the day's end
 abbrev pub ClosesLeaveNone : Type 0
@@ -139,7 +139,7 @@ ClosesLeaveNone = (c : Command) → c.action ≡ Action.CloseDay
       waiting = [];
       resting = λ stock buy. [];
       closed = true;
-      streams = tell_each r (λ user. ended_of w.live Action.CloseDay user ++ day_end policy Action.CloseDay user ++ to_user a.user user (answer r c AnswerCode.Done)) w.streams;
+      streams = tell_each r (λ user. ended_of w.live Action.CloseDay user ++ day_end policy Action.CloseDay user ++ to_user a.user user (command_answer r c AnswerCode.Done)) w.streams;
     })
 
 -- of each legal day, a matching step with this verdict makes this of the world, and records it

@@ -63,7 +63,7 @@ pub record MayCome (policy : PolicyData) (held : Positions) (new : LiveOrder) (g
   pub is_cheap : new.terms.price < 2 ^ 32
 
 -- there is a live order of this number, and it is the one that was granted under it
-pub record IsThere (held : Positions) (number : ℕ) : Type 0 where
+pub record IsLiveThere (held : Positions) (number : ℕ) : Type 0 where
   pub order : LiveOrder
   pub is_found : live_numbered held.live number ≡ Some order
   pub grant : Order
@@ -71,20 +71,20 @@ pub record IsThere (held : Positions) (number : ℕ) : Type 0 where
   pub is_of : IsOf order grant
 
 -- the live order of this number has fewer shares open with this size
-pub record MaySize (held : Positions) (number size : ℕ) : Type 0 where
-  pub is_there : IsThere held number
+pub record MaySizeHeld (held : Positions) (number size : ℕ) : Type 0 where
+  pub is_there : IsLiveThere held number
   pub is_less : size - is_there.order.done < shares_open is_there.order
 
 -- the live order of this number makes place for one of the same account
-pub record MayReplace (policy : PolicyData) (held : Positions) (number : ℕ) (new : LiveOrder) (granted : List Order) : Type 0 where
-  pub is_there : IsThere held number
+pub record MayReplaceHeld (policy : PolicyData) (held : Positions) (number : ℕ) (new : LiveOrder) (granted : List Order) : Type 0 where
+  pub is_there : IsLiveThere held number
   pub is_his : new.account ≡ is_there.order.account
   pub may_come : MayCome policy held new granted
 
 -- a fill between two live orders of one stock, of shares that both have open, at the price of the second
-pub record MayFill (held : Positions) (f : Fill) : Type 0 where
-  pub taker : IsThere held f.taker
-  pub maker : IsThere held f.maker
+pub record MayFillHeld (held : Positions) (f : Fill) : Type 0 where
+  pub taker : IsLiveThere held f.taker
+  pub maker : IsLiveThere held f.maker
   pub they_differ : IsFalse (f.taker == f.maker)
   pub of_one_stock : IsTrue (same_stock maker.order.terms.stock taker.order.terms.stock)
   pub taker_has : f.shares ≤ shares_open taker.order
@@ -94,8 +94,8 @@ pub record MayFill (held : Positions) (f : Fill) : Type 0 where
 -- what may be done to the live orders, with these orders granted
 abbrev pub MayChange : PolicyData → Positions → Turn → List Order → Type 0
 MayChange policy held (Adds new) granted = MayCome policy held new granted
-MayChange policy held (Sizes number size) granted = MaySize held number size
-MayChange policy held (Replaces number new) granted = MayReplace policy held number new granted
-MayChange policy held (Fills f) granted = MayFill held f
-MayChange policy held (Ends number) granted = IsThere held number
+MayChange policy held (Sizes number size) granted = MaySizeHeld held number size
+MayChange policy held (Replaces number new) granted = MayReplaceHeld policy held number new granted
+MayChange policy held (Fills f) granted = MayFillHeld held f
+MayChange policy held (Ends number) granted = IsLiveThere held number
 MayChange policy held other granted = Unit {0}

@@ -15,11 +15,11 @@ const NO_MOMENT: Moment = 0;
 /// Logs the user out, who is logged in on this line.
 fn leave_line<G: AccessGate>(gate: &mut G, line: u16, user: UserName, moment: Moment)
     requires line { 0 < line }
-    requires on { line_of (G.seen gate.old).records (folded_user user) ≡ Some line }
-    ensures policy { (G.seen gate.new).policy ≡ (G.seen gate.old).policy }
-    ensures added { AddsLogouts moment (G.seen gate.old).records (G.seen gate.new).records }
-    ensures left { LeavesLine (G.seen gate.old).policy
-        (G.seen gate.old).records (G.seen gate.new).records
+    requires on { line_of (G.state gate.old).records (folded_user user) ≡ Some line }
+    ensures policy { (G.state gate.new).policy ≡ (G.state gate.old).policy }
+    ensures added { AddsLogouts moment (G.state gate.old).records (G.state gate.new).records }
+    ensures left { LeavesLine (G.state gate.old).policy
+        (G.state gate.old).records (G.state gate.new).records
         (folded_user user) }
 {
     gate.is_legal();
@@ -34,11 +34,11 @@ fn leave_line<G: AccessGate>(gate: &mut G, line: u16, user: UserName, moment: Mo
 
 /// Logs the user out, where he is logged in.
 fn log_out<G: AccessGate>(gate: &mut G, user: UserName, moment: Moment)
-    ensures policy { (G.seen gate.new).policy ≡ (G.seen gate.old).policy }
-    ensures added { AddsLogouts moment (G.seen gate.old).records (G.seen gate.new).records }
-    ensures off { IsOff (G.seen gate.new).records (folded_user user) }
-    ensures others { (other : UserName) → IsOff (G.seen gate.old).records other
-        → IsOff (G.seen gate.new).records other }
+    ensures policy { (G.state gate.new).policy ≡ (G.state gate.old).policy }
+    ensures added { AddsLogouts moment (G.state gate.old).records (G.state gate.new).records }
+    ensures off { IsOff (G.state gate.new).records (folded_user user) }
+    ensures others { (other : UserName) → IsOff (G.state gate.old).records other
+        → IsOff (G.state gate.new).records other }
 {
     let Some(line) = gate.on(user.folded()) else {
         return;
@@ -53,10 +53,10 @@ fn log_out<G: AccessGate>(gate: &mut G, user: UserName, moment: Moment)
 /// Logs out each user who is logged in, as is right where no connection is left of those that made the gate's records.
 /// Nothing else changes. Takes no memory, and goes in a full day too.
 pub fn log_out_all<G: AccessGate>(gate: &mut G, moment: Moment)
-    ensures policy { (G.seen gate.new).policy ≡ (G.seen gate.old).policy }
-    ensures added { AddsLogouts moment (G.seen gate.old).records (G.seen gate.new).records }
-    ensures legal { IsLegal (G.seen gate.new).policy (G.seen gate.new).records }
-    ensures nobody_on { NobodyIsOn (G.seen gate.new) }
+    ensures policy { (G.state gate.new).policy ≡ (G.state gate.old).policy }
+    ensures added { AddsLogouts moment (G.state gate.old).records (G.state gate.new).records }
+    ensures legal { IsLegal (G.state gate.new).policy (G.state gate.new).records }
+    ensures nobody_on { NobodyIsOn (G.state gate.new) }
 {
     for place in 0..gate.policy().users().len() {
         let user = gate.policy().users()[place].name;
@@ -68,10 +68,10 @@ pub fn log_out_all<G: AccessGate>(gate: &mut G, moment: Moment)
 /// Logs out each user who is logged in by the gate's records, at the moment of the last of them.
 #[tactic(auto, using(crate::proofs::Logout_call::longer))]
 pub fn log_out_at_last<G: AccessGate>(gate: &mut G)
-    ensures policy { (G.seen gate.new).policy ≡ (G.seen gate.old).policy }
-    ensures added { AddsLogouts 0 (G.seen gate.old).records (G.seen gate.new).records }
-    ensures longer { length (G.seen gate.old).records ≤ length (G.seen gate.new).records }
-    ensures nobody_on { NobodyIsOn (G.seen gate.new) }
+    ensures policy { (G.state gate.new).policy ≡ (G.state gate.old).policy }
+    ensures added { AddsLogouts 0 (G.state gate.old).records (G.state gate.new).records }
+    ensures longer { length (G.state gate.old).records ≤ length (G.state gate.new).records }
+    ensures nobody_on { NobodyIsOn (G.state gate.new) }
 {
     log_out_all(gate, NO_MOMENT);
 }

@@ -7,7 +7,7 @@ use Rattle.gx_ouch.specs.declared.outbound.OrderTerms.{OrderTerms}
 use Rattle.gx_history.specs.{LiveOrders.shares_open, declared.{live_order.LiveOrder.LiveOrder, facts.{RuleFigures.RuleFigures, StockSide.StockSide}, «record».Request.Request}, Executions.Execution, Book.is_on, Figures.{Positions, counts_account, figures, kind_figures, net_done, no_figures, on_side, open_value, other_side, reference, side_asked, side_done, side_live, stock_asked}, Rules.{rules_with_figures, figured_from}, Verdicts.with_figures}
 use Rattle.gx_laws.proofs.Sums_turn.{done_are, is_chosen, none_of, shares_of, sum_of_none}
 use Rattle.gx_laws.specs.Sound.{AreSound, IsListed}
-use Rattle.gx_ledger.specs.{declared.{group.Group.Group, figure_kind.FigureKind.FigureKind, sides.StockSums.StockSums, sums.Sums.Sums, tally.{Tally.Tally, FigureQuery.FigureQuery}}, Accounts.{account_names, account_place}, Keeping.{LedgerData, price_of, reference_for}, Running.{asked_as, capped_signed, net_of, no_sides, on_its_side, sides_at}, StandsFor.{GivesFigures, IsMadeIn, StandsFor, both_sides, group_of, members_of, side_sums_of, sides_of, tally_of, total_of}, Tallies.{asks_of, count_of, figures_of_group, net_sums_in, place_in, seat_for, seat_in, seats_for, tally_figures, tells_reference}, Told.figures_at}
+use Rattle.gx_ledger.specs.{declared.{group.Group.Group, figure_kind.FigureKind.FigureKind, sides.StockSums.StockSums, sums.Sums.Sums, tally.{Tally.Tally, FigureQuery.FigureQuery}}, Accounts.{account_names, account_place}, Keeping.{LedgerData, price_of, reference_for}, Running.{asked_as, capped_signed, net_of, no_sides, on_its_side, sides_at}, StandsFor.{GivesFigures, IsMadeIn, StandsFor, both_sides, group_of, members_of, side_sums_of, sides_of, tally_of, total_of}, Tallies.{asks_of, count_of, figures_of_group, net_sums_in, place_in, seat_for, seat_in, seats_for, tally_figures, tells_reference}, FiguresAsked.figures_at}
 use Rattle.gx_ledger.proofs.{Grants_counted.{alike_is, recent_counted}, Tallies_changed.{map_twice, place-cons}, Totals_changed.done_fit}
 use Rattle.gx_units.proofs.{Test_known.and_false, Names_equal.{same_account_flip, account_is, stock_is}, Lists_hold.all_weaker}
 

@@ -8,7 +8,7 @@ use Rattle.gx_history.specs.{declared.{facts.StockSide.StockSide, live_order.Liv
 use Rattle.gx_policy.specs.{declared.policy.{PolicyData.PolicyData, Stock.Stock}, Lists.where_true, People.stock_named}
 use Rattle.gx_laws.proofs.{Figures_next.reference_more, Fills_executed.both_sides, Sums_turn.{IsOpenSum, done_shares_filled, done_value_filled, filled_by, is_chosen, shares_of, sides_are, value_of}}
 use Rattle.gx_history.specs.Turns as turns
-use Rattle.gx_laws.specs.{Changing.{executed_by, positions_with}, Sound.{AreSound, IsListed, MayFill, SumsFit, anyone}}
+use Rattle.gx_laws.specs.{Changing.{executed_by, positions_with}, Sound.{AreSound, IsListed, MayFillHeld, SumsFit, anyone}}
 use Rattle.gx_ledger.specs.{declared.sums.Sums.Sums, Keeping.{LedgerData, is_filled, data_after, prices_with, with_price}, Running.capped_at_128_bits, StandsFor.{AreFilled, Fills, IsMadeIn, StandsFor, Total, enters_of, moments_of, prices_of, total_of}}
 use Rattle.gx_ledger.proofs.{Ledger_next.tallies_same, Tallies_changed.{Totals, changed_total, changes_side, kept_follows, totals_after}, Totals_changed.{done_fit, done_value_fit, less, more, on_its_own_side}}
 
@@ -69,7 +69,7 @@ module _ (held : Positions) (policy : PolicyData) (taker maker : LiveOrder) (sha
   filled_is = λ i. record { live = append-nil after.live i; executions = after.executions; grants = append-nil held.grants i }
 
   module _ (are : AreFilled held taker maker f) where
-    abbrev may : MayFill held f
+    abbrev may : MayFillHeld held f
     may = are.may_fill
 
     taker_is : may.taker.order ≡ taker

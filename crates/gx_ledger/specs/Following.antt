@@ -4,7 +4,7 @@ use Rattle.gx_desk.specs.declared.Action.{Action}
 use Rattle.gx_policy.specs.declared.policy.PolicyData.{PolicyData}
 use Rattle.gx_history.specs.{declared.live_order.LiveOrder.LiveOrder, Figures.Positions, Orders.{Order, ends_account}}
 use Rattle.gx_history.specs.Turns as turns
-use Rattle.gx_laws.specs.{Changing.positions_with, Sound.{AreSound, MayReplace, numbers_of}}
+use Rattle.gx_laws.specs.{Changing.positions_with, Sound.{AreSound, MayReplaceHeld, numbers_of}}
 use Rattle.gx_ledger.specs.{Keeping.LedgerData, StandsFor.{Accepts, Carries, Closes, IsAccepted, IsHeld, StandsFor}}
 
 -- the live orders, fills and grants, once one order has ended
@@ -45,7 +45,7 @@ AllAreEnded = (policy : PolicyData) (held : Positions) (action : Action) → Are
 -- the order is live, and the new one may take its place
 pub record MakesPlace (policy : PolicyData) (held : Positions) (o new_order : LiveOrder) (grant : Order) : Type 0 where
   pub is_held : IsHeld held o
-  pub may_replace : MayReplace policy held o.number new_order (grant ∷ [])
+  pub may_replace : MayReplaceHeld policy held o.number new_order (grant ∷ [])
 
 -- an order that was granted at the moment comes in the place of another
 abbrev pub Replaces : (o new_order : LiveOrder) → ℕ → LedgerData → LedgerData → Type 0

@@ -6,7 +6,7 @@ pub mod Tallies
 pub mod Counts
 pub mod Keeping
 pub mod Tables
-pub mod Told
+pub mod FiguresAsked
 pub mod StandsFor
 pub mod Standing
 pub mod Following

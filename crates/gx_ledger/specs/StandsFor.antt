@@ -5,8 +5,8 @@ use Rattle.gx_units.specs.{Names.same_account, declared.names.{AccountName.Accou
 use Rattle.gx_history.specs.{declared.{live_order.LiveOrder.LiveOrder, «record».{Fill.Fill, Request.Request}}, Executions.Execution, Figures.{Positions, figures, live_shares, live_value, done_shares, done_value, reference, side_done, side_live}, Live.live_numbered, LiveOrders.shares_open, Orders.Order, Rules.rules_with_figures, Verdicts.with_figures, Turns.Turn}
 use Rattle.gx_policy.specs.{declared.policy.{Count.Count, FileRule.FileRule, PolicyData.PolicyData, Scope.Scope, Stock.Stock}, Lists.{are_distinct, last_few}, People.{account_named, covers, stock_named}}
 use Rattle.gx_history.specs.Turns as turns
-use Rattle.gx_laws.specs.{Changing.positions_with, Sound.{AreSound, IsOf, MayCome, MayFill}}
-use Rattle.gx_ledger.specs.{declared.{figure_kind.FigureKind.FigureKind, group.{RepeatKey.RepeatKey, Group.Group}, sides.StockSums.StockSums, sums.Sums.Sums, tally.Tally.Tally}, Accounts.account_names, Keeping.LedgerData, Tallies.{asks_of, count_of, seats_for, tells_reference}, Told.{Asking, figures_at}}
+use Rattle.gx_laws.specs.{Changing.positions_with, Sound.{AreSound, IsOf, MayCome, MayFillHeld}}
+use Rattle.gx_ledger.specs.{declared.{figure_kind.FigureKind.FigureKind, group.{RepeatKey.RepeatKey, Group.Group}, sides.StockSums.StockSums, sums.Sums.Sums, tally.Tally.Tally}, Accounts.account_names, Keeping.LedgerData, Tallies.{asks_of, count_of, seats_for, tells_reference}, FiguresAsked.{Asking, figures_at}}
 
 -- the shares of these accounts
 abbrev pub shares_among : Positions → (AccountName → Bool) → Sums
@@ -144,7 +144,7 @@ Closes o old new = Carries old new (λ policy held. IsHeld held o) (turns.Ends o
 pub record AreFilled (held : Positions) (taker maker : LiveOrder) (f : Fill) : Type 0 where
   pub taker_is_held : IsHeld held taker
   pub maker_is_held : IsHeld held maker
-  pub may_fill : MayFill held f
+  pub may_fill : MayFillHeld held f
 
 -- a fill between two live orders
 abbrev pub Fills : LiveOrder → LiveOrder → ℕ → ℕ → LedgerData → LedgerData → Type 0

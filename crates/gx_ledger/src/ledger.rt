@@ -3,7 +3,7 @@
 ghost use Rattle.std.specs.{Prelude.{◌≡◌, IfOk, option_and_then, slice_get}, Option.option_map_or};
 ghost use Rattle.gx_history.specs.{Figures.{open_value, side_asked}, LiveOrders.shares_open};
 ghost use Rattle.gx_laws.specs.Changing.{no_positions};
-ghost use Rattle.gx_ledger.specs.{Accounts.account_place, Keeping.{data_after, price_of, reference_for, with_price}, Running.asked_as, StandsFor.{Accepts, Closes, Cuts, Fills, GivesFigures, StandsFor}, Standing.{GivesGross, GivesNet, tally_gross, tally_net}, Told.figures_at};
+ghost use Rattle.gx_ledger.specs.{Accounts.account_place, Keeping.{data_after, price_of, reference_for, with_price}, Running.asked_as, StandsFor.{Accepts, Closes, Cuts, Fills, GivesFigures, StandsFor}, Standing.{GivesGross, GivesNet, tally_gross, tally_net}, FiguresAsked.figures_at};
 
 use crate::change::{Change, ChangeKind};
 use crate::group::RepeatKey;
@@ -56,7 +56,7 @@ pub struct AskedFigures<'a> {
 }
 
 impl<'a> Model for AskedFigures<'a> {
-    ghost use Rattle.gx_ledger.specs.Told.{Asking};
+    ghost use Rattle.gx_ledger.specs.FiguresAsked.{Asking};
 
     ghost Value = { Asking };
 

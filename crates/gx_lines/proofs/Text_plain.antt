@@ -3,7 +3,7 @@ use Rattle.std.proofs.{Common.{◌≡◌, ℕ, zero, suc, ◌+◌, ◌-◌, ◌/
 use Rattle.std.specs.{Prelude.{◌==◌, nat_lt, codes, Option, Some, None, unwrap_or}, List.list_all}
 use Rattle.gx_units.specs.Spelling.{without_right_spaces}
 use Rattle.gx_text.specs.{Laws.{JsonIsPrinted, ShownIsVisible}, Moments.{minute_text, moment_text, with_zeros}, Shown.{is_printed, is_visible, json_string, shown_text, shown_name}, declared.moments.Decimals.TheVariants.Nine}
-use Rattle.gx_lines.specs.{Showing.{decimals_text, price_text, key_text, text_field, name_field, number_field, json_front, json_line}, NameLaws.IsBytes, LineLaws.IsOneLine}
+use Rattle.gx_lines.specs.{Showing.{price_decimals_text, price_text, key_text, text_field, name_field, json_number_field, json_front, json_line}, NameLaws.IsBytes, LineLaws.IsOneLine}
 use Rattle.gx_lines.proofs.Names_visible.{kept, names_are_visible}
 use Rattle.gx_text.proofs.Shown_visible.{visible_printed}
 
@@ -101,20 +101,20 @@ pub price_plain : (price : ℕ) → price < 2 ^ 64 → are_plain (price_text pri
 unfolding price_text
 price_plain price h =
     let part = part_plain (price % 10000) (price % 10000 % 100 == 0) (price % 10000 % 10 == 0) (omega arith) in
-    (plain (decimal (price / 10000)) (numbered (price / 10000) (omega (arith, h))) & plain (codes ".") refl & plain (decimals_text (price % 10000)) part).is
+    (plain (decimal (price / 10000)) (numbered (price / 10000) (omega (arith, h))) & plain (codes ".") refl & plain (price_decimals_text (price % 10000)) part).is
 
 key_plain : (key : List ℕ) → are_plain key ≡ true → are_plain (key_text key) ≡ true
 unfolding key_text
 key_plain key h = search (joined, h)
 
-number_field_plain : (key value : List ℕ) → are_plain key ≡ true → are_plain value ≡ true → are_plain (number_field key value) ≡ true
-unfolding number_field
+number_field_plain : (key value : List ℕ) → are_plain key ≡ true → are_plain value ≡ true → are_plain (json_number_field key value) ≡ true
+unfolding json_number_field
 number_field_plain key value k v = search (joined, key_plain, k, v)
 
-pub decimal_field : (key : List ℕ) (n : ℕ) → are_plain key ≡ true → n < 2 ^ 64 → IsPlain (number_field key (decimal n))
+pub decimal_field : (key : List ℕ) (n : ℕ) → are_plain key ≡ true → n < 2 ^ 64 → IsPlain (json_number_field key (decimal n))
 decimal_field key n k h = plain _ (number_field_plain key (decimal n) k (numbered n h))
 
-pub price_field : (key : List ℕ) (price : ℕ) → are_plain key ≡ true → price < 2 ^ 64 → IsPlain (number_field key (price_text price))
+pub price_field : (key : List ℕ) (price : ℕ) → are_plain key ≡ true → price < 2 ^ 64 → IsPlain (json_number_field key (price_text price))
 price_field key price k h = plain _ (number_field_plain key (price_text price) k (price_plain price h))
 
 module _ (seen : ShownIsVisible) where

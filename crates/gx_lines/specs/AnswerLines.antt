@@ -4,7 +4,7 @@ use Rattle.gx_units.specs.Names.{has_no_lower_case}
 use Rattle.gx_desk.specs.{declared.{Action.Action, Answer.Answer, AnswerCode.AnswerCode}, Messages.{kill, lift, set_limit, restrict, unrestrict, grant, revoke, close_day}, Writing.answer_code}
 use Rattle.gx_script_text.specs.Printing.{line_end}
 use Rattle.gx_text.specs.{declared.{form.Form.{Form, TheVariants.{Text, Json}}, moments.Decimals.TheVariants.Nine}, Moments.moment_text, Shown.{shown_text, shown_name}}
-use Rattle.gx_lines.specs.Showing.{text_field, name_field, number_field, json_line}
+use Rattle.gx_lines.specs.Showing.{text_field, name_field, json_number_field, json_line}
 
 -- what a granted command has done
 unfoldable pub done_text : Action → List ℕ
@@ -147,7 +147,7 @@ reader_field reader = name_field (codes "reader") reader
 unfoldable pub named_fields : Action → List ℕ
 named_fields (Action.Kill account) = account_field account.bytes
 named_fields (Action.Lift account) = account_field account.bytes
-named_fields (Action.SetLimit rule limit) = rule_field rule.bytes ++ number_field (codes "limit") (decimal limit)
+named_fields (Action.SetLimit rule limit) = rule_field rule.bytes ++ json_number_field (codes "limit") (decimal limit)
 named_fields (Action.Restrict rule stock) = rule_field rule.bytes ++ stock_field stock.bytes
 named_fields (Action.Unrestrict rule stock) = rule_field rule.bytes ++ stock_field stock.bytes
 named_fields (Action.Grant reader account) = reader_field reader.bytes ++ account_field account.bytes
@@ -158,7 +158,7 @@ named_fields Action.CloseDay = []
 unfoldable pub answer_fields : Action → Answer → List ℕ
 answer_fields action answer =
     text_field (codes "command") (command_word action) ++ named_fields action ++ text_field (codes "code") (answer_code answer.code)
-    ++ name_field (codes "tag") answer.tag.bytes ++ number_field (codes "record") (decimal answer.record_number)
+    ++ name_field (codes "tag") answer.tag.bytes ++ json_number_field (codes "record") (decimal answer.record_number)
 
 -- the line of an answer of this moment to a command that asked for this
 abbrev pub answer_line : Form → ℕ → Action → Answer → List ℕ
@@ -196,7 +196,7 @@ earlier_text answer =
 unfoldable pub earlier_fields : Answer → List ℕ
 earlier_fields answer =
     type_field answer.command_type ++ text_field (codes "code") (answer_code answer.code)
-    ++ name_field (codes "tag") answer.tag.bytes ++ number_field (codes "record") (decimal answer.record_number)
+    ++ name_field (codes "tag") answer.tag.bytes ++ json_number_field (codes "record") (decimal answer.record_number)
 
 -- the line of an answer of this moment to a command that was sent before this run
 abbrev pub earlier_answer_line : Form → ℕ → Answer → List ℕ

@@ -5,7 +5,7 @@ use Rattle.gx_ouch.specs.{declared.{letters.{Liquidity.Liquidity, CancelReason.C
 use Rattle.gx_history.specs.OuchValues.{side_buy, side_sell, side_sell_short, side_sell_short_exempt}
 use Rattle.gx_script_text.specs.Printing.{line_end}
 use Rattle.gx_text.specs.{declared.{form.Form.{Form, TheVariants.{Text, Json}}, moments.Decimals.TheVariants.Nine}, Moments.moment_text, Shown.{shown_text, shown_name}}
-use Rattle.gx_lines.specs.Showing.{price_text, text_field, name_field, number_field, json_line}
+use Rattle.gx_lines.specs.Showing.{price_text, text_field, name_field, json_number_field, json_line}
 
 -- the side of an order by its Buy/Sell Indicator, where there is such a side
 unfoldable pub side_words : ℕ → Option (List ℕ)
@@ -93,15 +93,15 @@ token_field token = name_field (codes "token") token
 -- the terms of an order that was taken, and its number
 unfoldable pub terms_fields : OrderTerms → ℕ → List ℕ
 terms_fields terms number =
-    side_field terms.side ++ number_field (codes "shares") (decimal terms.shares)
-    ++ name_field (codes "stock") terms.stock.bytes ++ number_field (codes "price") (price_text terms.price)
-    ++ number_field (codes "time_in_force") (decimal terms.time_in_force) ++ number_field (codes "order") (decimal number)
+    side_field terms.side ++ json_number_field (codes "shares") (decimal terms.shares)
+    ++ name_field (codes "stock") terms.stock.bytes ++ json_number_field (codes "price") (price_text terms.price)
+    ++ json_number_field (codes "time_in_force") (decimal terms.time_in_force) ++ json_number_field (codes "order") (decimal number)
 
 -- what was executed of an order
 unfoldable pub executed_fields : Executed → List ℕ
 executed_fields m =
-    token_field m.token.bytes ++ number_field (codes "shares") (decimal m.shares) ++ number_field (codes "price") (price_text m.price)
-    ++ number_field (codes "match") (decimal m.match_number) ++ text_field (codes "liquidity") (liquidity_word m.liquidity)
+    token_field m.token.bytes ++ json_number_field (codes "shares") (decimal m.shares) ++ json_number_field (codes "price") (price_text m.price)
+    ++ json_number_field (codes "match") (decimal m.match_number) ++ text_field (codes "liquidity") (liquidity_word m.liquidity)
 
 -- the event of a message
 unfoldable pub event_word : Outbound → List ℕ
@@ -119,7 +119,7 @@ told_fields (Outbound.Accepted m) = token_field m.token.bytes ++ terms_fields m.
 told_fields (Outbound.Replaced m) =
     token_field m.token.bytes ++ name_field (codes "previous") m.previous_token.bytes ++ terms_fields m.terms m.order_reference
 told_fields (Outbound.Canceled m) =
-    token_field m.token.bytes ++ number_field (codes "shares") (decimal m.decrement) ++ text_field (codes "reason") (cancel_words m.reason)
+    token_field m.token.bytes ++ json_number_field (codes "shares") (decimal m.decrement) ++ text_field (codes "reason") (cancel_words m.reason)
 told_fields (Outbound.Executed m) = executed_fields m
 told_fields (Outbound.Rejected m) =
     token_field m.token.bytes ++ text_field (codes "reason") (reject_letter m.reason ∷ []) ++ text_field (codes "text") (reject_words m.reason)

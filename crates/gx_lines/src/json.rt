@@ -1,7 +1,7 @@
 //! The fields of a JSON line.
 
 ghost use Rattle.std.specs.Prelude.{◌≡◌, ◌++◌, decimal, OnOk};
-ghost use Rattle.gx_lines.specs.Showing.{price_text, key_text, text_field, name_field, number_field, json_front};
+ghost use Rattle.gx_lines.specs.Showing.{price_text, key_text, text_field, name_field, json_number_field, json_front};
 
 use crate::showing::append_price;
 use gx_text::{Decimals, append, append_json_string, append_moment, append_number};
@@ -57,28 +57,28 @@ pub(crate) fn append_name_field(
 }
 
 /// Puts a field whose value is a number at the end of the line.
-#[tactic(auto, unfolding(crate::specs::Showing::number_field))]
+#[tactic(auto, unfolding(crate::specs::Showing::json_number_field))]
 pub(crate) fn append_number_field(
     line: &mut Vec<u8>,
     key: &[u8],
     number: u64,
 ) -> Result<(), OutOfMemory>
     ensures { OnOk result (line.new.items
-        ≡ line.old.items ++ number_field key.now (decimal number)) }
+        ≡ line.old.items ++ json_number_field key.now (decimal number)) }
 {
     append_key(line, key)?;
     append_number(line, number)
 }
 
 /// Puts a field whose value is a price at the end of the line.
-#[tactic(auto, unfolding(crate::specs::Showing::number_field))]
+#[tactic(auto, unfolding(crate::specs::Showing::json_number_field))]
 pub(crate) fn append_price_field(
     line: &mut Vec<u8>,
     key: &[u8],
     price: u32,
 ) -> Result<(), OutOfMemory>
     ensures { OnOk result (line.new.items
-        ≡ line.old.items ++ number_field key.now (price_text price)) }
+        ≡ line.old.items ++ json_number_field key.now (price_text price)) }
 {
     append_key(line, key)?;
     append_price(line, price)

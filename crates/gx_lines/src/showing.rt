@@ -1,7 +1,7 @@
 //! Prices as they are shown.
 
 ghost use Rattle.std.specs.Prelude.{◌≡◌, ◌++◌, OnOk};
-ghost use Rattle.gx_lines.specs.Showing.{decimals_text, price_text};
+ghost use Rattle.gx_lines.specs.Showing.{price_decimals_text, price_text};
 
 use gx_text::{append, append_number, append_with_zeros};
 use gx_units::OutOfMemory;
@@ -10,7 +10,7 @@ use gx_units::OutOfMemory;
 pub(crate) const LINE_ROOM: usize = 160;
 
 fn append_decimals(text: &mut Vec<u8>, part: u64) -> Result<(), OutOfMemory>
-    ensures { OnOk result (text.new.items ≡ text.old.items ++ decimals_text part) }
+    ensures { OnOk result (text.new.items ≡ text.old.items ++ price_decimals_text part) }
 {
     if part % 100 == 0 {
         return append_with_zeros(text, 2, part / 100);

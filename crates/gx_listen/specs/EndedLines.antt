@@ -3,17 +3,17 @@ use Rattle.std.specs.Prelude.{ℕ, List, ◌++◌, codes, decimal}
 use Rattle.gx_text.specs.{declared.{form.Form.{Form, TheVariants.{Text, Json}}, moments.Decimals.TheVariants.{Nine, Six}}, Moments.moment_text, Shown.shown_name}
 use Rattle.gx_units.specs.declared.names.UserName.{UserName}
 use Rattle.gx_door.specs.declared.ended.EndedTotals.{EndedTotals}
-use Rattle.gx_events.specs.Fields.{event_field, key, name_field, number_field}
+use Rattle.gx_events.specs.Fields.{event_field, event_key, name_field, number_field}
 use Rattle.gx_serve.specs.declared.announcing.{EndedBy.EndedBy, EndedOrders.EndedOrders}
 
 -- the command, in words
-abbrev pub command_text : EndedBy → List ℕ
-command_text (EndedBy.Kill account) = codes "Kill of " ++ shown_name account.bytes
-command_text EndedBy.CloseDay = codes "Close Day"
+abbrev pub ending_words : EndedBy → List ℕ
+ending_words (EndedBy.Kill account) = codes "Kill of " ++ shown_name account.bytes
+ending_words EndedBy.CloseDay = codes "Close Day"
 
--- the value of the key `command`
+-- the value of the event_key `command`
 abbrev pub command_field : List ℕ → List ℕ
-command_field word = key (codes "command") ++ codes "\"" ++ word ++ codes "\""
+command_field word = event_key (codes "command") ++ codes "\"" ++ word ++ codes "\""
 
 -- the command as fields of a JSON object
 unfoldable pub command_fields : EndedBy → List ℕ
@@ -23,7 +23,7 @@ command_fields EndedBy.CloseDay = command_field (codes "close")
 -- who gave which command by which record, and how many orders and shares it ended
 abbrev pub ended_text : EndedOrders → List ℕ
 ended_text e =
-    command_text e.by ++ codes " by " ++ shown_name e.officer.bytes ++ codes " (record " ++ decimal e.number ++ codes ") ended "
+    ending_words e.by ++ codes " by " ++ shown_name e.officer.bytes ++ codes " (record " ++ decimal e.number ++ codes ") ended "
     ++ decimal e.ended.orders ++ codes " orders, " ++ decimal e.ended.shares ++ codes " shares"
 
 unfoldable pub officer_fields : UserName → List ℕ

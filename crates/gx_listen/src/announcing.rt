@@ -2,8 +2,8 @@
 
 ghost use Rattle.std.specs.Prelude.{◌≡◌, ◌++◌, IfOk, OnOk};
 ghost use Rattle.gx_text.specs.declared.form.Form.TheVariants.{Json, Text};
-ghost use Rattle.gx_events.specs.Fields.{event_field, key, name_field, number_field};
-ghost use Rattle.gx_listen.specs.EndedLines.{command_field, command_fields, command_text, ended_fields, ended_line, ended_text, officer_fields, sum_fields};
+ghost use Rattle.gx_events.specs.Fields.{event_field, event_key, name_field, number_field};
+ghost use Rattle.gx_listen.specs.EndedLines.{command_field, command_fields, ending_words, ended_fields, ended_line, ended_text, officer_fields, sum_fields};
 
 use gx_door::EndedTotals;
 use gx_log::Log;
@@ -16,7 +16,7 @@ use std::alloc::Global;
 use std::sync::Wait;
 
 fn append_command_text(text: &mut Vec<u8>, by: &EndedBy) -> Result<(), OutOfMemory>
-    ensures { OnOk result (text.new.items ≡ text.old.items ++ command_text by.now) }
+    ensures { OnOk result (text.new.items ≡ text.old.items ++ ending_words by.now) }
 {
     match by {
         EndedBy::Kill(account) => {
@@ -29,7 +29,7 @@ fn append_command_text(text: &mut Vec<u8>, by: &EndedBy) -> Result<(), OutOfMemo
 
 /// Puts a key at the end of the text, with the comma in front of it.
 fn append_key(text: &mut Vec<u8>, word: &[u8]) -> Result<(), OutOfMemory>
-    ensures { OnOk result (text.new.items ≡ text.old.items ++ key word.now) }
+    ensures { OnOk result (text.new.items ≡ text.old.items ++ event_key word.now) }
 {
     append(text, b",\"")?;
     append(text, word)?;

@@ -53,7 +53,7 @@ pub(crate) fn open_page<
     page: Option<PagePort>,
 ) -> Result<Option<Paging<'x, T, D, L>>, ServeFault>
     requires policies { L.policy ≡ D.policy }
-    requires held { L.held ≡ D.held }
+    requires held { L.observed ≡ D.observed }
     requires policy { policy.now ≡ D.policy }
 {
     let Some(page) = page else {

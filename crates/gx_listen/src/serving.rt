@@ -35,7 +35,7 @@ const LOOKS_UNTIL_TOLD: u64 = 10;
 
 /// A peer, and the slot that he has.
 #[derive(Drop)]
-struct Guest<'x, R: Wait> {
+struct AcceptedPeer<'x, R: Wait> {
     peer: Arc<Peer, Global>,
     slot: ConnectionSlot<'x, R>,
 }
@@ -43,12 +43,12 @@ struct Guest<'x, R: Wait> {
 /// Serves a peer to his end, and tells why it ended, where that is told. His slot is given back.
 fn serve_peer<D: Door + Sync, A: Admits<D>, R: Threads + Wait + Clock + Sync>(
     hall: &Hall<'_, D, A, R>,
-    guest: Guest<'_, R>,
+    guest: AcceptedPeer<'_, R>,
 )
 where
     D::Pass: Send,
 {
-    let Guest { peer, slot } = guest;
+    let AcceptedPeer { peer, slot } = guest;
     let gone = serve_stream(hall, &peer);
     hall.control.newcomers.leave(hall.rt, peer.number);
     tell_gone(hall.rt, hall.alloc, hall.control, &peer, gone);
@@ -61,7 +61,7 @@ fn next_guest<'x, T: Drop + Send, D: Door<Pass = T> + Sync, A, R: Threads + Wait
     hall: &'x Hall<'x, D, A, R>,
     listener: &TcpListener,
     number: u64,
-) -> Result<Option<Guest<'x, R>>, Halt>
+) -> Result<Option<AcceptedPeer<'x, R>>, Halt>
     ensures { IfErr result IsHalted }
 {
     let peer = accept(hall.rt, hall.control, listener, number)?;
@@ -73,7 +73,7 @@ fn next_guest<'x, T: Drop + Send, D: Door<Pass = T> + Sync, A, R: Threads + Wait
         return Ok(None);
     };
     match hall.control.newcomers.come(hall.rt, theirs) {
-        Ok(()) => Ok(Some(Guest { peer, slot })),
+        Ok(()) => Ok(Some(AcceptedPeer { peer, slot })),
         Err(_) => Ok(None),
     }
 }
@@ -416,7 +416,7 @@ pub fn serve_door<
 ) -> Result<(T, Ending), Unserved>
     requires known { IfSome log (λ l. l.events.known ≡ known_of D.policy []) }
     requires policies { L.policy ≡ D.policy }
-    requires held { L.held ≡ D.held }
+    requires held { L.observed ≡ D.observed }
     requires policy { policy.now ≡ D.policy }
 {
     let mut issuer = issuer;

@@ -11,8 +11,8 @@ abbrev pub log_room : ℕ
 log_room = 16384
 
 -- one more, as far as the count goes
-abbrev pub one_more : ℕ → ℕ
-one_more count = min (count + 1) (2 ^ 64 - 1)
+abbrev pub one_more_line : ℕ → ℕ
+one_more_line count = min (count + 1) (2 ^ 64 - 1)
 
 -- the line that tells of so many that were left out
 abbrev pub left_out_line : ℕ → List ℕ

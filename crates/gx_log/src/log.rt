@@ -11,7 +11,7 @@ use std::sync::{Condvar, Mutex, Wait};
 use std::time::{Clock, Duration};
 
 /// So many milliseconds whoever writes waits at most for a line.
-const PATIENCE: u64 = 1_000;
+const LINE_WAIT_MILLIS: u64 = 1_000;
 
 /// Where lines wait to be written on standard error. Nobody who tells one waits for it to be written.
 #[derive(Drop)]
@@ -100,7 +100,7 @@ impl Log {
         let mut queue = self.queue.lock(rt);
         self.writing.store(false, Ordering::SeqCst);
         self.room.notify_all();
-        let patience = Duration::from_millis(PATIENCE);
+        let patience = Duration::from_millis(LINE_WAIT_MILLIS);
         queue = self
             .news
             .wait_timeout_while(rt, queue, patience, |queue| queue.is_empty())

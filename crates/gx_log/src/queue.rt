@@ -2,7 +2,7 @@
 
 ghost use Rattle.std.specs.Prelude.{◌≡◌, ◌+◌, ◌<◌, ◌≤◌, ◌++◌, [], length, IsFalse, IsTrue};
 ghost use Rattle.arrayvec.specs.ArrayVec.{array_vec_len};
-ghost use Rattle.gx_log.specs.Queues.{one_more, log_room};
+ghost use Rattle.gx_log.specs.Queues.{one_more_line, log_room};
 
 use arrayvec::ArrayVec;
 use std::marker::Model;
@@ -69,7 +69,7 @@ impl Queue {
 
     /// One more line was left out.
     pub fn leave_out(&mut self)
-        ensures left_out { self.new.left_out ≡ one_more self.old.left_out }
+        ensures left_out { self.new.left_out ≡ one_more_line self.old.left_out }
         ensures text { self.new.text ≡ self.old.text }
     {
         self.left_out = self.left_out.saturating_add(1);
@@ -82,7 +82,7 @@ impl Queue {
         ensures kept { length self.old.text + length line.now ≤ log_room
             → self.new.left_out ≡ self.old.left_out }
         ensures left_out { log_room < length self.old.text + length line.now
-            → self.new.left_out ≡ one_more self.old.left_out }
+            → self.new.left_out ≡ one_more_line self.old.left_out }
         ensures refused { log_room < length self.old.text + length line.now
             → self.new.text ≡ self.old.text }
     {

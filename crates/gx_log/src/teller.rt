@@ -15,7 +15,7 @@ use std::time::{Clock, Duration};
 
 /// So many microseconds lie at least between two times that lines are written, for each byte of the first: at most some 65,000 bytes
 /// are written a second.
-const REST: u64 = 15;
+const LINE_REST_MICROS: u64 = 15;
 
 /// Writes how many lines were left out; nothing where none was.
 fn write_left_out<W: Write>(count: u64, writer: &mut CallCounter<W>) -> Result<(), WriteFailed>
@@ -59,6 +59,6 @@ pub fn write_on<W: Write, R: Wait + Clock>(rt: &R, log: &Log, writer: &mut W) {
         if closed && count == 0 {
             return;
         }
-        thread::sleep(rt, Duration::from_micros(REST * count));
+        thread::sleep(rt, Duration::from_micros(LINE_REST_MICROS * count));
     }
 }

@@ -36,14 +36,14 @@ impl<D: Door> Model for RecordLog<D> {
     ghost Value = { LoggingData };
 
     ghost view = { λ l. record {
-      met = history_met D.held l.pass;
+      met = history_met D.observed l.pass;
       done = l.done;
       form = l.events.form;
       known = l.events.known;
     } };
 
     ghost invariant = { λ l. IsTrue (is_some l.pass) × IsLogging D.policy (record {
-      met = history_met D.held l.pass;
+      met = history_met D.observed l.pass;
       done = l.done;
       form = l.events.form;
       known = l.events.known;
@@ -54,7 +54,7 @@ impl<D: Door> RecordLog<D> {
     /// In front of the day's first record.
     pub fn new(pass: D::Pass, events: EventLog) -> RecordLog<D>
         requires known { events.known ≡ known_of D.policy [] }
-        ensures met { result.met ≡ D.held pass }
+        ensures met { result.met ≡ D.observed pass }
         ensures done { result.done ≡ 0 }
         ensures form { result.form ≡ events.form }
     {

@@ -6,7 +6,7 @@ ghost use Rattle.gx_door.specs.Acts.{IsLater};
 ghost use Rattle.gx_board.specs.{Summaries.IsBehind, Views.IsView};
 
 use crate::lookout::Lookout;
-use gx_board::{Summary, View};
+use gx_board::{BoardView, Summary};
 use gx_policy::Policy;
 use gx_units::{OutOfMemory, UserName};
 use std::alloc::Global;
@@ -41,9 +41,9 @@ impl<L: Lookout> Model for Board<L> {
 
     ghost Value = { LineView };
 
-    ghost view = { λ b. L.held b.pass };
+    ghost view = { λ b. L.observed b.pass };
 
-    ghost invariant = { λ b. IsBehind L.policy (L.held b.pass).front b.summary };
+    ghost invariant = { λ b. IsBehind L.policy (L.observed b.pass).front b.summary };
 }
 
 impl<L: Lookout> Board<L> {
@@ -55,7 +55,7 @@ impl<L: Lookout> Board<L> {
     #[tactic(auto, using(crate::proofs::Summary_behind::begins))]
     pub fn new(alloc: Global, policy: &Policy, pass: L::Pass) -> Result<Board<L>, OutOfMemory>
         requires policy { policy.now ≡ L.policy }
-        ensures held { IfOk result (λ board. board ≡ L.held pass) }
+        ensures held { IfOk result (λ board. board ≡ L.observed pass) }
     {
         let summary = Summary::new(alloc, policy)?;
         Ok(Board { pass, summary })
@@ -63,7 +63,7 @@ impl<L: Lookout> Board<L> {
 
     /// The pass, to make steps with at the gate's door, and the summary that goes on with it.
     pub fn into_parts(self) -> (L::Pass, Summary)
-        ensures held { L.held result.0 ≡ self }
+        ensures held { L.observed result.0 ≡ self }
         ensures behind { IsBehind L.policy self.front result.1 }
     {
         let Board { pass, summary } = self;
@@ -72,8 +72,8 @@ impl<L: Lookout> Board<L> {
 
     /// A board again, of the pass, which has met what it had met before, and what was added since.
     pub fn from_parts(pass: L::Pass, summary: Summary) -> Board<L>
-        requires behind { IsBehind L.policy (L.held pass).front summary }
-        ensures held { result ≡ L.held pass }
+        requires behind { IsBehind L.policy (L.observed pass).front summary }
+        ensures held { result ≡ L.observed pass }
     {
         Board { pass, summary }
     }
@@ -90,7 +90,7 @@ impl<L: Lookout> Board<L> {
         gate: &L,
         alloc: Global,
         viewer: UserName,
-    ) -> (Board<L>, Result<View, OutOfMemory>)
+    ) -> (Board<L>, Result<BoardView, OutOfMemory>)
         ensures later { IsLater L.policy self result.0 }
         ensures own { mine result.0 ≡ mine self }
         ensures view { IfOk result.1 (IsView L.policy result.0.front viewer) }

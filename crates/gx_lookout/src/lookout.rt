@@ -5,7 +5,7 @@ ghost use Rattle.gx_pass.specs.Views.{mine};
 ghost use Rattle.gx_door.specs.Acts.{IsLater};
 ghost use Rattle.gx_board.specs.{Summaries.IsBehind, Views.IsView};
 
-use gx_board::{Summary, View};
+use gx_board::{BoardView, Summary};
 use gx_units::{OutOfMemory, UserName};
 use std::alloc::Global;
 use std::sync::Wait;
@@ -22,7 +22,7 @@ pub trait Lookout {
     ghost policy: { PolicyData };
 
     // What the pass has met.
-    ghost held: { Self.Pass → LineView };
+    ghost observed: { Self.Pass → LineView };
 
     /// Lets the summary follow at most so many of the gate's records behind those that it has followed, and once it has
     /// followed all, shows what the viewer is shown of the gate as it stands then. `None` where there are more.
@@ -34,13 +34,13 @@ pub trait Lookout {
         summary: &mut Summary,
         viewer: UserName,
         most: usize,
-    ) -> (Self::Pass, Result<Option<View>, OutOfMemory>)
-        requires behind { IsBehind policy (held pass).front summary.old }
-        ensures later { IsLater policy (held pass) (held result.0) }
-        ensures own { mine (held result.0) ≡ mine (held pass) }
-        ensures behind { IsBehind policy (held result.0).front summary.new }
+    ) -> (Self::Pass, Result<Option<BoardView>, OutOfMemory>)
+        requires behind { IsBehind policy (observed pass).front summary.old }
+        ensures later { IsLater policy (observed pass) (observed result.0) }
+        ensures own { mine (observed result.0) ≡ mine (observed pass) }
+        ensures behind { IsBehind policy (observed result.0).front summary.new }
         ensures view { IfOk result.1 (λ found. IfSome found
-            (IsView policy (held result.0).front viewer)) }
+            (IsView policy (observed result.0).front viewer)) }
         ensures further { IfOk result.1 (λ found. IfNone found
             (summary.new.counts.records ≡ summary.old.counts.records + most)) };
 }

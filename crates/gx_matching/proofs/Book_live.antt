@@ -5,7 +5,7 @@ use Rattle.gx_units.specs.{Names.{same_account, same_stock}, declared.names.{Acc
 use Rattle.gx_policy.specs.declared.policy.{PolicyData.PolicyData, Stock.Stock}
 use Rattle.gx_history.specs.{declared.{live_order.LiveOrder.LiveOrder, «record».RecordData.RecordData}, Book.{is_buy, is_on, rest_numbers}, Live.{has_come, is_there, live, live_numbered, side}, Verdicts.IsLegal}
 use Rattle.gx_laws.proofs.{Rules_first.{IsFirstSuch, first_such}, LiveOrders_numbered.{IsLiving, all_living, same_order}, LiveOrders_known.{RestsThere, all_resting}, BookSides_only.side_has, Runs_orderly.legal_is_orderly}
-use Rattle.gx_book.specs.{Resting.{RestingData, resting_of}, Account.{AreAllOf, IsOneOf, rests_as}, Books.{StockOrders, all_orders, both_sides, order_in, resting_in, side_of, stock_in}, Queue.{is_numbered, is_same}}
+use Rattle.gx_book.specs.{Resting.{RestingData, resting_of}, Account.{AreAllOf, IsOneOf, rests_as}, Books.{StockOrders, all_orders, both_sides, order_in, resting_in, orders_on_side, stock_in}, Queue.{is_numbered, is_same}}
 use Rattle.gx_orders.specs.LiveOrders.{of_account}
 use Rattle.gx_matching.specs.{BookInForce.{book_in_force, rested_in, stock_in_force}, Laws.{BooksAreLive, LiveWaitOrRest, RestingAreLive}}
 use Rattle.gx_matching.proofs.Book_sides.{resting_found}
@@ -42,11 +42,11 @@ part_of P (s ∷ book) stock buy h = at (same_stock stock s.stock) (part_of P bo
     halves : AllByRecursion P (both_sides s) × AllByRecursion P (all_orders book)
     halves = all_parted P (both_sides s) (all_orders book) h
 
-    half : (c : Bool) → AllByRecursion P (side_of c s)
+    half : (c : Bool) → AllByRecursion P (orders_on_side c s)
     half true = (all_parted P s.buys s.sells halves.0).0
     half false = (all_parted P s.buys s.sells halves.0).1
 
-    at : (b : Bool) → AllByRecursion P (resting_in book stock buy) → AllByRecursion P (option_map_or (side_of buy) (cond b (Some s) (stock_in book stock)) [])
+    at : (b : Bool) → AllByRecursion P (resting_in book stock buy) → AllByRecursion P (option_map_or (orders_on_side buy) (cond b (Some s) (stock_in book stock)) [])
     at true deeper = half buy
     at false deeper = deeper
 

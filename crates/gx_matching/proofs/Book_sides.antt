@@ -5,7 +5,7 @@ use Rattle.gx_units.specs.{Names.same_stock, declared.names.Symbol.Symbol}
 use Rattle.gx_units.proofs.Names_equal.{stock_is}
 use Rattle.gx_policy.specs.{declared.policy.{PolicyData.PolicyData, Stock.Stock}, People.stock_named}
 use Rattle.gx_history.specs.{declared.record.RecordData.RecordData, Book.{is_buy, is_on}, Live.side}
-use Rattle.gx_book.specs.{Resting.RestingData, Books.{StockOrders, empty_book, on_each_side, on_side, resting_in, side_of, with_side}}
+use Rattle.gx_book.specs.{Resting.RestingData, Books.{StockOrders, empty_book, on_each_side, with_one_side, resting_in, orders_on_side, with_side}}
 use Rattle.gx_matching.specs.BookInForce.{book_in_force, rested_in, stock_in_force}
 
 abbrev made : Symbol → List RestingData → List RestingData → StockOrders
@@ -32,7 +32,7 @@ each_side policy before after change same =
 -- one side of one stock has
 pub one_side : (policy : PolicyData) (before after : List RecordData) (stock : Symbol) (letter : ℕ) (change : Bool → List RestingData → List RestingData)
     → ((other : Symbol) (buy : Bool) → rested_in policy after other buy ≡ cond (same_stock stock other && is_on buy letter) (change buy (rested_in policy before other buy)) (rested_in policy before other buy))
-    → book_in_force policy after ≡ on_side stock (is_buy letter) (change (is_buy letter)) (book_in_force policy before)
+    → book_in_force policy after ≡ with_one_side stock (is_buy letter) (change (is_buy letter)) (book_in_force policy before)
 unfolding book_in_force
 one_side policy before after stock letter change same =
     all_stocks (stock_in_force policy after) (stock_in_force policy before) (λ s. cond (same_stock stock s.stock) (with_side (is_buy letter) (change (is_buy letter)) s) s)
@@ -55,25 +55,25 @@ pub resting_found : (policy : PolicyData) (history : List RecordData) (stock : S
 unfolding book_in_force
 resting_found policy history stock buy listed = by policy.stocks listed
   where
-    on_it : (s : Stock) (buy : Bool) → side_of buy (stock_in_force policy history s) ≡ rested_in policy history s.name buy
+    on_it : (s : Stock) (buy : Bool) → orders_on_side buy (stock_in_force policy history s) ≡ rested_in policy history s.name buy
     on_it s true = refl
     on_it s false = refl
 
     by : (ss : List Stock) → is_some (find (λ (s : Stock). same_stock s.name stock) ss) ≡ true
-        → option_map_or (side_of buy) (find (λ (s : StockOrders). same_stock stock s.stock) (map (stock_in_force policy history) ss)) [] ≡ rested_in policy history stock buy
+        → option_map_or (orders_on_side buy) (find (λ (s : StockOrders). same_stock stock s.stock) (map (stock_in_force policy history) ss)) [] ≡ rested_in policy history stock buy
     by [] h = cc
     by (s ∷ ss) h =
         at (same_stock stock s.name) refl (ap (λ (b : Bool). is_some (cond b (Some s) (find (λ (x : Stock). same_stock x.name stock) ss))) (nat_list_eq_equiv.symm stock.bytes s.name.bytes) ∙ h) (by ss)
       where
         at : (b : Bool) → same_stock stock s.name ≡ b → is_some (cond b (Some s) (find (λ (x : Stock). same_stock x.name stock) ss)) ≡ true
-            → (is_some (find (λ (x : Stock). same_stock x.name stock) ss) ≡ true → option_map_or (side_of buy) (find (λ (x : StockOrders). same_stock stock x.stock) (map (stock_in_force policy history) ss)) [] ≡ rested_in policy history stock buy)
-            → option_map_or (side_of buy) (cond b (Some (stock_in_force policy history s)) (find (λ (x : StockOrders). same_stock stock x.stock) (map (stock_in_force policy history) ss))) [] ≡ rested_in policy history stock buy
+            → (is_some (find (λ (x : Stock). same_stock x.name stock) ss) ≡ true → option_map_or (orders_on_side buy) (find (λ (x : StockOrders). same_stock stock x.stock) (map (stock_in_force policy history) ss)) [] ≡ rested_in policy history stock buy)
+            → option_map_or (orders_on_side buy) (cond b (Some (stock_in_force policy history s)) (find (λ (x : StockOrders). same_stock stock x.stock) (map (stock_in_force policy history) ss))) [] ≡ rested_in policy history stock buy
         at true e k deeper = on_it s buy ∙ ap (λ (x : Symbol). rested_in policy history x buy) (sym (stock_is stock s.name e))
         at false e k deeper = deeper k
 
 -- what becomes of a side is what becomes of the orders that rest there
 pub same_side : (policy : PolicyData) (history : List RecordData) (stock : Symbol) (buy : Bool) (f g : List RestingData → List RestingData)
-    → f (rested_in policy history stock buy) ≡ g (rested_in policy history stock buy) → on_side stock buy f (book_in_force policy history) ≡ on_side stock buy g (book_in_force policy history)
+    → f (rested_in policy history stock buy) ≡ g (rested_in policy history stock buy) → with_one_side stock buy f (book_in_force policy history) ≡ with_one_side stock buy g (book_in_force policy history)
 unfolding book_in_force
 same_side policy history stock buy f g same = by policy.stocks
   where
@@ -85,6 +85,6 @@ same_side policy history stock buy f g same = by policy.stocks
     at s true e = so s buy (ap (λ (x : Symbol). f (rested_in policy history x buy)) (sym (stock_is stock s.name e)) ∙ same ∙ ap (λ (x : Symbol). g (rested_in policy history x buy)) (stock_is stock s.name e))
     at s false e = refl
 
-    by : (ss : List Stock) → on_side stock buy f (map (stock_in_force policy history) ss) ≡ on_side stock buy g (map (stock_in_force policy history) ss)
+    by : (ss : List Stock) → with_one_side stock buy f (map (stock_in_force policy history) ss) ≡ with_one_side stock buy g (map (stock_in_force policy history) ss)
     by [] = refl
     by (s ∷ ss) = λ i. at s (same_stock stock s.name) refl i ∷ by ss i

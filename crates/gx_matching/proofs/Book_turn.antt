@@ -6,7 +6,7 @@ use Rattle.gx_desk.specs.declared.Action.{Action}
 use Rattle.gx_policy.specs.{declared.policy.PolicyData.PolicyData, Lists.{inserted_behind, where_true}}
 use Rattle.gx_history.specs.{declared.{live_order.LiveOrder.LiveOrder, «record».RecordData.RecordData}, Book.is_buy, Live.{ahead, is_there, live, live_numbered, side}, Turns.{EndsAll, Rests, becomes, side_after, while_open}, Verdicts.IsLegal}
 use Rattle.gx_laws.proofs.{LiveOrders_numbered.same_order, LiveOrders_known.{RestsThere, all_resting}, Runs_orderly.legal_is_orderly}
-use Rattle.gx_book.specs.{Resting.{RestingData, resting_of}, Books.on_side, Changes.{left_with, put_to_rest, taken_out}, Queue.{is_same, no_orders, with_order, with_shares, without_account, without_order}}
+use Rattle.gx_book.specs.{Resting.{RestingData, resting_of}, Books.with_one_side, Changes.{left_with, put_to_rest, taken_out}, Queue.{is_same, no_orders, with_order, with_open_shares, without_account, without_order}}
 use Rattle.gx_book.specs.Queue as queue
 use Rattle.gx_matching.specs.{BookInForce.{book_in_force, rested_in}, Changes.ended_by}
 use Rattle.gx_matching.proofs.Book_sides.{each_side, no_side, one_side}
@@ -65,7 +65,7 @@ one_so order k r = cond (is_same order r) (k r) (Some r)
 one_turned : {policy : PolicyData} {before : List RecordData} (after : List RecordData) (f : LiveOrder → Option LiveOrder) (o : LiveOrder) (k : RestingData → Option RestingData) → IsLegal policy before → SidesTurn policy before after f
     → live_numbered (live policy before) o.number ≡ Some o → option_map resting_of (f o) ≡ k (resting_of o)
     → ((x : LiveOrder) → live_numbered (live policy before) x.number ≡ Some x → x.waits ≡ false → (x.number == o.number) ≡ false → f x ≡ Some x)
-    → book_in_force policy after ≡ on_side o.terms.stock (is_buy o.terms.side) (filter_map (one_so (resting_of o) k)) (book_in_force policy before)
+    → book_in_force policy after ≡ with_one_side o.terms.stock (is_buy o.terms.side) (filter_map (one_so (resting_of o) k)) (book_in_force policy before)
 one_turned {policy} {before} after f o k legal turn found itself others =
     one_side policy before after o.terms.stock o.terms.side (λ buy. filter_map (one_so (resting_of o) k)) (λ stock buy.
     ap (map resting_of) (turn stock buy)
@@ -119,20 +119,20 @@ goes_so order (r ∷ rs) = at (is_same order r) (goes_so order rs)
     at false more = ap (λ (xs : List RestingData). r ∷ xs) more
 
 -- with other shares, it stays
-stays_so : (order : RestingData) (shares : ℕ) (rs : List RestingData) → filter_map (one_so order (λ r. Some (record r { shares = shares }))) rs ≡ with_shares order shares rs
+stays_so : (order : RestingData) (shares : ℕ) (rs : List RestingData) → filter_map (one_so order (λ r. Some (record r { shares = shares }))) rs ≡ with_open_shares order shares rs
 stays_so order shares [] = refl
 stays_so order shares (r ∷ rs) = at (is_same order r) (stays_so order shares rs)
   where
-    at : (b : Bool) → filter_map (one_so order (λ x. Some (record x { shares = shares }))) rs ≡ with_shares order shares rs
-        → cons_option (cond b (Some (record r { shares = shares })) (Some r)) (filter_map (one_so order (λ x. Some (record x { shares = shares }))) rs) ≡ cond b (record r { shares = shares }) r ∷ with_shares order shares rs
+    at : (b : Bool) → filter_map (one_so order (λ x. Some (record x { shares = shares }))) rs ≡ with_open_shares order shares rs
+        → cons_option (cond b (Some (record r { shares = shares })) (Some r)) (filter_map (one_so order (λ x. Some (record x { shares = shares }))) rs) ≡ cond b (record r { shares = shares }) r ∷ with_open_shares order shares rs
     at true more = ap (λ (xs : List RestingData). record r { shares = shares } ∷ xs) more
     at false more = ap (λ (xs : List RestingData). r ∷ xs) more
 
 -- with so many shares it stays where it stands, or goes where none are left
 left_so : (order : RestingData) (shares : ℕ) (b : Bool) (rs : List RestingData) → nat_lt 0 shares ≡ b
     → filter_map (one_so order (λ r. where_true b (record r { shares = shares }))) rs ≡ queue.left_with order shares rs
-left_so order shares true rs is = stays_so order shares rs ∙ ap (λ (b : Bool). cond b (with_shares order shares rs) (without_order order rs)) (sym is)
-left_so order shares false rs is = goes_so order rs ∙ ap (λ (b : Bool). cond b (with_shares order shares rs) (without_order order rs)) (sym is)
+left_so order shares true rs is = stays_so order shares rs ∙ ap (λ (b : Bool). cond b (with_open_shares order shares rs) (without_order order rs)) (sym is)
+left_so order shares false rs is = goes_so order rs ∙ ap (λ (b : Bool). cond b (with_open_shares order shares rs) (without_order order rs)) (sym is)
 
 -- one order goes, and all others stay
 pub one_goes : {policy : PolicyData} {before : List RecordData} (after : List RecordData) (f : LiveOrder → Option LiveOrder) (o : LiveOrder) → IsLegal policy before → SidesTurn policy before after f
@@ -141,7 +141,7 @@ pub one_goes : {policy : PolicyData} {before : List RecordData} (after : List Re
     → book_in_force policy after ≡ taken_out o (book_in_force policy before)
 one_goes {policy} {before} after f o legal turn found ends others =
     one_turned after f o (λ r. None) legal turn found (ap (option_map resting_of) ends) others
-    ∙ (λ i. on_side o.terms.stock (is_buy o.terms.side) (λ rs. goes_so (resting_of o) rs i) (book_in_force policy before))
+    ∙ (λ i. with_one_side o.terms.stock (is_buy o.terms.side) (λ rs. goes_so (resting_of o) rs i) (book_in_force policy before))
 
 -- so many shares of an order are left that is changed in size or fills alone
 pub order_left : {policy : PolicyData} {before : List RecordData} (after : List RecordData) (f : LiveOrder → Option LiveOrder) (o x : LiveOrder) (shares : ℕ) → IsLegal policy before → SidesTurn policy before after f
@@ -151,7 +151,7 @@ pub order_left : {policy : PolicyData} {before : List RecordData} (after : List 
 order_left {policy} {before} after f o x shares legal turn found becomes_so is some others =
     one_turned after f o (λ r. where_true (nat_lt 0 shares) (record r { shares = shares })) legal turn found
     (ap (option_map resting_of) becomes_so ∙ at (nat_lt x.done x.total) ∙ ap (λ (r : RestingData). where_true (nat_lt x.done x.total) r) is ∙ ap (λ (b : Bool). where_true b (record (resting_of o) { shares = shares })) some) others
-    ∙ (λ i. on_side o.terms.stock (is_buy o.terms.side) (λ rs. left_so (resting_of o) shares (nat_lt 0 shares) rs refl i) (book_in_force policy before))
+    ∙ (λ i. with_one_side o.terms.stock (is_buy o.terms.side) (λ rs. left_so (resting_of o) shares (nat_lt 0 shares) rs refl i) (book_in_force policy before))
   where
     at : (b : Bool) → option_map resting_of (cond b (Some x) None) ≡ where_true b (resting_of x)
     at true = refl
@@ -160,7 +160,7 @@ order_left {policy} {before} after f o x shares legal turn found becomes_so is s
 -- a command
 pub book_ends : {policy : PolicyData} {before : List RecordData} (after : List RecordData) (action : Action) → IsLegal policy before → SidesTurn policy before after (becomes (EndsAll action)) → book_in_force policy after ≡ ended_by action (book_in_force policy before)
 book_ends {policy} {before} after (Action.Kill account) legal turn =
-    each_side policy before after (without_account account) (λ stock buy. sides_left after (becomes (EndsAll (Action.Kill account))) (λ r. not (queue.is_of account r)) stock buy legal turn
+    each_side policy before after (without_account account) (λ stock buy. sides_left after (becomes (EndsAll (Action.Kill account))) (λ r. not (queue.is_resting_of account r)) stock buy legal turn
     (λ o there. ap (λ (b : Bool). option_map resting_of (cond b None (Some o))) (same_account_flip account o.account) ∙ at o (same_account o.account account)))
   where
     at : (o : LiveOrder) (b : Bool) → option_map resting_of (cond b None (Some o)) ≡ where_true (not b) (resting_of o)

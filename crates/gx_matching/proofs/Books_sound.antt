@@ -4,15 +4,10 @@ use Rattle.std.specs.{Prelude.nat_le, List.{AllByRecursion, filter, filter_map, 
 use Rattle.gx_units.specs.{Names.same_stock, declared.names.Symbol.Symbol}
 use Rattle.gx_units.proofs.Lists_hold.{all_weaker, all_mapped, all_and}
 use Rattle.gx_policy.specs.{declared.policy.{PolicyData.PolicyData, Stock.Stock}, Lists.IsInOrder}
-use Rattle.gx_history.specs.{declared.{live_order.LiveOrder.LiveOrder, «record».RecordData.RecordData}, Book.rest_numbers, Matching.crosses, Live.{ahead, is_buy_order, is_there, live, live_numbered, side}, Verdicts.IsLegal}
-use Rattle.gx_laws.proofs.{LiveOrders_known.{RestsThere, all_resting}, Books_uncrossed.never_crossed, PriceOrder_best.{ordered_by, not_ahead_of_itself}, Runs_orderly.legal_is_orderly, BookSides_next.prices_rank}
+use Rattle.gx_history.specs.{declared.{live_order.LiveOrder.LiveOrder, «record».RecordData.RecordData}, Matching.crosses, Live.{ahead, is_buy_order, side}, Verdicts.IsLegal}
+use Rattle.gx_laws.proofs.{LiveOrders_known.{RestsThere, all_resting}, Books_uncrossed.never_crossed, PriceOrder_best.resting_ordered, Runs_orderly.legal_is_orderly}
 use Rattle.gx_book.specs.{Resting.{RestingData, resting_of}, Books.is_sound_stock, Queue.{is_better, is_in_order}}
 use Rattle.gx_matching.specs.{BookInForce.{book_in_force, rested_in, stock_in_force}, Laws.{BooksAreSound, BooksAreUncrossed, IsUncrossed}}
-
-side_ordered : (policy : PolicyData) (history : List RecordData) (stock : Symbol) (buy : Bool) → IsInOrder (ahead buy) (side policy history stock buy)
-unfolding side
-side_ordered policy history stock buy =
-    ordered_by (ahead buy) (prices_rank buy) (not_ahead_of_itself buy) [] (filter (is_there stock buy) (filter_map (live_numbered (live policy history)) (rest_numbers history))) tt
 
 none_better : (buy : Bool) (o : LiveOrder) (os : List LiveOrder) → AllByRecursion (λ (x : LiveOrder). ahead buy x o ≡ false) os → list_all (λ (later : RestingData). not (is_better buy later (resting_of o))) (map resting_of os) ≡ true
 none_better buy o [] h = refl
@@ -32,7 +27,7 @@ books_sound policy history legal = by policy.stocks
     by (s ∷ ss) =
         and_from (is_sound_stock (stock_in_force policy history s)) (list_all is_sound_stock (map (stock_in_force policy history) ss))
         (and_from (is_in_order true (rested_in policy history s.name true)) (is_in_order false (rested_in policy history s.name false))
-        (in_order true (side policy history s.name true) (side_ordered policy history s.name true)) (in_order false (side policy history s.name false) (side_ordered policy history s.name false)))
+        (in_order true (side policy history s.name true) (resting_ordered policy history s.name true)) (in_order false (side policy history s.name false) (resting_ordered policy history s.name false)))
         (by ss)
 
 -- ---- no buy crosses a sell

@@ -4,7 +4,7 @@ use Rattle.std.specs.Prelude.{flat_map}
 use Rattle.gx_policy.specs.{Lists.each_after, declared.policy.PolicyData.PolicyData}
 use Rattle.gx_history.specs.declared.record.RecordData.{RecordData}
 use Rattle.gx_text.specs.declared.form.Form.{Form}
-use Rattle.gx_events.specs.{Known.{known_of}, Lines.{line_of, lines_behind, log_of}}
+use Rattle.gx_events.specs.{Known.{known_of}, Lines.{lines_of_record, lines_behind, log_of}}
 use Rattle.gx_laws.proofs.Lists_next.{each_after_next}
 use Rattle.gx_monitor.specs.{declared.day_log.DayLog.DayLog, Logs.IsLogOf}
 
@@ -19,8 +19,8 @@ last_alone earlier r =
 
 one_more : (form : Form) (policy : PolicyData) (earlier : List RecordData) (r : RecordData) → log_of form policy (earlier ++ r ∷ []) ≡ log_of form policy earlier ++ lines_behind form policy earlier (r ∷ [])
 one_more form policy earlier r =
-    ap (flat_map (λ (e : List RecordData × RecordData). line_of form policy e.0 e.1)) (each_after_next [] earlier r)
-    ∙ flat_map-append (λ (e : List RecordData × RecordData). line_of form policy e.0 e.1) (each_after [] earlier) ((earlier, r) ∷ [])
+    ap (flat_map (λ (e : List RecordData × RecordData). lines_of_record form policy e.0 e.1)) (each_after_next [] earlier r)
+    ∙ flat_map-append (λ (e : List RecordData × RecordData). lines_of_record form policy e.0 e.1) (each_after [] earlier) ((earlier, r) ∷ [])
 
 -- once the lines of the last record stand behind the others
 pub log_goes_on : {policy : PolicyData} (records : List RecordData) {earlier : List RecordData} (r : RecordData) (before after : DayLog) (told : List RecordData) (lines : List ℕ) → records ≡ earlier ++ r ∷ []

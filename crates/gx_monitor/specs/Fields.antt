@@ -26,12 +26,12 @@ abbrev pub side_fields : Option StockSide → List ℕ
 side_fields None = []
 side_fields (Some on) = member (codes "stock") (json_name on.stock.bytes) ++ member (codes "side") (side_word on.buys)
 
-unfoldable pub used_fields : ℕ → Option ℕ → List ℕ
-used_fields used limit = member (codes "used") (number_or_null (Some used)) ++ member (codes "limit") (number_or_null limit)
+unfoldable pub used_members : ℕ → Option ℕ → List ℕ
+used_members used limit = member (codes "used") (number_or_null (Some used)) ++ member (codes "limit") (number_or_null limit)
 
 -- the event, the share and the rule
 unfoldable pub share_fields : Warning → List ℕ
 share_fields w = event_field (codes "limit_used") ++ member (codes "percent") (decimal w.share) ++ member (codes "rule") (json_name w.figure.rule.bytes)
 
 unfoldable pub warning_fields : PolicyData → Warning → List ℕ
-warning_fields policy w = share_fields w ++ account_field policy w.figure ++ side_fields w.figure.side ++ used_fields w.reading.used w.reading.limit
+warning_fields policy w = share_fields w ++ account_field policy w.figure ++ side_fields w.figure.side ++ used_members w.reading.used w.reading.limit

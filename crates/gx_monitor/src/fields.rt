@@ -3,7 +3,7 @@
 ghost use Rattle.std.specs.Prelude.{◌≡◌, ◌++◌, codes, decimal, OnOk, Some};
 ghost use Rattle.gx_json.specs.Parts.{member, number_or_null};
 ghost use Rattle.gx_events.specs.Fields.{event_field};
-ghost use Rattle.gx_monitor.specs.Fields.{account_field, name_or_null, share_fields, side_fields, side_word, used_fields, warning_fields};
+ghost use Rattle.gx_monitor.specs.Fields.{account_field, name_or_null, share_fields, side_fields, side_word, used_members, warning_fields};
 
 use gx_history::facts::StockSide;
 use gx_json::{
@@ -88,9 +88,9 @@ fn append_share_fields(text: &mut Vec<u8>, warning: &Warning) -> Result<(), OutO
 }
 
 /// Puts what is used, and the limit, at the end of the text.
-#[tactic(auto, unfolding(crate::specs::Fields::used_fields))]
+#[tactic(auto, unfolding(crate::specs::Fields::used_members))]
 fn append_used_fields(text: &mut Vec<u8>, used: u128, limit: Option<u64>) -> Result<(), OutOfMemory>
-    ensures { OnOk result (text.new.items ≡ text.old.items ++ used_fields used limit) }
+    ensures { OnOk result (text.new.items ≡ text.old.items ++ used_members used limit) }
 {
     append_sum_member(text, b"used", Some(used))?;
     append_count_member(text, b"limit", limit)

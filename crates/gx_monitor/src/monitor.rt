@@ -3,7 +3,7 @@
 ghost use Rattle.std.specs.Prelude.{◌≡◌, ◌++◌, ◌∷◌, [], drop, flat_map, IfOk, length, OnErr, OnOk};
 ghost use Rattle.gx_events.specs.Lines.{closing_line};
 ghost use Rattle.gx_policy.specs.declared.policy.PolicyData.{PolicyData};
-ghost use Rattle.gx_warnings.specs.Keeping.{AreKept, warnings_of};
+ghost use Rattle.gx_warnings.specs.Keeping.{AreWarningsKept, warnings_of};
 ghost use Rattle.gx_monitor.specs.{Lines.told_line, Logs.IsLogOf};
 
 use crate::day_log::DayLog;
@@ -56,7 +56,7 @@ impl Monitor {
         ensures log { IfOk result (λ m. IsLogOf policy.now [] m.watched.first) }
         ensures shares { IfOk result (λ m. m.watched.second.shares.items ≡ 0 ∷ shares.now) }
         ensures warnings { (p : PolicyData)
-            → IfOk result (λ m. AreKept p [] m.watched.second) }
+            → IfOk result (λ m. AreWarningsKept p [] m.watched.second) }
         ensures begins { IfOk result (λ m. m.written ≡ 0) }
         ensures nothing_told { IfOk result (λ m. m.told ≡ 0) }
     {

@@ -5,7 +5,7 @@ use Rattle.gx_desk.specs.declared.{Action.Action, Command.Command}
 use Rattle.gx_ouch.specs.declared.inbound.Inbound.{Inbound}
 use Rattle.gx_soup.specs.Login.{greatest}
 use Rattle.gx_client.specs.Sending.{CarriesCommand, CarriesInbound}
-use Rattle.gx_terminal.specs.{declared.wish.Wish.Wish, Wishes.{command_of, order_of}}
+use Rattle.gx_terminal.specs.{declared.wish.Wish.Wish, Wishes.{command_wished, order_of}}
 use Rattle.gx_operator.specs.declared.asked.ClientRequest.{ClientRequest}
 
 -- the digit of a number whose unit this is
@@ -30,9 +30,9 @@ either None (Some order) = Some (ClientRequest.Order order)
 either None None = None
 
 -- the command or the order that is wished, under the serial of this number
-abbrev pub asked_of : ℕ → Wish → Option ClientRequest
-asked_of number wish =
-    either (command_of (record { bytes = serial_of number }) wish) (order_of (record { bytes = serial_of number }) wish)
+abbrev pub request_wished : ℕ → Wish → Option ClientRequest
+request_wished number wish =
+    either (command_wished (record { bytes = serial_of number }) wish) (order_of (record { bytes = serial_of number }) wish)
 
 -- a Kill of the account, under the serial of this number
 abbrev pub kill_of : ℕ → AccountName → ClientRequest

@@ -1,4 +1,4 @@
--- What a message of the gate is to who waits for answers.
+-- What a message of the gate is to who waits for answers_request.
 use Rattle.std.specs.{Prelude.{ℕ, Bool, false, not, ◌||◌, if◌then◌else◌, List, [], ◌∷◌, find, filter, take, bytes_eq, Option, Some, None}, List.list_any}
 use Rattle.gx_units.specs.{declared.names.Token.Token, Names.same_token}
 use Rattle.gx_desk.specs.declared.Answer.{Answer}
@@ -9,13 +9,13 @@ use Rattle.gx_lines.specs.{AnswerLines.{answer_line, earlier_answer_line}, Order
 use Rattle.gx_operator.specs.{declared.asked.ClientRequest.ClientRequest, Asking.serial_of}
 
 -- the token of the order that a message is on
-abbrev pub token_of : Outbound → Option Token
-token_of (Outbound.SystemEvent event) = None
-token_of (Outbound.Accepted m) = Some m.token
-token_of (Outbound.Replaced m) = Some m.token
-token_of (Outbound.Canceled m) = Some m.token
-token_of (Outbound.Executed m) = Some m.token
-token_of (Outbound.Rejected m) = Some m.token
+abbrev pub message_token : Outbound → Option Token
+message_token (Outbound.SystemEvent event) = None
+message_token (Outbound.Accepted m) = Some m.token
+message_token (Outbound.Replaced m) = Some m.token
+message_token (Outbound.Canceled m) = Some m.token
+message_token (Outbound.Executed m) = Some m.token
+message_token (Outbound.Rejected m) = Some m.token
 
 -- the order under this token was taken, or was not
 abbrev pub decides : Token → Outbound → Bool
@@ -35,31 +35,31 @@ cancels token (Outbound.Canceled m) = same_token m.token token
 cancels token (Outbound.Executed m) = false
 cancels token (Outbound.Rejected m) = false
 
--- the message answers the order: a new one by its own token, a cancel by the token that it names
+-- the message answers_request the order: a new one by its own token, a cancel by the token that it names
 abbrev pub answers_order : Outbound → Inbound → Bool
 answers_order message (Inbound.Enter order) = decides order.token message
 answers_order message (Inbound.Replace order) = decides order.replacement_token message
 answers_order message (Inbound.Cancel order) = cancels order.token message
 
--- the message answers what was asked: a command by its tag
-abbrev pub answers : Message → ClientRequest → Bool
-answers (Message.Answer answer) (ClientRequest.Command command) = bytes_eq answer.tag.bytes command.tag.bytes
-answers (Message.Answer answer) (ClientRequest.Order order) = false
-answers (Message.Order message) (ClientRequest.Command command) = false
-answers (Message.Order message) (ClientRequest.Order order) = answers_order message order
-answers (Message.DropCopy copy) asked = false
+-- the message answers_request what was asked: a command by its tag
+abbrev pub answers_request : Message → ClientRequest → Bool
+answers_request (Message.Answer answer) (ClientRequest.Command command) = bytes_eq answer.tag.bytes command.tag.bytes
+answers_request (Message.Answer answer) (ClientRequest.Order order) = false
+answers_request (Message.Order message) (ClientRequest.Command command) = false
+answers_request (Message.Order message) (ClientRequest.Order order) = answers_order message order
+answers_request (Message.DropCopy copy) asked = false
 
--- what a message answers, if it answers anything that waits
+-- what a message answers_request, if it answers_request anything that waits
 abbrev pub answered_by : Message → List ClientRequest → Option ClientRequest
-answered_by message waiting = find (answers message) waiting
+answered_by message waiting = find (answers_request message) waiting
 
 -- what still waits for an answer behind a message
 abbrev pub still_waiting : Message → List ClientRequest → List ClientRequest
-still_waiting message waiting = filter (λ asked. not (answers message asked)) waiting
+still_waiting message waiting = filter (λ asked. not (answers_request message asked)) waiting
 
 -- the answer that a message is to what waits, if it is one
 abbrev pub own_answer : Message → List ClientRequest → List Message
-own_answer message waiting = if list_any (answers message) waiting then message ∷ [] else []
+own_answer message waiting = if list_any (answers_request message) waiting then message ∷ [] else []
 
 -- the token is of the run with this first serial: it has the first 8 digits of that one, of which a million have them
 abbrev pub is_own_token : ℕ → Option Token → Bool
@@ -82,13 +82,13 @@ pub record ClientState : Type 0 where
   pub is_watching : Bool
   pub status : ℕ
 
--- the line that is shown of a message of this moment, if one is: of answers to what waits, of orders of the run's own, and
+-- the line that is shown of a message of this moment, if one is: of answers_request to what waits, of orders of the run's own, and
 -- of all others for who watches
 abbrev pub shown_line : ClientState → ℕ → Message → Option (List ℕ)
 shown_line run moment (Message.Answer answer) =
     shown_answer run.form moment run.is_watching answer (answered_by (Message.Answer answer) run.waiting)
 shown_line run moment (Message.Order message) =
-    if run.is_watching || is_own_token run.first (token_of message) || list_any (answers (Message.Order message)) run.waiting
+    if run.is_watching || is_own_token run.first (message_token message) || list_any (answers_request (Message.Order message)) run.waiting
     then Some (order_line run.form moment message) else None
 shown_line run moment (Message.DropCopy copy) =
     if run.is_watching then Some (copy_line run.form moment copy) else None

@@ -1,7 +1,7 @@
 //! What is asked of the gate, and what answers it.
 
 ghost use Rattle.std.specs.Prelude.{◌≡◌, IfOk};
-ghost use Rattle.gx_operator.specs.{Asking.{Carries, asked_of, kill_of, kills_of}, Hearing.{decides, cancels, answers_order, answers}};
+ghost use Rattle.gx_operator.specs.{Asking.{Carries, request_wished, kill_of, kills_of}, Hearing.{decides, cancels, answers_order, answers_request}};
 
 use crate::serial::serial;
 use gx_client::{command_packet, inbound_packet};
@@ -35,7 +35,7 @@ fn kill_of(number: u64, account: AccountName) -> ClientRequest
 
 /// The command or the order that is wished, under the serial of this number; None where the wish is neither.
 pub(crate) fn asked_of(number: u64, wish: &Wish) -> Option<ClientRequest>
-    ensures { result ≡ asked_of number wish.now }
+    ensures { result ≡ request_wished number wish.now }
 {
     let bytes = serial(number);
     if let Some(command) = wish.command(Tag { bytes }) {
@@ -107,7 +107,7 @@ fn answers_order(message: &Outbound, order: &Inbound) -> bool
 /// Whether the message answers what was asked: a command by its tag, a new order by its own token, a cancel by the token
 /// that it names.
 pub(crate) fn answers(message: &Message, asked: &ClientRequest) -> bool
-    ensures { result ≡ answers message.now asked.now }
+    ensures { result ≡ answers_request message.now asked.now }
 {
     match (message, asked) {
         (Message::Answer(answer), ClientRequest::Command(command)) => answer.tag == command.tag,

@@ -4,7 +4,7 @@ ghost use Rattle.std.specs.{Prelude.{◌≡◌, ◌∷◌, ◌++◌, ◌+◌, []
 ghost use Rattle.gx_soup.specs.Login.{greatest};
 ghost use Rattle.gx_history.specs.declared.report.Message.{Message};
 ghost use Rattle.gx_terminal.specs.Statuses.{status_of};
-ghost use Rattle.gx_operator.specs.{Asking.{Carries, asked_of, next_serial, first_of, kills_of}, Hearing.{answers, answered_by, still_waiting, own_answer, shown_line}};
+ghost use Rattle.gx_operator.specs.{Asking.{Carries, request_wished, next_serial, first_of, kills_of}, Hearing.{answers_request, answered_by, still_waiting, own_answer, shown_line}};
 
 use crate::asked::{ClientRequest, answers, asked_of, kills_of};
 use crate::telling::{is_of_run, shown_answer, shown_copy, shown_order};
@@ -68,7 +68,7 @@ impl Operator {
 
     /// The command or the order that is wished, under the next serial; None where the wish is neither.
     pub fn asked(&self, wish: &Wish) -> Option<ClientRequest>
-        ensures { result ≡ asked_of self.now.next wish.now }
+        ensures { result ≡ request_wished self.now.next wish.now }
     {
         asked_of(self.next, wish)
     }
@@ -192,7 +192,7 @@ impl Operator {
 
     /// Whether the message answers anything that waits.
     fn is_answer(&self, message: &Message) -> bool
-        ensures { result ≡ list_any (answers message.now) self.now.waiting }
+        ensures { result ≡ list_any (answers_request message.now) self.now.waiting }
     {
         self.waiting.iter().any(|asked| answers(message, asked))
     }

@@ -3,12 +3,12 @@
 ghost use Rattle.std.specs.Prelude.{◌≡◌, ℕ, IfOk, IfSome, Some, None, option_map, if◌then◌else◌};
 ghost use Rattle.gx_history.specs.ReportBytes.{message_bytes, report_bytes};
 ghost use Rattle.gx_client.specs.Reports.{report_bytes as told_bytes};
-ghost use Rattle.gx_operator.specs.Hearing.{token_of, is_own_token, shown_answer};
+ghost use Rattle.gx_operator.specs.Hearing.{message_token, is_own_token, shown_answer};
 ghost use Rattle.gx_lines.specs.{AnswerLines.earlier_answer_line, OrderLines.{order_line, copy_line}};
 
 use crate::asked::ClientRequest;
 use crate::serial::serial;
-use gx_client::{Report as Told, Stamped, read_report};
+use gx_client::{Report as ServerReport, Stamped, read_report};
 use gx_desk::{Answer, DropCopy};
 use gx_history::report::{Message, Report};
 use gx_lines::{answer_line, copy_line, earlier_answer_line, order_line};
@@ -17,13 +17,13 @@ use gx_text::Form;
 use gx_units::{Moment, OutOfMemory, Token};
 use std::alloc::Global;
 
-fn message_of(told: Told) -> Message
+fn message_of(told: ServerReport) -> Message
     ensures { (timestamp : ℕ) → message_bytes timestamp result ≡ told_bytes timestamp told }
 {
     match told {
-        Told::Order(message) => Message::Order(message),
-        Told::Answer(answer) => Message::Answer(answer),
-        Told::DropCopy(copy) => Message::DropCopy(copy),
+        ServerReport::Order(message) => Message::Order(message),
+        ServerReport::Answer(answer) => Message::Answer(answer),
+        ServerReport::DropCopy(copy) => Message::DropCopy(copy),
     }
 }
 
@@ -40,7 +40,7 @@ pub fn read_message(bytes: &[u8]) -> Option<Report>
 }
 
 fn token_of(message: &Outbound) -> Option<Token>
-    ensures { result ≡ token_of message.now }
+    ensures { result ≡ message_token message.now }
 {
     match message {
         Outbound::SystemEvent(_) => None,
@@ -63,7 +63,7 @@ fn is_own_token(first: u64, token: Option<Token>) -> bool
 
 /// Whether the message is on an order of the run with this first serial.
 pub(crate) fn is_of_run(first: u64, message: &Outbound) -> bool
-    ensures { result ≡ is_own_token first (token_of message.now) }
+    ensures { result ≡ is_own_token first (message_token message.now) }
 {
     is_own_token(first, token_of(message))
 }

@@ -4,7 +4,7 @@ use Rattle.std.specs.{Prelude.{Option, Some, option_to_list}, List.{AllByRecursi
 use Rattle.gx_policy.specs.{declared.policy.PolicyData.PolicyData, People.account_of}
 use Rattle.gx_history.specs.{declared.{«record».RecordData.RecordData, live_order.{LiveOrder.LiveOrder, UserToken.UserToken}}, Executions.executions, Orders.Order, Verdicts.IsLegal, Live.{live, open_now}}
 use Rattle.gx_laws.proofs.{Orders_next.orders_none, Orders_numbered.numbers_are_within, Orders_owned.orders_are_their_users, LiveOrders_numbered.of_live}
-use Rattle.gx_orders.specs.{LiveOrders.OrdersData, InForce.{token_used_by, used_tokens}, Laws.{AccountsAreTheUsers, NoneAtFirst}}
+use Rattle.gx_orders.specs.{LiveOrders.OrdersData, InForce.{token_used_by, used_tokens}, Laws.{LiveAccountsAreTheUsers, NoneAtFirst}}
 use Rattle.gx_orders.proofs.UsedTokens_next.{used_next}
 
 -- both lists are the same
@@ -25,7 +25,7 @@ live_within {policy} {history} number legal place =
     of_live policy history (λ (o : Order). o.number ≤ length history) (λ (o : LiveOrder). o.number < number) (λ o size gone h. omega (arith, place)) (numbers_are_within policy history legal)
 
 -- and their accounts their users'
-pub accounts_are_theirs : AccountsAreTheUsers
+pub accounts_are_theirs : LiveAccountsAreTheUsers
 accounts_are_theirs policy history =
     of_live policy history (λ (o : Order). account_of policy o.user ≡ Some o.account) (λ (o : LiveOrder). account_of policy o.user ≡ Some o.account) (λ o size gone h. h) (orders_are_their_users policy history)
 

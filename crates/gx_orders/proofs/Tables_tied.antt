@@ -4,7 +4,7 @@ use Rattle.std.specs.{Prelude.{◌&&◌, ◌||◌, is_some}, List.{filter, list_
 use Rattle.gx_units.proofs.Lists_hold.{all_weaker, all_next, filtered}
 use Rattle.gx_policy.specs.Lists.{are_distinct}
 use Rattle.gx_history.specs.{declared.live_order.{LiveOrder.LiveOrder, UserToken.UserToken}, LiveOrders.token_of}
-use Rattle.gx_orders.specs.{LiveOrders.{AreSound, IsOpen, NumbersRise, at_rest, with_order_changed, is_open, is_same_token, is_used, open_ones, with_total_and_done, resized_at, same_user_token}, Tables.{AreTied, IsIndexed, orders_shown}}
+use Rattle.gx_orders.specs.{LiveOrders.{AreOrdersSound, IsOpen, NumbersRise, at_rest, with_order_changed, is_open, is_same_live_token, is_used, open_ones, with_total_and_done, resized_at, same_user_token}, Tables.{AreTied, IsIndexed, orders_shown}}
 use Rattle.gx_orders.proofs.{Tokens_table.{key_is, used_found, still_found, added_found, unused, key_is_itself}, Orders_changed.{IsBelow, all_changed, rise_changed, rise_chosen, rise_next}}
 
 still_indexed : (tokens more : List (UserToken × ℕ)) (live : List LiveOrder) → AllByRecursion (IsIndexed tokens) live → AllByRecursion (IsIndexed (tokens ++ more)) live
@@ -59,23 +59,23 @@ tied_resized n total done live tokens t =
     }
 
 none_same : (tokens : List (UserToken × ℕ)) (o : LiveOrder) (os : List LiveOrder) → AllByRecursion (λ (p : LiveOrder). o.number < p.number) os → IsIndexed tokens o → AllByRecursion (IsIndexed tokens) os
-    → list_any (is_same_token o) os ≡ false
+    → list_any (is_same_live_token o) os ≡ false
 none_same tokens o [] above here there = refl
 none_same tokens o (p ∷ ps) above here there =
-    ap (λ (b : Bool). b || list_any (is_same_token o) ps) (false_from_ne_true (is_same_token o p) (λ same. clash (number same) above.0)) ∙ none_same tokens o ps above.1 here there.1
+    ap (λ (b : Bool). b || list_any (is_same_live_token o) ps) (false_from_ne_true (is_same_live_token o p) (λ same. clash (number same) above.0)) ∙ none_same tokens o ps above.1 here there.1
   where
-    number : is_same_token o p ≡ true → o.number ≡ p.number
+    number : is_same_live_token o p ≡ true → o.number ≡ p.number
     number same = same_Some _ _ (sym here ∙ ap (λ (k : UserToken). lookup (same_user_token k) tokens) (key_is (token_of o) (token_of p) same) ∙ there.0)
 
     clash : o.number ≡ p.number → o.number < p.number → ⊥
     clash e h = absurd (omega arith)
 
-tokens_apart : (tokens : List (UserToken × ℕ)) (live : List LiveOrder) → NumbersRise live → AllByRecursion (IsIndexed tokens) live → are_distinct is_same_token live ≡ true
+tokens_apart : (tokens : List (UserToken × ℕ)) (live : List LiveOrder) → NumbersRise live → AllByRecursion (IsIndexed tokens) live → are_distinct is_same_live_token live ≡ true
 tokens_apart tokens [] rise indexed = refl
 tokens_apart tokens (o ∷ os) rise indexed =
-    ap (λ (b : Bool). not b && are_distinct is_same_token os) (none_same tokens o os rise.0 indexed.0 indexed.1) ∙ tokens_apart tokens os rise.1 indexed.1
+    ap (λ (b : Bool). not b && are_distinct is_same_live_token os) (none_same tokens o os rise.0 indexed.0 indexed.1) ∙ tokens_apart tokens os rise.1 indexed.1
 
-pub sound_of : (live : List LiveOrder) (tokens : List (UserToken × ℕ)) → AreTied live tokens → AreSound (orders_shown live tokens)
+pub sound_of : (live : List LiveOrder) (tokens : List (UserToken × ℕ)) → AreTied live tokens → AreOrdersSound (orders_shown live tokens)
 sound_of live tokens t =
     record {
       rise = t.rise;

@@ -15,8 +15,8 @@ UsedTokensAreKept = (policy : PolicyData) (history : List RecordData) (user : Us
     → is_used (orders_in_force policy history).used user token ≡ is_token_used history user token
 
 -- a live order is for the account that its user trades for
-abbrev pub AccountsAreTheUsers : Type 0
-AccountsAreTheUsers = (policy : PolicyData) (history : List RecordData)
+abbrev pub LiveAccountsAreTheUsers : Type 0
+LiveAccountsAreTheUsers = (policy : PolicyData) (history : List RecordData)
     → AllByRecursion (λ (o : LiveOrder). account_of policy o.user ≡ Some o.account) (live policy history)
 
 -- what one more record does is done to the orders that are kept

@@ -68,12 +68,12 @@ abbrev pub IsOpen : LiveOrder → Type 0
 IsOpen o = o.done < o.total
 
 -- two orders of one user under one token
-abbrev pub is_same_token : LiveOrder → LiveOrder → Bool
-is_same_token a b = same_user_token (token_of a) (token_of b)
+abbrev pub is_same_live_token : LiveOrder → LiveOrder → Bool
+is_same_live_token a b = same_user_token (token_of a) (token_of b)
 
 -- what is always so: the numbers rise, each order has shares open, and its token is used and no other order's
-pub record AreSound (d : OrdersData) : Type 0 where
+pub record AreOrdersSound (d : OrdersData) : Type 0 where
   pub rise : NumbersRise d.live
   pub all_open : AllByRecursion IsOpen d.live
   pub all_used : AllByRecursion (λ (o : LiveOrder). IsTrue (is_used d.used o.user o.token)) d.live
-  pub tokens_differ : IsTrue (are_distinct is_same_token d.live)
+  pub tokens_differ : IsTrue (are_distinct is_same_live_token d.live)

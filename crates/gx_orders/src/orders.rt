@@ -2,7 +2,7 @@
 
 ghost use Rattle.std.specs.{Prelude.{◌≡◌, ◌<◌, length, [], ◌∷◌, ◌++◌, Some, OnOk, OnErr, IfOk, IfSome, IsTrue, IsFalse}, List.filter};
 ghost use Rattle.gx_history.specs.{LiveOrders.{key, token_of, is_of_user}, Live.live_under};
-ghost use Rattle.gx_orders.specs.{Changes.{IsUnused, marked_by}, LiveOrders.{AreBelow, AreSound, HasOpen, at_rest, with_order_changed, cut_at, filled_at, first_waiting, is_used, of_account, of_others, live_numbered, resized_at, without_number}};
+ghost use Rattle.gx_orders.specs.{Changes.{IsUnused, marked_by}, LiveOrders.{AreBelow, AreOrdersSound, HasOpen, at_rest, with_order_changed, cut_at, filled_at, first_waiting, is_used, of_account, of_others, live_numbered, resized_at, without_number}};
 
 use crate::counts::{count_in, count_one_less, count_one_more, no_counts};
 use crate::ending::end_each;
@@ -73,7 +73,7 @@ impl Orders {
     /// The live orders, by number: the lowest, which is the oldest, comes first.
     pub fn live(&self) -> LiveOrders<'_>
         ensures live { result ≡ self.now.live }
-        ensures sound { AreSound self.now }
+        ensures sound { AreOrdersSound self.now }
     {
         self.table.live()
     }
@@ -97,7 +97,7 @@ impl Orders {
     /// The live order of this number.
     pub fn numbered(&self, number: u64) -> Option<LiveOrder>
         ensures found { result ≡ live_numbered self.now.live number }
-        ensures sound { AreSound self.now }
+        ensures sound { AreOrdersSound self.now }
     {
         self.table.get(number).copied()
     }
@@ -196,7 +196,7 @@ impl Orders {
     /// this place of the policy's users first.
     fn resize(&mut self, order: LiveOrder, near: usize, total: u32, done: u32)
         requires there { live_numbered self.old.live order.number ≡ Some order }
-        requires sound { AreSound self.old }
+        requires sound { AreOrdersSound self.old }
         ensures live { self.new.live ≡ resized_at order.number total done self.old.live }
         ensures used { self.new.used ≡ self.old.used }
     {

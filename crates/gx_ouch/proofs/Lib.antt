@@ -1,1 +1,2 @@
 pub mod Fields_placed
+pub mod Requests_read

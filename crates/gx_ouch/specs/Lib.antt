@@ -4,3 +4,4 @@ pub mod Letters
 pub mod Reading
 pub mod Writing
 pub mod Terms
+pub mod Contents

@@ -7,7 +7,7 @@ use Rattle.gx_ouch.specs.declared.outbound.OrderTerms.{OrderTerms}
 use Rattle.gx_policy.specs.declared.policy.{Account.Account, PolicyData.PolicyData}
 use Rattle.gx_history.specs.{declared.«record».RecordData.RecordData, Book.is_buy, Executions.{Execution, executions, sides_in}, Figures.done_of_chosen, Orders.orders}
 use Rattle.gx_laws.proofs.Orders_next.{executions_next, executions_none, orders_next, orders_none}
-use Rattle.gx_overview.specs.{declared.{executed.{Executed.Executed, ExecutedRow.ExecutedRow}, owners.Owners.Owners}, Accounts.{capped_at_128_bits, is_of}, Executed.{KnowOrders, NoteRecord, executed_by, executed_row, no_executions, owner_of, row_filled, rows_after, side_filled, value_of_chosen}}
+use Rattle.gx_overview.specs.{declared.{executed.{ExecutedTotals.ExecutedTotals, ExecutedRow.ExecutedRow}, owners.Owners.Owners}, Accounts.{capped_at_128_bits, is_account_side}, Executed.{KnowOrders, NoteRecord, executed_of_account, executed_row, no_executions, owner_of, row_filled, rows_after, side_filled, value_of_chosen}}
 use Rattle.gx_overview.proofs.{LiveOrders_call.sum_capped, Pass_next.{each_folded, written_back}}
 
 -- before any record
@@ -68,25 +68,25 @@ value_next made e chosen =
     by true = omega arith
     by false = refl
 
-abbrev the_sums : ℕ → ℕ → Executed
+abbrev the_sums : ℕ → ℕ → ExecutedTotals
 the_sums shares worth = record { shares = shares; value = worth }
 
-abbrev the_row : AccountName → Executed → Executed → ExecutedRow
+abbrev the_row : AccountName → ExecutedTotals → ExecutedTotals → ExecutedRow
 the_row account bought sold = record { account = account; bought = bought; sold = sold }
 
 module _ (account : AccountName) (before : List Execution) (e : Execution) where
   -- the sums with those of one more execution
-  row_next : row_filled (owner_of e.order) e.fill (executed_by before account) ≡ executed_by (before ++ e ∷ []) account
+  row_next : row_filled (owner_of e.order) e.fill (executed_of_account before account) ≡ executed_of_account (before ++ e ∷ []) account
   row_next =
       by (same_account account e.order.account) (is_buy e.order.terms.side)
-      ∙ sym (λ i. the_row account (the_sums (capped_at_128_bits (shares_next before e (is_of account true) i)) (capped_at_128_bits (value_next before e (is_of account true) i)))
-      (the_sums (capped_at_128_bits (shares_next before e (is_of account false) i)) (capped_at_128_bits (value_next before e (is_of account false) i))))
+      ∙ sym (λ i. the_row account (the_sums (capped_at_128_bits (shares_next before e (is_account_side account true) i)) (capped_at_128_bits (value_next before e (is_account_side account true) i)))
+      (the_sums (capped_at_128_bits (shares_next before e (is_account_side account false) i)) (capped_at_128_bits (value_next before e (is_account_side account false) i))))
     where
       shares : Bool → ℕ
-      shares buys = done_of_chosen before (is_of account buys)
+      shares buys = done_of_chosen before (is_account_side account buys)
 
       worth : Bool → ℕ
-      worth buys = value_of_chosen before (is_of account buys)
+      worth buys = value_of_chosen before (is_account_side account buys)
 
       price : ℕ
       price = value e.fill.shares e.fill.price
@@ -101,7 +101,7 @@ module _ (account : AccountName) (before : List Execution) (e : Execution) where
       more buys = λ i. the_sums (sum_capped (shares buys) e.fill.shares i) (sum_capped (worth buys) price i)
 
       by : (his buys : Bool)
-          → cond his (side_filled buys e.fill (executed_by before account)) (executed_by before account)
+          → cond his (side_filled buys e.fill (executed_of_account before account)) (executed_of_account before account)
           ≡ the_row account (the_sums (capped_at_128_bits (shares true + cond (his && buys) e.fill.shares 0)) (capped_at_128_bits (worth true + cond (his && buys) price 0)))
           (the_sums (capped_at_128_bits (shares false + cond (his && not buys) e.fill.shares 0)) (capped_at_128_bits (worth false + cond (his && not buys) price 0)))
       by true true = λ i. the_row account (more true i) (same false i)
@@ -110,14 +110,14 @@ module _ (account : AccountName) (before : List Execution) (e : Execution) where
       by false false = λ i. the_row account (same true i) (same false i)
 
 executed_from : (account : AccountName) (before after : List Execution)
-    → fold (λ (row : ExecutedRow) (e : Execution). row_filled (owner_of e.order) e.fill row) (executed_by before account) after ≡ executed_by (before ++ after) account
-executed_from account before [] = ap (λ (made : List Execution). executed_by made account) (sym (append-nil before))
+    → fold (λ (row : ExecutedRow) (e : Execution). row_filled (owner_of e.order) e.fill row) (executed_of_account before account) after ≡ executed_of_account (before ++ after) account
+executed_from account before [] = ap (λ (made : List Execution). executed_of_account made account) (sym (append-nil before))
 executed_from account before (e ∷ after) =
     ap (λ (row : ExecutedRow). fold (λ (row : ExecutedRow) (e : Execution). row_filled (owner_of e.order) e.fill row) row after) (row_next account before e)
     ∙ executed_from account (before ++ e ∷ []) after
-    ∙ ap (λ (made : List Execution). executed_by made account) (append_assoc before (e ∷ []) after)
+    ∙ ap (λ (made : List Execution). executed_of_account made account) (append_assoc before (e ∷ []) after)
 
-none_executed : (account : AccountName) → executed_by [] account ≡ record { account = account; bought = record { shares = 0; value = 0 }; sold = record { shares = 0; value = 0 } }
+none_executed : (account : AccountName) → executed_of_account [] account ≡ record { account = account; bought = record { shares = 0; value = 0 }; sold = record { shares = 0; value = 0 } }
 unfolding done_of_chosen
 none_executed account = refl
 

@@ -6,7 +6,7 @@ use Rattle.gx_units.proofs.{Names_equal.account_is, Lists_found.map_same}
 use Rattle.gx_ouch.specs.declared.outbound.OrderTerms.{OrderTerms}
 use Rattle.gx_policy.specs.declared.policy.{Account.Account, PolicyData.PolicyData}
 use Rattle.gx_history.specs.{declared.{live_order.LiveOrder.LiveOrder, «record».RecordData.RecordData}, Book.is_buy, Figures.open_of_chosen, Live.live, LiveOrders.shares_open}
-use Rattle.gx_overview.specs.{declared.accounts.{LiveSums.LiveSums}, Accounts.{account_row, capped_at_128_bits, capped_count, entries_with, is_of, live_sums, no_orders, row_of, sums_in, with_order}}
+use Rattle.gx_overview.specs.{declared.accounts.{LiveSums.LiveSums}, Accounts.{account_row, capped_at_128_bits, capped_count, entries_with, is_account_side, live_sums, no_orders, row_of, sums_in, with_order}}
 use Rattle.gx_overview.proofs.Accounts_next.{inserted}
 
 -- one more that passes, or does not
@@ -48,8 +48,8 @@ module _ (account : AccountName) (before : List LiveOrder) (o : LiveOrder) where
   sums_next =
       (λ i. record {
         orders = capped_count (filtered_next (λ (order : LiveOrder). same_account account order.account) before o i);
-        buys = capped_at_128_bits (open_next before o (is_of account true) i);
-        sells = capped_at_128_bits (open_next before o (is_of account false) i);
+        buys = capped_at_128_bits (open_next before o (is_account_side account true) i);
+        sells = capped_at_128_bits (open_next before o (is_account_side account false) i);
       })
       ∙ by (same_account account o.account) (is_buy o.terms.side)
     where
@@ -57,10 +57,10 @@ module _ (account : AccountName) (before : List LiveOrder) (o : LiveOrder) where
       n = length (filter (λ (order : LiveOrder). same_account account order.account) before)
 
       bought : ℕ
-      bought = open_of_chosen before (is_of account true)
+      bought = open_of_chosen before (is_account_side account true)
 
       sold : ℕ
-      sold = open_of_chosen before (is_of account false)
+      sold = open_of_chosen before (is_account_side account false)
 
       none : (m : ℕ) → capped_at_128_bits (m + 0) ≡ capped_at_128_bits m
       none m = ap capped_at_128_bits (omega arith)

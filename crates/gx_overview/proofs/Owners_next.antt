@@ -81,8 +81,3 @@ replaced_known policy r user m owner old new is more = λ known knows. by known 
         one_more_known old new known (order_replacing r m o)
         (subst (λ (u : UserName). IsOneMore r.number (record { user = u; token = m.replacement_token }) (owner_of o) old new) (sym same)
         (subst (λ (w : Owner). IsOneMore r.number (record { user = user; token = m.replacement_token }) w old new) (sym (same_Some _ _ his)) more)) knows
-
--- what follows where it went well
-pub ok_then : {V E : Type 0} {P Q : Type 0} (r : Result V E) → (P → Q) → OnOk r P → OnOk r Q
-ok_then (Ok v) f h = f h
-ok_then (Err e) f h = tt

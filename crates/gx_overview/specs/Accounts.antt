@@ -15,15 +15,15 @@ abbrev pub capped_at_128_bits : ℕ → ℕ
 capped_at_128_bits n = min n (2 ^ 128 - 1)
 
 -- an order of the account, on this side
-abbrev pub is_of : AccountName → Bool → AccountName → OrderTerms → Bool
-is_of account buys owner terms = same_account account owner && is_on buys terms.side
+abbrev pub is_account_side : AccountName → Bool → AccountName → OrderTerms → Bool
+is_account_side account buys owner terms = same_account account owner && is_on buys terms.side
 
 -- how many live orders the account has, and their open shares on each side
 abbrev pub live_sums : List LiveOrder → AccountName → LiveSums
 live_sums orders account = record {
   orders = capped_count (length (filter (λ (o : LiveOrder). same_account account o.account) orders));
-  buys = capped_at_128_bits (open_of_chosen orders (is_of account true));
-  sells = capped_at_128_bits (open_of_chosen orders (is_of account false));
+  buys = capped_at_128_bits (open_of_chosen orders (is_account_side account true));
+  sells = capped_at_128_bits (open_of_chosen orders (is_account_side account false));
 }
 
 -- the last granted Kill of an account that is killed

@@ -4,7 +4,7 @@ use Rattle.gx_units.specs.{Money.value, Names.{same_account, same_token, same_us
 use Rattle.gx_ouch.specs.declared.outbound.OrderTerms.{OrderTerms}
 use Rattle.gx_policy.specs.declared.policy.{Account.Account, PolicyData.PolicyData}
 use Rattle.gx_history.specs.{declared.{live_order.UserToken.UserToken, «record».{Fill.Fill, RecordData.RecordData}}, Book.is_buy, Executions.{Execution, executions, sides_in}, Figures.done_of_chosen, Orders.{Order, order_numbered, order_under, orders_added}}
-use Rattle.gx_overview.specs.{declared.{executed.{Executed.Executed, ExecutedRow.ExecutedRow}, owners.{Owner.Owner, Owners.Owners}}, Accounts.{capped_at_128_bits, is_of}}
+use Rattle.gx_overview.specs.{declared.{executed.{ExecutedTotals.ExecutedTotals, ExecutedRow.ExecutedRow}, owners.{Owner.Owner, Owners.Owners}}, Accounts.{capped_at_128_bits, is_account_side}}
 
 -- the value, at the prices of the fills, that orders which are chosen executed
 abbrev pub value_of_chosen : List Execution → (AccountName → OrderTerms → Bool) → ℕ
@@ -12,18 +12,18 @@ value_of_chosen made chosen =
     sum_by (λ (e : Execution). value e.fill.shares e.fill.price) (filter (λ (e : Execution). chosen e.order.account e.order.terms) made)
 
 -- what the account executed on this side
-abbrev pub executed_on : List Execution → AccountName → Bool → Executed
+abbrev pub executed_on : List Execution → AccountName → Bool → ExecutedTotals
 executed_on made account buys = record {
-  shares = capped_at_128_bits (done_of_chosen made (is_of account buys));
-  value = capped_at_128_bits (value_of_chosen made (is_of account buys));
+  shares = capped_at_128_bits (done_of_chosen made (is_account_side account buys));
+  value = capped_at_128_bits (value_of_chosen made (is_account_side account buys));
 }
 
 -- what the account has executed
-abbrev pub executed_by : List Execution → AccountName → ExecutedRow
-executed_by made account = record { account = account; bought = executed_on made account true; sold = executed_on made account false }
+abbrev pub executed_of_account : List Execution → AccountName → ExecutedRow
+executed_of_account made account = record { account = account; bought = executed_on made account true; sold = executed_on made account false }
 
 abbrev pub executed_row : PolicyData → List RecordData → Account → ExecutedRow
-executed_row policy records a = executed_by (executions policy records) a.name
+executed_row policy records a = executed_of_account (executions policy records) a.name
 
 -- before any fill
 abbrev pub no_executions : Account → ExecutedRow
@@ -34,7 +34,7 @@ abbrev pub owner_of : Order → Owner
 owner_of o = record { account = o.account; stock = o.terms.stock; buys = is_buy o.terms.side }
 
 -- with so many more shares at this price
-abbrev pub with_fill : Fill → Executed → Executed
+abbrev pub with_fill : Fill → ExecutedTotals → ExecutedTotals
 with_fill f done = record { shares = capped_at_128_bits (done.shares + f.shares); value = capped_at_128_bits (done.value + value f.shares f.price) }
 
 -- the row, once shares of it were bought, or sold, so

@@ -5,12 +5,12 @@ use Rattle.gx_history.specs.{declared.live_order.UserToken.UserToken, Orders.Ord
 use Rattle.gx_overview.specs.{declared.owners.{Owner.Owner, Owners.Owners}, Executed.{KnowOrders, is_key}}
 
 -- the number has this owner now, unless it had one
-abbrev pub IsNumbered : ℕ → Owner → List (ℕ × Owner) → List (ℕ × Owner) → Type 0
-IsNumbered number owner old new = (n : ℕ) → lookup (nat_eq n) new ≡ option_or (lookup (nat_eq n) old) (if nat_eq number n then Some owner else None)
+abbrev pub IsOwnerNumbered : ℕ → Owner → List (ℕ × Owner) → List (ℕ × Owner) → Type 0
+IsOwnerNumbered number owner old new = (n : ℕ) → lookup (nat_eq n) new ≡ option_or (lookup (nat_eq n) old) (if nat_eq number n then Some owner else None)
 
 -- and the token has it
 pub record IsOneMore (number : ℕ) (key : UserToken) (owner : Owner) (old new : Owners) : Type 0 where
-  pub numbered : IsNumbered number owner old.by_number.entries new.by_number.entries
+  pub numbered : IsOwnerNumbered number owner old.by_number.entries new.by_number.entries
   pub under : (user : UserName) (token : Token) → lookup (is_key user token) new.by_token.entries
       ≡ (if same_user key.user user && same_token key.token token then Some owner else lookup (is_key user token) old.by_token.entries)
 

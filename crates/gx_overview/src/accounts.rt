@@ -147,9 +147,9 @@ pub fn kill_state<G: ShowsState>(
     commands: &[GrantedCommand],
     account: AccountName,
 ) -> KillState
-    requires commands { commands.now ≡ granted_commands (G.seen gate.now).records }
+    requires commands { commands.now ≡ granted_commands (G.state gate.now).records }
     ensures state { result
-        ≡ kill_state (G.seen gate.now).policy (G.seen gate.now).records account }
+        ≡ kill_state (G.state gate.now).policy (G.state gate.now).records account }
 {
     let is_killed = gate.is_killed(account);
     let kill = kill_of(is_killed, commands, account);
@@ -167,8 +167,8 @@ fn row_of<G: ShowsState>(
     table: &IndexMap<AccountName, LiveSums>,
     account: &Account,
 ) -> AccountRow
-    requires { commands.now ≡ granted_commands (G.seen gate.now).records }
-    ensures { result ≡ row_of (G.seen gate.now).policy (G.seen gate.now).records
+    requires { commands.now ≡ granted_commands (G.state gate.now).records }
+    ensures { result ≡ row_of (G.state gate.now).policy (G.state gate.now).records
         table.now.entries account.now }
 {
     let name = account.name;
@@ -186,9 +186,9 @@ fn rows_of<G: ShowsState>(
     table: &IndexMap<AccountName, LiveSums>,
     accounts: &[Account],
 ) -> Result<Vec<AccountRow>, OutOfMemory>
-    requires { commands.now ≡ granted_commands (G.seen gate.now).records }
+    requires { commands.now ≡ granted_commands (G.state gate.now).records }
     ensures { IfOk result (λ rows. rows.items ≡ map
-        (row_of (G.seen gate.now).policy (G.seen gate.now).records table.now.entries)
+        (row_of (G.state gate.now).policy (G.state gate.now).records table.now.entries)
         accounts.now) }
 {
     let mut rows = Vec::new(alloc);
@@ -210,10 +210,10 @@ pub fn account_rows<G: ShowsState>(
     gate: &G,
     commands: &[GrantedCommand],
 ) -> Result<Vec<AccountRow>, OutOfMemory>
-    requires commands { commands.now ≡ granted_commands (G.seen gate.now).records }
+    requires commands { commands.now ≡ granted_commands (G.state gate.now).records }
     ensures rows { IfOk result (λ rows. rows.items ≡ map
-        (account_row (G.seen gate.now).policy (G.seen gate.now).records)
-        (G.seen gate.now).policy.accounts) }
+        (account_row (G.state gate.now).policy (G.state gate.now).records)
+        (G.state gate.now).policy.accounts) }
 {
     let mut table = IndexMap::new(alloc);
     note_live(&mut table, gate.live_orders())?;

@@ -38,7 +38,7 @@ pub struct UserRow {
 
 /// How far the day is.
 pub fn day_row<G: ShowsState>(gate: &G) -> DayRow
-    ensures row { result ≡ day_row (G.seen gate.now).records }
+    ensures row { result ≡ day_row (G.state gate.now).records }
 {
     let records = gate.length();
     DayRow {
@@ -64,13 +64,13 @@ fn highest_line(records: &Records<'_>) -> u16
 /// How many lines are left: each connection of a server, in all the runs of its day, has one above those before it, and the
 /// last is 65,535.
 pub fn lines_left<G: ShowsRecords>(gate: &G) -> u16
-    ensures { result ≡ 65535 - highest_line (G.seen gate.now).records }
+    ensures { result ≡ 65535 - highest_line (G.state gate.now).records }
 {
     LAST_LINE - highest_line(&gate.shown_records())
 }
 
 fn user_row<G: ShowsState>(gate: &G, user: &User) -> UserRow
-    ensures { result ≡ user_row (G.seen gate.now).records user.now }
+    ensures { result ≡ user_row (G.state gate.now).records user.now }
 {
     UserRow {
         user: user.name,
@@ -84,7 +84,7 @@ fn user_rows_of<G: ShowsState>(
     users: &[User],
 ) -> Result<Vec<UserRow>, OutOfMemory>
     ensures { IfOk result (λ rows. rows.items ≡ map
-        (user_row (G.seen gate.now).records) users.now) }
+        (user_row (G.state gate.now).records) users.now) }
 {
     let mut rows = Vec::new(alloc);
     for user in users {
@@ -100,7 +100,7 @@ fn user_rows_of<G: ShowsState>(
 /// `OutOfMemory` where the rows were refused their memory.
 pub fn user_rows<G: ShowsState>(alloc: Global, gate: &G) -> Result<Vec<UserRow>, OutOfMemory>
     ensures rows { IfOk result (λ rows. rows.items ≡ map
-        (user_row (G.seen gate.now).records) (G.seen gate.now).policy.users) }
+        (user_row (G.state gate.now).records) (G.state gate.now).policy.users) }
 {
     user_rows_of(alloc, gate, gate.policy().users())
 }

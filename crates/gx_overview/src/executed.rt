@@ -17,7 +17,7 @@ use std::alloc::Global;
 ///
 /// A sum stops at 128 bits: a day's fills stay far below.
 #[derive(Clone, Copy, PartialEq, Eq)]
-pub struct Executed {
+pub struct ExecutedTotals {
     /// How many shares.
     pub shares: u128,
     /// At the prices of the fills, in ten-thousandths of a dollar.
@@ -30,22 +30,22 @@ pub struct ExecutedRow {
     /// The name of the account.
     pub account: AccountName,
     /// By its buys.
-    pub bought: Executed,
+    pub bought: ExecutedTotals,
     /// By all that is no buy.
-    pub sold: Executed,
+    pub sold: ExecutedTotals,
 }
 
-const NOTHING: Executed = Executed {
+const NOTHING: ExecutedTotals = ExecutedTotals {
     shares: 0,
     value: 0,
 };
 
-impl Executed {
+impl ExecutedTotals {
     /// With one more fill.
-    pub fn with_fill(self, fill: &Fill) -> Executed
+    pub fn with_fill(self, fill: &Fill) -> ExecutedTotals
         ensures { result ≡ with_fill fill.now self }
     {
-        Executed {
+        ExecutedTotals {
             shares: self.shares.saturating_add(u128::from(fill.shares)),
             value: self.value.saturating_add(value_of(fill.shares, fill.price)),
         }
@@ -164,8 +164,8 @@ pub fn executed_rows<G: ShowsRecords>(
     gate: &G,
 ) -> Result<Vec<ExecutedRow>, OutOfMemory>
     ensures rows { IfOk result (λ rows. rows.items ≡ map
-        (executed_row (G.seen gate.now).policy (G.seen gate.now).records)
-        (G.seen gate.now).policy.accounts) }
+        (executed_row (G.state gate.now).policy (G.state gate.now).records)
+        (G.state gate.now).policy.accounts) }
 {
     let policy = gate.policy();
     let mut rows = first_rows(alloc, policy.accounts())?;

@@ -4,7 +4,7 @@ ghost use Rattle.std.specs.{Prelude.{◌≡◌, [], nat_eq, OnOk}, Map.lookup};
 ghost use Rattle.gx_history.specs.Orders.{orders_made};
 ghost use Rattle.gx_history.specs.declared.record.Request.TheVariants as requests;
 ghost use Rattle.gx_policy.specs.declared.policy.PolicyData.{PolicyData};
-ghost use Rattle.gx_overview.specs.{Executed.{is_key, KnowOrders}, Owning.{IsNumbered, IsOneMore, Learn}};
+ghost use Rattle.gx_overview.specs.{Executed.{is_key, KnowOrders}, Owning.{IsOwnerNumbered, IsOneMore, Learn}};
 
 use gx_history::live_order::UserToken;
 use gx_history::record::{Asked, RecordData, Request};
@@ -42,7 +42,7 @@ fn note_number(
     owner: Owner,
 ) -> Result<(), OutOfMemory>
     ensures noted { OnOk result
-        (IsNumbered number owner by_number.old.entries by_number.new.entries) }
+        (IsOwnerNumbered number owner by_number.old.entries by_number.new.entries) }
 {
     if by_number.contains_key(&number) {
         return Ok(());

@@ -67,8 +67,8 @@ pub struct ListingRow {
 }
 
 fn limit_row<G: ShowsState>(gate: &G, commands: &[GrantedCommand], rule: &FileRule) -> LimitRow
-    requires { commands.now ≡ granted_commands (G.seen gate.now).records }
-    ensures { result ≡ limit_row (G.seen gate.now).policy (G.seen gate.now).records rule.now }
+    requires { commands.now ≡ granted_commands (G.state gate.now).records }
+    ensures { result ≡ limit_row (G.state gate.now).policy (G.state gate.now).records rule.now }
 {
     LimitRow {
         rule: rule.name,
@@ -85,9 +85,9 @@ fn limit_rows_of<G: ShowsState>(
     commands: &[GrantedCommand],
     rules: &[FileRule],
 ) -> Result<Vec<LimitRow>, OutOfMemory>
-    requires { commands.now ≡ granted_commands (G.seen gate.now).records }
+    requires { commands.now ≡ granted_commands (G.state gate.now).records }
     ensures { IfOk result (λ rows. rows.items ≡ map
-        (limit_row (G.seen gate.now).policy (G.seen gate.now).records) rules.now) }
+        (limit_row (G.state gate.now).policy (G.state gate.now).records) rules.now) }
 {
     let mut rows = Vec::new(alloc);
     for rule in rules {
@@ -107,10 +107,10 @@ pub fn limit_rows<G: ShowsState>(
     gate: &G,
     commands: &[GrantedCommand],
 ) -> Result<Vec<LimitRow>, OutOfMemory>
-    requires commands { commands.now ≡ granted_commands (G.seen gate.now).records }
+    requires commands { commands.now ≡ granted_commands (G.state gate.now).records }
     ensures rows { IfOk result (λ rows. rows.items ≡ map
-        (limit_row (G.seen gate.now).policy (G.seen gate.now).records)
-        (G.seen gate.now).policy.rules) }
+        (limit_row (G.state gate.now).policy (G.state gate.now).records)
+        (G.state gate.now).policy.rules) }
 {
     limit_rows_of(alloc, gate, commands, gate.policy().rules())
 }
@@ -127,7 +127,7 @@ fn left_of(limit: Option<u64>, used: Option<u128>) -> Option<u128>
 
 fn gross_row<G: ShowsState>(gate: &G, rule: RuleId, account: &Account) -> GrossRow
     ensures { result ≡
-        gross_row (G.seen gate.now).policy (G.seen gate.now).records rule account.now }
+        gross_row (G.state gate.now).policy (G.state gate.now).records rule account.now }
 {
     let used = gate.gross_used(rule, account.name);
     GrossRow {
@@ -144,7 +144,7 @@ fn gross_rows_of<G: ShowsState>(
     accounts: &[Account],
 ) -> Result<Vec<GrossRow>, OutOfMemory>
     ensures { IfOk result (λ rows. rows.items ≡ map
-        (gross_row (G.seen gate.now).policy (G.seen gate.now).records rule) accounts.now) }
+        (gross_row (G.state gate.now).policy (G.state gate.now).records rule) accounts.now) }
 {
     let mut rows = Vec::new(alloc);
     for account in accounts {
@@ -164,8 +164,8 @@ pub fn gross_rows<G: ShowsState>(
     rule: RuleId,
 ) -> Result<Vec<GrossRow>, OutOfMemory>
     ensures rows { IfOk result (λ rows. rows.items ≡ map
-        (gross_row (G.seen gate.now).policy (G.seen gate.now).records rule)
-        (G.seen gate.now).policy.accounts) }
+        (gross_row (G.state gate.now).policy (G.state gate.now).records rule)
+        (G.state gate.now).policy.accounts) }
 {
     gross_rows_of(alloc, gate, rule, gate.policy().accounts())
 }
@@ -192,7 +192,7 @@ fn net_left_of(limit: Option<u64>, used: Option<i128>) -> Option<u128>
 
 fn net_row<G: ShowsState>(gate: &G, rule: RuleId, account: AccountName, stock: &Stock) -> NetRow
     ensures { result ≡
-        net_row (G.seen gate.now).policy (G.seen gate.now).records rule account stock.now }
+        net_row (G.state gate.now).policy (G.state gate.now).records rule account stock.now }
 {
     let stock = stock.name;
     let buys = gate.net_used(rule, account, StockSide { stock, buys: true });
@@ -215,7 +215,7 @@ fn net_rows_of<G: ShowsState>(
     stocks: &[Stock],
 ) -> Result<Vec<NetRow>, OutOfMemory>
     ensures { IfOk result (λ rows. rows.items ≡ map
-        (net_row (G.seen gate.now).policy (G.seen gate.now).records rule account) stocks.now) }
+        (net_row (G.state gate.now).policy (G.state gate.now).records rule account) stocks.now) }
 {
     let mut rows = Vec::new(alloc);
     for stock in stocks {
@@ -236,8 +236,8 @@ pub fn net_rows<G: ShowsState>(
     account: AccountName,
 ) -> Result<Vec<NetRow>, OutOfMemory>
     ensures rows { IfOk result (λ rows. rows.items ≡ map
-        (net_row (G.seen gate.now).policy (G.seen gate.now).records rule account)
-        (G.seen gate.now).policy.stocks) }
+        (net_row (G.state gate.now).policy (G.state gate.now).records rule account)
+        (G.state gate.now).policy.stocks) }
 {
     net_rows_of(alloc, gate, rule, account, gate.policy().stocks())
 }
@@ -248,9 +248,9 @@ fn listing_row<G: ShowsState>(
     rule: RuleId,
     stock: &Stock,
 ) -> ListingRow
-    requires { commands.now ≡ granted_commands (G.seen gate.now).records }
+    requires { commands.now ≡ granted_commands (G.state gate.now).records }
     ensures { result ≡
-        listing_row (G.seen gate.now).policy (G.seen gate.now).records rule stock.now }
+        listing_row (G.state gate.now).policy (G.state gate.now).records rule stock.now }
 {
     let stock = stock.name;
     let is_listed = gate.lists(rule, stock);
@@ -273,9 +273,9 @@ fn listing_rows_of<G: ShowsState>(
     rule: RuleId,
     stocks: &[Stock],
 ) -> Result<Vec<ListingRow>, OutOfMemory>
-    requires { commands.now ≡ granted_commands (G.seen gate.now).records }
+    requires { commands.now ≡ granted_commands (G.state gate.now).records }
     ensures { IfOk result (λ rows. rows.items ≡ map
-        (listing_row (G.seen gate.now).policy (G.seen gate.now).records rule) stocks.now) }
+        (listing_row (G.state gate.now).policy (G.state gate.now).records rule) stocks.now) }
 {
     let mut rows = Vec::new(alloc);
     for stock in stocks {
@@ -296,10 +296,10 @@ pub fn listing_rows<G: ShowsState>(
     commands: &[GrantedCommand],
     rule: RuleId,
 ) -> Result<Vec<ListingRow>, OutOfMemory>
-    requires commands { commands.now ≡ granted_commands (G.seen gate.now).records }
+    requires commands { commands.now ≡ granted_commands (G.state gate.now).records }
     ensures rows { IfOk result (λ rows. rows.items ≡ map
-        (listing_row (G.seen gate.now).policy (G.seen gate.now).records rule)
-        (G.seen gate.now).policy.stocks) }
+        (listing_row (G.state gate.now).policy (G.state gate.now).records rule)
+        (G.state gate.now).policy.stocks) }
 {
     listing_rows_of(alloc, gate, commands, rule, gate.policy().stocks())
 }

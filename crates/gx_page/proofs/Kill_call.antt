@@ -7,13 +7,13 @@ use Rattle.gx_desk.specs.declared.Tag.{Tag}
 use Rattle.gx_pass.specs.declared.view.LineView.{LineView}
 use Rattle.gx_door.specs.Acts.{IsLater}
 use Rattle.gx_http.specs.declared.{credentials.Credentials.Credentials, forms.KillForm.KillForm}
-use Rattle.gx_button.specs.{declared.steps.{Deed.Deed, Refusal.Refusal}, Steps.{kill_command, IsPermitted, IsRefusal, Makes}}
+use Rattle.gx_button.specs.{declared.steps.{Deed.Deed, Refusal.Refusal}, Steps.{kill_command, IsPermitted, IsRefusal, MakesDeed}}
 use Rattle.gx_serve.specs.declared.announcing.EndedOrders.{EndedOrders}
-use Rattle.gx_page.specs.Replies.{ended_of, IsKill, IsKillTold}
+use Rattle.gx_page.specs.Replies.{kill_announced, IsKill, IsKillTold}
 
 pub done_so : {P : Type 0} (held : P → LineView) (policy : PolicyData) (secret : List ℕ) (pass back : P) (caller : Option Credentials) (form : KillForm) (tag : Tag) (done : Result Deed Refusal)
     → IfErr done (IsRefusal policy secret caller form) → OnErr done (back ≡ pass) → OnOk done (IfSome caller (λ who. IsPermitted policy secret who form)) → OnOk done (IsSome caller)
-    → IfOk done (λ deed. IfSome caller (λ who. Makes policy (held pass) (held back) who (kill_command tag form.account) deed))
+    → IfOk done (λ deed. IfSome caller (λ who. MakesDeed policy (held pass) (held back) who (kill_command tag form.account) deed))
     → IsKill policy secret (held pass) (held back) caller form done
 done_so held policy secret pass back caller form tag (Ok deed) refused same permitted named steps = record { tag = tag; named = named; permitted = permitted; steps = steps }
 done_so held policy secret pass back caller form tag (Err why) refused same permitted named steps = (refused, ap held same)
@@ -33,7 +33,7 @@ board_goes_on {P} seen held policy board pass back done same is later kept =
 
 -- and what was done for a kill
 pub told_so : {P : Type 0} (seen held : P → LineView) (policy : PolicyData) (secret : List ℕ) (board after : LineView) (pass back : P) (caller : Option Credentials) (form : KillForm) (done : Result Deed Refusal)
-    (announced : Option EndedOrders) → seen ≡ held → seen pass ≡ board → after ≡ seen back → IsKill policy secret (held pass) (held back) caller form done → announced ≡ ended_of caller form done
+    (announced : Option EndedOrders) → seen ≡ held → seen pass ≡ board → after ≡ seen back → IsKill policy secret (held pass) (held back) caller form done → announced ≡ kill_announced caller form done
     → IsKillTold policy secret board after caller form done announced
 told_so {P} seen held policy secret board after pass back caller form done announced same is then kill tells = record {
   kill =

@@ -36,19 +36,19 @@ abbrev pub notice_of_kill : Result Deed Refusal → Notice
 notice_of_kill (Ok deed) = notice_of_deed deed
 notice_of_kill (Err why) = notice_of_refusal why
 
-abbrev pub status_of : Notice → Status
-status_of Notice.Well = Status.Done
-status_of Notice.Closed = Status.Unavailable
-status_of Notice.Full = Status.Unavailable
-status_of Notice.Stranger = Status.Unauthorized
-status_of Notice.NoToken = Status.Forbidden
-status_of Notice.NoPower = Status.Forbidden
-status_of Notice.Elsewhere = Status.Forbidden
-status_of Notice.Denied = Status.Forbidden
-status_of Notice.Refused = Status.Unavailable
-status_of Notice.Killed = Status.SeePage
-status_of Notice.Unkept = Status.Unavailable
-status_of (Notice.Fault fault) = fault_status fault
+abbrev pub notice_status : Notice → Status
+notice_status Notice.Well = Status.Done
+notice_status Notice.Closed = Status.Unavailable
+notice_status Notice.Full = Status.Unavailable
+notice_status Notice.Stranger = Status.Unauthorized
+notice_status Notice.NoToken = Status.Forbidden
+notice_status Notice.NoPower = Status.Forbidden
+notice_status Notice.Elsewhere = Status.Forbidden
+notice_status Notice.Denied = Status.Forbidden
+notice_status Notice.Refused = Status.Unavailable
+notice_status Notice.Killed = Status.SeePage
+notice_status Notice.Unkept = Status.Unavailable
+notice_status (Notice.Fault fault) = fault_status fault
 
 abbrev pub words_of : Notice → List ℕ
 words_of Notice.Well = codes "the gate takes orders\n"

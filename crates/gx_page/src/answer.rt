@@ -5,7 +5,7 @@ ghost use mathlib.Core.List.{IsPrefix};
 ghost use Rattle.gx_page.specs.Answers.{is_stranger, IsAnswer, IsTold};
 
 use crate::notice::Notice;
-use crate::reply::{Reply, reply_to};
+use crate::reply::{PageReply, reply_to};
 use crate::response::{notice_response, response};
 use gx_button::{Refusal, Secret};
 use gx_door::{Dial, Door};
@@ -20,7 +20,7 @@ use std::sync::Wait;
 
 /// What a request is answered.
 #[derive(Drop)]
-pub(crate) struct Answer {
+pub(crate) struct HttpAnswer {
     /// The bytes of the response.
     pub(crate) text: Vec<u8>,
     /// Whether it asks for what is an officer's or a reader's, and has not the name and the password of one.
@@ -28,12 +28,12 @@ pub(crate) struct Answer {
 }
 
 /// Whether the request has not the name and the password that it needs.
-fn is_stranger(reply: &Reply) -> bool
+fn is_stranger(reply: &PageReply) -> bool
     ensures { result ≡ is_stranger reply.now }
 {
     matches!(
         reply,
-        Reply::Stranger | Reply::Kill(Err(Refusal::Unauthorized), _)
+        PageReply::Stranger | PageReply::Kill(Err(Refusal::Unauthorized), _)
     )
 }
 
@@ -44,7 +44,7 @@ fn response_if_kept(
     policy: &Policy,
     secret: &Secret,
     about: ServerFigures,
-    reply: &Reply,
+    reply: &PageReply,
 ) -> Result<Vec<u8>, OutOfMemory>
     ensures { IfOk result (λ text. IsTold is_kept
         policy.now secret.now.bytes about reply.now text.items) }
@@ -77,9 +77,9 @@ pub(crate) fn answer_to<
     about: ServerFigures,
     board: Board<L>,
     request: &Request,
-) -> (Board<L>, Result<Answer, OutOfMemory>)
+) -> (Board<L>, Result<HttpAnswer, OutOfMemory>)
     requires policies { L.policy ≡ D.policy }
-    requires held { L.held ≡ D.held }
+    requires held { L.observed ≡ D.observed }
     requires policy { policy.now ≡ D.policy }
     ensures later { IsPrefix board.front result.0.front }
     ensures answer { IfOk result.1
@@ -94,7 +94,7 @@ pub(crate) fn answer_to<
     match response_if_kept(alloc, is_kept, policy, secret, about, &reply) {
         Ok(text) => {
             let is_stranger = is_stranger(&reply);
-            (board, Ok(Answer { text, is_stranger }))
+            (board, Ok(HttpAnswer { text, is_stranger }))
         }
         Err(refused) => (board, Err(refused)),
     }

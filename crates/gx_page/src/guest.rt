@@ -11,13 +11,13 @@ use std::net::{IpAddr, Shutdown, TcpStream};
 use std::time::Duration;
 
 /// So many seconds a connection has for its request, and as many for its answer.
-const PATIENCE: u64 = 5;
+const REQUEST_TIMEOUT_SECONDS: u64 = 5;
 
 /// So many milliseconds what still comes is let go behind an answer, so that the peer reads it before the connection is closed.
-const FAREWELL: u64 = 1_000;
+const CLOSE_LINGER_MILLIS: u64 = 1_000;
 
 /// A wrong password that is one too many is answered so many milliseconds later.
-const DELAY: u64 = 1_000;
+const WRONG_PASSWORD_DELAY_MILLIS: u64 = 1_000;
 
 /// How far a connection is.
 #[derive(Clone, Copy, PartialEq, Eq)]
@@ -61,7 +61,7 @@ impl Guest {
             request: None,
             outgoing: None,
             from: now,
-            until: now.saturating_add(Duration::from_secs(PATIENCE)),
+            until: now.saturating_add(Duration::from_secs(REQUEST_TIMEOUT_SECONDS)),
         }
     }
 
@@ -100,9 +100,15 @@ impl Guest {
             Ok(text) => {
                 self.outgoing = Some(Outgoing::new(text));
                 self.stage = GuestStage::Writing;
-                let delay = Duration::from_millis(if is_late { DELAY } else { 0 });
+                let delay = Duration::from_millis(if is_late {
+                    WRONG_PASSWORD_DELAY_MILLIS
+                } else {
+                    0
+                });
                 self.from = now.saturating_add(delay);
-                self.until = self.from.saturating_add(Duration::from_secs(PATIENCE));
+                self.until = self
+                    .from
+                    .saturating_add(Duration::from_secs(REQUEST_TIMEOUT_SECONDS));
             }
             Err(_) => self.stage = GuestStage::Over,
         }
@@ -144,7 +150,7 @@ impl Guest {
     fn finish(&mut self, now: Duration) {
         let _ = self.stream.shutdown(Shutdown::Write);
         self.stage = GuestStage::Parting;
-        self.until = now.saturating_add(Duration::from_millis(FAREWELL));
+        self.until = now.saturating_add(Duration::from_millis(CLOSE_LINGER_MILLIS));
     }
 
     /// Sends on. Answers whether something was sent.

@@ -20,5 +20,5 @@ mod viewer;
 mod visit;
 
 pub use notice::Notice;
-pub use reply::{Health, Reply};
+pub use reply::{Health, PageReply};
 pub use serving::{PageServer, serve_page};

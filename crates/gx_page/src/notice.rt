@@ -1,7 +1,7 @@
 //! What is said in a line of text.
 
 ghost use Rattle.std.specs.Prelude.{◌≡◌};
-ghost use Rattle.gx_page.specs.Notices.{notice_of_deed, notice_of_health, notice_of_kill, notice_of_refusal, notice_of_verdict, status_of, words_of};
+ghost use Rattle.gx_page.specs.Notices.{notice_of_deed, notice_of_health, notice_of_kill, notice_of_refusal, notice_of_verdict, notice_status, words_of};
 
 use crate::reply::Health;
 use gx_button::{Deed, Refusal};
@@ -95,7 +95,7 @@ impl Notice {
 
     /// The status of the response that says it.
     pub(crate) fn status(self) -> Status
-        ensures { result ≡ status_of self }
+        ensures { result ≡ notice_status self }
     {
         match self {
             Notice::Well => Status::Done,

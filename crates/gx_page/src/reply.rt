@@ -1,13 +1,13 @@
 //! What becomes of a request.
 
 ghost use Rattle.std.specs.Prelude.{◌≡◌, Err, IfOk, MatchResult, Ok, OnErr};
-ghost use Rattle.gx_page.specs.declared.reply.Reply.TheVariants as replies;
+ghost use Rattle.gx_page.specs.declared.reply.PageReply.TheVariants as replies;
 ghost use mathlib.Core.List.{IsPrefix};
 ghost use Rattle.gx_pass.specs.Views.{mine};
-ghost use Rattle.gx_page.specs.Replies.{ended_of, health_of, IsKillTold, IsReply, IsSeen};
+ghost use Rattle.gx_page.specs.Replies.{kill_announced, health_of, IsKillTold, IsReply, IsSeen};
 
 use crate::viewer::viewer;
-use gx_board::View;
+use gx_board::BoardView;
 use gx_button::{Deed, Refusal, Secret, kill};
 use gx_desk::Action;
 use gx_door::{Dial, Door};
@@ -36,7 +36,7 @@ pub enum Health {
 
 /// What becomes of a request.
 #[derive(Drop)]
-pub enum Reply {
+pub enum PageReply {
     /// Its user is given the page.
     Page,
     /// Its user is given the page's script.
@@ -44,9 +44,9 @@ pub enum Reply {
     /// Its user is given the page's style sheet.
     Style,
     /// This user is told what he is shown of the day.
-    State(UserName, View),
+    State(UserName, BoardView),
     /// This user is told the figures of what he is shown.
-    Metrics(UserName, View),
+    Metrics(UserName, BoardView),
     /// Whoever asks is told whether the gate takes orders.
     Health(Health),
     /// It asks for what is an officer's or a reader's, and has not the name and the password of one.
@@ -77,7 +77,7 @@ fn see<L: Lookout, R: Wait>(
     gate: &L,
     board: Board<L>,
     user: UserName,
-) -> (Board<L>, Result<View, OutOfMemory>)
+) -> (Board<L>, Result<BoardView, OutOfMemory>)
     ensures later { IsPrefix board.front result.0.front }
     ensures own { mine result.0 ≡ mine board }
     ensures seen { IfOk result.1 (IsSeen L.policy result.0.front user) }
@@ -86,34 +86,40 @@ fn see<L: Lookout, R: Wait>(
 }
 
 /// Whether the gate takes orders, by what is shown of it.
-fn told_health(seen: Result<View, OutOfMemory>) -> Result<Reply, OutOfMemory>
+fn told_health(seen: Result<BoardView, OutOfMemory>) -> Result<PageReply, OutOfMemory>
     ensures { MatchResult seen (λ v. result ≡ Ok (replies.Health (health_of v.day)))
         (λ e. result ≡ Err e) }
 {
     match seen {
-        Ok(view) => Ok(Reply::Health(Health::of(&view.day))),
+        Ok(view) => Ok(PageReply::Health(Health::of(&view.day))),
         Err(refused) => Err(refused),
     }
 }
 
 /// What the user is told of what he is shown.
-fn told_state(user: UserName, seen: Result<View, OutOfMemory>) -> Result<Reply, OutOfMemory>
+fn told_state(
+    user: UserName,
+    seen: Result<BoardView, OutOfMemory>,
+) -> Result<PageReply, OutOfMemory>
     ensures { MatchResult seen (λ v. result ≡ Ok (replies.State user v))
         (λ e. result ≡ Err e) }
 {
     match seen {
-        Ok(view) => Ok(Reply::State(user, view)),
+        Ok(view) => Ok(PageReply::State(user, view)),
         Err(refused) => Err(refused),
     }
 }
 
 /// The figures of what the user is shown.
-fn told_metrics(user: UserName, seen: Result<View, OutOfMemory>) -> Result<Reply, OutOfMemory>
+fn told_metrics(
+    user: UserName,
+    seen: Result<BoardView, OutOfMemory>,
+) -> Result<PageReply, OutOfMemory>
     ensures { MatchResult seen (λ v. result ≡ Ok (replies.Metrics user v))
         (λ e. result ≡ Err e) }
 {
     match seen {
-        Ok(view) => Ok(Reply::Metrics(user, view)),
+        Ok(view) => Ok(PageReply::Metrics(user, view)),
         Err(refused) => Err(refused),
     }
 }
@@ -124,7 +130,7 @@ fn ended_of(
     form: &KillForm,
     done: &Result<Deed, Refusal>,
 ) -> Option<EndedOrders>
-    ensures { result ≡ ended_of caller form.now done.now }
+    ensures { result ≡ kill_announced caller form.now done.now }
 {
     match (caller, done) {
         (Some(who), Ok(Deed::Asked(Ok(decided), _))) => {
@@ -146,7 +152,7 @@ fn kill_for<T: Drop, D: Door<Pass = T>, L: Lookout<Pass = T>, R: Wait + Dial + A
     form: &KillForm,
 ) -> (Board<L>, Result<Deed, Refusal>, Announced)
     requires policies { L.policy ≡ D.policy }
-    requires held { L.held ≡ D.held }
+    requires held { L.observed ≡ D.observed }
     requires policy { policy.now ≡ D.policy }
     ensures kill { IsKillTold D.policy secret.now.bytes board result.0
         caller form.now result.1 result.2 }
@@ -178,9 +184,9 @@ pub(crate) fn reply_to<
     secret: &Secret,
     board: Board<L>,
     request: &Request,
-) -> (Board<L>, Result<Reply, OutOfMemory>)
+) -> (Board<L>, Result<PageReply, OutOfMemory>)
     requires policies { L.policy ≡ D.policy }
-    requires held { L.held ≡ D.held }
+    requires held { L.observed ≡ D.observed }
     requires policy { policy.now ≡ D.policy }
     ensures reply { IfOk result.1
         (IsReply D.policy secret.now.bytes board result.0 request.now) }
@@ -192,7 +198,7 @@ pub(crate) fn reply_to<
         (RequestTarget::Kill(form), _) => {
             let caller = request.caller;
             let (board, done, announced) = kill_for(rt, door, policy, secret, board, caller, &form);
-            (board, Ok(Reply::Kill(done, announced)))
+            (board, Ok(PageReply::Kill(done, announced)))
         }
         (RequestTarget::Health, _) => {
             let (board, seen) = see(rt, alloc, gate, board, NOBODY);
@@ -206,9 +212,9 @@ pub(crate) fn reply_to<
             let (board, seen) = see(rt, alloc, gate, board, user);
             (board, told_metrics(user, seen))
         }
-        (RequestTarget::Page, Some(_)) => (board, Ok(Reply::Page)),
-        (RequestTarget::Script, Some(_)) => (board, Ok(Reply::Script)),
-        (RequestTarget::Style, Some(_)) => (board, Ok(Reply::Style)),
-        (_, None) => (board, Ok(Reply::Stranger)),
+        (RequestTarget::Page, Some(_)) => (board, Ok(PageReply::Page)),
+        (RequestTarget::Script, Some(_)) => (board, Ok(PageReply::Script)),
+        (RequestTarget::Style, Some(_)) => (board, Ok(PageReply::Style)),
+        (_, None) => (board, Ok(PageReply::Stranger)),
     }
 }

@@ -8,9 +8,9 @@ ghost use Rattle.gx_http.specs.declared.response.Status.TheVariants as statuses;
 ghost use Rattle.gx_page.specs.Responses.{figures_told, IsGiven, IsResponse, notice_bytes, viewer_told};
 
 use crate::notice::Notice;
-use crate::reply::Reply;
+use crate::reply::PageReply;
 use gx_assets::{page, script, style};
-use gx_board::View;
+use gx_board::BoardView;
 use gx_button::{Secret, has_power};
 use gx_http::{Content, Status, write_response};
 use gx_policy::Policy;
@@ -54,7 +54,7 @@ fn viewer_told(policy: &Policy, secret: &Secret, about: ServerFigures, user: Use
 }
 
 /// What the user is shown, as a response.
-fn state_response(alloc: Global, view: &View, viewer: &Viewer) -> Result<Vec<u8>, OutOfMemory>
+fn state_response(alloc: Global, view: &BoardView, viewer: &Viewer) -> Result<Vec<u8>, OutOfMemory>
     ensures { IfOk result (λ text. text.items
         ≡ response_bytes statuses.Done contents.Json (page_text view.now viewer.now)) }
 {
@@ -66,7 +66,7 @@ fn state_response(alloc: Global, view: &View, viewer: &Viewer) -> Result<Vec<u8>
 /// The figures of what he is shown, and of the server, as a response.
 fn metrics_response(
     alloc: Global,
-    view: &View,
+    view: &BoardView,
     about: ServerFigures,
 ) -> Result<Vec<u8>, OutOfMemory>
     ensures { IfOk result (λ text. text.items
@@ -88,21 +88,21 @@ pub(crate) fn response(
     policy: &Policy,
     secret: &Secret,
     about: ServerFigures,
-    reply: &Reply,
+    reply: &PageReply,
 ) -> Result<Vec<u8>, OutOfMemory>
     ensures { IfOk result (λ text. IsResponse
         policy.now secret.now.bytes about reply.now text.items) }
 {
     match reply {
-        Reply::Page => respond(alloc, Status::Done, Content::Page, page()),
-        Reply::Script => respond(alloc, Status::Done, Content::Script, script()),
-        Reply::Style => respond(alloc, Status::Done, Content::Style, style()),
-        Reply::State(user, view) => {
+        PageReply::Page => respond(alloc, Status::Done, Content::Page, page()),
+        PageReply::Script => respond(alloc, Status::Done, Content::Script, script()),
+        PageReply::Style => respond(alloc, Status::Done, Content::Style, style()),
+        PageReply::State(user, view) => {
             state_response(alloc, view, &viewer_told(policy, secret, about, *user))
         }
-        Reply::Metrics(_, view) => metrics_response(alloc, view, about),
-        Reply::Health(health) => notice_response(alloc, Notice::of_health(*health)),
-        Reply::Stranger => notice_response(alloc, Notice::Stranger),
-        Reply::Kill(done, _) => notice_response(alloc, Notice::of_kill(done)),
+        PageReply::Metrics(_, view) => metrics_response(alloc, view, about),
+        PageReply::Health(health) => notice_response(alloc, Notice::of_health(*health)),
+        PageReply::Stranger => notice_response(alloc, Notice::Stranger),
+        PageReply::Kill(done, _) => notice_response(alloc, Notice::of_kill(done)),
     }
 }

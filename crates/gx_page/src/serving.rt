@@ -2,7 +2,7 @@
 
 ghost use Rattle.std.specs.Prelude.{◌≡◌};
 
-use crate::answer::{Answer, answer_to};
+use crate::answer::{HttpAnswer, answer_to};
 use crate::guest::Guest;
 use gx_button::Secret;
 use gx_control::{ServerControl, ShutdownFlag};
@@ -26,13 +26,13 @@ const AT_ONCE: usize = 32;
 const AT_A_LOOK: usize = 4;
 
 /// So many milliseconds lie at least between two answers, so that whoever asks all the time keeps nobody from the gate.
-const BETWEEN: u64 = 20;
+const BETWEEN_ANSWERS_MILLIS: u64 = 20;
 
 /// So many milliseconds the thread rests where nobody is connected, and nobody comes.
-const REST: u64 = 20;
+const EMPTY_POLL_MILLIS: u64 = 20;
 
 /// So many where somebody is connected, and nothing comes of it.
-const PAUSE: u64 = 2;
+const GUESTS_POLL_MILLIS: u64 = 2;
 
 /// What the page is served from. It stays the same for a run.
 #[derive(Drop)]
@@ -44,7 +44,7 @@ pub struct PageServer<'x, T: Drop, D: Door<Pass = T>, L: Lookout<Pass = T>> {
     is_journaled: bool,
     control: &'x ServerControl,
     ghost policies: { L.policy ≡ D.policy },
-    ghost held: { L.held ≡ D.held },
+    ghost observed: { L.observed ≡ D.observed },
     ghost same: { policy.now ≡ D.policy },
 }
 
@@ -59,7 +59,7 @@ impl<'x, T: Drop, D: Door<Pass = T>, L: Lookout<Pass = T>> PageServer<'x, T, D, 
         control: &'x ServerControl,
     ) -> PageServer<'x, T, D, L>
         requires policies { L.policy ≡ D.policy }
-        requires held { L.held ≡ D.held }
+        requires held { L.observed ≡ D.observed }
         requires policy { policy.now ≡ D.policy }
     {
         PageServer {
@@ -148,7 +148,11 @@ impl Guests {
 
     /// Whether somebody may be answered by now; always where the clock can't be read.
     fn may_answer(&self, now: Duration) -> bool {
-        now == Duration::ZERO || now >= self.answered.saturating_add(Duration::from_millis(BETWEEN))
+        now == Duration::ZERO
+            || now
+                >= self
+                    .answered
+                    .saturating_add(Duration::from_millis(BETWEEN_ANSWERS_MILLIS))
     }
 
     /// Gives the guest at this place his answer.
@@ -158,7 +162,7 @@ impl Guests {
         control: &ServerControl,
         place: usize,
         request: &Request,
-        answer: Result<Answer, OutOfMemory>,
+        answer: Result<HttpAnswer, OutOfMemory>,
     ) {
         let now = time(rt);
         self.answered = now;
@@ -166,7 +170,7 @@ impl Guests {
             return;
         };
         match answer {
-            Ok(Answer { text, is_stranger }) => {
+            Ok(HttpAnswer { text, is_stranger }) => {
                 let is_late = is_stranger && is_one_too_many(rt, control, guest, request);
                 guest.answer(Ok(text), is_late, now);
             }
@@ -241,7 +245,11 @@ fn answer_next<
 /// Rests where nothing has come of a look.
 fn rest<R: Clock>(rt: &R, guests: &Guests, moved: bool) {
     if !moved {
-        let pause = if guests.all.is_empty() { REST } else { PAUSE };
+        let pause = if guests.all.is_empty() {
+            EMPTY_POLL_MILLIS
+        } else {
+            GUESTS_POLL_MILLIS
+        };
         thread::sleep(rt, Duration::from_millis(pause));
     }
 }

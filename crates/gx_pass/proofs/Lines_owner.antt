@@ -4,7 +4,7 @@ use Rattle.std.specs.Prelude.{◌==◌}
 use Rattle.gx_history.specs.declared.record.RecordData.{RecordData}
 use mathlib.Core.Logic.{dite}
 use native.Mathlib.Decide.{ℕ_discrete}
-use Rattle.gx_pass.specs.{Views.{line_in, of_line, without_line}, Rules.{IsAbsent, Has, InHand, IsNumbered}}
+use Rattle.gx_pass.specs.{Views.{line_in, of_line, without_line}, Rules.{IsAbsent, Has, AreEntered, IsNumbered}}
 
 -- the line has the number `to` from now on
 abbrev pub moved : (ℕ → ℕ) → ℕ → ℕ → ℕ → ℕ
@@ -16,36 +16,36 @@ moved_here holder line to = ap (λ b. cond b to (holder line)) (eq-eqb line line
 pub moved_else : (holder : ℕ → ℕ) (line to l : ℕ) → l ≢ line → moved holder line to l ≡ holder l
 moved_else holder line to l ne = ap (λ b. cond b to (holder l)) (ne_eqb l line ne)
 
--- a line in the hand is no pass's
-pub in_hand : (issued : ℕ) (holder : ℕ → ℕ) (hand : List ℕ) (line : ℕ) → InHand issued holder hand → Has hand line → (holder line ≡ 0) × (0 < line) × (line ≤ issued)
-in_hand issued holder [] line h has = absurd has
-in_hand issued holder (l ∷ ls) line h has =
+-- the line of an entered pass is no pass's now
+pub entered_is_nobodys : (issued : ℕ) (holder : ℕ → ℕ) (entered : List ℕ) (line : ℕ) → AreEntered issued holder entered → Has entered line → (holder line ≡ 0) × (0 < line) × (line ≤ issued)
+entered_is_nobodys issued holder [] line h has = absurd has
+entered_is_nobodys issued holder (l ∷ ls) line h has =
     ⊎_elim
     (λ (e : line ≡ l). subst (λ x. (holder x ≡ 0) × (0 < x) × (x ≤ issued)) (sym e) (h.0, h.1, h.2))
-    (λ (t : Has ls line). in_hand issued holder ls line h.4 t)
+    (λ (t : Has ls line). entered_is_nobodys issued holder ls line h.4 t)
     has
 
--- a line that is some pass's is absent from the hand
-pub absent : (issued : ℕ) (holder : ℕ → ℕ) (hand : List ℕ) (line : ℕ) → InHand issued holder hand → 0 < holder line → IsAbsent line hand
+-- a line that is some pass's is none of the entered lines
+pub absent : (issued : ℕ) (holder : ℕ → ℕ) (entered : List ℕ) (line : ℕ) → AreEntered issued holder entered → 0 < holder line → IsAbsent line entered
 absent issued holder [] line h away = tt
 absent issued holder (l ∷ ls) line h away = ((λ e. let k : holder line ≡ holder l = ap holder e in let z = h.0 in omega arith), absent issued holder ls line h.4 away)
 
 -- so is one that was not issued
-pub absent_new : (issued : ℕ) (holder : ℕ → ℕ) (hand : List ℕ) (line : ℕ) → InHand issued holder hand → issued < line → IsAbsent line hand
+pub absent_new : (issued : ℕ) (holder : ℕ → ℕ) (entered : List ℕ) (line : ℕ) → AreEntered issued holder entered → issued < line → IsAbsent line entered
 absent_new issued holder [] line h away = tt
 absent_new issued holder (l ∷ ls) line h away = ((λ e. let k = h.2 in omega arith), absent_new issued holder ls line h.4 away)
 
--- the hand stays, where a line that is absent from it goes elsewhere, and more lines are issued
-pub hand_else : (issued more : ℕ) (holder : ℕ → ℕ) (hand : List ℕ) (line to : ℕ) → issued ≤ more → InHand issued holder hand → IsAbsent line hand → InHand more (moved holder line to) hand
-hand_else issued more holder [] line to le h away = tt
-hand_else issued more holder (l ∷ ls) line to le h away =
+-- the entered lines stay, where a line that is absent from it goes elsewhere, and more lines are issued
+pub entered_else : (issued more : ℕ) (holder : ℕ → ℕ) (entered : List ℕ) (line to : ℕ) → issued ≤ more → AreEntered issued holder entered → IsAbsent line entered → AreEntered more (moved holder line to) entered
+entered_else issued more holder [] line to le h away = tt
+entered_else issued more holder (l ∷ ls) line to le h away =
     let n = away.0 in let k = h.2 in
-    (moved_else holder line to l (λ e. n (sym e)) ∙ h.0, h.1, omega arith, h.3, hand_else issued more holder ls line to le h.4 away.1)
+    (moved_else holder line to l (λ e. n (sym e)) ∙ h.0, h.1, omega arith, h.3, entered_else issued more holder ls line to le h.4 away.1)
 
--- nobody else's line matters to the hand
-pub hand_alone : (issued : ℕ) (holder : ℕ → ℕ) (hand : List ℕ) → InHand issued holder hand → InHand issued (λ _. 0) hand
-hand_alone issued holder [] h = tt
-hand_alone issued holder (l ∷ ls) h = (refl, h.1, h.2, h.3, hand_alone issued holder ls h.4)
+-- nobody else's line matters to the entered lines
+pub entered_alone : (issued : ℕ) (holder : ℕ → ℕ) (entered : List ℕ) → AreEntered issued holder entered → AreEntered issued (λ _. 0) entered
+entered_alone issued holder [] h = tt
+entered_alone issued holder (l ∷ ls) h = (refl, h.1, h.2, h.3, entered_alone issued holder ls h.4)
 
 pub numbered_more : (issued more : ℕ) (log : List RecordData) → issued ≤ more → IsNumbered issued log → IsNumbered more log
 numbered_more issued more [] le h = tt
@@ -84,12 +84,12 @@ absent_without line l (x ∷ xs) h =
     (λ e. subst (IsAbsent l) (sym (without_here line x xs e)) h.1)
     (λ n. subst (IsAbsent l) (sym (without_else line x xs n)) (h.0, absent_without line l xs h.1))
 
--- the hand without a line that goes elsewhere
-pub hand_without : (issued : ℕ) (holder : ℕ → ℕ) (hand : List ℕ) (line to : ℕ) → InHand issued holder hand → Has hand line → InHand issued (moved holder line to) (without_line line hand)
-hand_without issued holder [] line to h has = absurd has
-hand_without issued holder (l ∷ ls) line to h has =
-    let Q : List ℕ → Type 0 = λ x. InHand issued (moved holder line to) x in
+-- the entered lines without one that goes elsewhere
+pub entered_without : (issued : ℕ) (holder : ℕ → ℕ) (entered : List ℕ) (line to : ℕ) → AreEntered issued holder entered → Has entered line → AreEntered issued (moved holder line to) (without_line line entered)
+entered_without issued holder [] line to h has = absurd has
+entered_without issued holder (l ∷ ls) line to h has =
+    let Q : List ℕ → Type 0 = λ x. AreEntered issued (moved holder line to) x in
     dite (ℕ_discrete l line)
-    (λ e. subst Q (sym (without_here line l ls e)) (hand_else issued issued holder ls line to (omega arith) h.4 (subst (λ x. IsAbsent x ls) e h.3)))
+    (λ e. subst Q (sym (without_here line l ls e)) (entered_else issued issued holder ls line to (omega arith) h.4 (subst (λ x. IsAbsent x ls) e h.3)))
     (λ n. subst Q (sym (without_else line l ls n))
-    (moved_else holder line to l n ∙ h.0, h.1, h.2, absent_without line l ls h.3, hand_without issued holder ls line to h.4 (⊎_elim (λ (e : line ≡ l). absurd (n (sym e))) (λ (t : Has ls line). t) has)))
+    (moved_else holder line to l n ∙ h.0, h.1, h.2, absent_without line l ls h.3, entered_without issued holder ls line to h.4 (⊎_elim (λ (e : line ≡ l). absurd (n (sym e))) (λ (t : Has ls line). t) has)))

@@ -6,8 +6,8 @@ use lib.ListN.{get_elem?}
 use Rattle.atomic_table.specs.Table.{State, Me, Allows, Splits, Joins, keeps as stays}
 use Rattle.atomic_table.proofs.Lists.{at_set}
 use Rattle.gx_history.specs.declared.record.RecordData.{RecordData}
-use Rattle.gx_pass.specs.{declared.view.{KeeperView.KeeperView, LineView.LineView, View.{View, TheVariants.{Keeping, Meeting, Holding, Consumed}}}, Views.{first_view, line_in, keeper_view, line_view, with_told, with_line_issued, view_of_issued, view_without_line, view_of_line, view_of_meeting, without_line}, Rules.{IsMet, MayNote, InHand, Fits, IsKeptBy, IsKept, HasTold, HasMet, HasLooked, HasTaken, Has}}
-use Rattle.gx_pass.proofs.{Lists_prefix.{prefix_self, prefix_more, prefix_length}, Lines_owner.{moved, moved_here, moved_else, in_hand, absent, absent_new, hand_else, hand_alone, hand_without, numbered_more, numbered_push, of_line_other}}
+use Rattle.gx_pass.specs.{declared.view.{KeeperView.KeeperView, LineView.LineView, View.{View, TheVariants.{Keeping, Meeting, Holding, Consumed}}}, Views.{first_view, line_in, keeper_view, line_view, with_told, with_line_issued, view_of_issued, view_without_line, view_of_line, view_of_meeting, without_line}, Rules.{IsMet, MayNote, AreEntered, Fits, IsKeptBy, IsKept, HasTold, HasMet, HasLooked, HasTaken, Has}}
+use Rattle.gx_pass.proofs.{Lists_prefix.{prefix_self, prefix_more, prefix_length}, Lines_owner.{moved, moved_here, moved_else, entered_is_nobodys, absent, absent_new, entered_else, entered_alone, entered_without, numbered_more, numbered_push, of_line_other}}
 
 abbrev Each : KeeperView → (ℕ → ℕ) → List View → Type 0
 Each k holder views = (seat : ℕ) (v : View) → get_elem? views seat ≡ some v → Fits k holder seat v
@@ -57,7 +57,7 @@ by_meeting words views id c h kept at = let f = kept.1.each id (Meeting c h) at 
 
 -- at the start
 pub begins : IsKept (0 ∷ []) (first_view ∷ [])
-begins = (keeper_view [] [] 0, record { holder = λ _. 0; word = refl; each = one; hand = tt; numbered = tt })
+begins = (keeper_view [] [] 0, record { holder = λ _. 0; word = refl; each = one; entered = tt; numbered = tt })
   where
     one : (seat : ℕ) (v : View) → get_elem? (first_view ∷ []) seat ≡ some v → Fits (keeper_view [] [] 0) (λ _. 0) seat v
     one zero v e = subst (Fits (keeper_view [] [] 0) (λ _. 0) 0) (some-injective _ _ e) (refl, refl)
@@ -83,7 +83,7 @@ tells_at slots id h s kept len at small =
           holder = by.holder;
           word = ap (λ ws. slice_set ws 0 (slice_index ws 0)) by.word;
           each = each_set k by.holder s.views id w (λ j u _ e. by.each j u e) (f.0, f.1, f.2, f.3, record { front = f.4.front; told = omega arith; mine = f.4.mine });
-          hand = by.hand;
+          entered = by.entered;
           numbered = by.numbered;
         },
       ),
@@ -108,11 +108,11 @@ meets_at slots id c h s kept len at small =
           holder = by.holder;
           word = ap (λ ws. slice_set ws 0 (slice_index ws 0)) by.word;
           each = each_set c by.holder s.views id w (λ j u _ e. by.each j u e) (f.0, refl);
-          hand = by.hand;
+          entered = by.entered;
           numbered = by.numbered;
         },
       ),
-      (refl, f.1, hand_alone c.issued by.holder c.hand by.hand),
+      (refl, f.1, entered_alone c.issued by.holder c.entered by.entered),
     )
 
 pub meets : (slots id : ℕ) (m : Me ℕ View) (c : KeeperView) (h : LineView) → m ≡ (Meeting c h, []) → Allows law slots id m 0 (λ n. n) (λ n w. HasMet m w)
@@ -133,7 +133,7 @@ looks_at slots id c s kept len at small =
           holder = by.holder;
           word = ap (λ ws. slice_set ws 0 (slice_index ws 0)) by.word;
           each = each_set c by.holder s.views id w (λ j u _ e. by.each j u e) (f.0, refl);
-          hand = by.hand;
+          entered = by.entered;
           numbered = by.numbered;
         },
       ),
@@ -143,9 +143,9 @@ looks_at slots id c s kept len at small =
 pub looks : (slots id : ℕ) (m : Me ℕ View) (c : KeeperView) → m ≡ (Keeping c, []) → Allows law slots id m 0 (λ n. n) (λ n w. HasLooked m w)
 looks slots id m c is = subst (λ (x : Me ℕ View). Allows law slots id x 0 (λ n. n) (λ n w. HasLooked x w)) (sym is) (looks_at slots id c)
 
--- the history takes a record of line 0, or of a line in the keeper's hand
-taken_live : (c : KeeperView) (holder : ℕ → ℕ) (r : RecordData) → InHand c.issued holder c.hand → MayNote c.hand (line_in r) → (j : ℕ) (h : LineView) → Fits c holder j (Holding h) → Fits (keeper_view (c.list ++ r ∷ []) c.hand c.issued) holder j (Holding h)
-taken_live c holder r hand may j h f =
+-- the history takes a record of line 0, or of an entered line
+taken_live : (c : KeeperView) (holder : ℕ → ℕ) (r : RecordData) → AreEntered c.issued holder c.entered → MayNote c.entered (line_in r) → (j : ℕ) (h : LineView) → Fits c holder j (Holding h) → Fits (keeper_view (c.list ++ r ∷ []) c.entered c.issued) holder j (Holding h)
+taken_live c holder r entered may j h f =
     let log = c.list in
     let longer = length-append log (r ∷ []) in
     let told = f.4.told in
@@ -155,18 +155,18 @@ taken_live c holder r hand may j h f =
     let apart : line_in r ≢ h.line = λ e.
     ⊎_elim
     (λ (z : line_in r ≡ 0). absurd (omega arith))
-    (λ t. let g = (in_hand c.issued holder c.hand (line_in r) hand t).0 in let same : holder (line_in r) ≡ holder h.line = ap holder e in absurd (omega arith))
+    (λ t. let g = (entered_is_nobodys c.issued holder c.entered (line_in r) entered t).0 in let same : holder (line_in r) ≡ holder h.line = ap holder e in absurd (omega arith))
     may in
     (f.0, f.1, f.2, f.3, record { front = prefix_more h.front log (r ∷ []) f.4.front; told = omega arith; mine = of_line_other h.line log r apart ∙ f.4.mine })
 
-notes_at : (slots id : ℕ) (c : KeeperView) (r : RecordData) → MayNote c.hand (line_in r) → length c.list + 1 < 2 ^ 64 → Allows law slots id (Keeping c, []) 0 (λ n. (n + 1) % 2 ^ 64) (λ n w. HasTaken r (Keeping c, []) w)
+notes_at : (slots id : ℕ) (c : KeeperView) (r : RecordData) → MayNote c.entered (line_in r) → length c.list + 1 < 2 ^ 64 → Allows law slots id (Keeping c, []) 0 (λ n. (n + 1) % 2 ^ 64) (λ n w. HasTaken r (Keeping c, []) w)
 notes_at slots id c r may room s kept len at small =
     let f = by_keeper s.words s.views id c kept at in
     let by = f.1 in
-    let c' = keeper_view (c.list ++ r ∷ []) c.hand c.issued in
+    let c' = keeper_view (c.list ++ r ∷ []) c.entered c.issued in
     let w = Keeping c' in
     let next : (length c.list + 1) % 2 ^ 64 ≡ length (c.list ++ r ∷ []) = mod-eq_of_lt room ∙ sym (length-append c.list (r ∷ [])) in
-    let numbered : line_in r ≤ c.issued = ⊎_elim (λ (z : line_in r ≡ 0). let g : line_in r ≤ c.issued = omega arith in g) (λ t. (in_hand c.issued by.holder c.hand (line_in r) by.hand t).2) may in (
+    let numbered : line_in r ≤ c.issued = ⊎_elim (λ (z : line_in r ≡ 0). let g : line_in r ≤ c.issued = omega arith in g) (λ t. (entered_is_nobodys c.issued by.holder c.entered (line_in r) by.entered t).2) may in (
       w,
       stays,
       tt,
@@ -175,15 +175,15 @@ notes_at slots id c r may room s kept len at small =
         record {
           holder = by.holder;
           word = ap (λ ws. slice_set ws 0 ((slice_index ws 0 + 1) % 2 ^ 64)) by.word ∙ ap (λ (n : ℕ). n ∷ []) next;
-          each = each_set c' by.holder s.views id w (λ j u n e. others c c' by.holder by.holder j u (λ z. n (z ∙ sym f.0)) (by.each j u e) (taken_live c by.holder r by.hand may j)) (f.0, refl);
-          hand = by.hand;
+          each = each_set c' by.holder s.views id w (λ j u n e. others c c' by.holder by.holder j u (λ z. n (z ∙ sym f.0)) (by.each j u e) (taken_live c by.holder r by.entered may j)) (f.0, refl);
+          entered = by.entered;
           numbered = numbered_push c.issued c.list r numbered by.numbered;
         },
       ),
       refl,
     )
 
-pub notes : (slots id : ℕ) (m : Me ℕ View) (c : KeeperView) (r : RecordData) → m ≡ (Keeping c, []) → MayNote c.hand (line_in r) → length c.list + 1 < 2 ^ 64 → Allows law slots id m 0 (λ n. (n + 1) % 2 ^ 64) (λ n w. HasTaken r m w)
+pub notes : (slots id : ℕ) (m : Me ℕ View) (c : KeeperView) (r : RecordData) → m ≡ (Keeping c, []) → MayNote c.entered (line_in r) → length c.list + 1 < 2 ^ 64 → Allows law slots id m 0 (λ n. (n + 1) % 2 ^ 64) (λ n w. HasTaken r m w)
 notes slots id m c r is may room = subst (λ (x : Me ℕ View). Allows law slots id x 0 (λ n. (n + 1) % 2 ^ 64) (λ n w. HasTaken r x w)) (sym is) (notes_at slots id c r may room)
 
 -- what a pass has stays, where another line goes elsewhere and more lines are issued
@@ -201,7 +201,7 @@ issues_at id c s kept at =
     let seat = length views in
     let wide : length views ≡ length s.views = length-set s.views id (with_line_issued (Keeping c)) in
     let inside = at_below s.views id (Keeping c) at in
-    let c' = keeper_view c.list c.hand line in
+    let c' = keeper_view c.list c.entered line in
     let holder = moved by.holder line seat in
     let met : IsMet c.list (line_view line c.list (length c.list)) = record { front = prefix_self c.list; told = omega arith; mine = refl } in (
       c',
@@ -213,7 +213,7 @@ issues_at id c s kept at =
             (λ j u n e. others c c' by.holder holder j u (λ z. n (z ∙ sym f.0)) (by.each j u e) (λ h g. let k = g.3 in moved_live c c' by.holder line seat refl (omega arith) j h (λ z. absurd (omega arith)) g))
             (f.0, refl))
             (omega arith, moved_here by.holder line seat, omega arith, omega arith, met);
-        hand = hand_else c.issued line by.holder c.hand line seat (omega arith) by.hand (absent_new c.issued by.holder c.hand line by.hand (omega arith));
+        entered = entered_else c.issued line by.holder c.entered line seat (omega arith) by.entered (absent_new c.issued by.holder c.entered line by.entered (omega arith));
         numbered = numbered_more c.issued line c.list (omega arith) by.numbered;
       },
     )
@@ -221,19 +221,19 @@ issues_at id c s kept at =
 pub issues : (id : ℕ) (v : View) (c : KeeperView) → v ≡ Keeping c → Splits law id v (with_line_issued v) (view_of_issued v)
 issues id v c is = subst (λ (x : View). Splits law id x (with_line_issued x) (view_of_issued x)) (sym is) (issues_at id c)
 
--- a line goes out of the keeper's hand
-leaves_at : (id : ℕ) (c : KeeperView) (line : ℕ) → Has c.hand line → Splits law id (Keeping c) (view_without_line line (Keeping c)) (view_of_line line (Keeping c))
+-- an entered line leaves
+leaves_at : (id : ℕ) (c : KeeperView) (line : ℕ) → Has c.entered line → Splits law id (Keeping c) (view_without_line line (Keeping c)) (view_of_line line (Keeping c))
 leaves_at id c line has s kept at =
     let f = by_keeper s.words s.views id c kept at in
     let by = f.1 in
     let list = c.list in
-    let c' = keeper_view list (without_line line c.hand) c.issued in
+    let c' = keeper_view list (without_line line c.entered) c.issued in
     let views = set s.views id (Keeping c') in
     let seat = length views in
     let wide : length views ≡ length s.views = length-set s.views id (Keeping c') in
     let inside = at_below s.views id (Keeping c) at in
     let holder = moved by.holder line seat in
-    let own = in_hand c.issued by.holder c.hand line by.hand has in
+    let own = entered_is_nobodys c.issued by.holder c.entered line by.entered has in
     let met : IsMet list (line_view line list (length list)) = record { front = prefix_self list; told = omega arith; mine = refl } in (
       c',
       record {
@@ -246,24 +246,24 @@ leaves_at id c line has s kept at =
             moved_live c c' by.holder line seat refl (omega arith) j h (λ z. let same : by.holder h.line ≡ by.holder line = ap by.holder z in absurd (omega arith)) g))
             (f.0, refl))
             (omega arith, moved_here by.holder line seat, own.1, own.2, met);
-        hand = hand_without c.issued by.holder c.hand line seat by.hand has;
+        entered = entered_without c.issued by.holder c.entered line seat by.entered has;
         numbered = by.numbered;
       },
     )
 
-pub leaves : (id : ℕ) (v : View) (c : KeeperView) (line : ℕ) → Has c.hand line → v ≡ Keeping c → Splits law id v (view_without_line line v) (view_of_line line v)
+pub leaves : (id : ℕ) (v : View) (c : KeeperView) (line : ℕ) → Has c.entered line → v ≡ Keeping c → Splits law id v (view_without_line line v) (view_of_line line v)
 leaves id v c line has is = subst (λ (x : View). Splits law id x (view_without_line line x) (view_of_line line x)) (sym is) (leaves_at id c line has)
 
--- the hand with one more line, which was a pass's
-hand_more : (issued : ℕ) (holder : ℕ → ℕ) (hand : List ℕ) (line : ℕ) → InHand issued holder hand → 0 < holder line → InHand issued (moved holder line 0) hand
-hand_more issued holder hand line h away = hand_else issued issued holder hand line 0 (omega arith) h (absent issued holder hand line h away)
+-- the entered lines with one more, which was a pass's
+entered_more : (issued : ℕ) (holder : ℕ → ℕ) (entered : List ℕ) (line : ℕ) → AreEntered issued holder entered → 0 < holder line → AreEntered issued (moved holder line 0) entered
+entered_more issued holder entered line h away = entered_else issued issued holder entered line 0 (omega arith) h (absent issued holder entered line h away)
 
 -- the keeper takes in a pass
 enters_at : (id : ℕ) (c : KeeperView) (other : ℕ) (h : LineView) → Joins law id (Keeping c) other (Holding h) (view_of_meeting (Keeping c) (Holding h)) Consumed
 enters_at id c other h s kept at apart there =
     let f = by_keeper s.words s.views id c kept at in
     let by = f.1 in
-    let c' = keeper_view c.list (h.line ∷ c.hand) c.issued in
+    let c' = keeper_view c.list (h.line ∷ c.entered) c.issued in
     let w = Meeting c' h in
     let theirs : get_elem? s.views other ≡ some (Holding h) = ⊎_elim (λ (t : (other ≡ id) × (w ≡ Holding h)). absurd (apart t.0)) (λ (t : (other ≢ id) × (get_elem? s.views other ≡ some (Holding h))). t.1) (at_set s.views id other w (Holding h) there) in
     let g = by.each other (Holding h) theirs in
@@ -280,7 +280,7 @@ enters_at id c other h s kept at apart there =
             (λ x y. let own = y.1 in moved_live c c' by.holder h.line 0 refl (omega arith) i x (λ z. let same : by.holder x.line ≡ by.holder h.line = ap by.holder z in k (omega arith)) y))
             (f.0, refl, g.4) e)
             tt;
-        hand = (moved_here by.holder h.line 0, g.2, g.3, absent c.issued by.holder c.hand h.line by.hand (omega arith), hand_more c.issued by.holder c.hand h.line by.hand (omega arith));
+        entered = (moved_here by.holder h.line 0, g.2, g.3, absent c.issued by.holder c.entered h.line by.entered (omega arith), entered_more c.issued by.holder c.entered h.line by.entered (omega arith));
         numbered = by.numbered;
       },
     )

@@ -23,12 +23,12 @@ Has (l ∷ ls) line = (line ≡ l) ⊎ Has ls line
 
 -- a record of this line may be noted
 abbrev pub MayNote : List ℕ → ℕ → Type 0
-MayNote hand line = (line ≡ 0) ⊎ Has hand line
+MayNote entered line = (line ≡ 0) ⊎ Has entered line
 
--- the lines in the keeper's hand all differ, were issued, and no pass has them (the number of the pass that has a line, or 0, is `holder` of it)
-abbrev pub InHand : ℕ → (ℕ → ℕ) → List ℕ → Type 0
-InHand issued holder [] = Unit {0}
-InHand issued holder (l ∷ ls) = (holder l ≡ 0) × (0 < l) × (l ≤ issued) × IsAbsent l ls × InHand issued holder ls
+-- the entered lines all differ, were issued, and no pass has them (the number of the pass that has a line, or 0, is `holder` of it)
+abbrev pub AreEntered : ℕ → (ℕ → ℕ) → List ℕ → Type 0
+AreEntered issued holder [] = Unit {0}
+AreEntered issued holder (l ∷ ls) = (holder l ≡ 0) × (0 < l) × (l ≤ issued) × IsAbsent l ls × AreEntered issued holder ls
 
 -- each record's line is 0 or one that was issued
 abbrev pub IsNumbered : ℕ → List RecordData → Type 0
@@ -47,7 +47,7 @@ pub record IsKeptBy (keeper : KeeperView) (words : List ℕ) (views : List View)
   pub holder : ℕ → ℕ
   pub word : words ≡ length keeper.list ∷ []
   pub each : (seat : ℕ) (v : View) → get_elem? views seat ≡ some v → Fits keeper holder seat v
-  pub hand : InHand keeper.issued holder keeper.hand
+  pub entered : AreEntered keeper.issued holder keeper.entered
   pub numbered : IsNumbered keeper.issued keeper.list
 
 abbrev pub IsKept : List ℕ → List View → Type 0
@@ -59,7 +59,7 @@ HasTold m n w = (w ≡ (Holding (with_told (line_view_of m.0) n), m.1)) × ((lin
 
 -- the keeper compared the pass that it took in
 abbrev pub HasMet : Me ℕ View → Me ℕ View → Type 0
-HasMet m w = (w ≡ (Keeping (keeper_view_of m.0), m.1)) × IsMet (keeper_view_of m.0).list (line_view_of m.0) × InHand (keeper_view_of m.0).issued (λ _. 0) (keeper_view_of m.0).hand
+HasMet m w = (w ≡ (Keeping (keeper_view_of m.0), m.1)) × IsMet (keeper_view_of m.0).list (line_view_of m.0) × AreEntered (keeper_view_of m.0).issued (λ _. 0) (keeper_view_of m.0).entered
 
 -- the keeper saw that each line of the history was issued
 abbrev pub HasLooked : Me ℕ View → Me ℕ View → Type 0
@@ -67,4 +67,4 @@ HasLooked m w = (w ≡ m) × IsNumbered (keeper_view_of m.0).issued (keeper_view
 
 -- the history took the record
 abbrev pub HasTaken : RecordData → Me ℕ View → Me ℕ View → Type 0
-HasTaken r m w = let k = keeper_view_of m.0 in w ≡ (Keeping (keeper_view (k.list ++ r ∷ []) k.hand k.issued), m.1)
+HasTaken r m w = let k = keeper_view_of m.0 in w ≡ (Keeping (keeper_view (k.list ++ r ∷ []) k.entered k.issued), m.1)

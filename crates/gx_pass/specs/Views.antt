@@ -35,7 +35,7 @@ abbrev pub of_line : ℕ → List RecordData → List RecordData
 of_line line log = filter (λ r. line_in r == line) log
 
 abbrev pub keeper_view : List RecordData → List ℕ → ℕ → KeeperView
-keeper_view list hand issued = record { list = list; hand = hand; issued = issued }
+keeper_view list entered issued = record { list = list; entered = entered; issued = issued }
 
 abbrev pub line_view : ℕ → List RecordData → ℕ → LineView
 line_view line front told = record { line = line; front = front; told = told }
@@ -68,23 +68,23 @@ without_line line (l ∷ ls) = cond (l == line) ls (l ∷ without_line line ls)
 
 -- one more line is issued
 abbrev pub with_line_issued : View → View
-with_line_issued v = let k = keeper_view_of v in Keeping (keeper_view k.list k.hand (k.issued + 1))
+with_line_issued v = let k = keeper_view_of v in Keeping (keeper_view k.list k.entered (k.issued + 1))
 
 -- the pass with that line
 abbrev pub view_of_issued : View → View
 view_of_issued v = let k = keeper_view_of v in Holding (line_view (k.issued + 1) k.list (length k.list))
 
--- the line goes out of the keeper's hand
+-- the entered line leaves
 abbrev pub view_without_line : ℕ → View → View
-view_without_line line v = let k = keeper_view_of v in Keeping (keeper_view k.list (without_line line k.hand) k.issued)
+view_without_line line v = let k = keeper_view_of v in Keeping (keeper_view k.list (without_line line k.entered) k.issued)
 
 -- the pass with that line
 abbrev pub view_of_line : ℕ → View → View
 view_of_line line v = let k = keeper_view_of v in Holding (line_view line k.list (length k.list))
 
--- the keeper has a pass to compare, whose line is in its hand
+-- the keeper has a pass to compare, whose line is entered
 abbrev pub view_of_meeting : View → View → View
-view_of_meeting v w = let k = keeper_view_of v in let h = line_view_of w in Meeting (keeper_view k.list (h.line ∷ k.hand) k.issued) h
+view_of_meeting v w = let k = keeper_view_of v in let h = line_view_of w in Meeting (keeper_view k.list (h.line ∷ k.entered) k.issued) h
 
 -- the pass was told the length
 abbrev pub with_told : LineView → ℕ → LineView

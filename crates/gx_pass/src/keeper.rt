@@ -16,7 +16,7 @@ use std::alloc::Global;
 use std::marker::{Brand, Model, PhantomData};
 use std::sync::Arc;
 
-/// Knows the whole history, and makes passes. Contracts see the history, the lines in hand, the last first, and how many
+/// Knows the whole history, and makes passes. Contracts see the history, the entered lines, the last first, and how many
 /// lines were issued.
 #[derive(Drop)]
 pub struct Keeper<N: GateName> {
@@ -44,7 +44,7 @@ impl<N: GateName> Model for Keeper<N> {
 }
 
 impl<N: GateName> Keeper<N> {
-    /// The keeper of the blank's table, which has no history, no line in hand and none issued.
+    /// The keeper of the blank's table, which has no history, no entered line and none issued.
     pub fn open(blank: Blank) -> Keeper<N>
         requires { blank ≡ N.table }
         ensures { result ≡ keeper_view [] [] 0 }
@@ -72,7 +72,7 @@ impl<N: GateName> Keeper<N> {
     /// `NoLines` comes first, and only where all 65,535 lines were issued.
     pub fn issue(&mut self) -> Result<Pass<N>, PassFault>
         ensures counted { OnOk result
-            (self.new ≡ keeper_view self.old.list self.old.hand (self.old.issued + 1)) }
+            (self.new ≡ keeper_view self.old.list self.old.entered (self.old.issued + 1)) }
         ensures pass { IfOk result (λ p.
             p ≡ line_view (self.old.issued + 1) self.old.list (length self.old.list)) }
         ensures own { IfOk result (λ p. mine p ≡ []) }
@@ -96,15 +96,15 @@ impl<N: GateName> Keeper<N> {
     }
 
     /// Takes a pass in, and compares it with the history: this begins with all that the pass had met, and its records of
-    /// the pass's line are the pass's own. No other pass in hand has that line.
+    /// the pass's line are the pass's own. No other entered pass has that line.
     pub fn enter(&mut self, pass: Pass<N>) -> Entered<N>
         ensures line { result ≡ pass.line }
         ensures met { IsMet self.old.list pass }
-        ensures apart { IsAbsent pass.line self.old.hand }
+        ensures apart { IsAbsent pass.line self.old.entered }
         ensures some { 0 < pass.line }
         ensures issued { pass.line ≤ self.old.issued }
-        ensures hand { self.new
-            ≡ keeper_view self.old.list (pass.line ∷ self.old.hand) self.old.issued }
+        ensures entered { self.new
+            ≡ keeper_view self.old.list (pass.line ∷ self.old.entered) self.old.issued }
     {
         let Pass {
             line,
@@ -119,21 +119,21 @@ impl<N: GateName> Keeper<N> {
         Entered { line, table, of }
     }
 
-    /// The history takes a record of no line or of a line in hand.
+    /// The history takes a record of no line or of an entered one.
     pub fn note(&mut self, noted: RecordData)
-        requires line { MayNote self.old.hand (line_in noted) }
+        requires line { MayNote self.old.entered (line_in noted) }
         requires room { length self.old.list + 1 < 2 ^ 64 }
         ensures { self.new
-            ≡ keeper_view (self.old.list ++ noted ∷ []) self.old.hand self.old.issued }
+            ≡ keeper_view (self.old.list ++ noted ∷ []) self.old.entered self.old.issued }
     {
         append::<Brand>(&self.table, &mut self.seat, noted);
     }
 
     /// Lets go a pass that was taken in. It has met the whole history.
     pub fn leave(&mut self, entered: Entered<N>) -> Pass<N>
-        requires { Has self.old.hand entered }
-        ensures hand { self.new
-            ≡ keeper_view self.old.list (without_line entered self.old.hand) self.old.issued }
+        requires { Has self.old.entered entered }
+        ensures entered { self.new
+            ≡ keeper_view self.old.list (without_line entered self.old.entered) self.old.issued }
         ensures pass { result ≡ line_view entered self.old.list (length self.old.list) }
     {
         let Entered { line, table, of } = entered;
@@ -147,13 +147,13 @@ impl<N: GateName> Keeper<N> {
     }
 }
 
-/// The seat of a pass with the line that L names, which goes out of the keeper's hand.
+/// The seat of a pass with the line that L names, which leaves the entered ones.
 fn part<L: LineName>(board: &ViewTable, seat: &mut ViewSeat, line: u16) -> ViewSeat
     requires line { line ≡ L.line }
     requires own { (seat.old.table_id ≡ board.now.shared.table_id)
         × (board.now.shared.table_id.words ≡ 1) }
     requires keeper { seat.old.me ≡ (Keeping (keeper_view_of seat.old.me.0), []) }
-    requires hand { Has (keeper_view_of seat.old.me.0).hand line }
+    requires entered { Has (keeper_view_of seat.old.me.0).entered line }
     ensures own { (seat.new.table_id ≡ seat.old.table_id)
         × (result.table_id ≡ seat.old.table_id) }
     ensures keeper { seat.new.me ≡ (view_without_line line seat.old.me.0, []) }
@@ -168,7 +168,7 @@ fn append<E: RecordName>(board: &ViewTable, seat: &mut ViewSeat, noted: RecordDa
     requires own { (seat.old.table_id ≡ board.now.shared.table_id)
         × (board.now.shared.table_id.words ≡ 1) }
     requires keeper { seat.old.me ≡ (Keeping (keeper_view_of seat.old.me.0), []) }
-    requires line { MayNote (keeper_view_of seat.old.me.0).hand (line_in noted) }
+    requires line { MayNote (keeper_view_of seat.old.me.0).entered (line_in noted) }
     requires room { length (keeper_view_of seat.old.me.0).list + 1 < 2 ^ 64 }
     ensures own { seat.new.table_id ≡ seat.old.table_id }
     ensures taken { HasTaken noted seat.old.me seat.new.me }

@@ -22,7 +22,7 @@ pub struct KeeperView {
     /// The records of the day, in their order.
     pub list: LinkedList<RecordData>,
     /// The lines of the passes that are entered, the last first.
-    pub hand: LinkedList<u16>,
+    pub entered: LinkedList<u16>,
     /// How many lines were issued.
     pub issued: u16,
 }

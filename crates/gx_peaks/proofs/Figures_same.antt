@@ -6,7 +6,7 @@ use Rattle.gx_units.specs.{Names.{same_account, same_stock}, declared.names.Acco
 use Rattle.gx_units.proofs.Names_equal.{account_is, stock_is}
 use Rattle.gx_history.specs.{declared.{facts.StockSide.StockSide, live_order.LiveOrder.LiveOrder, «record».RecordData.RecordData}, Book.{is_buy, is_on}, Figures.{counts_account, on_side}}
 use Rattle.gx_records.specs.State.{counted_with, is_for}
-use Rattle.gx_peaks.specs.{declared.{figure.Figure.Figure, key.PeakKey.PeakKey}, Figures.{amount, is_counted}, Keys.{key_of, whose}, Noting.{IsOfAccount, IsSame, side_of}}
+use Rattle.gx_peaks.specs.{declared.{figure.Figure.Figure, key.PeakKey.PeakKey}, Figures.{amount, is_counted}, Keys.{key_of, whose}, Noting.{IsOfAccount, IsSame, stock_side_of}}
 use Rattle.gx_peaks.proofs.{Figures_unraised.{counts_gain, counts_order}, Figure_sort.{Net, Shares, Sort, Value, amount_is, has_sort, is_some_always, sort_by, sort_of, sort_under, total_of}}
 
 -- ---- one key, one sort
@@ -155,7 +155,7 @@ joined policy figure s y is counted known = at (rule_in policy.rules figure.rule
                 ap (option_and_then (λ (r : FileRule). whose r.kind figure.account)) e ∙ same ∙ sym (ap (option_and_then (λ (r : FileRule). whose r.kind y)) e)
 
 -- an order on a side of a stock: whose it is, and which side
-stands_there : (among : AccountName → Bool) (side : StockSide) (o : LiveOrder) → on_side among side o.account o.terms ≡ true → (among o.account ≡ true) × (side_of o ≡ side)
+stands_there : (among : AccountName → Bool) (side : StockSide) (o : LiveOrder) → on_side among side o.account o.terms ≡ true → (among o.account ≡ true) × (stock_side_of o ≡ side)
 stands_there among side o h =
     let first = and_parts (among o.account && same_stock o.terms.stock side.stock) (is_on side.buys o.terms.side) h in
     let theirs = and_parts (among o.account) (same_stock o.terms.stock side.stock) first.0 in
@@ -167,11 +167,11 @@ stands_there among side o h =
 
 -- a figure that counts the order is one of its account
 pub counts_it : (policy : PolicyData) (figure : Figure) (s : Sort) (o : LiveOrder) → sort_of policy figure ≡ Some s → is_some (account_named policy o.account) ≡ true → counts_order s o ≡ true
-    → IsOfAccount policy o.account None figure ⊎ IsOfAccount policy o.account (Some (side_of o)) figure
+    → IsOfAccount policy o.account None figure ⊎ IsOfAccount policy o.account (Some (stock_side_of o)) figure
 counts_it policy figure (Shares among) o is known counted = inl (joined policy figure (Shares among) o.account is counted known)
 counts_it policy figure (Value among) o is known counted = inl (joined policy figure (Value among) o.account is counted known)
 counts_it policy figure (Net among side) o is known counted =
-    let there : (among o.account ≡ true) × (side_of o ≡ side) = stands_there among side o counted in
+    let there : (among o.account ≡ true) × (stock_side_of o ≡ side) = stands_there among side o counted in
     inr (subst (λ (x : StockSide). IsOfAccount policy o.account (Some x) figure) (sym there.1) (joined policy figure (Net among side) o.account is there.0 known))
 
 -- and one that counts the gain of an account is one of it

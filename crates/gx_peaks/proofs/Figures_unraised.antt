@@ -7,7 +7,7 @@ use Rattle.gx_ouch.specs.declared.outbound.OrderTerms.{OrderTerms}
 use Rattle.gx_policy.specs.declared.policy.PolicyData.{PolicyData}
 use Rattle.gx_history.specs.{declared.{facts.StockSide.StockSide, live_order.LiveOrder.LiveOrder, «record».{Fill.Fill, RecordData.RecordData, Verdict.Verdict}}, Book.is_buy, Executions.{Execution, executions, sides}, Figures.{Positions, done_of_chosen, of_accounts, on_side, open_of_chosen, other_side, positions}, Live.{live, live_numbered}, Orders.{Order, orders, orders_added}, Turns.{Turn, Fills, new_in}, Verdicts.{Follows, IsLegal}, World.{turn_by, world}}
 use Rattle.gx_laws.proofs.{Orders_next.executions_next, Streams_next.legal_next, Fills_executed.{both_sides, maker_side, taker_side}, Turns_allowed.records_may_come, Positions_next.positions_go_on, SmallDays_next.new_ones, Positions_sound.positions_are_sound, Sums_turn.{is_chosen, sides_are, sum_of_filter}, Exposure_later.{GoOn, done_stays}, Exposure_turn.{AddsNone, AreWorth, gained-append, no_more_shares, no_more_value, shares_held, value_held}, Executions_worth.executions_are_worth}
-use Rattle.gx_laws.specs.{Changing.executed_by, PositionLaws.{granted_after, turn_after}, Sound.{MayChange, MayFill}, Exposure.{gain_of_sell, gains_of_sells, gross_value, shares_of_chosen}}
+use Rattle.gx_laws.specs.{Changing.executed_by, PositionLaws.{granted_after, turn_after}, Sound.{MayChange, MayFillHeld}, Exposure.{gain_of_sell, gains_of_sells, gross_value, shares_of_chosen}}
 use Rattle.gx_peaks.specs.{Figures.above_zero, Touching.{gains_by, gains_of, seller}}
 use Rattle.gx_peaks.proofs.{NewOrder_live.new_is_newest, Figure_sort.{Net, Shares, Sort, Value, total_of}}
 
@@ -94,7 +94,7 @@ module _ (policy : PolicyData) (records : List RecordData) (r : RecordData) (leg
       omega (arith, fall, grow, before, after)
 
   module _ (among : AccountName → Bool) where
-    gained_by : (f : Fill) (is : MayFill held f)
+    gained_by : (f : Fill) (is : MayFillHeld held f)
         → gains_of_sells (executed_by (Fills f) held.grants) among
         ≡ cond (among is.taker.order.account) (gain_of_sell (taker_side f is.taker.grant)) 0 + (cond (among is.maker.order.account) (gain_of_sell (maker_side f is.maker.grant)) 0 + 0)
     unfolding gains_of_sells
@@ -103,7 +103,7 @@ module _ (policy : PolicyData) (records : List RecordData) (r : RecordData) (leg
         ∙ sum_of_filter (λ (e : Execution). among e.order.account) gain_of_sell (both_sides f is.taker.grant is.maker.grant)
         ∙ (λ i. cond (among (is.taker.is_of.account i)) (gain_of_sell (taker_side f is.taker.grant)) 0 + (cond (among (is.maker.is_of.account i)) (gain_of_sell (maker_side f is.maker.grant)) 0 + 0))
 
-    none_gained : (f : Fill) (is : MayFill held f) → option_map_or among (gains_by (live policy records) (Verdict.Filled f)) false ≡ false → gains_of_sells (executed_by (Fills f) held.grants) among ≡ 0
+    none_gained : (f : Fill) (is : MayFillHeld held f) → option_map_or among (gains_by (live policy records) (Verdict.Filled f)) false ≡ false → gains_of_sells (executed_by (Fills f) held.grants) among ≡ 0
     none_gained f is none =
         let taker : cond (among is.taker.order.account) (gain_of_sell (taker_side f is.taker.grant)) 0 ≡ 0 =
         no_gain (among is.taker.order.account) (is_buy is.taker.order.terms.side) (is_buy is.taker.grant.terms.side) (value f.shares (f.price - is.taker.grant.terms.price)) is.taker.order.account
@@ -133,7 +133,7 @@ module _ (policy : PolicyData) (records : List RecordData) (r : RecordData) (leg
         at (Verdict.Rested number) e = idle (ap (sides policy records) e)
         at (Verdict.Expired number) e = idle (ap (sides policy records) e)
         at (Verdict.Filled f) e =
-            let is : MayFill held f = subst (λ (t : Turn). MayChange policy held t granted) (ap (λ (v : Verdict). turn_by policy (world policy records) r v r.step) e) may in
+            let is : MayFillHeld held f = subst (λ (t : Turn). MayChange policy held t granted) (ap (λ (v : Verdict). turn_by policy (world policy records) r v r.step) e) may in
             let none_here : gains_of_sells (sides policy records (Verdict.Filled f)) among ≡ 0 = none_gained f is (ap (λ (v : Verdict). option_map_or among (gains_by (live policy records) v) false) (sym e) ∙ none) in
             let parts = gained-append (executions policy records) (sides policy records (Verdict.Filled f)) among in
             let all = ap (λ (es : List Execution). gains_of_sells es among) (executions_next policy records r ∙ ap (λ (v : Verdict). executions policy records ++ sides policy records v) e) in

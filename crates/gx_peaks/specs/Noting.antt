@@ -94,13 +94,13 @@ pub record IsUnder (policy : PolicyData) (rule : FileRule) (account : AccountNam
   pub of_account : IsOfAccount policy account side figure
 
 -- the side of the stock that the order is on
-abbrev pub side_of : LiveOrder → StockSide
-side_of o = record { stock = o.terms.stock; buys = is_buy o.terms.side }
+abbrev pub stock_side_of : LiveOrder → StockSide
+stock_side_of o = record { stock = o.terms.stock; buys = is_buy o.terms.side }
 
 -- the figure is one that counts the order, if there is one
 abbrev pub IsOfOrder : PolicyData → Option LiveOrder → Figure → Type 0
 IsOfOrder policy None figure = ⊥
-IsOfOrder policy (Some o) figure = IsOfAccount policy o.account None figure ⊎ IsOfAccount policy o.account (Some (side_of o)) figure
+IsOfOrder policy (Some o) figure = IsOfAccount policy o.account None figure ⊎ IsOfAccount policy o.account (Some (stock_side_of o)) figure
 
 -- the figure is one on no side of the account, if there is one
 abbrev pub IsOfSeller : PolicyData → Option AccountName → Figure → Type 0

@@ -29,7 +29,7 @@ impl Figure {
     /// What it comes to behind the gate's records: shares, or ten-thousandths of a dollar. None where there is no such rule
     /// for the account.
     pub fn used<G: ShowsState>(self, gate: &G) -> Option<u128>
-        ensures { result ≡ used_of (G.seen gate.now).policy self (G.seen gate.now).records }
+        ensures { result ≡ used_of (G.state gate.now).policy self (G.state gate.now).records }
     {
         match self.side {
             None => gate.gross_used(self.rule, self.account),

@@ -36,7 +36,7 @@ pub struct PeakTable {
 
 /// What the figure of the rule, which comes to this, is behind the gate's last record.
 fn reading<G: ShowsState>(gate: &G, rule: RuleId, used: u128) -> Reading
-    ensures { result ≡ reading_of (G.seen gate.now).policy (G.seen gate.now).records rule used }
+    ensures { result ≡ reading_of (G.state gate.now).policy (G.state gate.now).records rule used }
 {
     Reading {
         used,
@@ -69,7 +69,7 @@ impl PeakTable {
     /// Notes what the figure is behind the gate's last record.
     fn note<G: ShowsState>(&mut self, gate: &G, figure: Figure) -> Result<(), OutOfMemory>
         ensures noted { OnOk result (IsNoted
-            (G.seen gate.now).policy (G.seen gate.now).records figure self.old self.new) }
+            (G.state gate.now).policy (G.state gate.now).records figure self.old self.new) }
     {
         let Some(used) = figure.used(gate) else {
             return Ok(());
@@ -92,8 +92,8 @@ impl PeakTable {
         account: AccountName,
         side: Option<StockSide>,
     ) -> Result<(), OutOfMemory>
-        ensures noted { OnOk result (AdvancesTo (G.seen gate.now).policy (G.seen gate.now).records
-            (IsUnder (G.seen gate.now).policy rule.now account side) self.old self.new) }
+        ensures noted { OnOk result (AdvancesTo (G.state gate.now).policy (G.state gate.now).records
+            (IsUnder (G.state gate.now).policy rule.now account side) self.old self.new) }
     {
         if !counts(rule, account, side) {
             return Ok(());
@@ -114,8 +114,8 @@ impl PeakTable {
         account: AccountName,
         side: Option<StockSide>,
     ) -> Result<(), OutOfMemory>
-        ensures noted { OnOk result (AdvancesTo (G.seen gate.now).policy (G.seen gate.now).records
-            (IsOfAccount (G.seen gate.now).policy account side) self.old self.new) }
+        ensures noted { OnOk result (AdvancesTo (G.state gate.now).policy (G.state gate.now).records
+            (IsOfAccount (G.state gate.now).policy account side) self.old self.new) }
     {
         for rule in gate.policy().rules() {
             self.note_under(gate, rule, account, side)?;
@@ -129,9 +129,9 @@ impl PeakTable {
     ///
     /// `OutOfMemory` where memory was refused; then some of the figures may be noted.
     pub fn note_order<G: ShowsState>(&mut self, gate: &G, number: u64) -> Result<(), OutOfMemory>
-        ensures noted { OnOk result (AdvancesTo (G.seen gate.now).policy (G.seen gate.now).records
-            (IsOfOrder (G.seen gate.now).policy (live_numbered
-            (live (G.seen gate.now).policy (G.seen gate.now).records) number))
+        ensures noted { OnOk result (AdvancesTo (G.state gate.now).policy (G.state gate.now).records
+            (IsOfOrder (G.state gate.now).policy (live_numbered
+            (live (G.state gate.now).policy (G.state gate.now).records) number))
             self.old self.new) }
     {
         let Some(order) = gate.live_order(number) else {
@@ -153,8 +153,8 @@ impl PeakTable {
         gate: &G,
         seller: Option<AccountName>,
     ) -> Result<(), OutOfMemory>
-        ensures noted { OnOk result (AdvancesTo (G.seen gate.now).policy (G.seen gate.now).records
-            (IsOfSeller (G.seen gate.now).policy seller) self.old self.new) }
+        ensures noted { OnOk result (AdvancesTo (G.state gate.now).policy (G.state gate.now).records
+            (IsOfSeller (G.state gate.now).policy seller) self.old self.new) }
     {
         match seller {
             Some(account) => self.note_account(gate, account, None),
@@ -169,12 +169,12 @@ impl PeakTable {
         rule: RuleId,
         place: usize,
     ) -> Result<(), OutOfMemory>
-        requires theirs { AreTheirs (G.seen gate.now).policy self.old }
-        ensures theirs { OnOk result (AreTheirs (G.seen gate.now).policy self.new) }
+        requires theirs { AreTheirs (G.state gate.now).policy self.old }
+        ensures theirs { OnOk result (AreTheirs (G.state gate.now).policy self.new) }
         ensures keys { OnOk result
             (keys_of self.new.peaks.entries ≡ keys_of self.old.peaks.entries) }
-        ensures noted { OnOk result (AdvancesTo (G.seen gate.now).policy (G.seen gate.now).records
-            (IsOfPlace (G.seen gate.now).policy rule self.old place) self.old self.new) }
+        ensures noted { OnOk result (AdvancesTo (G.state gate.now).policy (G.state gate.now).records
+            (IsOfPlace (G.state gate.now).policy rule self.old place) self.old self.new) }
     {
         let Some((key, held)) = self.peaks.get_index(place) else {
             return Ok(());
@@ -193,9 +193,9 @@ impl PeakTable {
 
     /// Notes all figures of the rule whose peaks are kept.
     fn note_rule<G: ShowsState>(&mut self, gate: &G, rule: RuleId) -> Result<(), OutOfMemory>
-        requires theirs { AreTheirs (G.seen gate.now).policy self.old }
-        ensures noted { OnOk result (AdvancesTo (G.seen gate.now).policy (G.seen gate.now).records
-            (IsOfRule (G.seen gate.now).policy rule self.new) self.old self.new) }
+        requires theirs { AreTheirs (G.state gate.now).policy self.old }
+        ensures noted { OnOk result (AdvancesTo (G.state gate.now).policy (G.state gate.now).records
+            (IsOfRule (G.state gate.now).policy rule self.new) self.old self.new) }
     {
         for place in 0..self.peaks.len() {
             self.note_place(gate, rule, place)?;
@@ -213,9 +213,9 @@ impl PeakTable {
         gate: &G,
         set: Option<RuleId>,
     ) -> Result<(), OutOfMemory>
-        requires theirs { AreTheirs (G.seen gate.now).policy self.old }
-        ensures noted { OnOk result (AdvancesTo (G.seen gate.now).policy (G.seen gate.now).records
-            (IsOfSetting (G.seen gate.now).policy set self.new) self.old self.new) }
+        requires theirs { AreTheirs (G.state gate.now).policy self.old }
+        ensures noted { OnOk result (AdvancesTo (G.state gate.now).policy (G.state gate.now).records
+            (IsOfSetting (G.state gate.now).policy set self.new) self.old self.new) }
     {
         match set {
             Some(rule) => self.note_rule(gate, rule),

@@ -11,7 +11,7 @@ use gx_units::{AccountName, RuleId};
 
 /// The account whose sell the record that comes next fills as the order that came in: it may get more than its own price.
 pub fn gains_of<G: ShowsState>(gate: &G, next: &RecordData) -> Option<AccountName>
-    ensures { result ≡ gains_of (G.seen gate.now).policy (G.seen gate.now).records next.now }
+    ensures { result ≡ gains_of (G.state gate.now).policy (G.state gate.now).records next.now }
 {
     let Verdict::Filled(fill) = next.verdict else {
         return None;

@@ -5,7 +5,7 @@ use Rattle.toml.specs.Data.{Data, Members, as_array, as_str, get_member}
 use Rattle.gx_units.specs.Names.{same_rule}
 use Rattle.gx_policy.specs.{Kinds.{first_kind_words, later_kind_words}, declared.{kinds.KindName.KindName, policy.{PolicyData.PolicyData, Lifters.Lifters, Account.Account, Stock.Stock, User.User, FileRule.FileRule}}}
 use Rattle.gx_policyvalues.specs.{declared.fault.{FaultKind.{FaultKind, TheVariants.{BadValue, DuplicateName, MissingKey, TooMany}}, Letters.TheVariants.Visible}, Field.{◌>>=◌, choice, choice_at, field, field_at, only_keys, value_at, word_at, word_in}}
-use Rattle.gx_policyfile.specs.{declared.version.FileVersion.{FileVersion, TheVariants.{One, Two}}, Known.scope, Place.{each, is_taken, next}, Rules.{keys_of_rule, kind, kind_words, rule, rule_keys, rule_name}, Version.version, Policies.{accounts, stocks, users, rules, policy}, Reads.{tables_in, entries_at}, Migrating.{say_the_same, lift_alike}}
+use Rattle.gx_policyfile.specs.{declared.version.FileVersion.{FileVersion, TheVariants.{One, Two}}, Known.scope, Place.{each, is_taken, next}, Rules.{keys_of_rule, kind, kinds_of_version, rule, rule_keys, rule_name}, Version.version, Policies.{accounts, stocks, users, rules, policy}, Reads.{tables_in, entries_at}, Migrating.{say_the_same, lift_alike}}
 use Rattle.gx_policyfile.proofs.{Step_parts.bind_ok, Policy_parts.{WasRead, was_read, ok_of}}
 
 -- what two equal results hold
@@ -61,7 +61,7 @@ chosen_later {X} key words more entry x h = of_value (get_member key entry) h
 
 -- a rule of version 1 means the same in version 2
 rule_later : (xs : List Account) (ss : List Stock) (entry : Members) (r : FileRule) → rule One xs ss entry ≡ Ok r → rule Two xs ss entry ≡ Ok r
-unfolding rule kind_words
+unfolding rule kinds_of_version
 rule_later xs ss entry r h =
     let (known, known_is, h1) = bind_ok (only_keys (keys_of_rule One entry) entry) _ r h in
     let (name, name_is, h2) = bind_ok (value_at (codes "name") entry >>= rule_name) _ r h1 in
@@ -69,9 +69,9 @@ rule_later xs ss entry r h =
     let later = chosen_later (codes "kind") first_kind_words later_kind_words entry word word_is in
     let keys : only_keys (keys_of_rule Two entry) entry ≡ only_keys (keys_of_rule One entry) entry = ap (λ w. only_keys (rule_keys w) entry) (later.1.1 ∙ sym later.1.0) in
     let after : KindName → Result FileRule FaultKind = λ w. kind ss w entry >>= λ k. scope xs entry >>= λ for_accounts. Ok (record { name = name; kind = k; scope = for_accounts }) in
-    ap (λ k. k >>= λ _. (value_at (codes "name") entry >>= rule_name) >>= λ n. choice_at (codes "kind") (kind_words Two) entry >>= λ w. kind ss w entry >>= λ k. scope xs entry >>= λ for_accounts. Ok (record { name = n; kind = k; scope = for_accounts }))
+    ap (λ k. k >>= λ _. (value_at (codes "name") entry >>= rule_name) >>= λ n. choice_at (codes "kind") (kinds_of_version Two) entry >>= λ w. kind ss w entry >>= λ k. scope xs entry >>= λ for_accounts. Ok (record { name = n; kind = k; scope = for_accounts }))
     (keys ∙ known_is)
-    ∙ ap (λ n. n >>= λ n. choice_at (codes "kind") (kind_words Two) entry >>= λ w. kind ss w entry >>= λ k. scope xs entry >>= λ for_accounts. Ok (record { name = n; kind = k; scope = for_accounts })) name_is
+    ∙ ap (λ n. n >>= λ n. choice_at (codes "kind") (kinds_of_version Two) entry >>= λ w. kind ss w entry >>= λ k. scope xs entry >>= λ for_accounts. Ok (record { name = n; kind = k; scope = for_accounts })) name_is
     ∙ ap (λ w. w >>= after) later.0
     ∙ h3
 

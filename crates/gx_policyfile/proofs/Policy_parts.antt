@@ -4,7 +4,7 @@ use Rattle.std.specs.Option.{ok_or, option_and_then, option_map_or}
 use Rattle.toml.specs.Data.{Data, Items, no_items, item, Members, get_member, as_array, as_table}
 use Rattle.gx_policy.specs.declared.policy.PolicyData.{PolicyData}
 use Rattle.gx_policyvalues.specs.{declared.fault.{FaultKind.{FaultKind, TheVariants.{UnknownKey, BadValue}}, Letters.TheVariants.Visible}, Field.{has_only, only_keys, field_at, each_item}, Tables.{table, tables, tables_at}}
-use Rattle.gx_policyfile.specs.{Version.{number, version, top_keys, lifters}, Policies.{accounts, stocks, users, rules, policy}, Reads.{with_table, tables_in, entries_at}}
+use Rattle.gx_policyfile.specs.{Version.{version_number, version, top_keys, lifters}, Policies.{accounts, stocks, users, rules, policy}, Reads.{with_table, tables_in, entries_at}}
 use Rattle.gx_policyfile.proofs.Step_parts.{bind_ok, passed, by_ok}
 
 pub some_of : {X : Type 0} (o : Option X) (e : FaultKind) (x : X) → ok_or o e ≡ Ok x → o ≡ Some x
@@ -32,7 +32,7 @@ entries_read (Some value) entries h =
 -- the parts of a policy that was read
 pub record WasRead (top : Members) (p : PolicyData) : Type 0 where
   pub keys : has_only (top_keys (version top)) top ≡ true
-  pub is_numbered : IsOk (number top)
+  pub is_numbered : IsOk (version_number top)
   pub session : field_at (codes "session") Visible 10 top ≡ Ok p.session.bytes
   pub lifting : lifters (version top) top ≡ Ok p.lifters
   pub of_accounts : accounts (entries_at (codes "account") top) ≡ Ok p.accounts
@@ -47,7 +47,7 @@ pub was_read : (top : Members) (p : PolicyData) → policy top ≡ Ok p → WasR
 unfolding policy
 was_read top p h =
     let (known, known_is, h1) = bind_ok (only_keys (top_keys (version top)) top) _ p h in
-    let (numbered, numbered_is, h2) = bind_ok (number top) _ p h1 in
+    let (numbered, numbered_is, h2) = bind_ok (version_number top) _ p h1 in
     let (session, session_is, h3a) = bind_ok (field_at (codes "session") Visible 10 top) _ p h2 in
     let (lifting, lifting_is, h3) = bind_ok (lifters (version top) top) _ p h3a in
     let (account_tables, account_tables_is, h4) = bind_ok (tables_at (codes "account") top) _ p h3 in
@@ -74,8 +74,8 @@ pub ok_of : {X : Type 0} (r : Result X FaultKind) → IsOk r → (x : X) × (r �
 ok_of (Ok x) h = (x, refl)
 ok_of (Err e) h = absurd (false≢true h)
 
--- a policy that was read has a number
-pub numbered : (top : Members) → IsOk (policy top) → IsOk (number top)
+-- a policy that was read has a version_number
+pub numbered : (top : Members) → IsOk (policy top) → IsOk (version_number top)
 numbered top h =
     let (p, is) = ok_of (policy top) h in
     (was_read top p is).is_numbered

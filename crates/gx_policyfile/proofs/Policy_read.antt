@@ -5,7 +5,7 @@ use Rattle.toml.specs.Data.{Data, Members, get_member, as_str}
 use Rattle.gx_units.specs.{Names.{same_account, same_stock, same_user, same_rule}, Spelling.{padded_to, folded_user}}
 use Rattle.gx_policy.specs.{declared.policy.{PolicyData.PolicyData, Account.Account, Stock.Stock, User.User, FileRule.FileRule}, RuleNames.is_built_in, Soundness.{is_sound, names_differ, is_within_limits}}
 use Rattle.gx_policyvalues.specs.{declared.fault.{FaultKind.{FaultKind, TheVariants.{MissingKey, BadValue}}, Letters.{Letters, TheVariants.{Plain, Visible}}}, Field.{◌>>=◌, has_only, only_keys, value_at, text, checked_text, field, field_at, number_at, choice_at}, Parsing.tree}
-use Rattle.gx_policyfile.specs.{declared.version.FileVersion.FileVersion, Place.place_of, Users.{keys_of_user, role_words, role, user}, Rules.{kind_words, keys_of_rule, rule_name, kind, rule}, Known.scope, Version.version, Policies.{account_keys, stock_keys, account, stock, accounts, stocks, users, rules, policy, means}, Reads.{entries_at, written_name, are_keys_known, are_places_short, IsInFileOrder}}
+use Rattle.gx_policyfile.specs.{declared.version.FileVersion.FileVersion, Place.place_of, Users.{keys_of_user, role_words, role, user}, Rules.{kinds_of_version, keys_of_rule, rule_name, kind, rule}, Known.scope, Version.version, Policies.{account_keys, stock_keys, account, stock, accounts, stocks, users, rules, policy, means}, Reads.{entries_at, written_name, are_keys_known, are_places_short, IsInFileOrder}}
 use Rattle.gx_policyfile.proofs.{Step_parts.{bind_ok, passed, failed, by_ok, and_both}, Place_entries.{each_map, each_asked, place_ok}, Policy_parts.{some_of, only_ok, WasRead, was_read}, Policy_sound.policy_sound}
 
 meant_by_tree : (bytes : List ℕ) (top : Members) (p : PolicyData) → tree bytes ≡ Ok top → means bytes ≡ Ok p → policy top ≡ Ok p
@@ -87,7 +87,7 @@ rule_tells version accounts stocks entry r h =
     let (bytes, bytes_is, tested) = bind_ok (field Plain 8 value) _ name named in
     let (free, kept) = failed (is_built_in (record { bytes = bytes })) _ BadValue name tested in
     let is : name.bytes ≡ written_name 8 entry = by_ok (λ n. n.bytes ≡ written_name 8 entry) (record { bytes = bytes }) name kept (name_read Plain 8 entry bytes value value_is bytes_is) in
-    let (word, word_is, h3) = bind_ok (choice_at (codes "kind") (kind_words version) entry) _ r h2 in
+    let (word, word_is, h3) = bind_ok (choice_at (codes "kind") (kinds_of_version version) entry) _ r h2 in
     let (of_kind, kind_is, h4) = bind_ok (kind stocks word entry) _ r h3 in
     let (for_accounts, for_is, same) = bind_ok (scope accounts entry) _ r h4 in
     by_ok (λ r. Tells (has_only (keys_of_rule version entry) entry) r.name.bytes (written_name 8 entry)) _ r same

@@ -4,7 +4,7 @@ use Rattle.std.proofs.{Common.{◌≡◌, ℕ, true, not, ◌&&◌, nat_le, List
 use Rattle.toml.specs.Data.{Data, Members}
 use Rattle.gx_units.specs.declared.names.{Symbol.Symbol, RuleId.RuleId}
 use Rattle.gx_policyvalues.specs.{declared.fault.{FaultKind.TheVariants.BadValue, Letters.TheVariants.Plain}, Field.{◌>>=◌, value_at, number_at, field, choice_at, only_keys}}
-use Rattle.gx_policyfile.specs.{declared.version.FileVersion.FileVersion, Known.{known_stocks, scope}, Rules.{kind_words, keys_of_rule, rule_name, limit, count, stocks_of_entry, kind, rule}}
+use Rattle.gx_policyfile.specs.{declared.version.FileVersion.FileVersion, Known.{known_stocks, scope}, Rules.{kinds_of_version, keys_of_rule, rule_name, limit, count, stocks_of_entry, kind, rule}}
 use Rattle.gx_policyfile.proofs.{Step_parts.{bind_ok, failed, by_ok, and_both}, Values_spelled.{field_spelled, number_ok}, Names_sound.{stocks_sound, scope_sound}}
 
 listed_sound : (p : PolicyData) (entry : Members) (names : List Symbol) → stocks_of_entry p.stocks entry ≡ Ok names → are_stocks p names ≡ true
@@ -55,7 +55,7 @@ rule_sound version p entry r h =
     let (known, known_is, h1) = bind_ok (only_keys (keys_of_rule version entry) entry) _ r h in
     let (name, name_is, h2) = bind_ok (value_at (codes "name") entry >>= rule_name) _ r h1 in
     let (value, value_is, named) = bind_ok (value_at (codes "name") entry) rule_name name name_is in
-    let (word, word_is, h3) = bind_ok (choice_at (codes "kind") (kind_words version) entry) _ r h2 in
+    let (word, word_is, h3) = bind_ok (choice_at (codes "kind") (kinds_of_version version) entry) _ r h2 in
     let (of_kind, kind_is, h4) = bind_ok (kind p.stocks word entry) _ r h3 in
     let (for_accounts, for_is, same) = bind_ok (scope p.accounts entry) _ r h4 in
     by_ok (λ r. is_rule_sound p r ≡ true) _ r same

@@ -3,7 +3,7 @@ use Rattle.std.specs.Prelude.{ℕ, List, [], ◌∷◌, codes, Result, Ok}
 use Rattle.toml.specs.Data.{Members}
 use Rattle.gx_units.specs.Names.{same_account, same_stock, same_user, same_rule}
 use Rattle.gx_policy.specs.declared.policy.{Lifters.Lifters, PolicyData.PolicyData, Account.Account, Stock.Stock, User.User, FileRule.FileRule}
-use Rattle.gx_policyfile.specs.{Version.{number, version, top_keys, lifters}, Users.user, Rules.rule, declared.version.FileVersion.FileVersion, Place.place_of}
+use Rattle.gx_policyfile.specs.{Version.{version_number, version, top_keys, lifters}, Users.user, Rules.rule, declared.version.FileVersion.FileVersion, Place.place_of}
 use Rattle.gx_policyvalues.specs.{declared.fault.{FaultKind.FaultKind, Letters.TheVariants.{Plain, Visible}}, Field.{◌>>=◌, number_at, field_at, only_keys}, Parsing.tree, Tables.tables_at}
 
 -- the keys of an account
@@ -68,7 +68,7 @@ of_places version session lifting top = do
 unfoldable pub policy : Members → Result PolicyData FaultKind
 policy top = do
   known ← only_keys (top_keys (version top)) top
-  numbered ← number top
+  numbered ← version_number top
   session ← field_at (codes "session") Visible 10 top
   lifting ← lifters (version top) top
   of_places (version top) session lifting top
@@ -77,6 +77,6 @@ policy top = do
 unfoldable pub means : List ℕ → Result PolicyData FaultKind
 means bytes = tree bytes >>= policy
 
--- the number that the bytes of a policy file give themselves
+-- the version_number that the bytes of a policy file give themselves
 unfoldable pub version_of : List ℕ → Result ℕ FaultKind
-version_of bytes = tree bytes >>= number
+version_of bytes = tree bytes >>= version_number

@@ -7,9 +7,9 @@ use Rattle.gx_policyvalues.specs.{declared.fault.{FaultKind.{FaultKind, TheVaria
 use Rattle.gx_policyfile.specs.{declared.version.FileVersion.{FileVersion, TheVariants.{One, Two}}, Known.{known_stocks, scope}}
 
 -- the words of the key `kind` in a file of this version
-unfoldable pub kind_words : FileVersion → List (List ℕ × KindName)
-kind_words One = first_kind_words
-kind_words Two = first_kind_words ++ later_kind_words
+unfoldable pub kinds_of_version : FileVersion → List (List ℕ × KindName)
+kinds_of_version One = first_kind_words
+kinds_of_version Two = first_kind_words ++ later_kind_words
 
 -- the keys of a rule of this kind, and those of all kinds where it is none
 abbrev pub rule_keys : Option KindName → List (List ℕ)
@@ -23,7 +23,7 @@ rule_keys None = codes "name" ∷ codes "kind" ∷ codes "stocks" ∷ codes "lim
 
 -- the keys that this rule may have in a file of this version
 abbrev pub keys_of_rule : FileVersion → Members → List (List ℕ)
-keys_of_rule version entry = rule_keys (word_at (codes "kind") (kind_words version) entry)
+keys_of_rule version entry = rule_keys (word_at (codes "kind") (kinds_of_version version) entry)
 
 -- the words of the key `count`
 abbrev pub count_words : List (List ℕ × Count)
@@ -76,7 +76,7 @@ unfoldable pub rule : FileVersion → List Account → List Stock → Members �
 rule version accounts stocks entry = do
   known ← only_keys (keys_of_rule version entry) entry
   name ← value_at (codes "name") entry >>= rule_name
-  word ← choice_at (codes "kind") (kind_words version) entry
+  word ← choice_at (codes "kind") (kinds_of_version version) entry
   of_kind ← kind stocks word entry
   for_accounts ← scope accounts entry
   Ok (record { name = name; kind = of_kind; scope = for_accounts })

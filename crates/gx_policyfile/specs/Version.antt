@@ -5,9 +5,9 @@ use Rattle.gx_policy.specs.declared.policy.Lifters.{Lifters}
 use Rattle.gx_policyvalues.specs.{declared.fault.FaultKind.FaultKind, Field.{◌>>=◌, number_at}}
 use Rattle.gx_policyfile.specs.declared.version.FileVersion.{FileVersion, TheVariants.{One, Two}}
 
--- the number that the file gives itself
-abbrev pub number : Members → Result ℕ FaultKind
-number top = number_at (codes "version") 1 2 top
+-- the version_number that the file gives itself
+abbrev pub version_number : Members → Result ℕ FaultKind
+version_number top = number_at (codes "version") 1 2 top
 
 -- the first version where it is there, and else the second
 abbrev pub first_or_second : {X : Type 0} → Result X FaultKind → FileVersion

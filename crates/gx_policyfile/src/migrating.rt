@@ -3,7 +3,7 @@
 ghost use Rattle.std.specs.Prelude.{codes, ◌≡◌, ◌≢◌, Ok, Err, OnOk, IfOk, IfErr, IsOk, IsTrue};
 ghost use Rattle.toml.specs.View.{table_view};
 ghost use Rattle.gx_policyvalues.specs.declared.fault.FaultKind.TheVariants.{OutOfMemory};
-ghost use Rattle.gx_policyfile.specs.{Version.{number, version, lifters}, Policies.{policy, means, version_of}, Migrating.{say_the_same, lift_alike}};
+ghost use Rattle.gx_policyfile.specs.{Version.{version_number, version, lifters}, Policies.{policy, means, version_of}, Migrating.{say_the_same, lift_alike}};
 
 use crate::reading::accepted;
 use crate::version::{lifters, number, version};
@@ -14,7 +14,7 @@ use std::alloc::Global;
 use toml::Table;
 
 fn is_second(file: &Table) -> bool
-    ensures { IsTrue result → number (table_view file.now) ≡ Ok 2 }
+    ensures { IsTrue result → version_number (table_view file.now) ≡ Ok 2 }
 {
     match number(file) {
         Ok(number) => number == 2,
@@ -73,7 +73,7 @@ fn have_same_parts(alloc: Global, one: &Table, other: &Table) -> bool
 /// Whether the second file is one of version 2 that means the policy of the first.
 #[tactic(auto, using(crate::proofs::Files_same::same_policy))]
 fn is_migrated(alloc: Global, top: &Table, migrated: &Table) -> bool
-    ensures version { IsTrue result → number (table_view migrated.now) ≡ Ok 2 }
+    ensures version { IsTrue result → version_number (table_view migrated.now) ≡ Ok 2 }
     ensures policy { IsTrue result → IsOk (policy (table_view top.now))
         → policy (table_view migrated.now) ≡ policy (table_view top.now) }
 {

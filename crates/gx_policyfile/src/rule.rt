@@ -4,7 +4,7 @@ ghost use Rattle.std.specs.Prelude.{◌≡◌, map, codes};
 ghost use Rattle.toml.specs.View.{view, table_view};
 ghost use Rattle.gx_units.specs.Names.{same_rule};
 ghost use Rattle.gx_policyvalues.specs.{declared.fault.FaultKind.TheVariants.BadValue, Field.{Gives, seen_result, choice_at, word_at}};
-ghost use Rattle.gx_policyfile.specs.{Rules.{kind_words, rule_keys, rule_name, limit, count, stocks_of_entry, kind, rule}, Policies.rules};
+ghost use Rattle.gx_policyfile.specs.{Rules.{kinds_of_version, rule_keys, rule_name, limit, count, stocks_of_entry, kind, rule}, Policies.rules};
 
 use crate::known::{STOCKS, known_stocks, scope};
 use crate::place::{Entry, entries};
@@ -30,9 +30,9 @@ const RULE_NAME: Allowed = Allowed::Words(
 const COUNTS: Allowed = Allowed::Words("\"each\" or \"together\"");
 
 /// The words of the key `kind` in a file of the version.
-#[tactic(auto, unfolding(crate::specs::Rules::kind_words))]
+#[tactic(auto, unfolding(crate::specs::Rules::kinds_of_version))]
 fn kind_words(version: FileVersion) -> &'static [(&'static str, KindName)]
-    ensures { map (λ w. (w.0.now, w.1)) result.now ≡ kind_words version }
+    ensures { map (λ w. (w.0.now, w.1)) result.now ≡ kinds_of_version version }
 {
     match version {
         FileVersion::One => &KIND_WORDS[..FIRST_KINDS],
@@ -41,7 +41,7 @@ fn kind_words(version: FileVersion) -> &'static [(&'static str, KindName)]
 }
 
 fn kind_word(version: FileVersion, entry: &Table) -> Option<KindName>
-    ensures { result ≡ word_at (codes "kind") (kind_words version) (table_view entry.now) }
+    ensures { result ≡ word_at (codes "kind") (kinds_of_version version) (table_view entry.now) }
 {
     field::word_at(entry, "kind", kind_words(version))
 }
@@ -55,7 +55,7 @@ fn allowed_kinds(version: FileVersion) -> Allowed {
 
 fn known_kind(version: FileVersion, entry: &Table) -> Result<KindName, PolicyFault>
     ensures { seen_result (λ k. k) result
-        ≡ choice_at (codes "kind") (kind_words version) (table_view entry.now) }
+        ≡ choice_at (codes "kind") (kinds_of_version version) (table_view entry.now) }
 {
     field::choice_at(entry, "kind", kind_words(version), allowed_kinds(version))
 }

@@ -3,7 +3,7 @@
 ghost use Rattle.std.specs.Prelude.{◌≡◌, map};
 ghost use Rattle.toml.specs.View.{table_view};
 ghost use Rattle.gx_policyvalues.specs.Field.{seen_result};
-ghost use Rattle.gx_policyfile.specs.Version.{number, version, top_keys, lifters_of, lifters};
+ghost use Rattle.gx_policyfile.specs.Version.{version_number, version, top_keys, lifters_of, lifters};
 
 use gx_policy::Lifters;
 use gx_policyvalues::{PolicyFault, field};
@@ -48,7 +48,7 @@ pub fn top_keys(version: FileVersion) -> &'static [&'static str]
 ///
 /// `MissingKey` where it gives none, `BadValue` where that is neither 1 nor 2.
 pub fn number(top: &Table) -> Result<u64, PolicyFault>
-    ensures { seen_result (λ n. n) result ≡ number (table_view top.now) }
+    ensures { seen_result (λ n. n) result ≡ version_number (table_view top.now) }
 {
     field::number_at(top, "version", 1, 2)
 }

@@ -3,7 +3,7 @@ use Rattle.std.proofs.{Common.{◌≡◌, ◌≢◌, ◌<◌, ◌≤◌, ℕ, �
 use Rattle.std.specs.Io.KnownBytes.{Consumes, IsAtEnd}
 use Rattle.gx_devices.specs.Devices.{one_more}
 use Rattle.gx_soup.specs.{declared.packet.{LoginRequest.LoginRequest, ClientPacket.ClientPacket, SoupFault.SoupFault}, Feeding.{Gives, Held, HasRead}, Packets.packets_of}
-use Rattle.gx_reception.specs.{declared.opening.Knock.Knock, Arrivals.{ComesTo, IsKnock, Knocks}, Openings.{from_first, is_idle, IsBroken, IsIdle, IsOther}}
+use Rattle.gx_reception.specs.{declared.opening.Knock.Knock, Arrivals.{ComesTo, IsKnock, Knocks}, Openings.{from_first, is_idle, IsBrokenAtFirst, IsIdle, IsOther}}
 
 -- the first of these is another one
 pub first_here : (packets behind : List ClientPacket) (p : ClientPacket) → packets ≡ p ∷ behind → is_idle p ≡ false → packets ≡ from_first packets

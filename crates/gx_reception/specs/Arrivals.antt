@@ -2,7 +2,7 @@
 use Rattle.std.specs.{Prelude.{◌≡◌, ◌<◌, ℕ, ◌⊎◌, List, [], Option, None}, Io.KnownBytes.{Consumes, IsAtEnd}}
 use Rattle.gx_devices.specs.Devices.{one_more}
 use Rattle.gx_soup.specs.{declared.packet.{ClientPacket.ClientPacket, SoupFault.SoupFault}, Feeding.Held, Packets.packets_of}
-use Rattle.gx_reception.specs.{declared.opening.Knock.Knock, Openings.{from_first, IsBroken, IsIdle, IsOpening, IsOther}}
+use Rattle.gx_reception.specs.{declared.opening.Knock.Knock, Openings.{from_first, IsBrokenAtFirst, IsIdle, IsOpening, IsOther}}
 
 -- what packets come to that are not idle, with the fault behind them, and what has read them
 abbrev pub IsKnock : List ClientPacket → Option SoupFault → Held → Knock → Type 0
@@ -16,7 +16,7 @@ IsKnock packets fault feeder Knock.Ended = ⊥
 abbrev pub ComesTo : List ℕ → Type 0 → Knock → Type 0
 ComesTo bytes Ended (Knock.Login opening) = IsOpening bytes opening
 ComesTo bytes Ended Knock.Other = IsOther (from_first (packets_of bytes).packets)
-ComesTo bytes Ended (Knock.Broken fault) = IsBroken bytes fault
+ComesTo bytes Ended (Knock.Broken fault) = IsBrokenAtFirst bytes fault
 ComesTo bytes Ended Knock.Refused = Unit {0}
 ComesTo bytes Ended Knock.Ended = IsIdle bytes × Ended
 

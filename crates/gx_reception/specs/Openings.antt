@@ -42,6 +42,6 @@ pub record IsIdle (bytes : List ℕ) : Type 0 where
   pub fault : (packets_of bytes).fault ≡ None
 
 -- these bytes have no other packet, and then this fault
-pub record IsBroken (bytes : List ℕ) (found : SoupFault) : Type 0 where
+pub record IsBrokenAtFirst (bytes : List ℕ) (found : SoupFault) : Type 0 where
   pub packets : from_first (packets_of bytes).packets ≡ []
   pub fault : (packets_of bytes).fault ≡ Some found

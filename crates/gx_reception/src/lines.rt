@@ -100,10 +100,10 @@ impl<D: Door, I: Issuer<D> + Drop> Lines<D, I> {
     /// `Kept` exactly where a trader comes once the last of the traders' lines was given; else what the issuer answers:
     /// `NoLines` only where the last line was given that there is, 65,535.
     pub fn give<R: Wait>(&mut self, rt: &R, door: &D, caller: Caller) -> Result<D::Pass, NoLine>
-        ensures legal { IfOk result (λ p. IsLegal D.policy (D.held p).front) }
-        ensures own { IfOk result (λ p. mine (D.held p) ≡ []) }
+        ensures legal { IfOk result (λ p. IsLegal D.policy (D.observed p).front) }
+        ensures own { IfOk result (λ p. mine (D.observed p) ≡ []) }
         ensures adds_none { IfOk result (λ p. D.added p ≡ 0) }
-        ensures last { IfOk result (λ p. self.new ≡ (D.held p).line) }
+        ensures last { IfOk result (λ p. self.new ≡ (D.observed p).line) }
         ensures next { OnOk result (self.new ≡ self.old + 1) }
         ensures same { OnErr result (self.new ≡ self.old) }
         ensures traders { OnOk result (caller ≡ callers.Trader → self.old ≤ 61438) }

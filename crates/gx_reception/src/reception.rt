@@ -29,7 +29,7 @@ pub enum Admission<T: Drop> {
 pub trait Admits<D: Door> {
     /// What comes of a login, before its user has a line. No step is made.
     fn admit<R: Wait>(&self, rt: &R, door: &D, login: &LoginRequest) -> Admission<D::Pass>
-        ensures { IsAdmitted D.policy D.held login.now result };
+        ensures { IsAdmitted D.policy D.observed login.now result };
 
     /// Makes the step of a login that is denied for its password. At `Err` none was made, and it is not answered.
     fn deny<R: Wait + Dial>(
@@ -77,7 +77,7 @@ impl<D: Door, I: Issuer<D> + Drop> Reception<D, I> {
     ) -> Admission<D::Pass>
         requires caller { caller ≡ caller_of D.policy login.now.user login.now.password }
         requires known { caller ≢ callers.Stranger }
-        ensures { IsAdmitted D.policy D.held login.now result }
+        ensures { IsAdmitted D.policy D.observed login.now result }
     {
         let given = self.lines.lock(rt).give(rt, door, caller);
         match given {
@@ -89,7 +89,7 @@ impl<D: Door, I: Issuer<D> + Drop> Reception<D, I> {
     /// Gives a line to a trader, unless the records that are left are kept for others.
     fn give_trader<R: Wait>(&self, rt: &R, door: &D, login: &LoginRequest) -> Admission<D::Pass>
         requires caller { caller_of D.policy login.now.user login.now.password ≡ callers.Trader }
-        ensures { IsAdmitted D.policy D.held login.now result }
+        ensures { IsAdmitted D.policy D.observed login.now result }
     {
         let length = self.strangers.lock(rt).length(door);
         match NoLine::for_records(length) {

@@ -56,8 +56,8 @@ pub struct Strangers<D: Door> {
     pass: Option<D::Pass>,
     count: u32,
     ghost has_pass: { IsTrue (is_some pass) },
-    ghost denied: { IsTrue (are_denied (mine (history_met D.held pass))) },
-    ghost counted: { length (mine (history_met D.held pass)) ≡ count },
+    ghost denied: { IsTrue (are_denied (mine (history_met D.observed pass))) },
+    ghost counted: { length (mine (history_met D.observed pass)) ≡ count },
     ghost few: { count ≤ 1048576 },
 }
 
@@ -72,7 +72,7 @@ impl<D: Door> Model for Strangers<D> {
 impl<D: Door> Strangers<D> {
     /// On a new line.
     pub fn new(pass: D::Pass) -> Strangers<D>
-        requires own { mine (D.held pass) ≡ [] }
+        requires own { mine (D.observed pass) ≡ [] }
         ensures none { result ≡ 0 }
     {
         Strangers {

@@ -16,5 +16,5 @@ pub use watching::{NoWatch, Watches};
 pub trait ShowsRecords: AccessGate {
     /// All its records, the oldest first. Takes no memory.
     fn shown_records(&self) -> Records<'_>
-        ensures { result ≡ (Self.seen self.now).records };
+        ensures { result ≡ (Self.state self.now).records };
 }

@@ -32,9 +32,9 @@ pub trait Watches<G: AccessGate> {
     ///
     /// `OutOfMemory` where what is to be kept was refused its memory.
     fn before(&mut self, gate: &G, next: &RecordData) -> Result<(), OutOfMemory>
-        requires saw { saw self.old (G.seen gate.now).policy (G.seen gate.now).records }
+        requires saw { saw self.old (G.state gate.now).policy (G.state gate.now).records }
         ensures expects { OnOk result
-            (expects self.new (G.seen gate.now).policy (G.seen gate.now).records next.now) }
+            (expects self.new (G.state gate.now).policy (G.state gate.now).records next.now) }
         ensures asked { asked self.new ≡ asked self.old };
 
     /// Looks at the gate behind that record, its last.
@@ -43,12 +43,12 @@ pub trait Watches<G: AccessGate> {
     ///
     /// `OutOfMemory` where what is to be kept was refused its memory.
     fn after(&mut self, gate: &G, left: &RecordData) -> Result<(), OutOfMemory>
-        requires last { (G.seen gate.now).records
-            ≡ earlier_of (G.seen gate.now).records ++ left.now ∷ [] }
-        requires expects { expects self.old (G.seen gate.now).policy
-            (earlier_of (G.seen gate.now).records) left.now }
+        requires last { (G.state gate.now).records
+            ≡ earlier_of (G.state gate.now).records ++ left.now ∷ [] }
+        requires expects { expects self.old (G.state gate.now).policy
+            (earlier_of (G.state gate.now).records) left.now }
         ensures saw { OnOk result
-            (saw self.new (G.seen gate.now).policy (G.seen gate.now).records) }
+            (saw self.new (G.state gate.now).policy (G.state gate.now).records) }
         ensures asked { asked self.new ≡ asked self.old };
 }
 

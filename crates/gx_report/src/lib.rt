@@ -27,6 +27,6 @@ mod writing;
 
 pub use looking::{Desk, ReportWatch, watch_for};
 pub use making::day_report;
-pub use report::{Digests, Report, report_of};
+pub use report::{DayReport, Digests, report_of};
 pub use spans::Spans;
 pub use writing::{ReportForm, written};

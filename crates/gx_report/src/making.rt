@@ -61,8 +61,8 @@ fn text_of<G: ShowsRecords + ShowsState>(
     spans: Spans,
     form: ReportForm,
 ) -> Result<Vec<u8>, OutOfMemory>
-    requires taken { AreTaken (G.seen gate.now).policy seen.second.first
-        (G.seen gate.now).records }
+    requires taken { AreTaken (G.state gate.now).policy seen.second.first
+        (G.state gate.now).records }
 {
     let Both {
         first: desk,
@@ -84,7 +84,7 @@ fn see<G: ShowsRecords + ShowsState>(
     spans: Spans,
 ) -> Result<(G, ReportWatch), AuditFault>
     ensures taken { IfOk result (λ seen. AreTaken
-        (G.seen seen.0).policy seen.1.second.first (G.seen seen.0).records) }
+        (G.state seen.0).policy seen.1.second.first (G.state seen.0).records) }
     ensures fault { IfErr result (λ e. IsAnswer policy.now audit.now (Err e)) }
 {
     let Ok(mut watch) = watch_of(alloc, policy, audit, spans) else {
@@ -115,7 +115,7 @@ pub fn day_report<G: ShowsRecords + ShowsState + Send, R: Threads + Sync>(
         rt,
         || -> Result<(G, ReportWatch), AuditFault>
             ensures taken { IfOk result (λ seen. AreTaken
-                (G.seen seen.0).policy seen.1.second.first (G.seen seen.0).records) }
+                (G.state seen.0).policy seen.1.second.first (G.state seen.0).records) }
             ensures fault { IfErr result (λ e. IsAnswer policy.entry.now audit.entry.now (Err e)) }
         { see::<G>(alloc, policy, audit, spans) },
         || -> Digests { Digests::of(audit, policy) },

@@ -1,7 +1,7 @@
 //! The report as a page of HTML, which stands alone: no script, and nothing from elsewhere.
 
 use crate::charts::{Counted, append_count_chart, append_share_chart};
-use crate::report::{Digests, Report};
+use crate::report::{DayReport, Digests};
 use gx_tables::{Table, append_escaped, append_html};
 use gx_text::{append, append_name};
 use gx_units::OutOfMemory;
@@ -81,7 +81,7 @@ fn append_digests(text: &mut Vec<u8>, alloc: Global, digests: &Digests) -> Resul
 }
 
 /// Bars of orders, fills and denials over the day.
-fn append_count_charts(text: &mut Vec<u8>, report: &Report) -> Result<(), OutOfMemory> {
+fn append_count_charts(text: &mut Vec<u8>, report: &DayReport) -> Result<(), OutOfMemory> {
     append(text, b"<h2>Over the day</h2>")?;
     for counted in [Counted::Orders, Counted::Fills, Counted::Denials] {
         append_count_chart(text, report.spans, counted, report.counts.as_slice())?;
@@ -93,7 +93,7 @@ fn append_count_charts(text: &mut Vec<u8>, report: &Report) -> Result<(), OutOfM
 fn append_share_charts(
     text: &mut Vec<u8>,
     alloc: Global,
-    report: &Report,
+    report: &DayReport,
 ) -> Result<(), OutOfMemory> {
     let seats = report.samples.seats.as_slice();
     let samples = report.samples.list.as_slice();
@@ -114,7 +114,7 @@ fn append_tables(text: &mut Vec<u8>, alloc: Global, tables: &[Table]) -> Result<
 }
 
 /// The day, its accounts and its gross limits, the charts, and then all other tables.
-fn append_body(text: &mut Vec<u8>, alloc: Global, report: &Report) -> Result<(), OutOfMemory> {
+fn append_body(text: &mut Vec<u8>, alloc: Global, report: &DayReport) -> Result<(), OutOfMemory> {
     let tables = report.tables.as_slice();
     let (above, below) = tables.split_at(ABOVE.min(tables.len()));
     append_tables(text, alloc, above)?;
@@ -127,7 +127,7 @@ fn append_body(text: &mut Vec<u8>, alloc: Global, report: &Report) -> Result<(),
 pub(crate) fn append_page(
     text: &mut Vec<u8>,
     alloc: Global,
-    report: &Report,
+    report: &DayReport,
 ) -> Result<(), OutOfMemory> {
     append_head(text, alloc, &report.session.bytes)?;
     append_digests(text, alloc, &report.digests)?;

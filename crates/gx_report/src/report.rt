@@ -41,7 +41,7 @@ impl Digests {
 
 /// A day's report.
 #[derive(Drop)]
-pub struct Report {
+pub struct DayReport {
     /// The name of the day's session.
     pub session: SessionName,
     /// The digests of the policy and of the audit.
@@ -125,10 +125,10 @@ pub fn report_of<G: ShowsRecords + ShowsState>(
     samples: Samples,
     digests: Digests,
     spans: Spans,
-) -> Result<Report, OutOfMemory> {
+) -> Result<DayReport, OutOfMemory> {
     let counts = counts_of(alloc, gate, spans)?;
     let tables = tables_of(alloc, gate, desk, peaks, spans, counts.as_slice())?;
-    Ok(Report {
+    Ok(DayReport {
         session: gate.policy().session(),
         digests,
         spans,

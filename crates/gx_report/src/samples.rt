@@ -58,7 +58,7 @@ fn more_of(one: Option<u128>, other: Option<u128>) -> Option<u128>
 /// What is used of a net rule's limit on this side of a stock, as far as it is above 0.
 fn used_there<G: ShowsState>(gate: &G, seat: &Seat, side: StockSide) -> Option<u128>
     ensures { result
-        ≡ used_there (G.seen gate.now).policy (G.seen gate.now).records seat.now side }
+        ≡ used_there (G.state gate.now).policy (G.state gate.now).records seat.now side }
 {
     let figure = Figure {
         rule: seat.rule,
@@ -70,7 +70,8 @@ fn used_there<G: ShowsState>(gate: &G, seat: &Seat, side: StockSide) -> Option<u
 
 /// What is used of a net rule's limit on either side of the stock, where more is.
 fn used_in<G: ShowsState>(gate: &G, seat: &Seat, stock: Symbol) -> Option<u128>
-    ensures { result ≡ used_in (G.seen gate.now).policy (G.seen gate.now).records seat.now stock }
+    ensures { result
+        ≡ used_in (G.state gate.now).policy (G.state gate.now).records seat.now stock }
 {
     let bought = used_there(gate, seat, StockSide { stock, buys: true });
     let sold = used_there(gate, seat, StockSide { stock, buys: false });
@@ -80,7 +81,7 @@ fn used_in<G: ShowsState>(gate: &G, seat: &Seat, stock: Symbol) -> Option<u128>
 /// What is used of a net rule's limit in the stock where most is, of these.
 fn most_used<G: ShowsState>(gate: &G, seat: &Seat, stocks: &[Stock]) -> Option<u128>
     ensures { result ≡
-        most_used (G.seen gate.now).policy (G.seen gate.now).records seat.now stocks.now }
+        most_used (G.state gate.now).policy (G.state gate.now).records seat.now stocks.now }
 {
     let mut most = None;
     for stock in stocks {
@@ -91,7 +92,7 @@ fn most_used<G: ShowsState>(gate: &G, seat: &Seat, stocks: &[Stock]) -> Option<u
 
 fn used_of<G: ShowsState>(gate: &G, seat: &Seat) -> Option<u128>
     ensures { result
-        ≡ (sample_of (G.seen gate.now).policy (G.seen gate.now).records seat.now).used }
+        ≡ (sample_of (G.state gate.now).policy (G.state gate.now).records seat.now).used }
 {
     if seat.is_net {
         most_used(gate, seat, gate.policy().stocks())
@@ -101,7 +102,7 @@ fn used_of<G: ShowsState>(gate: &G, seat: &Seat) -> Option<u128>
 }
 
 fn sample_of<G: ShowsState>(gate: &G, seat: &Seat) -> Sample
-    ensures { result ≡ sample_of (G.seen gate.now).policy (G.seen gate.now).records seat.now }
+    ensures { result ≡ sample_of (G.state gate.now).policy (G.state gate.now).records seat.now }
 {
     Sample {
         used: used_of(gate, seat),
@@ -116,7 +117,7 @@ fn take_samples<G: ShowsState>(
     seats: &[Seat],
 ) -> Result<(), OutOfMemory>
     ensures taken { OnOk result (list.new.items ≡ list.old.items ++ map
-        (sample_of (G.seen gate.now).policy (G.seen gate.now).records) seats.now) }
+        (sample_of (G.state gate.now).policy (G.state gate.now).records) seats.now) }
 {
     for seat in seats {
         list.push(sample_of(gate, seat))?;
@@ -153,10 +154,10 @@ impl Samples {
     /// Takes a sample of each seat after the gate's records.
     fn take_one<G: ShowsState>(&mut self, gate: &G) -> Result<(), OutOfMemory>
         requires due { slice_get self.old.counts.items self.old.taken
-            ≡ Some (length (G.seen gate.now).records) }
-        requires taken { AreTaken (G.seen gate.now).policy self.old (G.seen gate.now).records }
+            ≡ Some (length (G.state gate.now).records) }
+        requires taken { AreTaken (G.state gate.now).policy self.old (G.state gate.now).records }
         ensures taken { OnOk result
-            (AreTaken (G.seen gate.now).policy self.new (G.seen gate.now).records) }
+            (AreTaken (G.state gate.now).policy self.new (G.state gate.now).records) }
         ensures one { OnOk result (self.new.taken ≡ self.old.taken + 1) }
         ensures counts { self.new.counts ≡ self.old.counts }
     {
@@ -171,9 +172,9 @@ impl Samples {
     ///
     /// `OutOfMemory` where a sample was refused its memory.
     pub fn take_due<G: ShowsState>(&mut self, gate: &G) -> Result<(), OutOfMemory>
-        requires taken { AreTaken (G.seen gate.now).policy self.old (G.seen gate.now).records }
+        requires taken { AreTaken (G.state gate.now).policy self.old (G.state gate.now).records }
         ensures taken { OnOk result
-            (AreTaken (G.seen gate.now).policy self.new (G.seen gate.now).records) }
+            (AreTaken (G.state gate.now).policy self.new (G.state gate.now).records) }
     {
         while self.is_due(gate.length()) {
             self.take_one(gate)?;

@@ -1,7 +1,7 @@
 //! The report in each form.
 
 use crate::page::append_page;
-use crate::report::{Digests, Report};
+use crate::report::{DayReport, Digests};
 use gx_tables::{append_columns, append_csv, append_json};
 use gx_text::append;
 use gx_units::OutOfMemory;
@@ -32,7 +32,7 @@ fn append_digest_line(
     append(text, b"\n")
 }
 
-fn append_text(text: &mut Vec<u8>, alloc: Global, report: &Report) -> Result<(), OutOfMemory> {
+fn append_text(text: &mut Vec<u8>, alloc: Global, report: &DayReport) -> Result<(), OutOfMemory> {
     append_digest_line(text, alloc, b"audit   sha256 ", &report.digests.audit)?;
     append_digest_line(text, alloc, b"policy  sha256 ", &report.digests.policy)?;
     for table in report.tables.as_slice() {
@@ -45,7 +45,7 @@ fn append_text(text: &mut Vec<u8>, alloc: Global, report: &Report) -> Result<(),
 fn append_csv_tables(
     text: &mut Vec<u8>,
     alloc: Global,
-    report: &Report,
+    report: &DayReport,
 ) -> Result<(), OutOfMemory> {
     for table in report.tables.as_slice() {
         append_csv(text, alloc, table)?;
@@ -65,7 +65,7 @@ fn append_json_digest(
     append(text, b"\"")
 }
 
-fn append_json_tables(text: &mut Vec<u8>, report: &Report) -> Result<(), OutOfMemory> {
+fn append_json_tables(text: &mut Vec<u8>, report: &DayReport) -> Result<(), OutOfMemory> {
     for table in report.tables.as_slice() {
         append(text, b",")?;
         append_json(text, table)?;
@@ -77,7 +77,7 @@ fn append_object(
     text: &mut Vec<u8>,
     alloc: Global,
     digests: &Digests,
-    report: &Report,
+    report: &DayReport,
 ) -> Result<(), OutOfMemory> {
     append_json_digest(text, alloc, b"{\"audit_sha256\":\"", &digests.audit)?;
     append_json_digest(text, alloc, b",\"policy_sha256\":\"", &digests.policy)?;
@@ -90,7 +90,11 @@ fn append_object(
 /// # Errors
 ///
 /// `OutOfMemory` where memory was refused.
-pub fn written(alloc: Global, report: &Report, form: ReportForm) -> Result<Vec<u8>, OutOfMemory> {
+pub fn written(
+    alloc: Global,
+    report: &DayReport,
+    form: ReportForm,
+) -> Result<Vec<u8>, OutOfMemory> {
     let mut text = Vec::new(alloc);
     match form {
         ReportForm::Text => append_text(&mut text, alloc, report)?,

@@ -6,7 +6,7 @@ use Rattle.gx_units.specs.{Names.same_account, declared.names.{AccountName.Accou
 use Rattle.gx_history.specs.{declared.{facts.{Facts.Facts, ProposedOrder.ProposedOrder, RuleFigures.RuleFigures}, «record».Request.Request}, Rules.{rules_with_figures, figured_from, first_file_rule, kind_forbids, of_proposed, proposed_order, rule_forbids}}
 use Rattle.gx_policy.specs.{declared.{policy.{Account.Account, FileRule.FileRule}, rule_name.RuleName.{RuleName, TheVariants.File}}, People.covers}
 use Rattle.gx_laws.proofs.Entries_table.{none_before}
-use Rattle.gx_rules.specs.{declared.book_rule.BookRule.BookRule, Books.{kind_of, rule_named, rules_of}, Places.{accounts_differ, places_covering, covering_from, forbids_at, named_at, places_of}}
+use Rattle.gx_rules.specs.{declared.book_rule.BookRule.BookRule, Books.{book_kind, rule_named, rules_of_entries}, Places.{accounts_differ, places_covering, covering_from, forbids_at, named_at, places_of}}
 use Rattle.gx_units.proofs.{Test_known.{and_false, left_false, right_false}, Names_equal.account_is}
 
 -- the place of one more rule
@@ -58,18 +58,18 @@ next_place account rules places i rule d inside within so_far asked is =
 
 -- a rule whose scope stays is as it was to its accounts
 pub covering-kept : (account : AccountName) (place : ℕ) (es : List (RuleId × BookRule)) (i : ℕ) (v w : BookRule) → slice_get (values_of es) i ≡ Some v → w.scope ≡ v.scope
-    → covering_from account place (rules_of (set_value_at es i w)) ≡ covering_from account place (rules_of es)
+    → covering_from account place (rules_of_entries (set_value_at es i w)) ≡ covering_from account place (rules_of_entries es)
 covering-kept account place [] i v w at scope = refl
 covering-kept account place (e ∷ es) zero v w at scope =
     let same : e.1 ≡ v = cc in
-    ap (λ s. cond (covers s account) (place ∷ covering_from account (suc place) (rules_of es)) (covering_from account (suc place) (rules_of es)))
+    ap (λ s. cond (covers s account) (place ∷ covering_from account (suc place) (rules_of_entries es)) (covering_from account (suc place) (rules_of_entries es)))
     (scope ∙ ap (λ (r : BookRule). r.scope) (sym same))
 covering-kept account place (e ∷ es) (suc i) v w at scope =
     ap (λ l. cond (covers e.1.scope account) (place ∷ l) l) (covering-kept account (suc place) es i v w at scope)
 
 -- a table stays right, where a rule's scope stays
 pub table_kept : (table : List (AccountName × List ℕ)) (es : List (RuleId × BookRule)) (i : ℕ) (v w : BookRule) → slice_get (values_of es) i ≡ Some v → w.scope ≡ v.scope
-    → values_of table ≡ map (places_covering (rules_of es)) (keys_of table) → values_of table ≡ map (places_covering (rules_of (set_value_at es i w))) (keys_of table)
+    → values_of table ≡ map (places_covering (rules_of_entries es)) (keys_of table) → values_of table ≡ map (places_covering (rules_of_entries (set_value_at es i w))) (keys_of table)
 table_kept table es i v w at scope are = are ∙ (λ j. map (λ (account : AccountName). sym (covering-kept account 0 es i v w at scope) j) (keys_of table))
 
 place_last : (rules : List FileRule) (before : List Account) (a : Account) → list_any (λ (b : Account). same_account a.name b.name) before ≡ false
@@ -148,10 +148,10 @@ module _ (told : ℕ → RuleFigures) (all : List (RuleId × BookRule)) (given :
   one rule figures = λ i. option_map_or (covers rule.scope) (his i) false && option_map_or (kind_forbids rule.kind figures) (asks i) false
 
   abbrev behind : ℕ → List (RuleId × BookRule) → Option RuleName
-  behind place es = first_file_rule (figured_from told place (rules_of es)) given q
+  behind place es = first_file_rule (figured_from told place (rules_of_entries es)) given q
 
   first_from : (place : ℕ) (es : List (RuleId × BookRule)) → ((k : ℕ) → slice_get all (place + k) ≡ slice_get es k)
-      → behind place es ≡ first_at (covering_from account place (rules_of es))
+      → behind place es ≡ first_at (covering_from account place (rules_of_entries es))
   first_from place [] at = refl
   first_from place (e ∷ es) at =
       by_told (rule_forbids given q rule (told place))
@@ -168,7 +168,7 @@ module _ (told : ℕ → RuleFigures) (all : List (RuleId × BookRule)) (given :
       later k = omega arith
 
       by_told : (b : Bool) → option_map (λ (r : FileRule × RuleFigures). File r.0.name)
-          (cond b (Some (rule, told place)) (find (λ (r : FileRule × RuleFigures). rule_forbids given q r.0 r.1) (figured_from told (suc place) (rules_of es))))
+          (cond b (Some (rule, told place)) (find (λ (r : FileRule × RuleFigures). rule_forbids given q r.0 r.1) (figured_from told (suc place) (rules_of_entries es))))
           ≡ cond b (Some (File e.0)) (behind (suc place) es)
       by_told true = refl
       by_told false = refl
@@ -179,18 +179,18 @@ module _ (told : ℕ → RuleFigures) (all : List (RuleId × BookRule)) (given :
       at_it false rest is = refl
 
       asked : forbids_at told all w place ≡ kind_forbids rule.kind (told place) w
-      asked = ap (λ o. option_map_or (λ (r : RuleId × BookRule). kind_forbids (kind_of r.1) (told place) w) o false) here
+      asked = ap (λ o. option_map_or (λ (r : RuleId × BookRule). kind_forbids (book_kind r.1) (told place) w) o false) here
 
-      by : (b : Bool) → behind (suc place) es ≡ first_at (covering_from account (suc place) (rules_of es))
+      by : (b : Bool) → behind (suc place) es ≡ first_at (covering_from account (suc place) (rules_of_entries es))
           → cond (b && kind_forbids rule.kind (told place) w) (Some (File e.0)) (behind (suc place) es)
-          ≡ first_at (cond b (place ∷ covering_from account (suc place) (rules_of es)) (covering_from account (suc place) (rules_of es)))
+          ≡ first_at (cond b (place ∷ covering_from account (suc place) (rules_of_entries es)) (covering_from account (suc place) (rules_of_entries es)))
       by true deeper =
-          let rest : List ℕ = covering_from account (suc place) (rules_of es) in
+          let rest : List ℕ = covering_from account (suc place) (rules_of_entries es) in
           ap (cond (kind_forbids rule.kind (told place) w) (Some (File e.0))) deeper
           ∙ at_it (kind_forbids rule.kind (told place) w) rest refl
           ∙ ap (λ b. option_and_then (named_at all) (cond b (Some place) (find (forbids_at told all w) rest))) (sym asked)
       by false deeper = deeper
 
   -- the rules that the account is under are all that can forbid its orders
-  pub first_of_his : (places : List ℕ) → places ≡ places_covering (rules_of all) account → first_at places ≡ first_file_rule (rules_with_figures told (rules_of all)) given q
+  pub first_of_his : (places : List ℕ) → places ≡ places_covering (rules_of_entries all) account → first_at places ≡ first_file_rule (rules_with_figures told (rules_of_entries all)) given q
   first_of_his places are = ap first_at are ∙ sym (first_from 0 all (λ k. ap (slice_get all) (omega arith)))

@@ -7,7 +7,7 @@ use Rattle.gx_units.proofs.Test_known.{left_false, right_false}
 use Rattle.gx_policy.specs.{declared.policy.FileRule.FileRule, Lists.are_distinct}
 use Rattle.gx_history.specs.InForce.{with_stock, lists_stock, without_stock}
 use Rattle.gx_laws.proofs.Entries_table.{none_before}
-use Rattle.gx_rules.specs.{declared.book_rule.BookRule.BookRule, Books.{names_differ, rule_named, rules_of}}
+use Rattle.gx_rules.specs.{declared.book_rule.BookRule.BookRule, Books.{rule_names_differ, rule_named, rules_of_entries}}
 
 same_stock_symm : (a b : Symbol) → same_stock a b ≡ same_stock b a
 same_stock_symm a b = nat_list_eq_equiv.symm a.bytes b.bytes
@@ -53,18 +53,18 @@ remove_is_removing (s ∷ stocks) stock none = by (same_stock stock s) refl none
         ap (λ l. s ∷ l) (deeper (right_false (same_stock stock s) (list_any (same_stock stock) (remove_key (same_stock stock) stocks)) none))
         ∙ ap (λ b. cond (not b) (s ∷ without_stock stock stocks) (without_stock stock stocks)) (sym (same_stock_symm s stock ∙ h))
 
-kept_last : (es : List (RuleId × BookRule)) (name : RuleId) (rule : BookRule) → list_any (λ (r : FileRule). same_rule name r.name) (rules_of es) ≡ false
-    → rules_of (insert_entry same_rule es name rule) ≡ rules_of es ++ rule_named name rule ∷ []
+kept_last : (es : List (RuleId × BookRule)) (name : RuleId) (rule : BookRule) → list_any (λ (r : FileRule). same_rule name r.name) (rules_of_entries es) ≡ false
+    → rules_of_entries (insert_entry same_rule es name rule) ≡ rules_of_entries es ++ rule_named name rule ∷ []
 kept_last [] name rule none = refl
 kept_last (e ∷ es) name rule none =
-    let others = list_any (λ (r : FileRule). same_rule name r.name) (rules_of es) in
-    ap (λ b. rules_of (cond b ((e.0, rule) ∷ es) (e ∷ insert_entry same_rule es name rule))) (left_false (same_rule name e.0) others none)
+    let others = list_any (λ (r : FileRule). same_rule name r.name) (rules_of_entries es) in
+    ap (λ b. rules_of_entries (cond b ((e.0, rule) ∷ es) (e ∷ insert_entry same_rule es name rule))) (left_false (same_rule name e.0) others none)
     ∙ ap (λ l. rule_named e.0 e.1 ∷ l) (kept_last es name rule (right_false (same_rule name e.0) others none))
 
 -- the next of the rules goes last
 pub next_rule : (rules : List FileRule) (es : List (RuleId × BookRule)) (i : ℕ) (r d : FileRule) (rule : BookRule)
-    → names_differ rules ≡ true → i < length rules → rules_of es ≡ take i rules → rule_named r.name rule ≡ r → r ≡ get_or rules i d
-    → rules_of (insert_entry same_rule es r.name rule) ≡ take (i + 1) rules
+    → rule_names_differ rules ≡ true → i < length rules → rules_of_entries es ≡ take i rules → rule_named r.name rule ≡ r → r ≡ get_or rules i d
+    → rules_of_entries (insert_entry same_rule es r.name rule) ≡ take (i + 1) rules
 next_rule rules es i r d rule differ within so_far is at =
     let same : FileRule → FileRule → Bool = λ (a b : FileRule). same_rule a.name b.name in
     let none = none_before same (λ a b. nat_list_eq_equiv.symm a.name.bytes b.name.bytes) rules i d differ within in

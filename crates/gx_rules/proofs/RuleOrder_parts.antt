@@ -4,7 +4,7 @@ use Rattle.std.specs.{Prelude.{Option, Some, None, option_map, find}, Option.opt
 use Rattle.gx_history.specs.{declared.{«record».Request.Request, facts.{Facts.Facts, RuleFigures.RuleFigures}}, Rules.{BuiltIn, OfFile, name_of, applies, figured_from, first_forbidding, first_file_rule, forbids, rule_forbids, written_order}}
 use Rattle.gx_policy.specs.{declared.{rule_name.RuleName.{RuleName, TheVariants.File}, policy.FileRule.FileRule}, RuleNames.{rules_before, rules_behind}}
 use Rattle.gx_units.specs.declared.names.RuleId.{RuleId}
-use Rattle.gx_rules.specs.{declared.book_rule.BookRule.BookRule, Books.{rule_named, rules_of}}
+use Rattle.gx_rules.specs.{declared.book_rule.BookRule.BookRule, Books.{rule_named, rules_of_entries}}
 
 map_or : {X Y : Type 0} (f : X → Y) (a b : Option X) → option_map f (option_or a b) ≡ option_or (option_map f a) (option_map f b)
 map_or f None b = refl
@@ -39,36 +39,36 @@ first_in_parts rules given q =
 -- the next rule of the file forbids, or those behind it are asked
 pub next_asked : (told : ℕ → RuleFigures) (place : ℕ) (name : RuleId) (rule : BookRule) (left entries : List (RuleId × BookRule)) (given : Facts) (q : Request)
     → entries ≡ (name, rule) ∷ left
-    → first_file_rule (figured_from told place (rules_of entries)) given q
-    ≡ cond (rule_forbids given q (rule_named name rule) (told place)) (Some (File name)) (first_file_rule (figured_from told (place + 1) (rules_of left)) given q)
+    → first_file_rule (figured_from told place (rules_of_entries entries)) given q
+    ≡ cond (rule_forbids given q (rule_named name rule) (told place)) (Some (File name)) (first_file_rule (figured_from told (place + 1) (rules_of_entries left)) given q)
 next_asked told place name rule left entries given q is =
-    ap (λ (es : List (RuleId × BookRule)). first_file_rule (figured_from told place (rules_of es)) given q) is
+    ap (λ (es : List (RuleId × BookRule)). first_file_rule (figured_from told place (rules_of_entries es)) given q) is
     ∙ at (rule_forbids given q (rule_named name rule) (told place))
-    ∙ ap (λ n. cond (rule_forbids given q (rule_named name rule) (told place)) (Some (File name)) (first_file_rule (figured_from told n (rules_of left)) given q)) (one_more place)
+    ∙ ap (λ n. cond (rule_forbids given q (rule_named name rule) (told place)) (Some (File name)) (first_file_rule (figured_from told n (rules_of_entries left)) given q)) (one_more place)
   where
     one_more : (n : ℕ) → suc n ≡ n + 1
     one_more n = grind arith
 
     at : (b : Bool) → option_map (λ (r : FileRule × RuleFigures). File r.0.name)
-        (cond b (Some (rule_named name rule, told place)) (find (λ (r : FileRule × RuleFigures). rule_forbids given q r.0 r.1) (figured_from told (suc place) (rules_of left))))
-        ≡ cond b (Some (File name)) (first_file_rule (figured_from told (suc place) (rules_of left)) given q)
+        (cond b (Some (rule_named name rule, told place)) (find (λ (r : FileRule × RuleFigures). rule_forbids given q r.0 r.1) (figured_from told (suc place) (rules_of_entries left))))
+        ≡ cond b (Some (File name)) (first_file_rule (figured_from told (suc place) (rules_of_entries left)) given q)
     at true = refl
     at false = refl
 
 module _ (told : ℕ → RuleFigures) (place : ℕ) (name : RuleId) (rule : BookRule) (left entries : List (RuleId × BookRule)) (given : Facts) (q : Request)
     (is : entries ≡ (name, rule) ∷ left) (figures : RuleFigures) (are : figures ≡ told place) (b : Bool) (asked : b ≡ rule_forbids given q (rule_named name rule) figures) where
   abbrev rest : Option RuleName
-  rest = first_file_rule (figured_from told (place + 1) (rules_of left)) given q
+  rest = first_file_rule (figured_from told (place + 1) (rules_of_entries left)) given q
 
-  by_it : first_file_rule (figured_from told place (rules_of entries)) given q ≡ cond b (Some (File name)) rest
+  by_it : first_file_rule (figured_from told place (rules_of_entries entries)) given q ≡ cond b (Some (File name)) rest
   by_it = next_asked told place name rule left entries given q is
       ∙ ap (λ f. cond (rule_forbids given q (rule_named name rule) f) (Some (File name)) rest) (sym are)
       ∙ ap (λ a. cond a (Some (File name)) rest) (sym asked)
 
   -- it forbids
-  pub stops_here : b ≡ true → Some (File name) ≡ first_file_rule (figured_from told place (rules_of entries)) given q
+  pub stops_here : b ≡ true → Some (File name) ≡ first_file_rule (figured_from told place (rules_of_entries entries)) given q
   stops_here forbids = sym (by_it ∙ ap (λ a. cond a (Some (File name)) rest) forbids)
 
   -- it does not
-  pub goes_on : b ≡ false → (found : Option RuleName) → found ≡ rest → found ≡ first_file_rule (figured_from told place (rules_of entries)) given q
+  pub goes_on : b ≡ false → (found : Option RuleName) → found ≡ rest → found ≡ first_file_rule (figured_from told place (rules_of_entries entries)) given q
   goes_on forbids found is_rest = is_rest ∙ sym (by_it ∙ ap (λ a. cond a (Some (File name)) rest) forbids)

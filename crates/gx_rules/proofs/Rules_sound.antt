@@ -4,7 +4,7 @@ use Rattle.std.proofs.{Common.{◌≡◌, ℕ, ◌≤◌, true, List, length, re
 use Rattle.std.specs.{Prelude.nat_le, List.list_all, Option.option_map_or}
 use Rattle.gx_units.specs.{Names.same_stock, declared.names.RuleId.RuleId}
 use Rattle.gx_units.proofs.Lists_hold.{all_imply}
-use Rattle.gx_rules.specs.{declared.book_rule.BookRule.BookRule, Books.{lists_once, names_differ, rule_named, rules_of}}
+use Rattle.gx_rules.specs.{declared.book_rule.BookRule.BookRule, Books.{lists_once, rule_names_differ, rule_named, rules_of_entries}}
 
 kind_once : (policy : PolicyData) (kind : RuleKind) → is_kind_sound policy kind ≡ true → option_map_or (are_distinct same_stock) (stocks_of kind) true ≡ true
 kind_once policy (RuleKind.Listed kind stocks) h = (and_parts _ _ h).1
@@ -27,11 +27,11 @@ few_rules policy h =
     few n h = grind (arith, nat_tests)
 
 -- a book of the policy's rules has as many entries
-pub few_entries : (policy : PolicyData) (rules : List FileRule) (es : List (RuleId × BookRule)) → is_sound policy ≡ true → rules ≡ policy.rules → rules_of es ≡ rules → length es ≤ 128
+pub few_entries : (policy : PolicyData) (rules : List FileRule) (es : List (RuleId × BookRule)) → is_sound policy ≡ true → rules ≡ policy.rules → rules_of_entries es ≡ rules → length es ≤ 128
 few_entries policy rules es sound same of =
     let few = few_rules policy sound in
-    let many : length (rules_of es) ≡ length es = length-map es (λ e. rule_named e.0 e.1) in
-    let alike : length (rules_of es) ≡ length policy.rules = ap length (of ∙ same) in
+    let many : length (rules_of_entries es) ≡ length es = length-map es (λ e. rule_named e.0 e.1) in
+    let alike : length (rules_of_entries es) ≡ length policy.rules = ap length (of ∙ same) in
     omega (arith, few, many, alike)
 
 -- no list of the policy has a stock twice
@@ -40,7 +40,7 @@ unfolding is_sound
 sound_lists policy h = all_imply (is_rule_sound policy) lists_once policy.rules (rule_once policy) (and_parts _ _ h).1
 
 -- no two rules of the policy have one name
-pub sound_names : (policy : PolicyData) → is_sound policy ≡ true → names_differ policy.rules ≡ true
+pub sound_names : (policy : PolicyData) → is_sound policy ≡ true → rule_names_differ policy.rules ≡ true
 unfolding is_sound
 sound_names policy h =
     let of_names = (and_parts _ _ (and_parts _ _ (and_parts _ _ (and_parts _ _ (and_parts _ _ (and_parts _ _ h).0).0).0).0).0).1 in

@@ -5,21 +5,21 @@ use Rattle.gx_units.specs.{Names.{same_rule, same_stock}, declared.names.RuleId.
 use Rattle.gx_rules.specs.declared.book_rule.BookRule.{BookRule}
 
 -- the kind with the stocks that are kept apart
-abbrev pub kind_of : BookRule → RuleKind
-kind_of rule = with_stocks (λ listed. rule.stocks.keys) rule.kind
+abbrev pub book_kind : BookRule → RuleKind
+book_kind rule = with_stocks (λ listed. rule.stocks.keys) rule.kind
 
 -- the rule of this name
 abbrev pub rule_named : RuleId → BookRule → FileRule
-rule_named name rule = record { name = name; kind = kind_of rule; scope = rule.scope }
+rule_named name rule = record { name = name; kind = book_kind rule; scope = rule.scope }
 
 -- the rules, in the order of the entries
-abbrev pub rules_of : List (RuleId × BookRule) → List FileRule
-rules_of entries = map (λ e. rule_named e.0 e.1) entries
+abbrev pub rules_of_entries : List (RuleId × BookRule) → List FileRule
+rules_of_entries entries = map (λ e. rule_named e.0 e.1) entries
 
 -- no stock stands twice on the rule's list
 abbrev pub lists_once : FileRule → Bool
 lists_once rule = option_map_or (are_distinct same_stock) (stocks_of rule.kind) true
 
 -- no two rules have one name
-abbrev pub names_differ : List FileRule → Bool
-names_differ rules = are_distinct (λ (a b : FileRule). same_rule a.name b.name) rules
+abbrev pub rule_names_differ : List FileRule → Bool
+rule_names_differ rules = are_distinct (λ (a b : FileRule). same_rule a.name b.name) rules

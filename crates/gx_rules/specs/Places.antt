@@ -3,7 +3,7 @@ use Rattle.std.specs.{Prelude.{◌≡◌, ◌≤◌, ℕ, suc, Bool, false, List
 use Rattle.gx_units.specs.{Names.same_account, declared.names.{AccountName.AccountName, RuleId.RuleId}}
 use Rattle.gx_history.specs.{declared.facts.{ProposedOrder.ProposedOrder, RuleFigures.RuleFigures}, Rules.kind_forbids}
 use Rattle.gx_policy.specs.{declared.{policy.{Account.Account, FileRule.FileRule}, rule_name.RuleName.{RuleName, TheVariants.File}}, Lists.are_distinct, People.covers}
-use Rattle.gx_rules.specs.{declared.book_rule.BookRule.BookRule, Books.{kind_of, rules_of}}
+use Rattle.gx_rules.specs.{declared.book_rule.BookRule.BookRule, Books.{book_kind, rules_of_entries}}
 
 -- the places, from this one on, of the rules whose scope has the account
 abbrev pub covering_from : AccountName → ℕ → List FileRule → List ℕ
@@ -25,7 +25,7 @@ places_of rules accounts = map (λ (a : Account). (a.name, places_covering rules
 
 -- the rule at the place forbids the order, by the figures that are told of the place
 abbrev pub forbids_at : (ℕ → RuleFigures) → List (RuleId × BookRule) → ProposedOrder → ℕ → Bool
-forbids_at told entries w place = option_map_or (λ (e : RuleId × BookRule). kind_forbids (kind_of e.1) (told place) w) (slice_get entries place) false
+forbids_at told entries w place = option_map_or (λ (e : RuleId × BookRule). kind_forbids (book_kind e.1) (told place) w) (slice_get entries place) false
 
 -- the name of the rule at the place
 abbrev pub named_at : List (RuleId × BookRule) → ℕ → Option RuleName
@@ -34,4 +34,4 @@ named_at entries place = option_map (λ (e : RuleId × BookRule). File e.0) (sli
 -- there are few rules, and the table has the places of those that each of its accounts is under
 pub record AreTied (entries : List (RuleId × BookRule)) (table : List (AccountName × List ℕ)) : Type 0 where
   pub few : length entries ≤ 128
-  pub places : values_of table ≡ map (places_covering (rules_of entries)) (keys_of table)
+  pub places : values_of table ≡ map (places_covering (rules_of_entries entries)) (keys_of table)

@@ -4,7 +4,7 @@ ghost use Rattle.gx_policy.specs.{Kinds.{limit_of, stocks_of, with_limit, with_s
 ghost use Rattle.std.specs.{Prelude.{◌≡◌, [], false, is_some, unwrap_or, IsTrue, IfOk, OnOk, OnErr}, Option.option_map_or, List.list_any};
 ghost use Rattle.gx_units.specs.Names.{same_stock};
 ghost use Rattle.gx_history.specs.{Asking.has_stock, InForce.{with_stock, lists_stock, without_stock}, Rules.{kind_forbids, rule_forbids}};
-ghost use Rattle.gx_rules.specs.Books.{kind_of, lists_once, rule_named};
+ghost use Rattle.gx_rules.specs.Books.{book_kind, lists_once, rule_named};
 
 use crate::file_rule::{is_for_scope, is_gross_above, is_net_above, is_outside_collar, new_open};
 use crate::request::proposed;
@@ -85,14 +85,14 @@ impl BookRule {
 
     /// The limit that Set Limit may change; None where the kind has none.
     pub fn limit(&self) -> Option<u64>
-        ensures { result ≡ limit_of (kind_of self.now) }
+        ensures { result ≡ limit_of (book_kind self.now) }
     {
         self.kind.limit()
     }
 
     /// Puts this limit in force; nothing changes where the kind has none.
     pub fn set_limit(&mut self, value: u64)
-        ensures kind { kind_of self.new ≡ with_limit value (kind_of self.old) }
+        ensures kind { book_kind self.new ≡ with_limit value (book_kind self.old) }
         ensures scope { self.new.scope ≡ self.old.scope }
     {
         match &mut self.kind {
@@ -108,7 +108,7 @@ impl BookRule {
     /// Whether the rule has a list of stocks.
     pub fn has_list(&self) -> bool
         ensures own { result ≡ is_some (stocks_of self.now.kind) }
-        ensures with_stocks { result ≡ is_some (stocks_of (kind_of self.now)) }
+        ensures with_stocks { result ≡ is_some (stocks_of (book_kind self.now)) }
     {
         matches!(self.kind, RuleKind::Listed(_, _))
     }
@@ -116,7 +116,7 @@ impl BookRule {
     /// Whether the stock is on the rule's list.
     pub fn lists(&self, stock: Symbol) -> bool
         ensures { result ≡ option_map_or (λ stocks. lists_stock stocks stock)
-            (stocks_of (kind_of self.now)) false }
+            (stocks_of (book_kind self.now)) false }
     {
         self.has_list() && is_among(&self.stocks, stock)
     }
@@ -127,9 +127,9 @@ impl BookRule {
     ///
     /// `OutOfMemory` where memory was refused; then nothing has changed.
     pub fn restrict(&mut self, stock: Symbol) -> Result<(), OutOfMemory>
-        ensures kind { OnOk result (kind_of self.new
-            ≡ with_stocks (with_stock stock) (kind_of self.old)) }
-        ensures refused { OnErr result (kind_of self.new ≡ kind_of self.old) }
+        ensures kind { OnOk result (book_kind self.new
+            ≡ with_stocks (with_stock stock) (book_kind self.old)) }
+        ensures refused { OnErr result (book_kind self.new ≡ book_kind self.old) }
         ensures scope { self.new.scope ≡ self.old.scope }
     {
         self.stocks.insert(stock)?;
@@ -138,7 +138,8 @@ impl BookRule {
 
     /// Takes the stock off the rule's list.
     pub fn unrestrict(&mut self, stock: Symbol)
-        ensures kind { kind_of self.new ≡ with_stocks (without_stock stock) (kind_of self.old) }
+        ensures kind { book_kind self.new
+            ≡ with_stocks (without_stock stock) (book_kind self.old) }
         ensures scope { self.new.scope ≡ self.old.scope }
     {
         self.stocks.shift_remove(&stock);
@@ -153,7 +154,7 @@ impl BookRule {
         figures: &F,
         w: &ProposedOrder,
     ) -> bool
-        ensures { result ≡ kind_forbids (kind_of self.now) (F.told figures.now place) w.now }
+        ensures { result ≡ kind_forbids (book_kind self.now) (F.told figures.now place) w.now }
     {
         match &self.kind {
             RuleKind::Listed(_, _) => is_among(&self.stocks, w.stock),

@@ -4,7 +4,7 @@ ghost use Rattle.std.specs.{Prelude.{◌≡◌, ◌≤◌, ◌+◌, find, length
 ghost use Rattle.gx_units.specs.Names.{same_account};
 ghost use Rattle.gx_history.specs.{Asking.knows_stocks, Rules.{applies, rules_with_figures, figured_from, first_forbidding, first_file_rule, written_order, IsFirstForbidding}};
 ghost use Rattle.gx_policy.specs.People.{rule_in};
-ghost use Rattle.gx_rules.specs.{Books.{lists_once, names_differ, rules_of}, Places.{forbids_at, named_at, AreTied}, Settings.{covers_in, limit_in, lists_in, with_stock_restricted, with_stock_unrestricted, with_limit_of}};
+ghost use Rattle.gx_rules.specs.{Books.{lists_once, rule_names_differ, rules_of_entries}, Places.{forbids_at, named_at, AreTied}, Settings.{covers_in, limit_in, lists_in, with_stock_restricted, with_stock_unrestricted, with_limit_of}};
 
 use crate::book_rule::BookRule;
 use crate::order::{first_before, first_behind};
@@ -32,21 +32,21 @@ pub struct RuleBook {
 impl Model for RuleBook {
     ghost use Rattle.std.specs.Prelude.{List};
     ghost use Rattle.gx_policy.specs.declared.policy.FileRule.{FileRule};
-    ghost use Rattle.gx_rules.specs.Books.{rules_of};
+    ghost use Rattle.gx_rules.specs.Books.{rules_of_entries};
     ghost use Rattle.gx_rules.specs.Places.{AreTied};
 
     ghost Value = { List FileRule };
 
-    ghost view = { λ book. rules_of book.rules.entries };
+    ghost view = { λ book. rules_of_entries book.rules.entries };
 
     ghost invariant = { λ book. AreTied book.rules.entries book.by_account.entries };
 }
 
 /// The rules, each under its name.
 fn kept_rules(alloc: Global, rules: &[FileRule]) -> Result<IndexMap<RuleId, BookRule>, OutOfMemory>
-    requires names_differ { IsTrue (names_differ rules.now) }
+    requires names_differ { IsTrue (rule_names_differ rules.now) }
     requires stocks_differ { IsTrue (list_all lists_once rules.now) }
-    ensures { IfOk result (λ r. rules_of r.entries ≡ rules.now) }
+    ensures { IfOk result (λ r. rules_of_entries r.entries ≡ rules.now) }
 {
     let mut kept = IndexMap::new(alloc);
     for rule in rules {
@@ -65,7 +65,8 @@ fn first_from<F: TellsFigures>(
 ) -> Option<RuleName>
     requires fits { place + length entries ≤ 128 }
     ensures { result ≡ first_file_rule
-        (figured_from (F.told figures.now) place (rules_of entries.entry)) facts.now request.now }
+        (figured_from (F.told figures.now) place (rules_of_entries entries.entry))
+        facts.now request.now }
 {
     let Some(((name, rule), entries_left)) = entries.split_first() else {
         return None;
@@ -159,7 +160,7 @@ fn first_of_file<F: TellsFigures>(
 ) -> Option<RuleName>
     requires tied { AreTied rules.now.entries by_account.now.entries }
     ensures { result ≡ first_file_rule
-        (rules_with_figures (F.told figures.now) (rules_of rules.now.entries))
+        (rules_with_figures (F.told figures.now) (rules_of_entries rules.now.entries))
         facts.now request.now }
 {
     let Some(account) = facts.account else {
@@ -185,7 +186,7 @@ fn first_in_order<F: TellsFigures>(
 ) -> Option<RuleName>
     requires tied { AreTied rules.now.entries by_account.now.entries }
     ensures { result ≡ first_forbidding
-        (rules_with_figures (F.told figures.now) (rules_of rules.now.entries))
+        (rules_with_figures (F.told figures.now) (rules_of_entries rules.now.entries))
         facts.now request.now }
 {
     match first_before(facts, request) {

@@ -22,12 +22,12 @@ const NOT_REGULAR: &str = "the name with .tmp behind it is not a regular file's"
 #[derive(Drop)]
 pub struct AuditFile<'a> {
     path: &'a str,
-    way: Way,
+    way: AuditWay,
 }
 
 /// How the audit comes there.
 #[derive(Drop)]
-enum Way {
+enum AuditWay {
     /// It is written into what the name leads to: a device, or a file behind a symbolic link.
     Through(File),
     /// The same, for a named pipe: to open it waits for a reader.
@@ -128,11 +128,15 @@ fn open_beside<'a>(
 }
 
 /// The audit's file where a regular file stands or nothing does.
-fn way_beside<'a>(rt: &HostRuntime, named: Named<'a>, path: &'a str) -> Result<Way, Failure<'a>> {
+fn way_beside<'a>(
+    rt: &HostRuntime,
+    named: Named<'a>,
+    path: &'a str,
+) -> Result<AuditWay, Failure<'a>> {
     let standing = claim(rt, path)?;
     let name = name_beside(rt, path)?;
     let file = open_beside(rt, named, path, name.as_str())?;
-    Ok(Way::Beside(Beside {
+    Ok(AuditWay::Beside(Beside {
         name,
         file,
         standing,
@@ -140,15 +144,15 @@ fn way_beside<'a>(rt: &HostRuntime, named: Named<'a>, path: &'a str) -> Result<W
 }
 
 /// The audit's file where something else stands.
-fn way_through<'a>(rt: &HostRuntime, path: &'a str) -> Result<Way, Failure<'a>> {
+fn way_through<'a>(rt: &HostRuntime, path: &'a str) -> Result<AuditWay, Failure<'a>> {
     if let Ok(found) = fs::metadata(rt, path) {
         if found.file_type().is_fifo() {
-            return Ok(Way::Pipe);
+            return Ok(AuditWay::Pipe);
         }
     }
     match open_to_write(rt, path, true) {
-        Ok(file) if identity(&file).is_some() => Ok(Way::Through(lock(path, file)?)),
-        Ok(file) => Ok(Way::Through(file)),
+        Ok(file) if identity(&file).is_some() => Ok(AuditWay::Through(lock(path, file)?)),
+        Ok(file) => Ok(AuditWay::Through(file)),
         Err(error) => Err(unwritten(path, error)),
     }
 }
@@ -264,9 +268,9 @@ impl<'a> AuditFile<'a> {
     ) -> Result<(), Failure<'a>> {
         let AuditFile { path, way } = self;
         match way {
-            Way::Through(file) => write_through(version, gate, path, &file),
-            Way::Pipe => write_pipe(rt, version, gate, path),
-            Way::Beside(beside) => {
+            AuditWay::Through(file) => write_through(version, gate, path, &file),
+            AuditWay::Pipe => write_pipe(rt, version, gate, path),
+            AuditWay::Beside(beside) => {
                 write_through(version, gate, path, &beside.file)?;
                 beside.put(rt, path)
             }
@@ -275,7 +279,7 @@ impl<'a> AuditFile<'a> {
 
     /// Lets the file go where there is nothing to be written.
     fn leave(self, rt: &HostRuntime) {
-        if let Way::Beside(beside) = self.way {
+        if let AuditWay::Beside(beside) = self.way {
             let _ = fs::remove_file(rt, beside.name.as_str());
         }
     }

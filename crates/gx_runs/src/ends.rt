@@ -17,7 +17,7 @@ use std::time::{Clock, Duration};
 use std::{fmt, fs, thread};
 
 /// So many milliseconds lie between two looks at the clock and for the file.
-const LOOK: u64 = 100;
+const POLL_MILLIS: u64 = 100;
 
 /// The nanoseconds of a second.
 const SECOND: u64 = 1_000_000_000;
@@ -136,7 +136,7 @@ fn await_end<R: Wait + Clock>(
             control.end();
             return;
         }
-        thread::sleep(rt, Duration::from_millis(LOOK));
+        thread::sleep(rt, Duration::from_millis(POLL_MILLIS));
     }
 }
 

@@ -22,7 +22,7 @@ use std::time::{Clock, Duration};
 use std::{fs, thread};
 
 /// So many milliseconds lie between two looks at a journal that has nothing new.
-const LOOK: u64 = 50;
+const POLL_MILLIS: u64 = 50;
 
 /// What is told of a journal that has become shorter.
 const SHORTER: &str = "another program has made the file shorter";
@@ -132,7 +132,7 @@ fn await_turn<'a, R: Wait + Clock, G: AccessGate>(
             return Ok(true);
         }
         if !is_long {
-            thread::sleep(rt, Duration::from_millis(LOOK));
+            thread::sleep(rt, Duration::from_millis(POLL_MILLIS));
         }
     }
     Ok(false)

@@ -3,8 +3,8 @@ use Rattle.std.proofs.{Common.{◌≡◌, ℕ, ◌+◌, ◌-◌, ◌<◌, ◌≤
 use Rattle.std.specs.Prelude.{fold, slice_index}
 use Rattle.gx_access_gate.specs.Gates.{GateData}
 use Rattle.gx_devices.specs.Stopping.{trail}
-use Rattle.gx_script_text.specs.{Words.◌>>=◌, ScriptLines.{without_cr, is_too_long, line_within, line_of}}
-use Rattle.gx_script_run.specs.{Scripting.{effect_of, line_effect, ScriptRun, run_before_lines, with_line, on_line, Cut, on_byte, cut_of, after_lines, script_of, is_settled}, ScriptPiping.{ReadScript, read_byte, so_far, mark, byte_marks, is_over}, ScriptTexts.{with_line_end, has_no_end}}
+use Rattle.gx_script_text.specs.{Words.◌>>=◌, ScriptLines.{without_cr, is_too_long, line_within, script_line}}
+use Rattle.gx_script_run.specs.{Scripting.{effect_of, line_effect, ScriptRun, run_before_lines, with_script_line, on_line, Cut, on_byte, cut_of, after_lines, script_of, is_settled}, ScriptPiping.{ReadScript, read_byte, so_far, mark, byte_marks, is_over}, ScriptTexts.{with_line_end, has_no_end}}
 
 -- a script and what was read of it: the lines that have ended, and the bytes behind them
 read_as_cut : (before : GateData) (tail : List ℕ) (cut : Cut)
@@ -82,16 +82,16 @@ long_is_too_long line h = lt-ltb 1024 _ (omega (arith, h, (without_cr_keeps line
 
 -- a line that is too long is bad
 pub long_is_bad : (gate : GateData) (line : List ℕ) → is_too_long line ≡ true → line_effect gate line ≡ None
-unfolding line_effect line_of
+unfolding line_effect script_line
 long_is_bad gate line h = ap (λ b. (cond b None (line_within (without_cr line))) >>= effect_of gate) h
 
 on_over : (run : ScriptRun) (line : List ℕ) → is_some run.bad ≡ true → on_line run line ≡ run
 unfolding on_line
-on_over run line over = ap (λ b. cond b run (with_line run (line_effect run.gate line))) over
+on_over run line over = ap (λ b. cond b run (with_script_line run (line_effect run.gate line))) over
 
-on_long : (run : ScriptRun) (line : List ℕ) → is_some run.bad ≡ false → is_too_long line ≡ true → on_line run line ≡ with_line run None
+on_long : (run : ScriptRun) (line : List ℕ) → is_some run.bad ≡ false → is_too_long line ≡ true → on_line run line ≡ with_script_line run None
 unfolding on_line
-on_long run line good long = ap (λ b. cond b run (with_line run (line_effect run.gate line))) good ∙ ap (with_line run) (long_is_bad run.gate line long)
+on_long run line good long = ap (λ b. cond b run (with_script_line run (line_effect run.gate line))) good ∙ ap (with_script_line run) (long_is_bad run.gate line long)
 
 pub either : (a b : Bool) → (a || b) ≡ true → a ≡ false → b ≡ true
 either true b h k = cc

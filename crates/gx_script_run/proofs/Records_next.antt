@@ -7,8 +7,8 @@ use Rattle.gx_policy.specs.People.{user_in}
 use Rattle.gx_laws.proofs.Matches_end.{settled_adds}
 use Rattle.gx_devices.specs.Stopping.{AreFirst}
 use Rattle.gx_devices.proofs.Run_stopped.{first_same, first_then}
-use Rattle.gx_access_gate.specs.{Gates.GateData, Asking.{asked_by, gate_after_step}, Matches.next_match}
-use Rattle.gx_script_text.specs.{declared.line.ScriptLine.{ScriptLine, TheVariants.{Skipped, Step, Match, Settle, Stream}}, Printing.{outcome_line, refused_line}, ScriptLines.line_of, Words.◌>>=◌}
+use Rattle.gx_access_gate.specs.{Gates.GateData, Asking.{request_on_line_1, gate_after_step}, Matches.next_match}
+use Rattle.gx_script_text.specs.{declared.line.ScriptLine.{ScriptLine, TheVariants.{Skipped, Step, Match, Settle, Stream}}, Printing.{outcome_line, refused_line}, ScriptLines.script_line, Words.◌>>=◌}
 use Rattle.gx_script_run.specs.Scripting.{Printed, is_full, refuses, request_of_step, step_of, match_by, match_of, most_records, settle_of, effect_of, line_effect}
 
 pub record GoesOn (before now : GateData) : Type 0 where
@@ -74,7 +74,7 @@ made_on gate a = at (refuses gate a)
 effect_on : (gate : GateData) (line : ScriptLine) → EffectGoesOn gate (effect_of gate line)
 unfolding effect_of
 effect_on gate Skipped = here gate
-effect_on gate (Step moment user step) = made_on gate (asked_by user (request_of_step gate user step) moment)
+effect_on gate (Step moment user step) = made_on gate (request_on_line_1 user (request_of_step gate user step) moment)
 effect_on gate (Match moment) = match_on gate moment
 effect_on gate (Settle moment) = settle_on gate moment
 effect_on gate (Stream user) = at (is_some (user_in gate.policy.users user)) _
@@ -85,7 +85,7 @@ effect_on gate (Stream user) = at (is_some (user_in gate.policy.users user)) _
 
 pub line_effect_on : (gate : GateData) (line : List ℕ) → EffectGoesOn gate (line_effect gate line)
 unfolding line_effect
-line_effect_on gate line = at (line_of line)
+line_effect_on gate line = at (script_line line)
   where
     at : (found : Option ScriptLine) → EffectGoesOn gate (found >>= effect_of gate)
     at None = tt

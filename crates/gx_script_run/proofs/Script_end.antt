@@ -5,7 +5,7 @@ use Rattle.gx_access_gate.specs.Gates.{GateData}
 use Rattle.gx_devices.specs.{declared.fault.WriteFault.WriteFault, Pieces.Flow, Stopping.{MayEnd, trail}}
 use Rattle.gx_devices.specs.Pieces as pieces
 use Rattle.gx_devices.proofs.Run_pieces.{Stands, all_of_whole, cut_in, cut_there, stands_first, whole}
-use Rattle.gx_script_run.specs.{declared.script_fault.ScriptFault.ScriptFault, Scripting.{ScriptRun, on_line, script_of, is_settled}, ScriptPiping.{ReadScript, read_byte, so_far, mark, byte_marks, way, IsAt, cause_of, fault_of_write, Refused, good_read, bad_at, EndsLine, StopsAtLine, TakesPiece, is_over, FindsBad, StopsInPiece, IsSoFar, IsScript, IsAll, IsLast, IsCutShort, IfBadLine, UnlessBadLine}}
+use Rattle.gx_script_run.specs.{declared.script_fault.ScriptFault.ScriptFault, Scripting.{ScriptRun, on_line, script_of, is_settled}, ScriptPiping.{ReadScript, read_byte, so_far, mark, byte_marks, way, IsAt, cause_of, fault_of_write, Refused, good_read, bad_at, EndsLine, StopsAtLine, TakesScriptPiece, is_over, FindsBad, StopsInPiece, IsSoFar, IsScript, IsAll, IsLast, IsScriptCutShort, IfBadLine, UnlessBadLine}}
 use Rattle.gx_script_run.proofs.Lines_cut.{finish, nothing_follows, script_is, settled_is, so_far_more}
 
 pub unless_bad : (fault : WriteFault) (P : Type 0) → P → UnlessBadLine (fault_of_write fault) P
@@ -32,7 +32,7 @@ module _ (before gate : GateData) (rest : List ℕ) (lines : ℕ) where
   piece_more : (bytes piece : List ℕ) → IsSoFar before gate rest lines bytes → so_far before (bytes ++ piece) ≡ fold read_byte (good_read gate rest lines (so_far before bytes).run.text) piece
   piece_more bytes piece s = so_far_more before bytes piece ∙ ap (λ r. fold read_byte r piece) s.0
 
-  pub takes : (bytes piece : List ℕ) (now : GateData) (rest' : List ℕ) (lines' : ℕ) (output left : Option (List ℕ)) → IsSoFar before gate rest lines bytes → TakesPiece gate rest lines piece now rest' lines' output left → length rest' ≤ 1026
+  pub takes : (bytes piece : List ℕ) (now : GateData) (rest' : List ℕ) (lines' : ℕ) (output left : Option (List ℕ)) → IsSoFar before gate rest lines bytes → TakesScriptPiece gate rest lines piece now rest' lines' output left → length rest' ≤ 1026
       → pieces.TakesPiece (way before) (IsSoFar before now rest' lines') bytes piece output left
   takes bytes piece now rest' lines' output left s t few =
       let e : so_far before (bytes ++ piece) ≡ good_read now rest' lines' ((so_far before bytes).run.text ++ t.told) = piece_more bytes piece s ∙ t.reads (so_far before bytes).run.text in
@@ -63,7 +63,7 @@ module _ (before gate : GateData) (rest : List ℕ) (lines : ℕ) where
 
       -- a piece was given up
       pub breaks : (left : Option (List ℕ)) (piece : List ℕ) (fault : WriteFault) → Consumes flow.left left piece → length piece ≤ 4096 → StopsInPiece gate rest lines piece now flow.written written fault
-          → IsCutShort (record flow { left = left; written = written }) before now (fault_of_write fault)
+          → IsScriptCutShort (record flow { left = left; written = written }) before now (fault_of_write fault)
       breaks left piece fault took small cut = cut_in (way before) _ flow s Refused (λ r. IsAt now None) _ _ left written piece took small (record {
         items = piece;
         are_next = record { held = held_is s.bytes s.follows; are = inl refl };
@@ -77,7 +77,7 @@ module _ (before gate : GateData) (rest : List ℕ) (lines : ℕ) where
           whole (way before) _ flow s (λ bytes. mark (script_of before bytes)) (is_settled before) (IsAt now (bad_at is_bad n)) written d.told (record { gate = sym (ap (λ (r : ScriptRun). r.gate) e); first_bad = ap (λ (r : ScriptRun). r.bad) e }) (ap (λ (r : ScriptRun). r.text) e) d.written (inl end)
 
       -- or was given up
-      pub stops : (fault : WriteFault) → IsAtEnd flow.left → StopsAtLine gate lines rest now flow.written written fault → IsCutShort (record flow { written = written }) before now (fault_of_write fault)
+      pub stops : (fault : WriteFault) → IsAtEnd flow.left → StopsAtLine gate lines rest now flow.written written fault → IsScriptCutShort (record flow { written = written }) before now (fault_of_write fault)
       stops fault end cut = cut_in (way before) _ flow s Refused (λ r. IsAt now None) _ _ flow.left written [] (Consumes-nil flow.left) (omega arith) (record {
         items = 10 ∷ [];
         are_next = record { held = held_is s.bytes s.follows; are = inr (refl, refl, at_last fault (IsAtEnd flow.left) end) };
@@ -85,7 +85,7 @@ module _ (before gate : GateData) (rest : List ℕ) (lines : ℕ) where
       })
 
     -- a read that failed, or one too many
-    pub stops_reading : (fault : ScriptFault) → MayEnd (cause_of fault) → (left : Option (List ℕ)) → Keeps flow.left left → IsCutShort (record flow { left = left }) before gate fault
+    pub stops_reading : (fault : ScriptFault) → MayEnd (cause_of fault) → (left : Option (List ℕ)) → Keeps flow.left left → IsScriptCutShort (record flow { left = left }) before gate fault
     stops_reading fault may left kept =
         cut_there (way before) _ flow s Refused (λ r. IsAt gate None) _ (cause_of fault) left kept may (here_is s.bytes s.follows) (record { held = held_is s.bytes s.follows; are = inl refl })
 

@@ -6,7 +6,7 @@ use Rattle.gx_devices.specs.{declared.fault.WriteFault.WriteFault, Devices.IsFro
 use Rattle.gx_devices.proofs.{Run_pieces.{items_cut, pauses, refused, unsent}, Run_stopped.last_of}
 use Rattle.gx_history.specs.declared.record.RecordData.{RecordData}
 use Rattle.gx_script_text.specs.ScriptLines.{is_too_long}
-use Rattle.gx_script_run.specs.{Leaving.IsHalf, Scripting.{Printed, line_effect, ScriptRun, with_line, on_line}, ScriptPiping.{ReadScript, read_byte, Known, mark, byte_marks, IsAt, cause_of, fault_of_write, Refused, good, good_read, StopsIn, EndsLine, StopsAtLine, TakesPiece, is_over, FindsBad, StopsInPiece}, ScriptTexts.{with_line_end, has_no_end}}
+use Rattle.gx_script_run.specs.{Leaving.IsHalf, Scripting.{Printed, line_effect, ScriptRun, with_script_line, on_line}, ScriptPiping.{ReadScript, read_byte, Known, mark, byte_marks, IsAt, cause_of, fault_of_write, Refused, good, good_read, ScriptStopsIn, EndsLine, StopsAtLine, TakesScriptPiece, is_over, FindsBad, StopsInPiece}, ScriptTexts.{with_line_end, has_no_end}}
 use Rattle.gx_script_run.proofs.{Records_next.{GoesOn, EffectGoesOn, line_effect_on}, Lines_cut.{finish, goes_on, line_ends, long_is_bad, no_marks, over_more}}
 
 -- A line.
@@ -18,7 +18,7 @@ module _ (gate : GateData) (lines : ℕ) (line : List ℕ) (now : GateData) wher
   ends_good count output left told piece effect same written counted = record {
     told = told;
     written = subst (Appends output left) same written;
-    does = λ text. ap (with_line (good gate lines text)) effect ∙ ap (λ n. good now n (text ++ told)) (sym counted);
+    does = λ text. ap (with_script_line (good gate lines text)) effect ∙ ap (λ n. good now n (text ++ told)) (sym counted);
   }
 
   pub ends_bad : (count : ℕ) (output : Option (List ℕ)) → line_effect gate line ≡ None → now ≡ gate → count ≡ lines + 1 → EndsLine gate lines line true now count output output
@@ -27,7 +27,7 @@ module _ (gate : GateData) (lines : ℕ) (line : List ℕ) (now : GateData) wher
     told = [];
     written = Appends-nil output;
     does = λ text.
-        ap (with_line (good gate lines text)) effect
+        ap (with_script_line (good gate lines text)) effect
         ∙ ap (λ (t : List ℕ). record { gate = gate; text = t; lines = lines + 1; bad = Some (lines + 1) }) (sym (append-nil text))
         ∙ ap (λ (n : ℕ). record { gate = gate; text = text ++ []; lines = n; bad = Some n }) (sym counted)
         ∙ ap (λ (g : GateData). record { gate = g; text = text ++ []; lines = count; bad = Some count }) (sym same);
@@ -37,25 +37,25 @@ module _ (gate : GateData) (lines : ℕ) (line : List ℕ) (now : GateData) wher
   pub half_written : (output left : Option (List ℕ)) (told piece : List ℕ) → line_effect gate line ≡ Some (record { gate = now; text = told }) → piece ≡ told → IsFront output left piece → StopsAtLine gate lines line now output left WriteFault.WriteFailed
   unfolding on_line
   half_written output left told piece effect same f text more =
-      subst (λ (e : Option Printed). StopsIn (good gate lines text) (mark (with_line (good gate lines text) e) ∷ more) WriteFault.WriteFailed now output left) (sym effect)
+      subst (λ (e : Option Printed). ScriptStopsIn (good gate lines text) (mark (with_script_line (good gate lines text) e) ∷ more) WriteFault.WriteFailed now output left) (sym effect)
       (unsent Refused (IsAt now None) Writing (mark (good gate lines text)) _ more output left piece f (ap (λ t. text ++ t) (sym same)) tt (record { gate = refl; first_bad = refl }))
 
   -- of its records the first were made, and nothing was written
   pub half_done : (output : Option (List ℕ)) → IsHalf gate (line_effect gate line) now → StopsAtLine gate lines line now output output WriteFault.OutOfMemory
   unfolding on_line
   half_done output (inl same) text more = pauses Refused (IsAt now None) (mark (good gate lines text)) (mark (on_line (good gate lines text) line) ∷ more) output (record { gate = same; first_bad = refl })
-  half_done output (inr h) text more = subst (λ (r : ScriptRun). StopsIn run (mark r ∷ more) WriteFault.OutOfMemory now output output) (sym done) (by h.left.others h.left.whole)
+  half_done output (inr h) text more = subst (λ (r : ScriptRun). ScriptStopsIn run (mark r ∷ more) WriteFault.OutOfMemory now output output) (sym done) (by h.left.others h.left.whole)
     where
       run : ScriptRun
       run = good gate lines text
 
-      done : on_line (good gate lines text) line ≡ with_line (good gate lines text) (Some h.printed)
-      done = ap (with_line (good gate lines text)) h.is_its
+      done : on_line (good gate lines text) line ≡ with_script_line (good gate lines text) (Some h.printed)
+      done = ap (with_script_line (good gate lines text)) h.is_its
 
       effect : GoesOn gate h.printed.gate
       effect = subst (EffectGoesOn gate) h.is_its (line_effect_on gate line)
 
-      by : (others : List RecordData) → h.printed.gate.records ≡ now.records ++ others → StopsIn run (mark (with_line run (Some h.printed)) ∷ more) WriteFault.OutOfMemory now output output
+      by : (others : List RecordData) → h.printed.gate.records ≡ now.records ++ others → ScriptStopsIn run (mark (with_script_line run (Some h.printed)) ∷ more) WriteFault.OutOfMemory now output output
       by [] e =
           let same : now ≡ h.printed.gate = ap (λ p. record { policy = p; records = now.records }) (h.policy_kept ∙ sym effect.policy_kept) ∙ ap (λ rs. record { policy = h.printed.gate.policy; records = rs }) (sym (e ∙ append-nil now.records)) in
           unsent Refused (IsAt now None) Memory (mark run) _ more output output h.printed.text (record { front = []; rest = h.printed.text; written = Appends-nil output; whole = refl }) refl refl (record { gate = same; first_bad = refl })
@@ -69,23 +69,23 @@ module _ (gate : GateData) (lines : ℕ) (line : List ℕ) (now : GateData) wher
 pub byte_ends : (r : ReadScript) (byte : ℕ) → last_of (mark r.run) (byte_marks r byte) ≡ mark (read_byte r byte).run
 byte_ends r byte = elim (byte == 10) as (λ b. last_of (mark r.run) (cond b (mark (on_line r.run r.rest) ∷ []) []) ≡ mark (cond {A = ReadScript} b (record { run = on_line r.run r.rest; rest = [] }) (record { run = r.run; rest = r.rest ++ byte ∷ [] })).run) [ true ↦ refl | false ↦ refl ]
 
-pub takes_none : (gate : GateData) (held : List ℕ) (lines : ℕ) (output : Option (List ℕ)) → TakesPiece gate held lines [] gate held lines output output
+pub takes_none : (gate : GateData) (held : List ℕ) (lines : ℕ) (output : Option (List ℕ)) → TakesScriptPiece gate held lines [] gate held lines output output
 takes_none gate held lines output = record { told = []; written = Appends-nil output; reads = λ text. ap (good_read gate held lines) (sym (append-nil text)) }
 
-module _ (gate : GateData) (held : List ℕ) (lines : ℕ) (done : List ℕ) (mid : GateData) (rest : List ℕ) (n : ℕ) (output middle : Option (List ℕ)) (t : TakesPiece gate held lines done mid rest n output middle) where
+module _ (gate : GateData) (held : List ℕ) (lines : ℕ) (done : List ℕ) (mid : GateData) (rest : List ℕ) (n : ℕ) (output middle : Option (List ℕ)) (t : TakesScriptPiece gate held lines done mid rest n output middle) where
   -- what was read with these bytes behind them
   behind : (text piece more : List ℕ) → piece ≡ done ++ more → fold read_byte (good_read gate held lines text) piece ≡ fold read_byte (good_read mid rest n (text ++ t.told)) more
   behind text piece more split =
       ap (fold read_byte (good_read gate held lines text)) split ∙ (fold-append read_byte (good_read gate held lines text) done more ∙ ap (λ r. fold read_byte r more) (t.reads text))
 
   stops_behind : (fault : WriteFault) (now : GateData) (left : Option (List ℕ)) (text piece more : List ℕ) → piece ≡ done ++ more
-      → (let r = good_read mid rest n (text ++ t.told) in StopsIn r.run (trail byte_marks read_byte r more) fault now middle left)
-      → (let r = good_read gate held lines text in StopsIn r.run (trail byte_marks read_byte r piece) fault now output left)
+      → (let r = good_read mid rest n (text ++ t.told) in ScriptStopsIn r.run (trail byte_marks read_byte r more) fault now middle left)
+      → (let r = good_read gate held lines text in ScriptStopsIn r.run (trail byte_marks read_byte r piece) fault now output left)
   stops_behind fault now left text piece more split s =
       let r = good_read gate held lines text in
-      subst (λ bytes. StopsIn r.run (trail byte_marks read_byte r bytes) fault now output left) (sym split)
+      subst (λ bytes. ScriptStopsIn r.run (trail byte_marks read_byte r bytes) fault now output left) (sym split)
       (items_cut (λ (x : ReadScript). mark x.run) byte_marks read_byte byte_ends Refused (IsAt now None) (IsAt now None) (λ m h. h) (cause_of (fault_of_write fault)) done more r t.told output middle left (ap (λ (x : ReadScript). x.run.text) (t.reads text)) t.written
-      (subst (λ (x : ReadScript). StopsIn x.run (trail byte_marks read_byte x more) fault now middle left) (sym (t.reads text)) s))
+      (subst (λ (x : ReadScript). ScriptStopsIn x.run (trail byte_marks read_byte x more) fault now middle left) (sym (t.reads text)) s))
 
   -- no growth for the others
   pub pauses_here : (piece more : List ℕ) → piece ≡ done ++ more → StopsInPiece gate held lines piece mid output middle WriteFault.OutOfMemory
@@ -95,7 +95,7 @@ module _ (gate : GateData) (held : List ℕ) (lines : ℕ) (done : List ℕ) (mi
 
   module _ (line : List ℕ) (goes : has_no_end line ≡ true) where
     -- the bytes behind them end no line
-    pub takes_front : (piece rest' : List ℕ) (count : ℕ) → piece ≡ done ++ line → rest' ≡ rest ++ line → count ≡ n → TakesPiece gate held lines piece mid rest' count output middle
+    pub takes_front : (piece rest' : List ℕ) (count : ℕ) → piece ≡ done ++ line → rest' ≡ rest ++ line → count ≡ n → TakesScriptPiece gate held lines piece mid rest' count output middle
     takes_front piece rest' count split held_is same = record {
       told = t.told;
       written = t.written;
@@ -137,10 +137,10 @@ module _ (gate : GateData) (held : List ℕ) (lines : ℕ) (done : List ℕ) (mi
       stops_line now left fault d text =
           let r = good_read mid rest n (text ++ t.told) in
           stops_behind fault now left text piece (with_line_end line ++ tail) split
-          (subst (λ ms. StopsIn r.run ms fault now middle left) (sym (ap (trail byte_marks read_byte r) (append_assoc line (10 ∷ []) tail) ∙ no_marks line (10 ∷ tail) r goes)) (d (text ++ t.told) _))
+          (subst (λ ms. ScriptStopsIn r.run ms fault now middle left) (sym (ap (trail byte_marks read_byte r) (append_assoc line (10 ∷ []) tail) ∙ no_marks line (10 ∷ tail) r goes)) (d (text ++ t.told) _))
 
     -- or was done
-    pub takes_line : (rest' : List ℕ) (now : GateData) (count : ℕ) (left : Option (List ℕ)) → EndsLine mid n (rest ++ line) false now count middle left → rest' ≡ [] → TakesPiece gate held lines (done ++ with_line_end line) now rest' count output left
+    pub takes_line : (rest' : List ℕ) (now : GateData) (count : ℕ) (left : Option (List ℕ)) → EndsLine mid n (rest ++ line) false now count middle left → rest' ≡ [] → TakesScriptPiece gate held lines (done ++ with_line_end line) now rest' count output left
     takes_line rest' now count left d none = record {
       told = t.told ++ d.told;
       written = Appends-trans output middle left t.told d.told t.written d.written;

@@ -5,18 +5,18 @@ use Rattle.gx_devices.specs.{Devices.IsFront, Pieces.Flow, Stopping.AreFirst}
 use Rattle.gx_devices.proofs.Run_stopped.{Leads, Rises, first_same, items_lead, leads_same, leads_then}
 use Rattle.gx_devices.proofs.Run_pieces as pieces
 use Rattle.gx_access_gate.specs.Gates.{GateData}
-use Rattle.gx_script_run.specs.{declared.script_fault.ScriptFault.ScriptFault, Scripting.{Printed, line_effect, ScriptRun, with_line, on_line, script_of}, ScriptPiping.{ReadScript, read_byte, so_far, mark, byte_marks, way, IsAt, cause_of, Refused, IsLast, IsCutShort}}
+use Rattle.gx_script_run.specs.{declared.script_fault.ScriptFault.ScriptFault, Scripting.{Printed, line_effect, ScriptRun, with_script_line, on_line, script_of}, ScriptPiping.{ReadScript, read_byte, so_far, mark, byte_marks, way, IsAt, cause_of, Refused, IsLast, IsScriptCutShort}}
 use Rattle.gx_script_run.proofs.{Records_next.{EffectGoesOn, line_effect_on}, Lines_cut.{script_is, so_far_more}, Script_next.byte_ends}
 
 line_leads : (run : ScriptRun) (line : List ℕ) → Leads (mark run) (mark (on_line run line))
 unfolding on_line
 line_leads run line = at (is_some run.bad)
   where
-    does : (e : Option Printed) → EffectGoesOn run.gate e → Leads (mark run) (mark (with_line run e))
+    does : (e : Option Printed) → EffectGoesOn run.gate e → Leads (mark run) (mark (with_script_line run e))
     does None h = record { records = first_same run.gate.records run.gate.records refl; text = first_same run.text run.text refl }
     does (Some done) h = record { records = h.records; text = record { others = done.text; whole = refl } }
 
-    at : (b : Bool) → Leads (mark run) (mark (cond b run (with_line run (line_effect run.gate line))))
+    at : (b : Bool) → Leads (mark run) (mark (cond b run (with_script_line run (line_effect run.gate line))))
     at true = leads_same (mark run) (mark run) refl
     at false = does (line_effect run.gate line) (line_effect_on run.gate line)
 
@@ -44,7 +44,7 @@ to_the_end before fault left bytes piece items rest (inr h) is =
     leads_same (mark (fold read_byte (so_far before bytes) items).run) (mark (script_of before ((bytes ++ piece) ++ rest)))
     (ap (λ xs. mark (fold read_byte (so_far before bytes) xs).run) h.1 ∙ ap mark (sym (ap (script_of before) all ∙ script_is before bytes)))
 
-module _ (flow : Flow) (before after : GateData) (fault : ScriptFault) (f : IsCutShort flow before after fault) where
+module _ (flow : Flow) (before after : GateData) (fault : ScriptFault) (f : IsScriptCutShort flow before after fault) where
   leads : (rest : List ℕ) → flow.left ≡ Some rest → Leads (mark (fold read_byte (so_far before f.bytes) f.broken.items).run) (mark (script_of before ((f.bytes ++ f.piece) ++ rest)))
   leads rest is = to_the_end before fault flow.left f.bytes f.piece f.broken.items rest f.broken.are_next.are is
 

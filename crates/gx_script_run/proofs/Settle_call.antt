@@ -7,7 +7,7 @@ use Rattle.gx_laws.proofs.{Runs_orderly.legal_is_orderly, Matches_end.{settled_a
 use Rattle.gx_matching.specs.Meeting.{match_record}
 use Rattle.gx_access_gate.specs.{Gates.GateData, Matches.{matching_of, next_match}}
 use Rattle.gx_script_text.specs.Printing.{idle_line, outcome_line, refused_line}
-use Rattle.gx_script_run.specs.{Leaving.IsHalf, Scripting.{Printed, is_full, last_line, makes_none, match_by, match_of, most_records, record_lines, settle_of}}
+use Rattle.gx_script_run.specs.{Leaving.IsHalf, Scripting.{Printed, is_full, settling_line, makes_none, match_by, match_of, most_records, record_lines, settle_of}}
 use Rattle.gx_devices.specs.Stopping.{AreFirst}
 use Rattle.gx_devices.proofs.Run_stopped.{first_same}
 use Rattle.gx_script_run.proofs.{Records_next.{GoesOn, here, further, match_on, settle_on, take_front}, Lines_cut.either}
@@ -51,7 +51,7 @@ refused_is gate moment waits full =
 settled_in : PolicyData → (records : List RecordData) (room : ℕ) (more : List RecordData) → Printed
 settled_in policy records room more = record {
   gate = record { policy = policy; records = records ++ take room more };
-  text = record_lines (take room more) ++ last_line (nat_le (length more) room);
+  text = record_lines (take room more) ++ settling_line (nat_le (length more) room);
 }
 
 same_test : (a b : Bool) → (a ≡ true → b ≡ true) → (b ≡ true → a ≡ true) → a ≡ b
@@ -78,19 +78,19 @@ settle_by gate moment more all =
     n = length gate.records
 
     told : List RecordData → List RecordData → Bool → Printed
-    told records news all_fit = record { gate = record { policy = gate.policy; records = records }; text = record_lines news ++ last_line all_fit }
+    told records news all_fit = record { gate = record { policy = gate.policy; records = records }; text = record_lines news ++ settling_line all_fit }
 
     made : take (most_records gate) (gate.records ++ more) ≡ gate.records ++ take (day_limit - n) more
     made = take_front gate.records more (most_records gate) (omega arith) ∙ ap (λ k. gate.records ++ take k more) (omega arith)
 
 -- no record is to come, or there is room for none
 settled_none : (policy : PolicyData) (records : List RecordData) (room : ℕ) (more : List RecordData) (fit : Bool) → nat_le (length more) room ≡ fit → take room more ≡ []
-    → settled_in policy records room more ≡ record { gate = record { policy = policy; records = records }; text = last_line fit }
+    → settled_in policy records room more ≡ record { gate = record { policy = policy; records = records }; text = settling_line fit }
 unfolding settled_in
 settled_none policy records room more fit is none =
-    ap (λ b. printed (records ++ take room more) (record_lines (take room more) ++ last_line b)) is
-    ∙ ap (λ (rs : List RecordData). printed (records ++ rs) (record_lines rs ++ last_line fit)) none
-    ∙ ap (λ (rs : List RecordData). printed rs (last_line fit)) (append-nil records)
+    ap (λ b. printed (records ++ take room more) (record_lines (take room more) ++ settling_line b)) is
+    ∙ ap (λ (rs : List RecordData). printed (records ++ rs) (record_lines rs ++ settling_line fit)) none
+    ∙ ap (λ (rs : List RecordData). printed rs (settling_line fit)) (append-nil records)
   where
     printed : List RecordData → List ℕ → Printed
     printed rs text = record { gate = record { policy = policy; records = rs }; text = text }
@@ -135,9 +135,9 @@ settle_one gate moment r legal left room =
     let one : day_limit - length gate.records ≡ suc more = omega (arith, room, length-append gate.records (r ∷ [])) in
     settle_by gate moment (r ∷ news.0) news.2
     ∙ ap (λ k. settled_in gate.policy gate.records k (r ∷ news.0)) one
-    ∙ ap (λ b. printed (gate.records ++ r ∷ take more news.0) ((outcome_line r.number r.verdict ++ record_lines (take more news.0)) ++ last_line b)) (fits_too (length news.0) more)
-    ∙ ap (λ (rs : List RecordData). printed rs ((outcome_line r.number r.verdict ++ record_lines (take more news.0)) ++ last_line (nat_le (length news.0) more))) (sym (append_assoc gate.records (r ∷ []) (take more news.0)))
-    ∙ ap (printed (after.records ++ take more news.0)) (append_assoc (outcome_line r.number r.verdict) (record_lines (take more news.0)) (last_line (nat_le (length news.0) more)))
+    ∙ ap (λ b. printed (gate.records ++ r ∷ take more news.0) ((outcome_line r.number r.verdict ++ record_lines (take more news.0)) ++ settling_line b)) (fits_too (length news.0) more)
+    ∙ ap (λ (rs : List RecordData). printed rs ((outcome_line r.number r.verdict ++ record_lines (take more news.0)) ++ settling_line (nat_le (length news.0) more))) (sym (append_assoc gate.records (r ∷ []) (take more news.0)))
+    ∙ ap (printed (after.records ++ take more news.0)) (append_assoc (outcome_line r.number r.verdict) (record_lines (take more news.0)) (settling_line (nat_le (length news.0) more)))
     ∙ ap (λ (p : Printed). record { gate = p.gate; text = outcome_line r.number r.verdict ++ p.text }) (sym (settle_by after moment news.0 news.1))
   where
     printed : List RecordData → List ℕ → Printed

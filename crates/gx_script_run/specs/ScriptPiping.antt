@@ -78,8 +78,8 @@ abbrev pub bad_at : Bool → ℕ → Option ℕ
 bad_at is_bad lines = if is_bad then Some lines else None
 
 -- a script with these bytes to come stopped on the way through these marks, and no line was bad
-abbrev pub StopsIn : ScriptRun → List (Mark RecordData Known) → WriteFault → GateData → (output left : Option (List ℕ)) → Type 0
-StopsIn run marks fault now output left = pieces.StopsIn Refused (IsAt now None) (cause_of (fault_of_write fault)) (mark run) marks output left
+abbrev pub ScriptStopsIn : ScriptRun → List (Mark RecordData Known) → WriteFault → GateData → (output left : Option (List ℕ)) → Type 0
+ScriptStopsIn run marks fault now output left = pieces.StopsIn Refused (IsAt now None) (cause_of (fault_of_write fault)) (mark run) marks output left
 
 -- a line was done, and all that it prints was written; or it is bad and did nothing
 pub record EndsLine (gate : GateData) (lines : ℕ) (line : List ℕ) (is_bad : Bool) (now : GateData) (count : ℕ) (output left : Option (List ℕ)) : Type 0 where
@@ -90,10 +90,10 @@ pub record EndsLine (gate : GateData) (lines : ℕ) (line : List ℕ) (is_bad : 
 -- a line was not done, or what it prints not written
 abbrev pub StopsAtLine : GateData → (lines : ℕ) (line : List ℕ) → GateData → (output left : Option (List ℕ)) → WriteFault → Type 0
 StopsAtLine gate lines line now output left fault =
-    (text : List ℕ) (more : List (Mark RecordData Known)) → let run = good gate lines text in StopsIn run (mark (on_line run line) ∷ more) fault now output left
+    (text : List ℕ) (more : List (Mark RecordData Known)) → let run = good gate lines text in ScriptStopsIn run (mark (on_line run line) ∷ more) fault now output left
 
 -- the lines that end in a piece were done, none of them bad, and what they print was written
-pub record TakesPiece (gate : GateData) (held : List ℕ) (lines : ℕ) (piece : List ℕ) (now : GateData) (rest : List ℕ) (count : ℕ) (output left : Option (List ℕ)) : Type 0 where
+pub record TakesScriptPiece (gate : GateData) (held : List ℕ) (lines : ℕ) (piece : List ℕ) (now : GateData) (rest : List ℕ) (count : ℕ) (output left : Option (List ℕ)) : Type 0 where
   pub told : List ℕ
   pub written : Appends output left told
   pub reads : (text : List ℕ) → fold read_byte (good_read gate held lines text) piece ≡ good_read now rest count (text ++ told)
@@ -113,7 +113,7 @@ pub record FindsBad (gate : GateData) (held : List ℕ) (lines : ℕ) (piece : L
 -- in a piece the script stopped
 abbrev pub StopsInPiece : GateData → (held : List ℕ) (lines : ℕ) (piece : List ℕ) → GateData → (output left : Option (List ℕ)) → WriteFault → Type 0
 StopsInPiece gate held lines piece now output left fault =
-    (text : List ℕ) → let r = good_read gate held lines text in StopsIn r.run (trail byte_marks read_byte r piece) fault now output left
+    (text : List ℕ) → let r = good_read gate held lines text in ScriptStopsIn r.run (trail byte_marks read_byte r piece) fault now output left
 
 -- after these bytes, none of whose lines was bad: the gate, what is held back, and how many lines have ended
 abbrev pub IsSoFar : GateData → GateData → (rest : List ℕ) (lines : ℕ) (bytes : List ℕ) → Type 0
@@ -142,8 +142,8 @@ pub record AreNext (before : GateData) (last : Type 0) (bytes piece items : List
 
 -- The lines that ended before the last piece was read were done, none of them bad, and all that they print was written; in
 -- the lines of that piece the script stopped.
-abbrev pub IsCutShort : Flow → (before after : GateData) → ScriptFault → Type 0
-IsCutShort flow before after fault =
+abbrev pub IsScriptCutShort : Flow → (before after : GateData) → ScriptFault → Type 0
+IsScriptCutShort flow before after fault =
     pieces.IsCutShort (way before) Refused (λ r. IsAt after None) (AreNext before (IsLast (cause_of fault) (IsAtEnd flow.left))) (cause_of fault) flow
 
 -- what holds where a line was bad

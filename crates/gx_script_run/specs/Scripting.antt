@@ -3,8 +3,8 @@ use Rattle.std.specs.{Prelude.{ℕ, ◌+◌, max, take, drop, Bool, not, ◌==�
 use Rattle.gx_units.specs.declared.names.UserName.{UserName}
 use Rattle.gx_history.specs.{declared.record.{Asked.Asked, RecordData.RecordData, Request.Request}, Logins.blank_session, Streams.stream, Verdicts.{verdict, day_limit}}
 use Rattle.gx_policy.specs.People.{user_in}
-use Rattle.gx_access_gate.specs.{Gates.GateData, Told.login_of, Matches.{next_match, settled_gate}, Steps.never_refuses, Asking.{asked_by, gate_after_step}}
-use Rattle.gx_script_text.specs.{declared.line.{ScriptStep.{ScriptStep, TheVariants.{Login, Logout, Enter, Replace, Cancel, Command, Raw}}, ScriptLine.{ScriptLine, TheVariants.{Skipped, Step, Match, Settle, Stream}}}, Words.◌>>=◌, ScriptLines.{line_of, is_too_long}, Printing.{idle_line, outcome_line, refused_line, report_lines}}
+use Rattle.gx_access_gate.specs.{Gates.GateData, Reports.login_of, Matches.{next_match, settled_gate}, Steps.never_refuses, Asking.{request_on_line_1, gate_after_step}}
+use Rattle.gx_script_text.specs.{declared.line.{ScriptStep.{ScriptStep, TheVariants.{Login, Logout, Enter, Replace, Cancel, Command, Raw}}, ScriptLine.{ScriptLine, TheVariants.{Skipped, Step, Match, Settle, Stream}}}, Words.◌>>=◌, ScriptLines.{script_line, is_too_long}, Printing.{idle_line, outcome_line, refused_line, report_lines}}
 
 -- what a step asks the gate for
 abbrev pub request_of_step : GateData → UserName → ScriptStep → Request
@@ -60,8 +60,8 @@ abbrev pub most_records : GateData → ℕ
 most_records gate = max (length gate.records) day_limit
 
 -- how settling ends: idle, or refused where the day has no room for all
-abbrev pub last_line : Bool → List ℕ
-last_line fits = if fits then idle_line else refused_line
+abbrev pub settling_line : Bool → List ℕ
+settling_line fits = if fits then idle_line else refused_line
 
 -- matching steps until no order waits, as far as the day has room for their records; a line for each
 unfoldable pub settle_of : GateData → ℕ → Printed
@@ -70,13 +70,13 @@ settle_of gate moment =
     let made = take (most_records gate) all in
     record {
       gate = record { policy = gate.policy; records = made };
-      text = record_lines (drop (length gate.records) made) ++ last_line (nat_le (length all) (most_records gate));
+      text = record_lines (drop (length gate.records) made) ++ settling_line (nat_le (length all) (most_records gate));
     }
 
 -- what a line does; it is bad where it asks for the stream of a user whom the policy does not know
 unfoldable pub effect_of : GateData → ScriptLine → Option Printed
 effect_of gate Skipped = Some (record { gate = gate; text = [] })
-effect_of gate (Step moment user step) = Some (step_of gate (asked_by user (request_of_step gate user step) moment))
+effect_of gate (Step moment user step) = Some (step_of gate (request_on_line_1 user (request_of_step gate user step) moment))
 effect_of gate (Match moment) = Some (match_of gate moment)
 effect_of gate (Settle moment) = Some (settle_of gate moment)
 effect_of gate (Stream user) =
@@ -85,7 +85,7 @@ effect_of gate (Stream user) =
 
 -- what the bytes of a line do; None where the line is bad
 unfoldable pub line_effect : GateData → List ℕ → Option Printed
-line_effect gate line = line_of line >>= effect_of gate
+line_effect gate line = script_line line >>= effect_of gate
 
 -- a script so far: the gate, what was printed, how many lines were read, and the number of the first bad one
 pub record ScriptRun : Type 0 where
@@ -99,13 +99,13 @@ abbrev pub run_before_lines : GateData → ScriptRun
 run_before_lines gate = record { gate = gate; text = []; lines = 0; bad = None }
 
 -- one line more, and what it did
-abbrev pub with_line : ScriptRun → Option Printed → ScriptRun
-with_line run (Some done) = record { gate = done.gate; text = run.text ++ done.text; lines = run.lines + 1; bad = None }
-with_line run None = record { gate = run.gate; text = run.text; lines = run.lines + 1; bad = Some (run.lines + 1) }
+abbrev pub with_script_line : ScriptRun → Option Printed → ScriptRun
+with_script_line run (Some done) = record { gate = done.gate; text = run.text ++ done.text; lines = run.lines + 1; bad = None }
+with_script_line run None = record { gate = run.gate; text = run.text; lines = run.lines + 1; bad = Some (run.lines + 1) }
 
 -- nothing counts behind a bad line
 unfoldable pub on_line : ScriptRun → List ℕ → ScriptRun
-on_line run line = if is_some run.bad then run else with_line run (line_effect run.gate line)
+on_line run line = if is_some run.bad then run else with_script_line run (line_effect run.gate line)
 
 -- the lines that have ended, and the bytes behind them
 pub record Cut : Type 0 where

@@ -3,7 +3,7 @@
 ghost use Rattle.std.specs.Prelude.{◌≡◌, ℕ, List, ◌++◌, IfSome, IsTrue};
 ghost use Rattle.gx_access_gate.specs.Gates.{GateData};
 ghost use Rattle.gx_devices.specs.{Devices.IsFront, Pieces.Flow, Stopping.AreFirst};
-ghost use Rattle.gx_script_run.specs.{declared.script_fault.ScriptFault.ScriptFault, ScriptPiping.IsCutShort, Scripting.{cut_of, script_of, is_settled}, ScriptTexts.{joined_lines, are_lines}};
+ghost use Rattle.gx_script_run.specs.{declared.script_fault.ScriptFault.ScriptFault, ScriptPiping.IsScriptCutShort, Scripting.{cut_of, script_of, is_settled}, ScriptTexts.{joined_lines, are_lines}};
 
 /// Once a line of a script is bad, or too long already, nothing that follows makes a step or is printed.
 pub fn nothing_follows_a_bad_line()
@@ -21,9 +21,9 @@ pub fn lines_make_the_text()
 /// are the first that it leaves; for a reader that tells its bytes.
 pub fn faults_leave_a_front()
     ensures text { (flow : Flow) (before after : GateData) (fault : ScriptFault)
-        → IsCutShort flow before after fault
+        → IsScriptCutShort flow before after fault
         → IfSome flow.input (λ all. IsFront flow.output flow.written (script_of before all).text) }
     ensures records { (flow : Flow) (before after : GateData) (fault : ScriptFault)
-        → IsCutShort flow before after fault
+        → IsScriptCutShort flow before after fault
         → IfSome flow.input (λ all. AreFirst after.records (script_of before all).gate.records) }
 {}

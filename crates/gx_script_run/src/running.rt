@@ -22,7 +22,7 @@ const BLANK_SESSION: SessionName = SessionName {
 
 fn request_of<G: AccessGate>(gate: &G, user: UserName, step: &ScriptStep) -> Request
     requires { IsAskable step.now }
-    ensures request { result ≡ request_of_step (G.seen gate.now) user step.now }
+    ensures request { result ≡ request_of_step (G.state gate.now) user step.now }
     ensures first { IsTrue (has_its_first result) }
 {
     match step {
@@ -47,10 +47,10 @@ fn step_and_print<G: AccessGate>(
 ) -> Result<(), OutOfMemory>
     requires askable { IsTrue (is_askable a) }
     requires empty { text.old.items ≡ [] }
-    ensures ok { OnOk result (step_of (G.seen gate.old) a
-        ≡ record { gate = G.seen gate.new; text = text.new.items }) }
+    ensures ok { OnOk result (step_of (G.state gate.old) a
+        ≡ record { gate = G.state gate.new; text = text.new.items }) }
     ensures err { OnErr result
-        (IsHalf (G.seen gate.old) (Some (step_of (G.seen gate.old) a)) (G.seen gate.new)) }
+        (IsHalf (G.state gate.old) (Some (step_of (G.state gate.old) a)) (G.state gate.new)) }
 {
     match gate.step(a) {
         Ok(outcome) => append_outcome(text, outcome.number, &outcome.verdict),
@@ -68,14 +68,14 @@ fn add_match<G: AccessGate>(
     moment: u64,
     text: &mut Vec<u8>,
 ) -> Result<bool, OutOfMemory>
-    ensures over { IfOk result (λ over. over ≡ makes_none (G.seen gate.old) moment) }
-    ensures gate { OnOk result (G.seen gate.new ≡ (match_of (G.seen gate.old) moment).gate) }
+    ensures over { IfOk result (λ over. over ≡ makes_none (G.state gate.old) moment) }
+    ensures gate { OnOk result (G.state gate.new ≡ (match_of (G.state gate.old) moment).gate) }
     ensures text { OnOk result (text.new.items
-        ≡ text.old.items ++ (match_of (G.seen gate.old) moment).text) }
+        ≡ text.old.items ++ (match_of (G.state gate.old) moment).text) }
     ensures fewer { IfOk result (λ over.
-        IsFalse over → matches_left (G.seen gate.new) < matches_left (G.seen gate.old)) }
-    ensures err { OnErr result ((G.seen gate.new ≡ G.seen gate.old)
-        ⊎ (G.seen gate.new ≡ (match_of (G.seen gate.old) moment).gate)) }
+        IsFalse over → matches_left (G.state gate.new) < matches_left (G.state gate.old)) }
+    ensures err { OnErr result ((G.state gate.new ≡ G.state gate.old)
+        ⊎ (G.state gate.new ≡ (match_of (G.state gate.old) moment).gate)) }
 {
     match gate.match_one(moment) {
         Ok(Some(outcome)) => {
@@ -101,10 +101,10 @@ fn match_line<G: AccessGate>(
     text: &mut Vec<u8>,
 ) -> Result<(), OutOfMemory>
     requires empty { text.old.items ≡ [] }
-    ensures ok { OnOk result (match_of (G.seen gate.old) moment
-        ≡ record { gate = G.seen gate.new; text = text.new.items }) }
+    ensures ok { OnOk result (match_of (G.state gate.old) moment
+        ≡ record { gate = G.state gate.new; text = text.new.items }) }
     ensures err { OnErr result
-        (IsHalf (G.seen gate.old) (Some (match_of (G.seen gate.old) moment)) (G.seen gate.new)) }
+        (IsHalf (G.state gate.old) (Some (match_of (G.state gate.old) moment)) (G.state gate.new)) }
 {
     add_match(gate, moment, text)?;
     Ok(())
@@ -117,10 +117,11 @@ fn settle_lines<G: AccessGate>(
     text: &mut Vec<u8>,
 ) -> Result<(), OutOfMemory>
     requires empty { text.old.items ≡ [] }
-    ensures ok { OnOk result (settle_of (G.seen gate.old) moment
-        ≡ record { gate = G.seen gate.new; text = text.new.items }) }
+    ensures ok { OnOk result (settle_of (G.state gate.old) moment
+        ≡ record { gate = G.state gate.new; text = text.new.items }) }
     ensures err { OnErr result
-        (IsHalf (G.seen gate.old) (Some (settle_of (G.seen gate.old) moment)) (G.seen gate.new)) }
+        (IsHalf (G.state gate.old) (Some (settle_of (G.state gate.old) moment))
+        (G.state gate.new)) }
 {
     loop {
         // What this ensures: the records are those of a legal day, on which what settles rests.
@@ -138,7 +139,7 @@ fn append_stream<G: AccessGate>(
     text: &mut Vec<u8>,
 ) -> Result<(), OutOfMemory>
     ensures { OnOk result (text.new.items ≡ text.old.items
-        ++ report_lines user 1 (stream (G.seen gate.now).policy (G.seen gate.now).records user)) }
+        ++ report_lines user 1 (stream (G.state gate.now).policy (G.state gate.now).records user)) }
 {
     let pulled = gate.reports(user, 1, u64::MAX)?;
     let reports = pulled.reports.as_slice();
@@ -150,10 +151,11 @@ fn append_stream<G: AccessGate>(
 #[tactic(auto, unfolding(crate::specs::Scripting::effect_of))]
 fn add_stream<G: AccessGate>(gate: &G, user: UserName, text: &mut Vec<u8>) -> Result<(), LineFault>
     requires empty { text.old.items ≡ [] }
-    ensures ok { OnOk result (effect_of (G.seen gate.now) (Stream user)
-        ≡ Some (record { gate = G.seen gate.now; text = text.new.items })) }
+    ensures ok { OnOk result (effect_of (G.state gate.now) (Stream user)
+        ≡ Some (record { gate = G.state gate.now; text = text.new.items })) }
     ensures err { IfErr result
-        (Leaves (G.seen gate.now) (effect_of (G.seen gate.now) (Stream user)) (G.seen gate.now)) }
+        (Leaves (G.state gate.now) (effect_of (G.state gate.now) (Stream user))
+        (G.state gate.now)) }
 {
     if !gate.knows(user) {
         return Err(LineFault::Bad(Wrong::new(2, ExpectedWord::KnownUser)));
@@ -171,10 +173,10 @@ fn run_line<G: AccessGate>(
 ) -> Result<(), LineFault>
     requires askable { IsAskableLine line.now }
     requires empty { text.old.items ≡ [] }
-    ensures ok { OnOk result (effect_of (G.seen gate.old) line.now
-        ≡ Some (record { gate = G.seen gate.new; text = text.new.items })) }
+    ensures ok { OnOk result (effect_of (G.state gate.old) line.now
+        ≡ Some (record { gate = G.state gate.new; text = text.new.items })) }
     ensures err { IfErr result
-        (Leaves (G.seen gate.old) (effect_of (G.seen gate.old) line.now) (G.seen gate.new)) }
+        (Leaves (G.state gate.old) (effect_of (G.state gate.old) line.now) (G.state gate.new)) }
 {
     match line {
         ScriptLine::Skipped => Ok(()),
@@ -196,10 +198,10 @@ pub(crate) fn take_line<G: AccessGate>(
     text: &mut Vec<u8>,
 ) -> Result<(), LineFault>
     requires empty { text.old.items ≡ [] }
-    ensures ok { OnOk result (line_effect (G.seen gate.old) line.now
-        ≡ Some (record { gate = G.seen gate.new; text = text.new.items })) }
+    ensures ok { OnOk result (line_effect (G.state gate.old) line.now
+        ≡ Some (record { gate = G.state gate.new; text = text.new.items })) }
     ensures err { IfErr result
-        (Leaves (G.seen gate.old) (line_effect (G.seen gate.old) line.now) (G.seen gate.new)) }
+        (Leaves (G.state gate.old) (line_effect (G.state gate.old) line.now) (G.state gate.new)) }
 {
     let mut said = ScriptLine::Skipped;
     said.read_from(line)?;

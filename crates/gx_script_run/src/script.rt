@@ -3,7 +3,7 @@
 ghost use Rattle.std.specs.Prelude.{◌≡◌, ◌+◌, ◌-◌, ◌^◌, ◌<◌, ◌≤◌, [], ◌++◌, length, position, Some, None, IsTrue, IsFalse, IfErr, IfNone, IfOk, IfSome, OnOk};
 ghost use Rattle.gx_devices.specs.{Blaming.IsBlamed, Devices.{counted_on, IsUnfailing}, Pieces.flow_of};
 ghost use Rattle.gx_script_text.specs.ScriptLines.{is_too_long};
-ghost use Rattle.gx_script_run.specs.{ScriptPiping.{EndsLine, StopsAtLine, TakesPiece, FindsBad, StopsInPiece, IsScript, IsCutShort, IsAll, IsBlamedRightly, IfBadLine, UnlessBadLine}, ScriptTexts.{with_line_end, has_no_end, is_end}};
+ghost use Rattle.gx_script_run.specs.{ScriptPiping.{EndsLine, StopsAtLine, TakesScriptPiece, FindsBad, StopsInPiece, IsScript, IsScriptCutShort, IsAll, IsBlamedRightly, IfBadLine, UnlessBadLine}, ScriptTexts.{with_line_end, has_no_end, is_end}};
 
 use crate::running::take_line;
 use crate::script_fault::{Explained, LineFault, ScriptFault};
@@ -32,7 +32,7 @@ struct Progress {
 
 /// What is held back between two pieces: the bytes of the line that has not ended, and what was done.
 #[derive(Drop)]
-struct Held {
+struct HeldLine {
     rest: Vec<u8>,
     progress: Progress,
     ghost one_line: { length rest.items ≤ 1026 },
@@ -47,13 +47,13 @@ fn do_line<G: AccessGate, W: Write>(
 ) -> Result<bool, WriteFault>
     requires writer { writer.old.failed < 2 ^ 64 - 1 }
     requires room { progress.old.lines < 2 ^ 64 - 1 }
-    ensures ok { IfOk result (λ is_bad. EndsLine (G.seen gate.old) progress.old.lines line.now
-        is_bad (G.seen gate.new) progress.new.lines
+    ensures ok { IfOk result (λ is_bad. EndsLine (G.state gate.old) progress.old.lines line.now
+        is_bad (G.state gate.new) progress.new.lines
         (W.contents writer.old.device) (W.contents writer.new.device)) }
     ensures counted { OnOk result (progress.new.lines ≡ progress.old.lines + 1) }
     ensures kept { OnOk result (writer.new.failed ≡ writer.old.failed) }
-    ensures err { IfErr result (StopsAtLine (G.seen gate.old) progress.old.lines line.now
-        (G.seen gate.new) (W.contents writer.old.device) (W.contents writer.new.device)) }
+    ensures err { IfErr result (StopsAtLine (G.state gate.old) progress.old.lines line.now
+        (G.state gate.new) (W.contents writer.old.device) (W.contents writer.new.device)) }
     ensures told { IfErr result (IsBlamed writer.old.failed writer.new.failed) }
 {
     progress.text.clear();
@@ -74,7 +74,7 @@ fn do_line<G: AccessGate, W: Write>(
 
 /// Takes bytes that go on with the line that is held back, and do not end it. Answers whether the line is too long, which
 /// is told before its end is there.
-fn take_front(held: &mut Held, front: &[u8]) -> Result<bool, OutOfMemory>
+fn take_front(held: &mut HeldLine, front: &[u8]) -> Result<bool, OutOfMemory>
     requires { held.old.progress.lines < 2 ^ 64 - 1 }
     ensures ok { IfOk result (λ is_long. IsFalse is_long
         → held.new.rest.items ≡ held.old.rest.items ++ front.now) }
@@ -98,20 +98,20 @@ fn take_front(held: &mut Held, front: &[u8]) -> Result<bool, OutOfMemory>
 /// that lies whole in the piece is read where it lies.
 fn take_ended<G: AccessGate, W: Write>(
     gate: &mut G,
-    held: &mut Held,
+    held: &mut HeldLine,
     writer: &mut CallCounter<W>,
     front: &[u8],
 ) -> Result<bool, WriteFault>
     requires writer { writer.old.failed < 2 ^ 64 - 1 }
     requires room { held.old.progress.lines < 2 ^ 64 - 1 }
-    ensures ok { IfOk result (λ is_bad. EndsLine (G.seen gate.old) held.old.progress.lines
-        (held.old.rest.items ++ front.now) is_bad (G.seen gate.new) held.new.progress.lines
+    ensures ok { IfOk result (λ is_bad. EndsLine (G.state gate.old) held.old.progress.lines
+        (held.old.rest.items ++ front.now) is_bad (G.state gate.new) held.new.progress.lines
         (W.contents writer.old.device) (W.contents writer.new.device)) }
     ensures cleared { IfOk result (λ is_bad. IsFalse is_bad → held.new.rest.items ≡ []) }
     ensures counted { OnOk result (held.new.progress.lines ≡ held.old.progress.lines + 1) }
     ensures kept { OnOk result (writer.new.failed ≡ writer.old.failed) }
-    ensures err { IfErr result (StopsAtLine (G.seen gate.old) held.old.progress.lines
-        (held.old.rest.items ++ front.now) (G.seen gate.new)
+    ensures err { IfErr result (StopsAtLine (G.state gate.old) held.old.progress.lines
+        (held.old.rest.items ++ front.now) (G.state gate.new)
         (W.contents writer.old.device) (W.contents writer.new.device)) }
     ensures told { IfErr result (IsBlamed writer.old.failed writer.new.failed) }
 {
@@ -157,25 +157,26 @@ fn unended_size(piece: &[u8]) -> usize {
 /// last of them. Answers whether one is bad, at which the taking ends.
 fn take_piece<G: AccessGate, W: Write>(
     gate: &mut G,
-    held: &mut Held,
+    held: &mut HeldLine,
     writer: &mut CallCounter<W>,
     piece: &[u8],
 ) -> Result<bool, WriteFault>
     requires writer { writer.old.failed < 2 ^ 64 - 1 }
     requires room { held.old.progress.lines + length piece.now < 2 ^ 64 - 1 }
     ensures ok { IfOk result (λ is_bad. IsFalse is_bad
-        → TakesPiece (G.seen gate.old) held.old.rest.items held.old.progress.lines piece.now
-        (G.seen gate.new) held.new.rest.items held.new.progress.lines
+        → TakesScriptPiece (G.state gate.old)
+        held.old.rest.items held.old.progress.lines piece.now
+        (G.state gate.new) held.new.rest.items held.new.progress.lines
         (W.contents writer.old.device) (W.contents writer.new.device)) }
     ensures bad { IfOk result (λ is_bad. IsTrue is_bad
-        → FindsBad (G.seen gate.old) held.old.rest.items held.old.progress.lines piece.now
-        (G.seen gate.new) held.new.progress.lines
+        → FindsBad (G.state gate.old) held.old.rest.items held.old.progress.lines piece.now
+        (G.state gate.new) held.new.progress.lines
         (W.contents writer.old.device) (W.contents writer.new.device)) }
     ensures counted { IfOk result (λ is_bad. IsFalse is_bad
         → held.new.progress.lines ≤ held.old.progress.lines + length piece.now) }
     ensures kept { OnOk result (writer.new.failed ≡ writer.old.failed) }
-    ensures err { IfErr result (StopsInPiece (G.seen gate.old) held.old.rest.items
-        held.old.progress.lines piece.now (G.seen gate.new)
+    ensures err { IfErr result (StopsInPiece (G.state gate.old) held.old.rest.items
+        held.old.progress.lines piece.now (G.state gate.new)
         (W.contents writer.old.device) (W.contents writer.new.device)) }
     ensures told { IfErr result (IsBlamed writer.old.failed writer.new.failed) }
     ensures bounded { length held.new.rest.items ≤ 1026 }
@@ -196,7 +197,7 @@ fn take_piece<G: AccessGate, W: Write>(
 /// Reads a script to its end, or to a fault.
 fn follow<G: AccessGate, R: Read, W: Write>(
     gate: &mut G,
-    held: &mut Held,
+    held: &mut HeldLine,
     reader: &mut CallCounter<R>,
     writer: &mut CallCounter<W>,
 ) -> Result<(), ScriptFault>
@@ -206,13 +207,13 @@ fn follow<G: AccessGate, R: Read, W: Write>(
     requires writer { writer.old.failed < 2 ^ 64 - 1 }
     ensures script { OnOk result (IsScript
         (flow_of R.remaining W.contents reader.old reader.new writer.old writer.new)
-        (G.seen gate.old) (G.seen gate.new) None) }
+        (G.state gate.old) (G.state gate.new) None) }
     ensures bad { IfErr result (λ e. IfBadLine e (λ n. IsScript
         (flow_of R.remaining W.contents reader.old reader.new writer.old writer.new)
-        (G.seen gate.old) (G.seen gate.new) (Some n))) }
-    ensures fault { IfErr result (λ e. UnlessBadLine e (IsCutShort
+        (G.state gate.old) (G.state gate.new) (Some n))) }
+    ensures fault { IfErr result (λ e. UnlessBadLine e (IsScriptCutShort
         (flow_of R.remaining W.contents reader.old reader.new writer.old writer.new)
-        (G.seen gate.old) (G.seen gate.new) e)) }
+        (G.state gate.old) (G.state gate.new) e)) }
     ensures endless { IfErr result (λ e. e ≡ ScriptFault.Endless
         → counted_on reader.old.calls 1000000000 ≤ reader.new.calls) }
     ensures unfailing { OnOk result (IsUnfailing
@@ -241,12 +242,12 @@ fn follow<G: AccessGate, R: Read, W: Write>(
     Err(ScriptFault::Endless)
 }
 
-impl Held {
-    fn new(alloc: Global) -> Held
+impl HeldLine {
+    fn new(alloc: Global) -> HeldLine
         ensures nothing { result.rest.items ≡ [] }
         ensures no_line { result.progress.lines ≡ 0 }
     {
-        Held {
+        HeldLine {
             rest: Vec::new(alloc),
             progress: Progress {
                 lines: 0,
@@ -277,20 +278,20 @@ pub fn run_script<G: AccessGate, R: Read, W: Write>(
     requires writer { writer.old.failed < 2 ^ 64 - 1 }
     ensures script { OnOk result (IsScript
         (flow_of R.remaining W.contents reader.old reader.new writer.old writer.new)
-        (G.seen gate.old) (G.seen gate.new) None) }
+        (G.state gate.old) (G.state gate.new) None) }
     // Where the reader tells its bytes, the gate and the bytes written are those of the script of all of them.
     ensures all { OnOk result (IsAll
         (flow_of R.remaining W.contents reader.old reader.new writer.old writer.new)
-        (G.seen gate.old) (G.seen gate.new) None) }
+        (G.state gate.old) (G.state gate.new) None) }
     ensures bad { IfErr result (λ e. IfBadLine e.fault (λ n. IsScript
         (flow_of R.remaining W.contents reader.old reader.new writer.old writer.new)
-        (G.seen gate.old) (G.seen gate.new) (Some n))) }
+        (G.state gate.old) (G.state gate.new) (Some n))) }
     ensures first_bad { IfErr result (λ e. IfBadLine e.fault (λ n. IsAll
         (flow_of R.remaining W.contents reader.old reader.new writer.old writer.new)
-        (G.seen gate.old) (G.seen gate.new) (Some n))) }
-    ensures fault { IfErr result (λ e. UnlessBadLine e.fault (IsCutShort
+        (G.state gate.old) (G.state gate.new) (Some n))) }
+    ensures fault { IfErr result (λ e. UnlessBadLine e.fault (IsScriptCutShort
         (flow_of R.remaining W.contents reader.old reader.new writer.old writer.new)
-        (G.seen gate.old) (G.seen gate.new) e.fault)) }
+        (G.state gate.old) (G.state gate.new) e.fault)) }
     ensures endless { IfErr result (λ e. e.fault ≡ ScriptFault.Endless
         → counted_on reader.old.calls 1000000000 ≤ reader.new.calls) }
     ensures unfailing { OnOk result (IsUnfailing
@@ -298,7 +299,7 @@ pub fn run_script<G: AccessGate, R: Read, W: Write>(
     ensures told { IfErr result (λ e. IsBlamedRightly
         reader.old.failed reader.new.failed writer.old.failed writer.new.failed e.fault) }
 {
-    let mut held = Held::new(alloc);
+    let mut held = HeldLine::new(alloc);
     match follow(gate, &mut held, reader, writer) {
         Ok(()) => Ok(()),
         Err(fault) => Err(Explained {

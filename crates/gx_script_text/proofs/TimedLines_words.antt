@@ -2,7 +2,7 @@
 use Rattle.std.proofs.{Common.{◌≡◌, ℕ, zero, suc, ◌-◌, ◌≤◌, Bool, true, false, not, ◌&&◌, List, [], ◌∷◌, ◌++◌, length, replicate, nat_eq, refl, sym, ap, ◌∙◌, arith}, lemmas.{Bool.{and_parts, leb-true}, Slice.Eq.bytes_eq-Decides}}
 use Rattle.std.specs.{Prelude.{Option, Some, None, option_map, bytes_eq, codes, nat_le, if◌then◌else◌}}
 use Rattle.gx_units.specs.Spelling.{is_space, padded_to, folded_user}
-use Rattle.gx_script_text.specs.{declared.line.ScriptLine.{ScriptLine, TheVariants.{Match, Settle}}, Words.{◌>>=◌, first, has_no_space, is_done, is_name, name_of, number_of}, ScriptLines.{asked_line, last_line, line_of_words, step_line, stream_line, timed_line, user_line}}
+use Rattle.gx_script_text.specs.{declared.line.ScriptLine.{ScriptLine, TheVariants.{Match, Settle}}, Words.{◌>>=◌, first, has_no_space, is_done, is_name, padded_name, number_of_bits}, ScriptLines.{asked_line, last_line, line_of_words, step_line, stream_line, timed_line, user_line}}
 use Rattle.gx_script_text.proofs.{Name_next.padded_behind, Words_read.visible_clear}
 
 abbrev got : {A : Type 0} → A → Option A → A
@@ -37,17 +37,17 @@ differs_so meaning word other value some none = at (bytes_eq word other) refl
     at false is = refl
 
 -- a line whose first word is a number
-pub timed : (words left : List (List ℕ)) (moment : ℕ) → first (number_of 64) words ≡ Some (moment, left) → line_of_words words ≡ timed_line moment left
+pub timed : (words left : List (List ℕ)) (moment : ℕ) → first (number_of_bits 64) words ≡ Some (moment, left) → line_of_words words ≡ timed_line moment left
 unfolding line_of_words step_line
 timed [] left moment e = cc
 timed (word ∷ rest) left moment e =
-    let parts = taken word rest left moment (number_of 64 word) e in
-    ap (λ t. if t then stream_line rest else step_line word rest) (differs_so (number_of 64) word (codes "stream") moment parts.0 refl)
+    let parts = taken word rest left moment (number_of_bits 64 word) e in
+    ap (λ t. if t then stream_line rest else step_line word rest) (differs_so (number_of_bits 64) word (codes "stream") moment parts.0 refl)
     ∙ ap (λ o. o >>= (λ m. timed_line m rest)) parts.0
     ∙ ap (timed_line moment) parts.1
 
 -- what a name is
-name_parts : (n : ℕ) (word field : List ℕ) → name_of n word ≡ Some field → (is_name word ≡ true) × ((nat_le (length word) n ≡ true) × (padded_to n word ≡ field))
+name_parts : (n : ℕ) (word field : List ℕ) → padded_name n word ≡ Some field → (is_name word ≡ true) × ((nat_le (length word) n ≡ true) × (padded_to n word ≡ field))
 name_parts n word field e = at (is_name word && nat_le (length word) n) refl
   where
     at : (test : Bool) → (is_name word && nat_le (length word) n) ≡ test → (is_name word ≡ true) × ((nat_le (length word) n ≡ true) × (padded_to n word ≡ field))
@@ -76,7 +76,7 @@ fields (suc n) (x ∷ xs) (y ∷ ys) ca cb fa fb =
     ∙ ap (λ t. nat_eq x y && t) (fields n xs ys (and_parts _ _ ca).1 (and_parts _ _ cb).1 (omega (arith, fa)) (omega (arith, fb)))
 
 -- a word is one that fits its field where the fields are the same
-same_field : (word other field : List ℕ) → name_of 6 word ≡ Some field → has_no_space other ≡ true → length other ≤ 6 → bytes_eq word other ≡ bytes_eq field (padded_to 6 other)
+same_field : (word other field : List ℕ) → padded_name 6 word ≡ Some field → has_no_space other ≡ true → length other ≤ 6 → bytes_eq word other ≡ bytes_eq field (padded_to 6 other)
 same_field word other field e clear fits =
     let parts = name_parts 6 word field e in
     let visible = (and_parts _ _ parts.0).1 in
@@ -84,39 +84,39 @@ same_field word other field e clear fits =
     ∙ ap (λ f. bytes_eq f (padded_to 6 other)) parts.1.1
 
 -- a user of whom something is asked
-pub asked_so : (moment : ℕ) (words left : List (List ℕ)) (field : List ℕ) → first (name_of 6) words ≡ Some (field, left) → is_done left ≡ false
+pub asked_so : (moment : ℕ) (words left : List (List ℕ)) (field : List ℕ) → first (padded_name 6) words ≡ Some (field, left) → is_done left ≡ false
     → timed_line moment words ≡ user_line moment (folded_user (record { bytes = field })) left
 unfolding timed_line asked_line
 asked_so moment [] left field e more = cc
 asked_so moment (word ∷ rest) left field e more =
-    let parts = taken word rest left field (name_of 6 word) e in
+    let parts = taken word rest left field (padded_name 6 word) e in
     ap (λ d. if d && bytes_eq word (codes "match") then Some (Match moment) else (if d && bytes_eq word (codes "settle") then Some (Settle moment) else asked_line moment word rest)) (ap is_done parts.1 ∙ more)
     ∙ ap (λ o. option_map (λ bytes. folded_user (record { bytes = bytes })) o >>= (λ user. user_line moment user rest)) parts.0
     ∙ ap (user_line moment (folded_user (record { bytes = field }))) parts.1
 
 -- the last word of a line
-pub last_so : (moment : ℕ) (words left : List (List ℕ)) (field : List ℕ) → first (name_of 6) words ≡ Some (field, left) → is_done left ≡ true
+pub last_so : (moment : ℕ) (words left : List (List ℕ)) (field : List ℕ) → first (padded_name 6) words ≡ Some (field, left) → is_done left ≡ true
     → timed_line moment words ≡ last_line moment field
 unfolding timed_line asked_line last_line user_line
 last_so moment [] left field e done = cc
 last_so moment (word ∷ []) left field e done =
-    let parts = taken word [] left field (name_of 6 word) e in
+    let parts = taken word [] left field (padded_name 6 word) e in
     let none : asked_line moment word [] ≡ None = ap (λ o. option_map (λ bytes. folded_user (record { bytes = bytes })) o >>= (λ user. user_line moment user [])) parts.0 in
     (λ i. if same_field word (codes "match") field parts.0 refl (omega arith) i then Some (Match moment)
     else (if same_field word (codes "settle") field parts.0 refl (omega arith) i then Some (Settle moment) else none i))
 last_so moment (word ∷ (next ∷ rest)) left field e done =
-    let parts = taken word (next ∷ rest) left field (name_of 6 word) e in
+    let parts = taken word (next ∷ rest) left field (padded_name 6 word) e in
     let clash : false ≡ true = ap is_done parts.1 ∙ done in
     cc
 
 -- no user
-pub unnamed : (moment : ℕ) (words : List (List ℕ)) → first (name_of 6) words ≡ None → timed_line moment words ≡ None
+pub unnamed : (moment : ℕ) (words : List (List ℕ)) → first (padded_name 6) words ≡ None → timed_line moment words ≡ None
 unfolding timed_line asked_line
 unnamed moment [] e = refl
 unnamed moment (word ∷ rest) e =
-    let none = nothing rest (name_of 6 word) e in
-    (λ i. if is_done rest && differs (name_of 6) word (codes "match") (codes "match ") none refl i then Some (Match moment)
-    else (if is_done rest && differs (name_of 6) word (codes "settle") (codes "settle") none refl i then Some (Settle moment) else asked_line moment word rest))
+    let none = nothing rest (padded_name 6 word) e in
+    (λ i. if is_done rest && differs (padded_name 6) word (codes "match") (codes "match ") none refl i then Some (Match moment)
+    else (if is_done rest && differs (padded_name 6) word (codes "settle") (codes "settle") none refl i then Some (Settle moment) else asked_line moment word rest))
     ∙ neither (is_done rest) (Some (Match moment)) (Some (Settle moment)) (asked_line moment word rest)
     ∙ ap (λ o. option_map (λ bytes. folded_user (record { bytes = bytes })) o >>= (λ user. user_line moment user rest)) none
   where

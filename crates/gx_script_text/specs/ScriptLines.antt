@@ -4,13 +4,13 @@ use Rattle.gx_units.specs.declared.names.{AccountName.AccountName, RuleId.RuleId
 use Rattle.gx_desk.specs.declared.{Action.Action, Command.Command, Tag.Tag, WrittenName.WrittenName}
 use Rattle.gx_ouch.specs.declared.inbound.{EnterOrder.EnterOrder, ReplaceOrder.ReplaceOrder}
 use Rattle.gx_history.specs.{Payloads.request_of, Showing.has_its_first}
-use Rattle.gx_script_text.specs.{declared.line.{ScriptStep.ScriptStep, ScriptLine.{ScriptLine, TheVariants.{Skipped, Step, Match, Settle, Stream}}}, Words.{◌>>=◌, words_of, first, alone, is_done, itself, is_empty, name_of, user_of, number_of, byte_of, bytes_of}}
+use Rattle.gx_script_text.specs.{declared.line.{ScriptStep.ScriptStep, ScriptLine.{ScriptLine, TheVariants.{Skipped, Step, Match, Settle, Stream}}}, Words.{◌>>=◌, words_of, first, alone, is_done, itself, is_empty, padded_name, user_of, number_of_bits, byte_of, bytes_of}}
 
 -- `PASSWORD NUMBER`: the first report wanted, 0 for the last one
 unfoldable pub login_form : List (List ℕ) → Option ScriptStep
 login_form words = do
-  given ← first (name_of 10) words
-  wanted ← first (number_of 64) given.1
+  given ← first (padded_name 10) words
+  wanted ← first (number_of_bits 64) given.1
   alone (ScriptStep.Login (record { bytes = given.0 }) wanted.0) wanted.1
 
 -- an order with a blank firm, displayed, by an agency, in no sweep, of any quantity, in no cross, for no retail customer
@@ -34,12 +34,12 @@ plain_order token side shares stock price time_in_force = record {
 -- `TOKEN SIDE SHARES STOCK PRICE TIF`
 unfoldable pub enter_form : List (List ℕ) → Option ScriptStep
 enter_form words = do
-  token ← first (name_of 14) words
+  token ← first (padded_name 14) words
   side ← first byte_of token.1
-  shares ← first (number_of 32) side.1
-  stock ← first (name_of 8) shares.1
-  price ← first (number_of 32) stock.1
-  time_in_force ← first (number_of 32) price.1
+  shares ← first (number_of_bits 32) side.1
+  stock ← first (padded_name 8) shares.1
+  price ← first (number_of_bits 32) stock.1
+  time_in_force ← first (number_of_bits 32) price.1
   alone (ScriptStep.Enter (plain_order token.0 side.0 shares.0 stock.0 price.0 time_in_force.0)) time_in_force.1
 
 -- what is asked for in the place of an order: displayed, in no sweep, of any quantity
@@ -58,55 +58,55 @@ plain_replace old new shares price time_in_force = record {
 -- `OLD NEW SHARES PRICE TIF`
 unfoldable pub replace_form : List (List ℕ) → Option ScriptStep
 replace_form words = do
-  old ← first (name_of 14) words
-  new ← first (name_of 14) old.1
-  shares ← first (number_of 32) new.1
-  price ← first (number_of 32) shares.1
-  time_in_force ← first (number_of 32) price.1
+  old ← first (padded_name 14) words
+  new ← first (padded_name 14) old.1
+  shares ← first (number_of_bits 32) new.1
+  price ← first (number_of_bits 32) shares.1
+  time_in_force ← first (number_of_bits 32) price.1
   alone (ScriptStep.Replace (plain_replace old.0 new.0 shares.0 price.0 time_in_force.0)) time_in_force.1
 
 -- `TOKEN SHARES`: the shares are the new size of the order
 unfoldable pub cancel_form : List (List ℕ) → Option ScriptStep
 cancel_form words = do
-  token ← first (name_of 14) words
-  shares ← first (number_of 32) token.1
+  token ← first (padded_name 14) words
+  shares ← first (number_of_bits 32) token.1
   alone (ScriptStep.Cancel (record { token = record { bytes = token.0 }; shares = shares.0 })) shares.1
 
 -- `TAG ACCOUNT`
 unfoldable pub account_form : List (List ℕ) → Option (Tag × AccountName)
 account_form words = do
-  tag ← first (name_of 14) words
-  account ← first (name_of 8) tag.1
+  tag ← first (padded_name 14) words
+  account ← first (padded_name 8) tag.1
   alone (record { bytes = tag.0 }, record { bytes = account.0 }) account.1
 
 -- `TAG RULE VALUE`
 unfoldable pub limit_form : List (List ℕ) → Option (Tag × (RuleId × ℕ))
 limit_form words = do
-  tag ← first (name_of 14) words
-  rule ← first (name_of 8) tag.1
-  limit ← first (number_of 64) rule.1
+  tag ← first (padded_name 14) words
+  rule ← first (padded_name 8) tag.1
+  limit ← first (number_of_bits 64) rule.1
   alone (record { bytes = tag.0 }, (record { bytes = rule.0 }, limit.0)) limit.1
 
 -- `TAG RULE STOCK`
 unfoldable pub stock_form : List (List ℕ) → Option (Tag × (RuleId × Symbol))
 stock_form words = do
-  tag ← first (name_of 14) words
-  rule ← first (name_of 8) tag.1
-  stock ← first (name_of 8) rule.1
+  tag ← first (padded_name 14) words
+  rule ← first (padded_name 8) tag.1
+  stock ← first (padded_name 8) rule.1
   alone (record { bytes = tag.0 }, (record { bytes = rule.0 }, record { bytes = stock.0 })) stock.1
 
 -- `TAG READER ACCOUNT`: the reader as he is written, in either case of letters
 unfoldable pub reader_form : List (List ℕ) → Option (Tag × (WrittenName × AccountName))
 reader_form words = do
-  tag ← first (name_of 14) words
-  reader ← first (name_of 6) tag.1
-  account ← first (name_of 8) reader.1
+  tag ← first (padded_name 14) words
+  reader ← first (padded_name 6) tag.1
+  account ← first (padded_name 8) reader.1
   alone (record { bytes = tag.0 }, (record { bytes = reader.0 }, record { bytes = account.0 })) account.1
 
 -- `TAG`: Close Day
 unfoldable pub close_form : List (List ℕ) → Option Command
 close_form words = do
-  tag ← first (name_of 14) words
+  tag ← first (padded_name 14) words
   alone (record { tag = record { bytes = tag.0 }; action = Action.CloseDay }) tag.1
 
 -- what is asked for under the tag, of what else is named
@@ -171,7 +171,7 @@ timed_line moment words = do
 -- `M match`, `M settle` or `M USER ..`, M being the first word
 unfoldable pub step_line : List ℕ → List (List ℕ) → Option ScriptLine
 step_line word words = do
-  moment ← number_of 64 word
+  moment ← number_of_bits 64 word
   timed_line moment words
 
 -- `match` or `settle` at this moment, by the word in its field of six bytes
@@ -209,8 +209,8 @@ abbrev pub line_within : List ℕ → Option ScriptLine
 line_within line = if is_skipped line then Some Skipped else line_of_words (words_of line)
 
 -- what a line means, or None where it is bad: its bytes without the LF, at most 1,024 without the CR at its end
-unfoldable pub line_of : List ℕ → Option ScriptLine
-line_of line = if is_too_long line then None else line_within (without_cr line)
+unfoldable pub script_line : List ℕ → Option ScriptLine
+script_line line = if is_too_long line then None else line_within (without_cr line)
 
 -- a request that can be put to the gate
 abbrev pub IsAskable : ScriptStep → Type 0

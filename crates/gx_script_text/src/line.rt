@@ -2,7 +2,7 @@
 
 ghost use Rattle.std.specs.{Prelude.{Some, None, codes, ◌≡◌, ◌≢◌, ◌≤◌, ◌∷◌, [], length, bytes_eq, ◌&&◌, IsTrue, IfOk, OnOk, IfSome, MatchResult, option_map}, Result.result_ok};
 ghost use Rattle.gx_history.specs.{Payloads.request_of, Showing.has_its_first};
-ghost use Rattle.gx_script_text.specs.{Words.{Puts, Takes, first, words_of, alone, name_of, user_of, number_of, byte_of, bytes_of, itself}, ScriptLines.{login_form, plain_order, enter_form, replace_form, cancel_form, account_form, limit_form, stock_form, reader_form, close_form, command_form, raw_form, step_form, user_line, last_line, timed_line, stream_line, line_of_words, without_cr, is_too_long, is_skipped, line_of, IsAskable, IsAskableLine}};
+ghost use Rattle.gx_script_text.specs.{Words.{Puts, Takes, first, words_of, alone, padded_name, user_of, number_of_bits, byte_of, bytes_of, itself}, ScriptLines.{login_form, plain_order, enter_form, replace_form, cancel_form, account_form, limit_form, stock_form, reader_form, close_form, command_form, raw_form, step_form, user_line, last_line, timed_line, stream_line, line_of_words, without_cr, is_too_long, is_skipped, script_line, IsAskable, IsAskableLine}};
 
 use crate::words::Words;
 use crate::wrong::{ExpectedWord, Wrong};
@@ -78,7 +78,7 @@ fn fill_name<const N: usize>(
     field: &mut [u8; N],
     wants: ExpectedWord,
 ) -> Result<(), Wrong>
-    ensures { Puts (first (name_of N) words.old) (field.new, words.new) result }
+    ensures { Puts (first (padded_name N) words.old) (field.new, words.new) result }
 {
     if words.name(field) {
         return Ok(());
@@ -87,7 +87,7 @@ fn fill_name<const N: usize>(
 }
 
 fn take_name<const N: usize>(words: &mut Words, wants: ExpectedWord) -> Result<[u8; N], Wrong>
-    ensures { Takes (name_of N) words.old words.new result }
+    ensures { Takes (padded_name N) words.old words.new result }
 {
     let mut field = [b' '; N];
     fill_name(words, &mut field, wants)?;
@@ -98,8 +98,8 @@ fn take_name<const N: usize>(words: &mut Words, wants: ExpectedWord) -> Result<[
 #[inline(always)]
 fn take_written(words: &mut Words) -> Result<UserName, Wrong>
     ensures { MatchResult result
-        (λ name. first (name_of 6) words.old ≡ Some (name.bytes, words.new))
-        (λ _. first (name_of 6) words.old ≡ None) }
+        (λ name. first (padded_name 6) words.old ≡ Some (name.bytes, words.new))
+        (λ _. first (padded_name 6) words.old ≡ None) }
 {
     let mut name = UserName { bytes: [b' '; 6] };
     fill_name(words, &mut name.bytes, ExpectedWord::User)?;
@@ -114,7 +114,7 @@ fn take_user(words: &mut Words) -> Result<UserName, Wrong>
 }
 
 fn take_number64(words: &mut Words, wants: ExpectedWord) -> Result<u64, Wrong>
-    ensures { Takes (number_of 64) words.old words.new result }
+    ensures { Takes (number_of_bits 64) words.old words.new result }
 {
     let found = words.number64();
     wanted(words, found, wants)
@@ -122,7 +122,7 @@ fn take_number64(words: &mut Words, wants: ExpectedWord) -> Result<u64, Wrong>
 
 #[inline(always)]
 fn take_number32(words: &mut Words, wants: ExpectedWord) -> Result<u32, Wrong>
-    ensures { Takes (number_of 32) words.old words.new result }
+    ensures { Takes (number_of_bits 32) words.old words.new result }
 {
     let found = words.number32();
     wanted(words, found, wants)
@@ -481,7 +481,7 @@ fn stream_line(words: &mut Words, said: &mut ScriptLine) -> Result<(), Wrong>
 #[tactic(auto, unfolding(crate::specs::ScriptLines::line_of_words, crate::specs::ScriptLines::step_line))]
 fn other_line(line: &[u8], said: &mut ScriptLine) -> Result<(), Wrong>
     requires short { length line.now ≤ 1024 }
-    requires other { first (number_of 64) (words_of line.now) ≡ None }
+    requires other { first (number_of_bits 64) (words_of line.now) ≡ None }
     ensures meaning { Puts (line_of_words (words_of line.now)) said.new result }
     ensures askable { OnOk result (IsAskableLine said.new) }
 {
@@ -538,7 +538,7 @@ impl ScriptLine {
     ///
     /// Which word is wrong, and what was wanted there.
     pub fn read(line: &[u8]) -> Result<ScriptLine, Wrong>
-        ensures meaning { result_ok result ≡ line_of line.now }
+        ensures meaning { result_ok result ≡ script_line line.now }
         ensures askable { IfOk result IsAskableLine }
     {
         let mut said = ScriptLine::Skipped;
@@ -551,9 +551,9 @@ impl ScriptLine {
     /// # Errors
     ///
     /// Which word is wrong, and what was wanted there.
-    #[tactic(auto, unfolding(crate::specs::ScriptLines::line_of))]
+    #[tactic(auto, unfolding(crate::specs::ScriptLines::script_line))]
     pub fn read_from(&mut self, line: &[u8]) -> Result<(), Wrong>
-        ensures meaning { Puts (line_of line.now) self.new result }
+        ensures meaning { Puts (script_line line.now) self.new result }
         ensures askable { OnOk result (IsAskableLine self.new) }
     {
         if is_too_long(line) {

@@ -3,7 +3,7 @@
 ghost use Rattle.std.specs.{Prelude.{◌≡◌, ◌≤◌, ◌<◌, length, take, IfSome, IsFalse, IsTrue, ◌∷◌, [], slice_get, MatchOption}, List.list_all, Char.is_ascii_digit};
 ghost use Rattle.gx_soup.specs.Login.{spelled_number};
 ghost use Rattle.gx_units.specs.Spelling.{is_space, padded_to};
-ghost use Rattle.gx_script_text.specs.Words.{Fills, Finds, words_of, is_done, has_no_space, is_visible, is_number, name_of, number_of, byte_of};
+ghost use Rattle.gx_script_text.specs.Words.{Fills, Finds, words_of, is_done, has_no_space, is_visible_byte, is_number, padded_name, number_of_bits, byte_of};
 
 use crate::lanes::{WIDTH, before_hidden, before_space, first_bytes, with_spaces_from};
 use gx_soup::spelled_value;
@@ -66,7 +66,7 @@ impl<'a> Words<'a> {
     #[inline(always)]
     #[tactic(auto, using(crate::proofs::Words_read::digits_clear))]
     pub(crate) fn number64(&mut self) -> Option<u64>
-        ensures { Finds (number_of 64) self.old self.new result }
+        ensures { Finds (number_of_bits 64) self.old self.new result }
     {
         self.count();
         let text = self.rest?;
@@ -83,7 +83,7 @@ impl<'a> Words<'a> {
     /// The next word as a number of 32 bits, which is cut and read at once; `None` where it is none.
     #[inline(always)]
     pub(crate) fn number32(&mut self) -> Option<u32>
-        ensures { Finds (number_of 32) self.old self.new result }
+        ensures { Finds (number_of_bits 32) self.old self.new result }
     {
         let number = self.number64()?;
         if number > u64::from(u32::MAX) {
@@ -96,7 +96,7 @@ impl<'a> Words<'a> {
     #[inline(always)]
     #[tactic(auto, using(crate::proofs::Words_read::visible_clear))]
     pub(crate) fn name<const N: usize>(&mut self, field: &mut [u8; N]) -> bool
-        ensures { Fills (name_of N) self.old self.new field.new result }
+        ensures { Fills (padded_name N) self.old self.new field.new result }
     {
         self.count();
         let Some(text) = self.rest else {
@@ -208,10 +208,10 @@ fn end_by_bytes(text: &[u8]) -> usize
 fn fill_front<const N: usize>(field: &mut [u8; N], text: &[u8]) -> usize
     ensures within { result ≤ length text.now }
     ensures fits { result ≤ N }
-    ensures visible { IsTrue (list_all is_visible (take result text.now)) }
+    ensures visible { IsTrue (list_all is_visible_byte (take result text.now)) }
     ensures front { field.new ≡ padded_to N (take result text.now) }
     ensures ends { IfSome (slice_get text.now result)
-        (λ byte. result < N → IsFalse (is_visible byte)) }
+        (λ byte. result < N → IsFalse (is_visible_byte byte)) }
 {
     if N <= WIDTH && text.len() >= WIDTH {
         return fill_at_once(field, text);
@@ -226,10 +226,10 @@ fn fill_at_once<const N: usize>(field: &mut [u8; N], text: &[u8]) -> usize
     requires wide { 16 ≤ length text.now }
     ensures within { result ≤ length text.now }
     ensures fits { result ≤ N }
-    ensures visible { IsTrue (list_all is_visible (take result text.now)) }
+    ensures visible { IsTrue (list_all is_visible_byte (take result text.now)) }
     ensures front { field.new ≡ padded_to N (take result text.now) }
     ensures ends { IfSome (slice_get text.now result)
-        (λ byte. result < N → IsFalse (is_visible byte)) }
+        (λ byte. result < N → IsFalse (is_visible_byte byte)) }
 {
     let bytes = first_bytes(text);
     let end = (before_hidden(bytes) as usize).min(N);
@@ -243,10 +243,10 @@ fn fill_at_once<const N: usize>(field: &mut [u8; N], text: &[u8]) -> usize
 fn fill_by_bytes<const N: usize>(field: &mut [u8; N], text: &[u8]) -> usize
     ensures within { result ≤ length text.now }
     ensures fits { result ≤ N }
-    ensures visible { IsTrue (list_all is_visible (take result text.now)) }
+    ensures visible { IsTrue (list_all is_visible_byte (take result text.now)) }
     ensures front { field.new ≡ padded_to N (take result text.now) }
     ensures ends { IfSome (slice_get text.now result)
-        (λ byte. result < N → IsFalse (is_visible byte)) }
+        (λ byte. result < N → IsFalse (is_visible_byte byte)) }
 {
     let (front, end) = visible_front(text);
     *field = front;
@@ -258,10 +258,10 @@ fn fill_by_bytes<const N: usize>(field: &mut [u8; N], text: &[u8]) -> usize
 fn visible_front<const N: usize>(text: &[u8]) -> ([u8; N], usize)
     ensures within { result.1 ≤ length text.now }
     ensures fits { result.1 ≤ N }
-    ensures visible { IsTrue (list_all is_visible (take result.1 text.now)) }
+    ensures visible { IsTrue (list_all is_visible_byte (take result.1 text.now)) }
     ensures front { result.0 ≡ padded_to N (take result.1 text.now) }
     ensures ends { IfSome (slice_get text.now result.1)
-        (λ byte. result.1 < N → IsFalse (is_visible byte)) }
+        (λ byte. result.1 < N → IsFalse (is_visible_byte byte)) }
 {
     let mut front = [b' '; N];
     let most = text.len().min(N);
@@ -277,10 +277,10 @@ fn visible_front<const N: usize>(text: &[u8]) -> ([u8; N], usize)
 /// The name of these visible bytes, which fill its field, if there are any.
 #[inline(always)]
 fn named<const N: usize>(word: &[u8], field: [u8; N]) -> Option<[u8; N]>
-    requires visible { IsTrue (list_all is_visible word.now) }
+    requires visible { IsTrue (list_all is_visible_byte word.now) }
     requires fits { length word.now ≤ N }
     requires filled { field ≡ padded_to N word.now }
-    ensures { result ≡ name_of N word.now }
+    ensures { result ≡ padded_name N word.now }
 {
     if word.is_empty() {
         return None;
@@ -289,7 +289,7 @@ fn named<const N: usize>(word: &[u8], field: [u8; N]) -> Option<[u8; N]>
 }
 
 fn is_visible(byte: u8) -> bool
-    ensures { result ≡ is_visible byte }
+    ensures { result ≡ is_visible_byte byte }
 {
     byte >= b'!' && byte <= b'~'
 }
@@ -297,7 +297,7 @@ fn is_visible(byte: u8) -> bool
 /// Puts a word into the field as a name, filled up with spaces. Answers whether it is one.
 #[inline(never)]
 fn long_name<const N: usize>(field: &mut [u8; N], word: &[u8]) -> bool
-    ensures { MatchOption (name_of N word.now) (IsFalse result)
+    ensures { MatchOption (padded_name N word.now) (IsFalse result)
         (λ name. IsTrue result × (name ≡ field.new)) }
 {
     let Some(found) = name(word) else {
@@ -309,7 +309,7 @@ fn long_name<const N: usize>(field: &mut [u8; N], word: &[u8]) -> bool
 
 /// A name, filled up with spaces.
 fn name<const N: usize>(word: &[u8]) -> Option<[u8; N]>
-    ensures { result ≡ name_of N word.now }
+    ensures { result ≡ padded_name N word.now }
 {
     let (front, end) = visible_front(word);
     if end < word.len() {
@@ -351,7 +351,7 @@ fn first_digits(text: &[u8]) -> (u64, usize)
 /// A number of 64 bits, of any number of digits.
 #[inline(never)]
 fn long_number(word: &[u8]) -> Option<u64>
-    ensures { result ≡ number_of 64 word.now }
+    ensures { result ≡ number_of_bits 64 word.now }
 {
     if !is_number(word) {
         return None;

@@ -3,7 +3,7 @@ use Rattle.std.proofs.{Common.{◌≡◌, ℕ, List, [], ◌++◌, Option, sym, 
 use Rattle.std.specs.Io.KnownBytes.{Consumes}
 use Rattle.gx_soup.specs.{declared.packet.SoupFault.SoupFault, Feeding.{Held, HasRead}, Packets.packets_of}
 use Rattle.gx_session.specs.Happenings.{Happening}
-use Rattle.gx_serve.specs.{declared.reading.Left.Left, Readings.{IfOpen, IsBroken, IsLeft, Leaves, Stands, WasHeard}}
+use Rattle.gx_serve.specs.{declared.reading.Left.Left, Readings.{IfOpen, IsReadBroken, IsLeft, Leaves, Stands, WasHeard}}
 use Rattle.gx_reception.specs.{Arrivals.HasEnded, Openings.{IsOpening, OpeningData}}
 use Rattle.gx_reception.proofs.Packets_idle.{ended_so}
 
@@ -26,7 +26,7 @@ opened feeder feeder' piece (Left.Broken found told) left read before stands = l
 opened feeder feeder' piece (Left.Excluded why told) left read before stands = (tt, left before stands.0)
 
 -- what comes behind a fault is let go
-pub still_broken : (found : SoupFault) (told : Happening) (before piece : List ℕ) → IsBroken found told before → IsBroken found told (before ++ piece)
+pub still_broken : (found : SoupFault) (told : Happening) (before piece : List ℕ) → IsReadBroken found told before → IsReadBroken found told (before ++ piece)
 still_broken found told before piece b = record {
   front = b.front;
   rest = b.rest ++ piece;
@@ -36,7 +36,7 @@ still_broken found told before piece b = record {
 }
 
 -- of what was read so far, behind the bytes that the connection began with
-pub record Hears (before : List ℕ) (input left : Option (List ℕ)) (feeder : Held) (state : Left) : Type 0 where
+pub record HeardSoFar (before : List ℕ) (input left : Option (List ℕ)) (feeder : Held) (state : Left) : Type 0 where
   pub bytes : List ℕ
   pub consumed : Consumes input left bytes
   pub stands : Stands state feeder (before ++ bytes)
@@ -62,17 +62,17 @@ has_begun before o (Left.Refused told) opening = tt
 has_begun before o (Left.Broken found told) opening = tt
 has_begun before o (Left.Excluded why told) opening = tt
 
-pub hears_nothing : (before : List ℕ) (input : Option (List ℕ)) (o : OpeningData) (state : Left) → IsOpening before o → IsLeft o.fault state → Hears before input input o.feeder state
-hears_nothing before input o state opening left = record {
+pub nothing_heard : (before : List ℕ) (input : Option (List ℕ)) (o : OpeningData) (state : Left) → IsOpening before o → IsLeft o.fault state → HeardSoFar before input input o.feeder state
+nothing_heard before input o state opening left = record {
   bytes = [];
   consumed = Consumes-nil input;
   stands = subst (Stands state o.feeder) (sym (append-nil before)) (has_begun before o state opening, begun before o state opening left);
 }
 
-pub hears_first : (before : List ℕ) (input : Option (List ℕ)) (o : OpeningData) (feeder : Held) (state : Left) → feeder ≡ o.feeder → IsOpening before o → IsLeft o.fault state → Hears before input input feeder state
-hears_first before input o feeder state is opening left = subst (λ f. Hears before input input f state) (sym is) (hears_nothing before input o state opening left)
+pub heard_first : (before : List ℕ) (input : Option (List ℕ)) (o : OpeningData) (feeder : Held) (state : Left) → feeder ≡ o.feeder → IsOpening before o → IsLeft o.fault state → HeardSoFar before input input feeder state
+heard_first before input o feeder state is opening left = subst (λ f. HeardSoFar before input input f state) (sym is) (nothing_heard before input o state opening left)
 
-pub heard : (before : List ℕ) (input mid left : Option (List ℕ)) (feeder : Held) (state : Left) (failed failed' : ℕ) → Hears before input mid feeder state → HasEnded mid left failed failed' → WasHeard before input left failed' state
+pub heard : (before : List ℕ) (input mid left : Option (List ℕ)) (feeder : Held) (state : Left) (failed failed' : ℕ) → HeardSoFar before input mid feeder state → HasEnded mid left failed failed' → WasHeard before input left failed' state
 heard before input mid left feeder state failed failed' h end = record {
   bytes = h.bytes;
   consumed = subst (Consumes input left) (append-nil h.bytes) (Consumes-trans input mid left h.bytes [] h.consumed end.0);

@@ -28,7 +28,7 @@ pub nothing_spoken : (policy : PolicyData) (user : UserName) (from : ℕ) → Sp
 nothing_spoken policy user from = record { parts = []; go_on = refl; whole = refl }
 
 -- what is due and not the last is a part
-due_spoken : (policy : PolicyData) (user : UserName) (from : ℕ) (due : NextWrite) → Speech.IsDue policy user from due → Speech.is_last due ≡ false → Speech.IsSpoken policy user from (Speech.due_text due) (Speech.next_after due from)
+due_spoken : (policy : PolicyData) (user : UserName) (from : ℕ) (due : NextWrite) → Speech.IsDue policy user from due → Speech.is_last_write due ≡ false → Speech.IsSpoken policy user from (Speech.due_text due) (Speech.next_after due from)
 due_spoken policy user from (NextWrite.Sign Sign.Heartbeat) d e = record { parts = Speech.Beat ∷ []; go_on = refl; whole = sym (append-nil (control_bytes (Control.Sign Sign.Heartbeat))) }
 due_spoken policy user from (NextWrite.Sign Sign.EndOfSession) d e = cc
 due_spoken policy user from (NextWrite.Reports fetched) d e = record { parts = Speech.Shown fetched.pulled ∷ []; go_on = (d, refl); whole = sym (append-nil (reports_text fetched.pulled.reports)) }
@@ -36,7 +36,7 @@ due_spoken policy user from NextWrite.Nothing d e = record { parts = []; go_on =
 due_spoken policy user from (NextWrite.Over finished) d e = cc
 
 -- what is due and the last is an ending
-due_ends : (due : NextWrite) → Speech.is_last due ≡ true → Speech.IsEnding (Speech.due_text due)
+due_ends : (due : NextWrite) → Speech.is_last_write due ≡ true → Speech.IsEnding (Speech.due_text due)
 due_ends (NextWrite.Sign Sign.Heartbeat) e = cc
 due_ends (NextWrite.Sign Sign.EndOfSession) e = inr refl
 due_ends (NextWrite.Reports fetched) e = cc
@@ -49,7 +49,7 @@ pub record Says (policy : PolicyData) (user : UserName) (from to : ℕ) (before 
   pub speech : Speech.IsSpoken policy user from spoken to
   pub written : Appends before after spoken
 
-says_more : {policy : PolicyData} (user : UserName) (from to : ℕ) (before mid after : Option (List ℕ)) (due : NextWrite) → Speech.IsDue policy user to due → Speech.is_last due ≡ false → Says policy user from to before mid → Appends mid after (Speech.due_text due) → Says policy user from (Speech.next_after due to) before after
+says_more : {policy : PolicyData} (user : UserName) (from to : ℕ) (before mid after : Option (List ℕ)) (due : NextWrite) → Speech.IsDue policy user to due → Speech.is_last_write due ≡ false → Says policy user from to before mid → Appends mid after (Speech.due_text due) → Says policy user from (Speech.next_after due to) before after
 says_more {policy} user from to before mid after due d e s w = record {
   spoken = s.spoken ++ Speech.due_text due;
   speech = spoken_on user from to (Speech.next_after due to) s.spoken (Speech.due_text due) s.speech (due_spoken policy user to due d e);
@@ -61,7 +61,7 @@ behind : (whole : Bool) (front text : List ℕ) (before mid after : Option (List
 behind true front text before mid after f w = Appends-trans before mid after front text f w
 behind false front text before mid after f w = front_behind front text before mid after f w
 
-says_last : (whole : Bool) {policy : PolicyData} (user : UserName) (from to : ℕ) (before mid after : Option (List ℕ)) (due : NextWrite) → Speech.is_last due ≡ true → Says policy user from to before mid → Speech.Writes whole mid after (Speech.due_text due) → Speech.WasSpoken whole policy user from before after
+says_last : (whole : Bool) {policy : PolicyData} (user : UserName) (from to : ℕ) (before mid after : Option (List ℕ)) (due : NextWrite) → Speech.is_last_write due ≡ true → Says policy user from to before mid → Speech.Writes whole mid after (Speech.due_text due) → Speech.WasSpoken whole policy user from before after
 says_last whole user from to before mid after due e s w = record {
   to = to;
   spoken = s.spoken;
@@ -77,14 +77,14 @@ says_last whole user from to before mid after due e s w = record {
 pub due_still : (policy : PolicyData) (user user' : UserName) (from : ℕ) (due : NextWrite) → user' ≡ user → Speech.IsDue policy user' from due → Speech.IsDue policy user from due
 due_still policy user user' from due same d = subst (λ u. Speech.IsDue policy u from due) same d
 
-pub goes_further : {policy : PolicyData} (user : UserName) (from to next : ℕ) (before mid after : Option (List ℕ)) (due : NextWrite) (last : Bool) → Speech.IsDue policy user to due → last ≡ Speech.is_last due → last ≡ false → next ≡ Speech.next_after due to → Says policy user from to before mid → Appends mid after (Speech.due_text due) → Says policy user from next before after
+pub goes_further : {policy : PolicyData} (user : UserName) (from to next : ℕ) (before mid after : Option (List ℕ)) (due : NextWrite) (last : Bool) → Speech.IsDue policy user to due → last ≡ Speech.is_last_write due → last ≡ false → next ≡ Speech.next_after due to → Says policy user from to before mid → Appends mid after (Speech.due_text due) → Says policy user from next before after
 goes_further {policy} user from to next before mid after due last d l e n s w = subst (λ k. Says policy user from k before after) (sym n) (says_more user from to before mid after due d (sym l ∙ e) s w)
 
-pub ends_there : {policy : PolicyData} (user : UserName) (from to : ℕ) (before mid after : Option (List ℕ)) (due : NextWrite) (last : Bool) → last ≡ Speech.is_last due → last ≡ true → Says policy user from to before mid → Appends mid after (Speech.due_text due) → Speech.WasSpoken true policy user from before after
+pub ends_there : {policy : PolicyData} (user : UserName) (from to : ℕ) (before mid after : Option (List ℕ)) (due : NextWrite) (last : Bool) → last ≡ Speech.is_last_write due → last ≡ true → Says policy user from to before mid → Appends mid after (Speech.due_text due) → Speech.WasSpoken true policy user from before after
 ends_there user from to before mid after due last l e s w = says_last true user from to before mid after due (sym l ∙ e) s w
 
 pub is_cut_off : {policy : PolicyData} (user : UserName) (from to : ℕ) (before mid after : Option (List ℕ)) (due : NextWrite) → Speech.IsDue policy user to due → Says policy user from to before mid → IsFront mid after (Speech.due_text due) → Speech.WasSpoken false policy user from before after
-is_cut_off {policy} user from to before mid after due d s f = elim (Speech.is_last due) as (λ b. Speech.is_last due ≡ b → Speech.WasSpoken false policy user from before after) [
+is_cut_off {policy} user from to before mid after due d s f = elim (Speech.is_last_write due) as (λ b. Speech.is_last_write due ≡ b → Speech.WasSpoken false policy user from before after) [
   | true ↦ λ e. says_last false user from to before mid after due e s f
   | false ↦ λ e. record {
     to = Speech.next_after due to;

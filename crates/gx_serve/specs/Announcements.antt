@@ -11,16 +11,16 @@ use Rattle.gx_session.specs.{declared.event.Next.{Next, TheVariants.Act}, Table.
 use Rattle.gx_serve.specs.{declared.announcing.{EndedBy.EndedBy, EndedOrders.EndedOrders}, States.{WasGivenUp, WasTurned}}
 
 -- what a command ends, if it ends live orders
-abbrev pub ended_by : Action → Option EndedBy
-ended_by (Action.Kill account) = Some (EndedBy.Kill account)
-ended_by Action.CloseDay = Some EndedBy.CloseDay
-ended_by other = None
+abbrev pub ending_command : Action → Option EndedBy
+ending_command (Action.Kill account) = Some (EndedBy.Kill account)
+ending_command Action.CloseDay = Some EndedBy.CloseDay
+ending_command other = None
 
 -- what is announced of a command that was decided so and ended so much: where it is a granted Kill or Close Day, and nothing else
 abbrev pub announced_by : UserName → Outcome → EndedTotals → Action → Option EndedOrders
 announced_by user o ended action =
     if is_granted o.verdict
-    then option_map {U = EndedOrders} (λ (b : EndedBy). record { officer = user; by = b; number = o.number; moment = o.moment; ended = ended }) (ended_by action)
+    then option_map {U = EndedOrders} (λ (b : EndedBy). record { officer = user; by = b; number = o.number; moment = o.moment; ended = ended }) (ending_command action)
     else None
 
 -- and of any request

@@ -11,15 +11,15 @@ pub record ConductData : Type 0 where
   pub silent : ℕ
 
 -- nobody is told of a denial by this rule
-abbrev pub is_silent : RuleName → Bool
-is_silent RuleName.G1 = true
-is_silent RuleName.G2 = true
-is_silent RuleName.G3 = true
-is_silent other = false
+abbrev pub is_silent_rule : RuleName → Bool
+is_silent_rule RuleName.G1 = true
+is_silent_rule RuleName.G2 = true
+is_silent_rule RuleName.G3 = true
+is_silent_rule other = false
 
 -- how many they are behind one more request, which was decided so; no more than 1,000 are counted
 abbrev pub silent_after : ℕ → Verdict → ℕ
-silent_after silent (Verdict.Denied rule) = if is_silent rule then min (silent + 1) 1000 else 0
+silent_after silent (Verdict.Denied rule) = if is_silent_rule rule then min (silent + 1) 1000 else 0
 silent_after silent other = 0
 
 abbrev pub is_trader_here : Caller → Bool

@@ -5,12 +5,12 @@ use Rattle.gx_access_gate.specs.declared.{outcome.LoginAnswer.LoginAnswer, pulle
 use Rattle.gx_control.specs.PullCursors.{pull_cursor, PullCursorData}
 
 -- the user whose reports are sent, when he asked to log in, and the number of the next
-pub record Mark : Type 0 where
+pub record SentMark : Type 0 where
   pub user : UserName
   pub login : ℕ
   pub next : ℕ
 
-abbrev pub mark : UserName → ℕ → ℕ → Mark
+abbrev pub mark : UserName → ℕ → ℕ → SentMark
 mark user login next = record { user = user; login = login; next = next }
 
 -- the answer to a user's login, and when he asked for it
@@ -31,7 +31,7 @@ abbrev pub fetched_data : Pulled → ℕ → FetchedData
 fetched_data pulled count = record { pulled = pulled; count = count }
 
 -- once they were sent, the next report is the one behind them
-abbrev pub mark_sent : Mark → FetchedData → Mark
+abbrev pub mark_sent : SentMark → FetchedData → SentMark
 mark_sent m f = mark m.user m.login f.pulled.next
 
 -- and as many records were seen as there were; where all were pulled that one pull may give, there may be more

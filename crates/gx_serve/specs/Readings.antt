@@ -15,12 +15,12 @@ IsCut fault (Left.Broken found told) = (fault ≡ Some found) × (told ≡ happe
 IsCut fault (Left.Excluded why told) = ⊥
 
 -- packets leave it open, or it is over, or its user was put out and it was told that it ends
-abbrev pub IsKept : Left → Type 0
-IsKept Left.Open = Unit {0}
-IsKept (Left.Over over) = Unit {0}
-IsKept (Left.Refused told) = ⊥
-IsKept (Left.Broken found told) = ⊥
-IsKept (Left.Excluded why told) = told ≡ happens.Fault
+abbrev pub IsSessionKept : Left → Type 0
+IsSessionKept Left.Open = Unit {0}
+IsSessionKept (Left.Over over) = Unit {0}
+IsSessionKept (Left.Refused told) = ⊥
+IsSessionKept (Left.Broken found told) = ⊥
+IsSessionKept (Left.Excluded why told) = told ≡ happens.Fault
 
 -- the same, or it was over before, or it was told that there is no memory
 abbrev pub IsLeft : Option SoupFault → Left → Type 0
@@ -47,7 +47,7 @@ IfOpen (Left.Broken found told) Fact = Unit {0}
 IfOpen (Left.Excluded why told) Fact = Unit {0}
 
 -- a front of the bytes is no packets, and the session was told so
-pub record IsBroken (found : SoupFault) (t : Happening) (bytes : List ℕ) : Type 0 where
+pub record IsReadBroken (found : SoupFault) (t : Happening) (bytes : List ℕ) : Type 0 where
   pub front : List ℕ
   pub rest : List ℕ
   pub whole : bytes ≡ front ++ rest
@@ -59,7 +59,7 @@ abbrev pub Leaves : List ℕ → Left → Type 0
 Leaves bytes Left.Open = (packets_of bytes).fault ≡ None
 Leaves bytes (Left.Over over) = Unit {0}
 Leaves bytes (Left.Refused told) = told ≡ happens.Refused StepFault.OutOfMemory
-Leaves bytes (Left.Broken found told) = IsBroken found told bytes
+Leaves bytes (Left.Broken found told) = IsReadBroken found told bytes
 Leaves bytes (Left.Excluded why told) = told ≡ happens.Fault
 
 -- and while it goes on the feeder was fed all of them

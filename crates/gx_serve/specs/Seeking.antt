@@ -7,9 +7,9 @@ use Rattle.gx_access_gate.specs.declared.{outcome.{LoginAnswer.LoginAnswer, Step
 use Rattle.gx_pass.specs.{declared.view.LineView.LineView, Views.with_told}
 use Rattle.gx_door.specs.Acts.{IsLater}
 use Rattle.gx_control.specs.PullCursors.{may_have_more, pull_cursor, PullCursorData}
-use Rattle.gx_session.specs.{declared.{event.Sign.Sign, outbox.Outbox.Outbox}, Events.{is_on, is_over}, Outboxes.left_after, Table.{SessionData, turn}}
+use Rattle.gx_session.specs.{declared.{event.Sign.Sign, outbox.Outbox.Outbox}, Events.{is_phase_on, is_over}, Outboxes.left_after, Table.{SessionData, turn}}
 use Rattle.gx_session.specs.Happenings as happens
-use Rattle.gx_serve.specs.{declared.state.outgoing.{NextWrite.NextWrite, Finished.Finished}, Marks.{fetched_data, given_login, FetchedData, Given, Mark}, States.{HasLooked, WasTold, WasToldRefusal}, Speech.IsShown}
+use Rattle.gx_serve.specs.{declared.state.outgoing.{NextWrite.NextWrite, Finished.Finished}, Marks.{fetched_data, given_login, FetchedData, Given, SentMark}, States.{HasMetMore, WasTold, WasToldRefusal}, Speech.AreReportsShown}
 
 -- there is nothing to greet with: for good where the session is over, else for now
 abbrev pub IsQuiet : Bool → Option (Result Given Finished) → Type 0
@@ -58,28 +58,28 @@ pub record WasIdle (session : SessionData) (was : LineView) (cursor : PullCursor
   pub nothing : due ≡ NextWrite.Nothing
 
 -- there was news, and the user's reports were pulled, as they stood once so many records were told
-pub record WasFetched (policy : PolicyData) (m : Mark) (session : SessionData) (was : LineView) (cursor : PullCursorData) (session' : SessionData) (is : LineView) (cursor' : PullCursorData) (due : NextWrite) : Type 0 where
+pub record WasFetched (policy : PolicyData) (m : SentMark) (session : SessionData) (was : LineView) (cursor : PullCursorData) (session' : SessionData) (is : LineView) (cursor' : PullCursorData) (due : NextWrite) : Type 0 where
   pub pulled : Pulled
   pub count : ℕ
   pub news : IsTrue (may_have_more cursor count)
   pub later : IsLater policy (with_told was count) is
-  pub looked : HasLooked was is
-  pub shown : IsShown policy m.user m.next pulled
+  pub looked : HasMetMore was is
+  pub shown : AreReportsShown policy m.user m.next pulled
   pub same : session' ≡ session
   pub seen : cursor' ≡ cursor_after cursor (fetched_data pulled count)
   pub brought : due ≡ due_of (fetched_data pulled count)
 
 -- the pull was refused, and the session was told so: for want of memory, or since the user is not logged in on the line
-pub record WasUnfetched (policy : PolicyData) (user : UserName) (m : Mark) (moment : ℕ) (session : SessionData) (was : LineView) (cursor : PullCursorData) (session' : SessionData) (is : LineView) (cursor' : PullCursorData) (due : NextWrite) : Type 0 where
+pub record WasUnfetched (policy : PolicyData) (user : UserName) (m : SentMark) (moment : ℕ) (session : SessionData) (was : LineView) (cursor : PullCursorData) (session' : SessionData) (is : LineView) (cursor' : PullCursorData) (due : NextWrite) : Type 0 where
   pub between : LineView
-  pub looked : HasLooked was between
+  pub looked : HasMetMore was between
   pub told : WasToldRefusal policy user StepFault.OutOfMemory moment session between session' is
       ⊎ ((line_of between.front (folded_user m.user) ≢ Some was.line) × WasTold policy user happens.Fault moment session between session' is)
   pub seen : cursor' ≡ cursor
   pub nothing : due ≡ NextWrite.Nothing
 
 -- what came of looking for the user's reports
-abbrev pub WasPulled : PolicyData → UserName → Mark → ℕ → SessionData → LineView → PullCursorData → SessionData → LineView → PullCursorData → NextWrite → Type 0
+abbrev pub WasPulled : PolicyData → UserName → SentMark → ℕ → SessionData → LineView → PullCursorData → SessionData → LineView → PullCursorData → NextWrite → Type 0
 WasPulled policy user m moment session was cursor session' is cursor' due =
     WasIdle session was cursor session' is cursor' due
     ⊎ (WasFetched policy m session was cursor session' is cursor' due
@@ -90,7 +90,7 @@ abbrev pub Stays : SessionData → LineView → PullCursorData → SessionData �
 Stays session was cursor session' is cursor' = ((session' ≡ session) × (is ≡ was)) × (cursor' ≡ cursor)
 
 -- reports are looked for while a user is logged in
-abbrev pub LooksWhere : Bool → PolicyData → UserName → Mark → ℕ → SessionData → LineView → PullCursorData → SessionData → LineView → PullCursorData → NextWrite → Type 0
+abbrev pub LooksWhere : Bool → PolicyData → UserName → SentMark → ℕ → SessionData → LineView → PullCursorData → SessionData → LineView → PullCursorData → NextWrite → Type 0
 LooksWhere true policy user m moment session was cursor session' is cursor' due = WasPulled policy user m moment session was cursor session' is cursor' due
 LooksWhere false policy user m moment session was cursor session' is cursor' due = Stays session was cursor session' is cursor' × (due ≡ NextWrite.Nothing)
 
@@ -101,13 +101,13 @@ DueElse None left' true session was cursor session' is cursor' due Else = Stays 
 DueElse None left' false session was cursor session' is cursor' due Else = Else
 
 -- and else reports are looked for
-abbrev pub Seeks : Option Sign → Outbox → PolicyData → UserName → Mark → ℕ → SessionData → LineView → PullCursorData → SessionData → LineView → PullCursorData → NextWrite → Type 0
+abbrev pub Seeks : Option Sign → Outbox → PolicyData → UserName → SentMark → ℕ → SessionData → LineView → PullCursorData → SessionData → LineView → PullCursorData → NextWrite → Type 0
 Seeks left left' policy user m moment session was cursor session' is cursor' due =
     DueElse left left' (is_over session.phase) session was cursor session' is cursor' due
-    (LooksWhere (is_on session.phase) policy user m moment session was cursor session' is cursor' due)
+    (LooksWhere (is_phase_on session.phase) policy user m moment session was cursor session' is cursor' due)
 
 -- the session was told of the time, and what it then asks to send is due, or else what there is
-pub record WasWatched (left left' : Outbox) (policy : PolicyData) (user : UserName) (m : Mark) (moment : ℕ) (session : SessionData) (was : LineView) (cursor : PullCursorData) (session' : SessionData) (is : LineView) (cursor' : PullCursorData) (due : NextWrite) : Type 0 where
+pub record WasWatched (left left' : Outbox) (policy : PolicyData) (user : UserName) (m : SentMark) (moment : ℕ) (session : SessionData) (was : LineView) (cursor : PullCursorData) (session' : SessionData) (is : LineView) (cursor' : PullCursorData) (due : NextWrite) : Type 0 where
   pub ticked : SessionData
   pub between : LineView
   pub told : WasTold policy user happens.Tick moment session was ticked between
@@ -115,7 +115,7 @@ pub record WasWatched (left left' : Outbox) (policy : PolicyData) (user : UserNa
 
 -- what the writer does for a user: he sends the packet that is left; once the session is over nothing more; else the session is
 -- told of the time, and he sends what it then asks for, or the user's reports, where there are any
-abbrev pub WasSought : Outbox → Outbox → PolicyData → UserName → Mark → ℕ → SessionData → LineView → PullCursorData → SessionData → LineView → PullCursorData → NextWrite → Type 0
+abbrev pub WasSought : Outbox → Outbox → PolicyData → UserName → SentMark → ℕ → SessionData → LineView → PullCursorData → SessionData → LineView → PullCursorData → NextWrite → Type 0
 WasSought left left' policy user m moment session was cursor session' is cursor' due =
     DueElse left.sign left' (is_over session.phase) session was cursor session' is cursor' due
     (WasWatched (record left { sign = None }) left' policy user m moment session was cursor session' is cursor' due)

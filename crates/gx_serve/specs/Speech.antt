@@ -17,7 +17,7 @@ due_text NextWrite.Nothing = []
 due_text (NextWrite.Over finished) = []
 
 -- the user's reports from this number on, as the records of a legal day owe them to him, in which he is logged in
-pub record IsShown (policy : PolicyData) (user : UserName) (from : ℕ) (pulled : Pulled) : Type 0 where
+pub record AreReportsShown (policy : PolicyData) (user : UserName) (from : ℕ) (pulled : Pulled) : Type 0 where
   pub records : List RecordData
   pub legal : IsLegal policy records
   pub on : IsTrue (is_some (line_of records (folded_user user)))
@@ -26,7 +26,7 @@ pub record IsShown (policy : PolicyData) (user : UserName) (from : ℕ) (pulled 
 -- where reports are due, they are the user's from this number on
 abbrev pub IsDue : PolicyData → UserName → ℕ → NextWrite → Type 0
 IsDue policy user from (NextWrite.Sign sign) = Unit {0}
-IsDue policy user from (NextWrite.Reports fetched) = IsShown policy user from fetched.pulled
+IsDue policy user from (NextWrite.Reports fetched) = AreReportsShown policy user from fetched.pulled
 IsDue policy user from NextWrite.Nothing = Unit {0}
 IsDue policy user from (NextWrite.Over finished) = Unit {0}
 
@@ -36,11 +36,11 @@ is_ending Sign.Heartbeat = false
 is_ending Sign.EndOfSession = true
 
 -- nothing is sent behind it
-abbrev pub is_last : NextWrite → Bool
-is_last (NextWrite.Sign sign) = is_ending sign
-is_last (NextWrite.Reports fetched) = false
-is_last NextWrite.Nothing = false
-is_last (NextWrite.Over finished) = true
+abbrev pub is_last_write : NextWrite → Bool
+is_last_write (NextWrite.Sign sign) = is_ending sign
+is_last_write (NextWrite.Reports fetched) = false
+is_last_write NextWrite.Nothing = false
+is_last_write (NextWrite.Over finished) = true
 
 -- the number of the next report behind it
 abbrev pub next_after : NextWrite → ℕ → ℕ
@@ -62,7 +62,7 @@ part_text (Shown pulled) = reports_text pulled.reports
 abbrev pub GoOn : PolicyData → UserName → ℕ → List Part → ℕ → Type 0
 GoOn policy user from [] to = to ≡ from
 GoOn policy user from (Beat ∷ parts) to = GoOn policy user from parts to
-GoOn policy user from (Shown pulled ∷ parts) to = IsShown policy user from pulled × GoOn policy user pulled.next parts to
+GoOn policy user from (Shown pulled ∷ parts) to = AreReportsShown policy user from pulled × GoOn policy user pulled.next parts to
 
 -- to a user who is on such parts were sent
 pub record IsSpoken (policy : PolicyData) (user : UserName) (from : ℕ) (text : List ℕ) (to : ℕ) : Type 0 where

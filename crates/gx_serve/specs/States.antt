@@ -6,7 +6,7 @@ use Rattle.gx_history.specs.declared.record.{Asked.Asked, Request.Request}
 use Rattle.gx_access_gate.specs.{declared.outcome.{LoginAnswer.LoginAnswer, Outcome.Outcome, StepFault.StepFault}, Gates.left_by}
 use Rattle.gx_soup.specs.declared.packet.{ClientPacket.ClientPacket, LoginRequest.LoginRequest}
 use Rattle.gx_pass.specs.{declared.view.LineView.LineView, Views.mine}
-use Rattle.gx_door.specs.{Acts.{asked_on, gate_met, login_on, AddsOwn, IsLater, IsToldFull, LogsIn, MayBeRefused}, Matching.{Matches, Turns}, declared.ended.EndedTotals.EndedTotals}
+use Rattle.gx_door.specs.{Acts.{asked_on, gate_met, login_on, AddsOwn, IsLater, IsToldFull, LogsIn, MayBeRefused}, Matching.{MatchesBehind, Turns}, declared.ended.EndedTotals.EndedTotals}
 use Rattle.gx_session.specs.{declared.{event.Next.{Next, TheVariants.{Act, Logout}}, outbox.Outbox.Outbox}, Events.login_in, Happenings.Happening, Outboxes.left_after, Table.{SessionData, turn}}
 use Rattle.gx_session.specs.Happenings as happens
 
@@ -28,7 +28,7 @@ pub record WasTurned (policy : PolicyData) (a : Asked) (was is : LineView) : Typ
 pub record WasMatched (policy : PolicyData) (moment : ℕ) (was is : LineView) : Type 0 where
   pub later : IsLater policy was is
   pub made : ℕ
-  pub matches : Matches was is moment made
+  pub matches : MatchesBehind was is moment made
 
 -- the step was refused so
 pub record WasRefused (policy : PolicyData) (a : Asked) (fault : StepFault) (was is : LineView) : Type 0 where
@@ -61,17 +61,17 @@ pub record WasGivenUp (policy : PolicyData) (user : UserName) (request : Request
   pub told : WasToldRefusal policy user fault moment session between session' is
 
 -- the step that a session asks for was made, or it was told of its refusal
-abbrev pub Follows : Next → PolicyData → UserName → ℕ → SessionData → LineView → SessionData → LineView → Type 0
-Follows (Act request) policy user moment session was session' is =
+abbrev pub WasFollowed : Next → PolicyData → UserName → ℕ → SessionData → LineView → SessionData → LineView → Type 0
+WasFollowed (Act request) policy user moment session was session' is =
     ((session' ≡ session) × WasTurned policy (asked_on was.line user request moment) was is)
     ⊎ WasGivenUp policy user request moment session was session' is
-Follows Logout policy user moment session was session' is = (session' ≡ session) × WasLoggedOut policy user moment was is
-Follows other policy user moment session was session' is = (session' ≡ session) × (is ≡ was)
+WasFollowed Logout policy user moment session was session' is = (session' ≡ session) × WasLoggedOut policy user moment was is
+WasFollowed other policy user moment session was session' is = (session' ≡ session) × (is ≡ was)
 
 -- the session was told of an event at this moment, and what it then asks for was done
 abbrev pub WasTold : PolicyData → UserName → Happening → ℕ → SessionData → LineView → SessionData → LineView → Type 0
 WasTold policy user event moment session was session' is =
-    Follows (turn session event moment).reply.next policy user moment (turn session event moment).session was session' is
+    WasFollowed (turn session event moment).reply.next policy user moment (turn session event moment).session was session' is
 
 -- the session was told of the server's end at this moment, where it was asked for
 abbrev pub Heeds : Bool → PolicyData → UserName → ℕ → SessionData → LineView → SessionData → LineView → Type 0
@@ -106,7 +106,7 @@ WasAnswered policy login moment session was left session' is left' =
 -- what a session asked for on a packet was done: this login, if it is one
 abbrev pub Serves : Option LoginRequest → Next → PolicyData → UserName → ℕ → SessionData → LineView → Outbox → SessionData → LineView → Outbox → Type 0
 Serves (Some login) next policy user moment session was left session' is left' = WasAnswered policy login moment session was left session' is left'
-Serves None next policy user moment session was left session' is left' = Follows next policy user moment session was session' is × (left' ≡ left)
+Serves None next policy user moment session was left session' is left' = WasFollowed next policy user moment session was session' is × (left' ≡ left)
 
 -- the session was told of a packet at this moment, and what it then asks for was done
 abbrev pub WasTaken : PolicyData → UserName → ClientPacket → ℕ → SessionData → LineView → Outbox → SessionData → LineView → Outbox → Type 0
@@ -119,6 +119,6 @@ abbrev pub user_after : Next → ClientPacket → UserName → UserName
 user_after next packet user = option_map_or (λ (login : LoginRequest). login.user) (login_in packet next) user
 
 -- the pass has met more, and none of its own
-pub record HasLooked (was is : LineView) : Type 0 where
+pub record HasMetMore (was is : LineView) : Type 0 where
   pub line : is.line ≡ was.line
   pub own : mine is ≡ mine was

@@ -6,5 +6,5 @@ use Rattle.gx_serve.specs.declared.state.taking.Taken.{Taken}
 
 -- the session was told of the packet, or that it ends
 abbrev pub IsTakenIn : ClientPacket → Taken → Type 0
-IsTakenIn packet (Taken.Told told) = told.event ≡ happens.Packet packet
+IsTakenIn packet (Taken.Packet taken) = taken.event ≡ happens.Packet packet
 IsTakenIn packet (Taken.Excluded why told) = told ≡ happens.Fault

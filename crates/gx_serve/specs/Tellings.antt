@@ -8,7 +8,7 @@ use Rattle.gx_session.specs.Happenings as happens
 use Rattle.gx_reception.specs.Openings.{is_idle}
 
 -- a session was told of this event, and was over then; and this is to be announced of it
-pub record ToldData : Type 0 where
+pub record TakenPacketData : Type 0 where
   pub event : Happening
   pub ended : Option EndedOrders
   pub over : Bool
@@ -23,6 +23,6 @@ abbrev pub sent_of : Pulled → Happening
 sent_of pulled = happens.Pulled (length pulled.reports) pulled.ended
 
 -- what a session is told where a packet was not sent: want of memory as such, all else as a fault
-abbrev pub told_of : WriteFault → Happening
-told_of WriteFault.OutOfMemory = happens.Refused StepFault.OutOfMemory
-told_of WriteFault.WriteFailed = happens.Fault
+abbrev pub event_of_write_fault : WriteFault → Happening
+event_of_write_fault WriteFault.OutOfMemory = happens.Refused StepFault.OutOfMemory
+event_of_write_fault WriteFault.WriteFailed = happens.Fault

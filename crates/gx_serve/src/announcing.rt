@@ -3,7 +3,7 @@
 ghost use Rattle.std.specs.Prelude.{◌≡◌};
 ghost use Rattle.gx_units.specs.Spelling.{folded_user};
 ghost use Rattle.gx_history.specs.Requests.{is_granted};
-ghost use Rattle.gx_serve.specs.Announcements.{announced_by, announced_of, ended_by};
+ghost use Rattle.gx_serve.specs.Announcements.{announced_by, announced_of, ending_command};
 
 use gx_access_gate::Outcome;
 use gx_desk::Action;
@@ -69,7 +69,7 @@ pub fn announce<R: Announces>(rt: &R, orders: Option<EndedOrders>) -> Announced
 
 /// What the command ends, if it ends live orders.
 fn ended_by(action: &Action) -> Option<EndedBy>
-    ensures { result ≡ ended_by action.now }
+    ensures { result ≡ ending_command action.now }
 {
     match action {
         Action::Kill(account) => Some(EndedBy::Kill(*account)),

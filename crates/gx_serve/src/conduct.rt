@@ -1,7 +1,7 @@
 //! How a user behaves, and when he is put out for it.
 
 ghost use Rattle.std.specs.Prelude.{◌≡◌};
-ghost use Rattle.gx_serve.specs.Conducts.{exclusion_of, is_silent, silent_after};
+ghost use Rattle.gx_serve.specs.Conducts.{exclusion_of, is_silent_rule, silent_after};
 
 use gx_door::Caller;
 use gx_history::record::Verdict;
@@ -42,7 +42,7 @@ impl Model for Conduct {
 
 /// Whether nobody is told of a denial by this rule.
 fn is_silent(rule: RuleName) -> bool
-    ensures { result ≡ is_silent rule }
+    ensures { result ≡ is_silent_rule rule }
 {
     matches!(rule, RuleName::G1 | RuleName::G2 | RuleName::G3)
 }

@@ -3,7 +3,7 @@
 ghost use Rattle.std.specs.Prelude.{◌≡◌, ℕ, List, ◌++◌, IsFalse, IsTrue, is_some};
 ghost use Rattle.gx_soup.specs.{Feeding.HasRead, Packets.packets_of};
 ghost use Rattle.gx_reception.specs.Openings.{is_idle, IsOpening};
-ghost use Rattle.gx_serve.specs.Readings.{cut_in, IfOpen, IsCut, IsKept, IsLeft, Stands, WasHeard};
+ghost use Rattle.gx_serve.specs.Readings.{cut_in, IfOpen, IsCut, IsSessionKept, IsLeft, Stands, WasHeard};
 
 use crate::announcing::{Announces, announce};
 use crate::conduct::Exclusion;
@@ -144,16 +144,16 @@ fn take_group<D: Door, R: Wait + Clock + Dial + Announces>(
     shared: &SharedConnection<D::Pass>,
     group: &[ClientPacket],
 ) -> Left
-    ensures { IsKept result }
+    ensures { IsSessionKept result }
 {
     for packet in group {
         if is_farewell(packet) {
             wakeups.wake_writer(rt);
         }
         match shared.take(rt, door, packet) {
-            Taken::Told(told) => {
-                let announced = announce(rt, told.ended());
-                if let Some(over) = told.over(&announced, &note(rt, wakeups, packet)) {
+            Taken::Packet(taken) => {
+                let announced = announce(rt, taken.ended());
+                if let Some(over) = taken.over(&announced, &note(rt, wakeups, packet)) {
                     wakeups.wake_writer(rt);
                     return Left::Over(over);
                 }
@@ -177,7 +177,7 @@ fn take_packets<D: Door, R: Wait + Clock + Dial + Announces>(
     shared: &SharedConnection<D::Pass>,
     packets: &[ClientPacket],
 ) -> Left
-    ensures { IsKept result }
+    ensures { IsSessionKept result }
 {
     let mut taken = 0u64;
     for group in packets.chunks(GROUP) {

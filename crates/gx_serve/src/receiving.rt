@@ -52,7 +52,7 @@ fn admit<D: Door, A: Admits<D>, R: Wait>(
     reception: &A,
     opening: Opening,
 ) -> Received<D::Pass>
-    ensures { WasReceived D.policy D.held result }
+    ensures { WasReceived D.policy D.observed result }
 {
     let login = opening.login();
     match reception.admit(rt, door, &login) {
@@ -70,7 +70,7 @@ pub fn receive<D: Door, A: Admits<D>, N: Read, R: Wait>(
     reception: &A,
     reader: &mut CallCounter<N>,
 ) -> Received<D::Pass>
-    ensures { WasReceived D.policy D.held result }
+    ensures { WasReceived D.policy D.observed result }
 {
     match await_login(rt, alloc, reader) {
         Knock::Login(opening) => admit(rt, door, reception, opening),

@@ -7,7 +7,7 @@ ghost use Rattle.gx_control.specs.PullCursors.{pull_cursor};
 ghost use Rattle.gx_session.specs.{Events.{is_over, CanAsk}, Happenings.happening_of, Outboxes.{empty, left_after}, Table.{turn, new_session}};
 ghost use Rattle.gx_session.specs.Happenings as happens;
 ghost use Rattle.gx_door.specs.Acts.{asked_on, gate_met, history_met};
-ghost use Rattle.gx_serve.specs.{States.{user_after, Follows, Heeds, WasAnswered, WasLoggedOut, WasRefused, WasTaken, WasTold, WasToldRefusal, WasTurned}, Announcements.{Announces, WasAnnounced}, Breaks.break_of, Tellings.is_idle_event};
+ghost use Rattle.gx_serve.specs.{States.{user_after, WasFollowed, Heeds, WasAnswered, WasLoggedOut, WasRefused, WasTaken, WasTold, WasToldRefusal, WasTurned}, Announcements.{Announces, WasAnnounced}, Breaks.break_of, Tellings.is_idle_event};
 ghost use Rattle.gx_access_gate.specs.Matches.{matching_of};
 
 pub mod outgoing;
@@ -69,17 +69,17 @@ impl Model for BrokenOff {
 /// That a session was told of a packet, what is to be announced of it, and whether it was over then. A [`ConnectionState`]
 /// alone makes one.
 #[derive(Drop)]
-pub struct Told<'a> {
+pub struct TakenPacket<'a> {
     event: Event<'a>,
     ended: Option<EndedOrders>,
     over: bool,
 }
 
-impl<'a> Model for Told<'a> {
+impl<'a> Model for TakenPacket<'a> {
     ghost use Rattle.gx_session.specs.Happenings.{happening_of};
-    ghost use Rattle.gx_serve.specs.Tellings.{ToldData};
+    ghost use Rattle.gx_serve.specs.Tellings.{TakenPacketData};
 
-    ghost Value = { ToldData };
+    ghost Value = { TakenPacketData };
 
     ghost view = { λ t. record {
       event = happening_of t.event;
@@ -94,7 +94,7 @@ pub struct Over {
     _seen: (),
 }
 
-impl Told<'_> {
+impl TakenPacket<'_> {
     /// The orders that a command ended, if the packet was one: they are to be announced.
     pub fn ended(&self) -> Option<EndedOrders>
         ensures { result ≡ self.now.ended }
@@ -202,16 +202,17 @@ impl<T: Drop> ConnectionState<T> {
         requires clock { R.shown moment }
         requires first { IsTrue (has_its_first request) }
         ensures announced { IfOk result (λ told. WasAnnounced D.policy
-            (asked_on (history_met D.held self.old.pass).line self.old.user request moment)
-            (history_met D.held self.old.pass) (history_met D.held self.new.pass) told) }
+            (asked_on (history_met D.observed self.old.pass).line self.old.user request moment)
+            (history_met D.observed self.old.pass) (history_met D.observed self.new.pass) told) }
         ensures made { OnOk result (WasTurned D.policy
-            (asked_on (history_met D.held self.old.pass).line self.old.user request moment)
-            (history_met D.held self.old.pass) (history_met D.held self.new.pass)) }
+            (asked_on (history_met D.observed self.old.pass).line self.old.user request moment)
+            (history_met D.observed self.old.pass) (history_met D.observed self.new.pass)) }
         ensures refused { IfErr result (λ fault. WasRefused D.policy
-            (asked_on (history_met D.held self.old.pass).line self.old.user request moment) fault
-            (history_met D.held self.old.pass) (history_met D.held self.new.pass)) }
+            (asked_on (history_met D.observed self.old.pass).line self.old.user request moment)
+            fault
+            (history_met D.observed self.old.pass) (history_met D.observed self.new.pass)) }
         ensures settled { OnOk result (IsTrue self.new.is_settled
-            → matching_of (gate_met D.policy (history_met D.held self.new.pass)) ≡ None) }
+            → matching_of (gate_met D.policy (history_met D.observed self.new.pass)) ≡ None) }
         ensures user { self.new.user ≡ self.old.user }
         ensures login { self.new.login ≡ self.old.login }
         ensures session { self.new.session ≡ self.old.session }
@@ -239,7 +240,7 @@ impl<T: Drop> ConnectionState<T> {
     fn log_out<D: Door<Pass = T>, R: Wait + Dial>(&mut self, rt: &R, door: &D, moment: Moment)
         requires clock { R.shown moment }
         ensures out { WasLoggedOut D.policy self.old.user moment
-            (history_met D.held self.old.pass) (history_met D.held self.new.pass) }
+            (history_met D.observed self.old.pass) (history_met D.observed self.new.pass) }
         ensures user { self.new.user ≡ self.old.user }
         ensures login { self.new.login ≡ self.old.login }
         ensures session { self.new.session ≡ self.old.session }
@@ -263,8 +264,8 @@ impl<T: Drop> ConnectionState<T> {
     )
         requires clock { R.shown moment }
         ensures told { WasToldRefusal D.policy self.old.user fault moment
-            self.old.session (history_met D.held self.old.pass)
-            self.new.session (history_met D.held self.new.pass) }
+            self.old.session (history_met D.observed self.old.pass)
+            self.new.session (history_met D.observed self.new.pass) }
         ensures user { self.new.user ≡ self.old.user }
         ensures login { self.new.login ≡ self.old.login }
         ensures outbox { self.new.outbox ≡ self.old.outbox }
@@ -287,11 +288,11 @@ impl<T: Drop> ConnectionState<T> {
         requires clock { R.shown moment }
         requires able { CanAsk next }
         ensures announced { Announces next D.policy self.old.user moment
-            self.old.session (history_met D.held self.old.pass)
-            self.new.session (history_met D.held self.new.pass) result }
-        ensures follows { Follows next D.policy self.old.user moment
-            self.old.session (history_met D.held self.old.pass)
-            self.new.session (history_met D.held self.new.pass) }
+            self.old.session (history_met D.observed self.old.pass)
+            self.new.session (history_met D.observed self.new.pass) result }
+        ensures follows { WasFollowed next D.policy self.old.user moment
+            self.old.session (history_met D.observed self.old.pass)
+            self.new.session (history_met D.observed self.new.pass) }
         ensures user { self.new.user ≡ self.old.user }
         ensures login { self.new.login ≡ self.old.login }
         ensures outbox { self.new.outbox ≡ self.old.outbox }
@@ -329,11 +330,11 @@ impl<T: Drop> ConnectionState<T> {
             (turn self.old.session (happening_of event.entry) moment).reply.next
             D.policy self.old.user moment
             (turn self.old.session (happening_of event.entry) moment).session
-            (history_met D.held self.old.pass)
-            self.new.session (history_met D.held self.new.pass) result.1 }
+            (history_met D.observed self.old.pass)
+            self.new.session (history_met D.observed self.new.pass) result.1 }
         ensures told { WasTold D.policy self.old.user (happening_of event.entry) moment
-            self.old.session (history_met D.held self.old.pass)
-            self.new.session (history_met D.held self.new.pass) }
+            self.old.session (history_met D.observed self.old.pass)
+            self.new.session (history_met D.observed self.new.pass) }
         ensures user { self.new.user ≡ self.old.user }
         ensures login { self.new.login ≡ self.old.login }
         ensures outbox { self.new.outbox ≡ left_after self.old.outbox
@@ -357,8 +358,8 @@ impl<T: Drop> ConnectionState<T> {
         requires clock { R.shown moment }
         ensures cause { result ≡ break_of cause }
         ensures told { WasTold D.policy self.old.user (break_of cause) moment
-            self.old.session (history_met D.held self.old.pass)
-            self.new.session (history_met D.held self.new.pass) }
+            self.old.session (history_met D.observed self.old.pass)
+            self.new.session (history_met D.observed self.new.pass) }
         ensures user { self.new.user ≡ self.old.user }
         ensures outbox { self.new.outbox ≡ left_after self.old.outbox
             (turn self.old.session (break_of cause) moment).reply.send }
@@ -379,8 +380,8 @@ impl<T: Drop> ConnectionState<T> {
     ) -> ShutdownNoted
         requires clock { R.shown moment }
         ensures told { Heeds asked D.policy self.old.user moment
-            self.old.session (history_met D.held self.old.pass)
-            self.new.session (history_met D.held self.new.pass) }
+            self.old.session (history_met D.observed self.old.pass)
+            self.new.session (history_met D.observed self.new.pass) }
         ensures user { self.new.user ≡ self.old.user }
         ensures outbox { self.new.outbox ≡ self.old.outbox }
         ensures cursor { self.new.cursor ≡ self.old.cursor }
@@ -402,8 +403,8 @@ impl<T: Drop> ConnectionState<T> {
         requires clock { R.shown moment }
         ensures reader_done { self.new.reader_done ≡ true }
         ensures told { WasTold D.policy self.old.user happens.End moment
-            self.old.session (history_met D.held self.old.pass)
-            self.new.session (history_met D.held self.new.pass) }
+            self.old.session (history_met D.observed self.old.pass)
+            self.new.session (history_met D.observed self.new.pass) }
         ensures user { self.new.user ≡ self.old.user }
         ensures outbox { self.new.outbox ≡ self.old.outbox }
         ensures cursor { self.new.cursor ≡ self.old.cursor }
@@ -422,8 +423,8 @@ impl<T: Drop> ConnectionState<T> {
     )
         requires clock { R.shown moment }
         ensures answered { WasAnswered D.policy login.now moment
-            self.old.session (history_met D.held self.old.pass) self.old.outbox
-            self.new.session (history_met D.held self.new.pass) self.new.outbox }
+            self.old.session (history_met D.observed self.old.pass) self.old.outbox
+            self.new.session (history_met D.observed self.new.pass) self.new.outbox }
         ensures user { self.new.user ≡ login.now.user }
         ensures login { self.new.login ≡ moment }
     {
@@ -463,11 +464,11 @@ impl<T: Drop> ConnectionState<T> {
             (turn self.old.session (happens.Packet packet.now) moment).reply.next
             D.policy self.old.user moment
             (turn self.old.session (happens.Packet packet.now) moment).session
-            (history_met D.held self.old.pass)
-            self.new.session (history_met D.held self.new.pass) result }
+            (history_met D.observed self.old.pass)
+            self.new.session (history_met D.observed self.new.pass) result }
         ensures taken { WasTaken D.policy self.old.user packet.now moment
-            self.old.session (history_met D.held self.old.pass) self.old.outbox
-            self.new.session (history_met D.held self.new.pass) self.new.outbox }
+            self.old.session (history_met D.observed self.old.pass) self.old.outbox
+            self.new.session (history_met D.observed self.new.pass) self.new.outbox }
         ensures user { self.new.user ≡ user_after
             (turn self.old.session (happens.Packet packet.now) moment).reply.next
             packet.now self.old.user }
@@ -489,25 +490,25 @@ impl<T: Drop> ConnectionState<T> {
         door: &D,
         packet: &'a ClientPacket,
         moment: Moment,
-    ) -> Told<'a>
+    ) -> TakenPacket<'a>
         requires clock { R.shown moment }
         ensures event { result.event ≡ happens.Packet packet.now }
         ensures announced { Announces
             (turn self.old.session (happens.Packet packet.now) moment).reply.next
             D.policy self.old.user moment
             (turn self.old.session (happens.Packet packet.now) moment).session
-            (history_met D.held self.old.pass)
-            self.new.session (history_met D.held self.new.pass) result.ended }
+            (history_met D.observed self.old.pass)
+            self.new.session (history_met D.observed self.new.pass) result.ended }
         ensures over { result.over ≡ is_over self.new.session.phase }
         ensures taken { WasTaken D.policy self.old.user packet.now moment
-            self.old.session (history_met D.held self.old.pass) self.old.outbox
-            self.new.session (history_met D.held self.new.pass) self.new.outbox }
+            self.old.session (history_met D.observed self.old.pass) self.old.outbox
+            self.new.session (history_met D.observed self.new.pass) self.new.outbox }
         ensures user { self.new.user ≡ user_after
             (turn self.old.session (happens.Packet packet.now) moment).reply.next
             packet.now self.old.user }
     {
         let ended = self.serve(rt, door, packet, moment);
-        Told {
+        TakenPacket {
             event: Event::Packet(packet),
             ended,
             over: self.session.is_over(),

@@ -3,7 +3,7 @@
 ghost use Rattle.gx_devices.specs.{Blaming.IsBlamed, Devices.IsFront};
 ghost use Rattle.std.specs.{Prelude.{◌≡◌, ◌-◌, ◌^◌, ◌<◌, is_some, IfErr, OnOk, OnErr}, Io.KnownBytes.Appends};
 ghost use Rattle.gx_session.specs.{Sending.control_bytes};
-ghost use Rattle.gx_serve.specs.{Speech.{due_text, is_last, next_after, IfOn, IsGreeted, WasSaid, WasSpoken}, Tellings.told_of, Timings.AreTimes, Breaks.break_of};
+ghost use Rattle.gx_serve.specs.{Speech.{due_text, is_last_write, next_after, IfOn, IsGreeted, WasSaid, WasSpoken}, Tellings.event_of_write_fault, Timings.AreTimes, Breaks.break_of};
 
 use crate::shared_connection::SharedConnection;
 use crate::state::Break;
@@ -21,7 +21,7 @@ use std::time::{Clock, Duration};
 
 /// What breaks a session off where a packet was not sent.
 fn cause_of(fault: WriteFault) -> Break
-    ensures { break_of result ≡ told_of fault }
+    ensures { break_of result ≡ event_of_write_fault fault }
 {
     match fault {
         WriteFault::OutOfMemory => Break::Refused(StepFault::OutOfMemory),
@@ -144,7 +144,7 @@ fn go_on<D: Door, R: Wait + Clock + Dial>(
     due: NextWrite,
     bookmark: &mut Bookmark,
 ) -> Option<Finished>
-    ensures last { is_some result ≡ is_last due }
+    ensures last { is_some result ≡ is_last_write due }
     ensures next { bookmark.new.next ≡ next_after due bookmark.old.next }
     ensures user { bookmark.new.user ≡ bookmark.old.user }
 {

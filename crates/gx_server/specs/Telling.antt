@@ -44,17 +44,17 @@ shared_words SharedFile.PolicyAndAudit = codes "--policy and --audit are one fil
 shared_words SharedFile.JournalAndAudit = codes "--journal and --audit are one file"
 
 -- why the program gave up
-abbrev pub words_of : ProgramFault → List ℕ
-words_of (Pipe fault) = fault_words fault
-words_of (Script explained) = script_words explained.fault
-words_of Unread = codes "read failed"
-words_of ListenFailed = codes "listen failed"
-words_of (Journal fault) = journal_words fault
-words_of JournalInUse = codes "journal in use"
-words_of AuditInUse = codes "audit in use"
-words_of (OneFile pair) = shared_words pair
-words_of NoLines = codes "no lines left"
-words_of (Policy fault) = policy_words fault.kind
+abbrev pub program_fault_words : ProgramFault → List ℕ
+program_fault_words (Pipe fault) = fault_words fault
+program_fault_words (Script explained) = script_words explained.fault
+program_fault_words Unread = codes "read failed"
+program_fault_words ListenFailed = codes "listen failed"
+program_fault_words (Journal fault) = journal_words fault
+program_fault_words JournalInUse = codes "journal in use"
+program_fault_words AuditInUse = codes "audit in use"
+program_fault_words (OneFile pair) = shared_words pair
+program_fault_words NoLines = codes "no lines left"
+program_fault_words (Policy fault) = policy_words fault.kind
 
 -- a line of these words
 abbrev pub gate_line : List ℕ → List ℕ
@@ -62,7 +62,7 @@ gate_line words = codes "gate: " ++ words ++ line_end
 
 -- the line on standard error
 abbrev pub fault_line : ProgramFault → List ℕ
-fault_line fault = gate_line (words_of fault)
+fault_line fault = gate_line (program_fault_words fault)
 
 -- 4 for a bad line
 abbrev pub script_status : ScriptFault → ℕ

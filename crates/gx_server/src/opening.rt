@@ -42,8 +42,8 @@ pub fn policy_for(alloc: Global, file: Option<&[u8]>) -> Result<Policy, ProgramF
 /// The fault of the file, or that memory was refused.
 pub fn open_gate<G: AccessGate>(alloc: Global, file: Option<&[u8]>) -> Result<G, ProgramFault>
     ensures policy { IfOk result (λ gate.
-        policy_for (option_copied file.entry) ≡ Ok (G.seen gate).policy) }
-    ensures records { IfOk result (λ gate. (G.seen gate).records ≡ []) }
+        policy_for (option_copied file.entry) ≡ Ok (G.state gate).policy) }
+    ensures records { IfOk result (λ gate. (G.state gate).records ≡ []) }
     ensures fault { IfErr result (IsFaultOf (policy_for (option_copied file.entry))) }
     ensures sample { option_copied file.entry ≡ None
         → IfErr result (λ fault. fault ≡ out_of_memory) }

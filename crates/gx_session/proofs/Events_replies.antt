@@ -3,7 +3,7 @@ use Rattle.std.proofs.{Common.{◌≡◌, ℕ, ◌+◌, ◌≤◌, Bool, true, f
 use Rattle.std.specs.List.{list_all}
 use Rattle.gx_soup.specs.declared.packet.ClientPacket.{ClientPacket}
 use Rattle.gx_access_gate.specs.declared.outcome.LoginAnswer.{LoginAnswer}
-use Rattle.gx_session.specs.{Happenings.Happening, declared.session.{Phase.{Phase, TheVariants.{Fresh, Waiting, On, Abandoned, Done}}, Row.Row}, Table.{SessionData, fresh_packet, on_packet, row_in, turn, new_session}, Events.{Timed, replies, is_on, is_over, is_last, is_parting, is_wordless, is_no_answer, is_acceptance, asks_login, asks_logout}}
+use Rattle.gx_session.specs.{Happenings.Happening, declared.session.{Phase.{Phase, TheVariants.{Fresh, Waiting, On, Abandoned, Done}}, Row.Row}, Table.{SessionData, fresh_packet, on_packet, row_in, turn, new_session}, Events.{Timed, replies, is_phase_on, is_over, is_last, is_parting, is_wordless, is_no_answer, is_acceptance, asks_login, asks_logout}}
 use Rattle.gx_session.specs.Happenings as happens
 
 -- After a logout or a close the session is over.
@@ -104,7 +104,7 @@ late_left Abandoned = 1
 late_left other = 0
 
 abbrev users_on : Phase → ℕ
-users_on phase = cond (is_on phase) 1 0
+users_on phase = cond (is_phase_on phase) 1 0
 
 counted : {X : Type 0} (p : X → Bool) → (x : X) (xs : List X) → count_by p (x ∷ xs) ≡ cond (p x) 1 0 + count_by p xs
 counted p x xs = sum_by-cons (λ y. cond (p y) 1 0) x xs

@@ -17,34 +17,34 @@ replies session [] = []
 replies session (h ∷ hs) = (turn session h.event h.moment).reply ∷ replies (turn session h.event h.moment).session hs
 
 -- a user is logged in
-abbrev pub is_on : Phase → Bool
-is_on On = true
-is_on other = false
+abbrev pub is_phase_on : Phase → Bool
+is_phase_on On = true
+is_phase_on other = false
 
 abbrev pub is_over : Phase → Bool
 is_over Abandoned = true
 is_over Done = true
 is_over other = false
 
-abbrev pub is_login : Next → Bool
-is_login Idle = false
-is_login Login = true
-is_login (Act request) = false
-is_login Logout = false
-is_login Close = false
+abbrev pub is_login_next : Next → Bool
+is_login_next Idle = false
+is_login_next Login = true
+is_login_next (Act request) = false
+is_login_next Logout = false
+is_login_next Close = false
 
-abbrev pub is_logout : Next → Bool
-is_logout Idle = false
-is_logout Login = false
-is_logout (Act request) = false
-is_logout Logout = true
-is_logout Close = false
+abbrev pub is_logout_next : Next → Bool
+is_logout_next Idle = false
+is_logout_next Login = false
+is_logout_next (Act request) = false
+is_logout_next Logout = true
+is_logout_next Close = false
 
 abbrev pub asks_login : Reply → Bool
-asks_login reply = is_login reply.next
+asks_login reply = is_login_next reply.next
 
 abbrev pub asks_logout : Reply → Bool
-asks_logout reply = is_logout reply.next
+asks_logout reply = is_logout_next reply.next
 
 -- the login that a packet asks for, where the session wants it made
 abbrev pub login_in : ClientPacket → Next → Option LoginRequest

@@ -13,7 +13,7 @@ pub record SessionData : Type 0 where
   pub sent : ℕ
 
 -- what an event makes of a session, and the reply
-pub record Turn : Type 0 where
+pub record SessionTurn : Type 0 where
   pub session : SessionData
   pub reply : Reply
 
@@ -104,8 +104,8 @@ heard_after session other moment = session.heard
 abbrev pub sent_after : SessionData → Happening → ℕ → Option Control → ℕ
 sent_after session event moment send = if is_sending session.phase event send then max session.sent moment else session.sent
 
-abbrev pub turn_of : SessionData → Happening → ℕ → Row → Turn
-turn_of session event moment row = record {
+abbrev pub session_turn : SessionData → Happening → ℕ → Row → SessionTurn
+session_turn session event moment row = record {
   session = record { phase = row.phase; heard = heard_after session event moment; sent = sent_after session event moment row.reply.send };
   reply = row.reply;
 }
@@ -115,5 +115,5 @@ abbrev pub rest_of : SessionData → ℕ → ℕ
 rest_of session moment = min (15000000000 - (moment - session.heard)) (1000000000 - (moment - session.sent))
 
 -- what the event at this moment makes of the session, and what follows
-unfoldable pub turn : SessionData → Happening → ℕ → Turn
-turn session event moment = turn_of session event moment (row_at session event moment)
+unfoldable pub turn : SessionData → Happening → ℕ → SessionTurn
+turn session event moment = session_turn session event moment (row_at session event moment)

@@ -3,7 +3,7 @@
 ghost use Rattle.std.specs.Prelude.{◌≡◌, false, None, IsTrue};
 ghost use Rattle.gx_history.specs.Showing.{has_its_first};
 ghost use Rattle.gx_soup.specs.declared.packet.ClientPacket.TheVariants.{Data};
-ghost use Rattle.gx_session.specs.{Happenings.Happening.{Packet, Pulled}, declared.event.Next.TheVariants.{Idle, Act}, Table.{is_silent, fresh_packet, fresh_row, waiting_row, on_packet, on_row, abandoned_row, row, row_at, is_sending, heard_after, sent_after, turn, new_session, rest_of}, Happenings.happening_of, Events.{is_on, is_over, CanAsk}};
+ghost use Rattle.gx_session.specs.{Happenings.Happening.{Packet, Pulled}, declared.event.Next.TheVariants.{Idle, Act}, Table.{is_silent, fresh_packet, fresh_row, waiting_row, on_packet, on_row, abandoned_row, row, row_at, is_sending, heard_after, sent_after, turn, new_session, rest_of}, Happenings.happening_of, Events.{is_phase_on, is_over, CanAsk}};
 
 use crate::event::{Control, Event, Next, Reply, Sign};
 use gx_access_gate::LoginAnswer;
@@ -27,10 +27,10 @@ pub enum Phase {
 }
 
 /// After so many nanoseconds without a packet from the client a session is over.
-const PATIENCE: u64 = 15_000_000_000;
+const IDLE_TIMEOUT_NANOS: u64 = 15_000_000_000;
 
 /// After so many nanoseconds without a packet to the client a heartbeat is sent.
-const HEARTBEAT: u64 = 1_000_000_000;
+const HEARTBEAT_AFTER_NANOS: u64 = 1_000_000_000;
 
 /// A row of the table: where the session goes, and what follows.
 #[derive(Clone, Copy, PartialEq, Eq)]
@@ -205,7 +205,7 @@ impl Session {
     pub fn is_silent(&self, moment: u64) -> bool
         ensures { result ≡ is_silent self.now moment }
     {
-        moment.saturating_sub(self.heard) >= PATIENCE
+        moment.saturating_sub(self.heard) >= IDLE_TIMEOUT_NANOS
     }
 
     /// So many nanoseconds it is from this moment until the time alone asks for something of a user who is on: a heartbeat,
@@ -213,13 +213,13 @@ impl Session {
     pub fn rest(&self, moment: u64) -> u64
         ensures { result ≡ rest_of self.now moment }
     {
-        let patience = PATIENCE.saturating_sub(moment.saturating_sub(self.heard));
-        patience.min(HEARTBEAT.saturating_sub(moment.saturating_sub(self.sent)))
+        let patience = IDLE_TIMEOUT_NANOS.saturating_sub(moment.saturating_sub(self.heard));
+        patience.min(HEARTBEAT_AFTER_NANOS.saturating_sub(moment.saturating_sub(self.sent)))
     }
 
     /// Whether a user is logged in.
     pub fn is_on(&self) -> bool
-        ensures { result ≡ is_on self.now.phase }
+        ensures { result ≡ is_phase_on self.now.phase }
     {
         matches!(self.phase, Phase::On)
     }
@@ -236,7 +236,7 @@ impl Session {
         ensures able { CanAsk result.reply.next }
     {
         let silent = self.is_silent(moment);
-        let quiet = moment.saturating_sub(self.sent) >= HEARTBEAT;
+        let quiet = moment.saturating_sub(self.sent) >= HEARTBEAT_AFTER_NANOS;
         match self.phase {
             Phase::Fresh => fresh_row(event, silent),
             Phase::Waiting => waiting_row(event, silent),
@@ -285,7 +285,7 @@ impl Session {
     /// What `on` does at a message of a user who is logged in: the request that it asks for, and nothing is sent.
     #[tactic(auto, unfolding(crate::specs::Table::turn))]
     pub fn take_message(&mut self, payload: &Payload, moment: u64) -> Request
-        requires { IsTrue (is_on self.old.phase) }
+        requires { IsTrue (is_phase_on self.old.phase) }
         ensures session { self.new ≡ (turn self.old (Packet (Data payload.now)) moment).session }
         ensures reply { (turn self.old (Packet (Data payload.now)) moment).reply
             ≡ record { send = None; next = Act result } }

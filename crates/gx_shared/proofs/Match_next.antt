@@ -6,14 +6,14 @@ use Rattle.gx_history.specs.declared.record.RecordData.{RecordData}
 use Rattle.gx_access_gate.specs.{declared.outcome.Outcome.Outcome, Gates.{GateData, matched_by}, Matches.with_match}
 use Rattle.gx_pass.specs.{declared.view.LineView.LineView, Rules.IsMet, Views.{line_in, of_line}}
 use Rattle.gx_pass.proofs.{Lists_prefix.{prefix_trans, prefix_length}, Lines_owner.of_line_other}
-use Rattle.gx_door.specs.Matching.{AddsMatches}
+use Rattle.gx_door.specs.Matching.{AddsMatchingSteps}
 
-pub none_made : (moment : ℕ) (records : List RecordData) → AddsMatches moment 0 records records
+pub none_made : (moment : ℕ) (records : List RecordData) → AddsMatchingSteps moment 0 records records
 none_made moment records = record { outcomes = []; behind = sym (append-nil records); count = refl }
 
 -- one more step
-pub one_more : (moment made : ℕ) (o : Outcome) (first : List RecordData) (was is : GateData) → AddsMatches moment made first was.records → is ≡ with_match was moment (Some o)
-    → AddsMatches moment (made + 1) first is.records
+pub one_more : (moment made : ℕ) (o : Outcome) (first : List RecordData) (was is : GateData) → AddsMatchingSteps moment made first was.records → is ≡ with_match was moment (Some o)
+    → AddsMatchingSteps moment (made + 1) first is.records
 one_more moment made o first was is so_far more = record {
   outcomes = so_far.outcomes ++ o ∷ [];
   behind = ap (λ (g : GateData). g.records) more
@@ -24,8 +24,8 @@ one_more moment made o first was is so_far more = record {
 }
 
 -- none more
-pub no_more : (moment made : ℕ) (first : List RecordData) (was is : GateData) → AddsMatches moment made first was.records → is ≡ was → AddsMatches moment made first is.records
-no_more moment made first was is so_far same = subst (λ (g : GateData). AddsMatches moment made first g.records) (sym same) so_far
+pub no_more : (moment made : ℕ) (first : List RecordData) (was is : GateData) → AddsMatchingSteps moment made first was.records → is ≡ was → AddsMatchingSteps moment made first is.records
+no_more moment made first was is so_far same = subst (λ (g : GateData). AddsMatchingSteps moment made first g.records) (sym same) so_far
 
 -- they are of no line
 of_no_line : (moment line : ℕ) → 0 < line → (outcomes : List Outcome) → of_line line (map (matched_by moment) outcomes) ≡ []
@@ -36,7 +36,7 @@ of_no_line moment line some (o ∷ outcomes) =
     ∙ of_no_line moment line some outcomes
 
 -- whoever had met the earlier records has met so much of the later ones, and none of these is his own
-pub still_met : (moment made : ℕ) (h : LineView) {earlier later : List RecordData} → 0 < h.line → IsMet earlier h → AddsMatches moment made earlier later → IsMet later h
+pub still_met : (moment made : ℕ) (h : LineView) {earlier later : List RecordData} → 0 < h.line → IsMet earlier h → AddsMatchingSteps moment made earlier later → IsMet later h
 still_met moment made h {earlier} {later} some met added =
     let more = map (matched_by moment) added.outcomes in
     let begins : IsPrefix earlier later = (more, sym added.behind) in

@@ -10,7 +10,7 @@ use Rattle.gx_audit_bytes.specs.declared.version.AuditVersion.{AuditVersion}
 use Rattle.gx_door.specs.Acts.{gate_at}
 use Rattle.gx_pass.proofs.Lists_prefix.{prefix_length, prefix_trans}
 use Rattle.gx_leaving.specs.Logouts.{AddsLogouts, NobodyIsOn}
-use Rattle.gx_journal.specs.Journals.{records_between, is_broken, journal_bytes, IsGrown, IsKept, JournalData, JournalWriterData}
+use Rattle.gx_journal.specs.Journals.{records_between, is_broken, journal_bytes, IsGrown, IsJournalKept, JournalData, JournalWriterData}
 use Rattle.gx_journal.proofs.{Journal_call.{earlier_begin, sound_of}, Journal_next.{added_later, more_appended, whole_written}}
 use Rattle.gx_shared.specs.GoingOn.{GoesOn}
 
@@ -32,7 +32,7 @@ rest_put version records first before after most begun left so_far put done =
     (more_appended version first.contents before.contents after.contents first.done before.done records next begun (omega (arith, left)) (ap (λ (n : ℕ). take n (drop before.done records)) (sym size)) so_far put)
 
 -- all records of the day are there
-pub all_kept : (version : AuditVersion) (begun : Option (List ℕ)) (count : ℕ) {earlier : List RecordData} (j : JournalData) (records : List RecordData) (after : JournalWriterData) → IsKept begun count earlier version j → IsPrefix j.met.front records
+pub all_kept : (version : AuditVersion) (begun : Option (List ℕ)) (count : ℕ) {earlier : List RecordData} (j : JournalData) (records : List RecordData) (after : JournalWriterData) → IsJournalKept begun count earlier version j → IsPrefix j.met.front records
     → (after.fault ≡ None → Appends j.writer.contents after.contents (journal_bytes version (drop j.writer.done records))) → (after.fault ≡ None → j.writer.fault ≡ None) → after.fault ≡ None
     → IsGrown begun after.contents (journal_bytes version (drop count records))
 all_kept version begun count j records after kept begins put sound none =
@@ -43,7 +43,7 @@ all_kept version begun count j records after kept begins put sound none =
     whole_written version begun before.contents after.contents count before.done records kept.first (omega (arith, kept.met, longer)) so_far (put none)
 
 -- they begin with the earlier ones
-pub earlier_kept : (version : AuditVersion) (begun : Option (List ℕ)) (count : ℕ) {earlier : List RecordData} (j : JournalData) (records : List RecordData) → IsKept begun count earlier version j → IsPrefix j.met.front records → IsPrefix earlier records
+pub earlier_kept : (version : AuditVersion) (begun : Option (List ℕ)) (count : ℕ) {earlier : List RecordData} (j : JournalData) (records : List RecordData) → IsJournalKept begun count earlier version j → IsPrefix j.met.front records → IsPrefix earlier records
 earlier_kept version begun count {earlier} j records kept begins = prefix_trans earlier j.met.front records (earlier_begin earlier j.met.front kept.begins) begins
 
 -- a day goes on with logouts

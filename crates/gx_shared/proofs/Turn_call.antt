@@ -6,7 +6,7 @@ use Rattle.gx_history.specs.declared.record.{Asked.Asked, RecordData.RecordData}
 use Rattle.gx_access_gate.specs.{declared.outcome.StepFault.StepFault, Gates.{GateData, left_by, matched_by}, Steps.with_record}
 use Rattle.gx_pass.specs.{declared.view.LineView.LineView, Rules.IsMet, Views.{line_view, mine}}
 use Rattle.gx_pass.proofs.{Lists_prefix.{prefix_self, prefix_trans}, Lines_owner.of_line_own}
-use Rattle.gx_door.specs.{declared.matched.Turned.Turned, Endings.{ended_by, sums_of}, Matching.{AddsMatches, Matches, Turns}}
+use Rattle.gx_door.specs.{declared.matched.Turned.Turned, Endings.{ended_by, sums_of}, Matching.{AddsMatchingSteps, MatchesBehind, Turns}}
 use Rattle.gx_shared.proofs.Match_next.{still_met}
 
 -- whoever holds all has met all
@@ -14,12 +14,12 @@ met_all : (line : ℕ) (all : List RecordData) → IsMet all (line_view line all
 met_all line all = record { front = prefix_self all; told = omega arith; mine = refl }
 
 -- matching steps behind all that had been met
-pub matches : (moment made : ℕ) {earlier now : List RecordData} (h is : LineView) → is ≡ line_view h.line now (length now) → IsMet earlier h → AddsMatches moment made earlier now → Matches h is moment made
+pub matches : (moment made : ℕ) {earlier now : List RecordData} (h is : LineView) → is ≡ line_view h.line now (length now) → IsMet earlier h → AddsMatchingSteps moment made earlier now → MatchesBehind h is moment made
 matches moment made {earlier} h is all met added =
-    subst (λ (x : LineView). Matches h x moment made) (sym all) (record { earlier = earlier; begins = met.front; adds = added })
+    subst (λ (x : LineView). MatchesBehind h x moment made) (sym all) (record { earlier = earlier; begins = met.front; adds = added })
 
 -- what was there stands at the beginning
-pub turn_begins : (a : Asked) (found : Result Turned StepFault) (was is : GateData) → IfOk found (λ t. AddsMatches a.handed t.matched.made (with_record was a t.outcome) is.records) → OnErr found (is ≡ was)
+pub turn_begins : (a : Asked) (found : Result Turned StepFault) (was is : GateData) → IfOk found (λ t. AddsMatchingSteps a.handed t.matched.made (with_record was a t.outcome) is.records) → OnErr found (is ≡ was)
     → IsPrefix was.records is.records
 turn_begins a (Ok t) was is done refused =
     prefix_trans was.records (with_record was a t.outcome) is.records (left_by a t.outcome ∷ [], refl) (map (matched_by a.handed) done.outcomes, sym done.behind)
@@ -27,7 +27,7 @@ turn_begins a (Err e) was is done refused = ([], append-nil was.records ∙ ap (
 
 -- the request's record is one more of the pass's own, and none behind it is; and what it ended is told
 pub turns : (policy : PolicyData) (found : Result Turned StepFault) {earlier : List RecordData} (now : List RecordData) (a : Asked) (h is : LineView) → is ≡ line_view h.line now (length now) → IsMet earlier h → a.line ≡ h.line → 0 < h.line
-    → IfOk found (λ t. AddsMatches a.handed t.matched.made (earlier ++ left_by a t.outcome ∷ []) now)
+    → IfOk found (λ t. AddsMatchingSteps a.handed t.matched.made (earlier ++ left_by a t.outcome ∷ []) now)
     → IfOk found (λ t. t.ended ≡ sums_of (ended_by policy earlier (left_by a t.outcome)))
     → IfOk found (λ t. Turns policy h is (left_by a t.outcome) t.ended a.handed t.matched.made)
 turns policy (Ok t) {earlier} now a h is all met own some done ends =

@@ -7,7 +7,7 @@ abbrev pub lines_to : ℕ → List ℕ
 lines_to zero = []
 lines_to (suc n) = suc n ∷ lines_to n
 
--- the lines up to the highest of the records' were issued, and are in hand
+-- the lines up to the highest of the records' were issued, and are entered
 pub record IsResuming (k : KeeperView) : Type 0 where
   pub issued : k.issued ≡ highest_line k.list
-  pub hand : k.hand ≡ lines_to k.issued
+  pub entered : k.entered ≡ lines_to k.issued

@@ -99,22 +99,22 @@ impl<N: GateName> CountingKeeper<N> {
     pub fn enter(&mut self, pass: Pass<N>) -> Entered<N>
         ensures line { result ≡ pass.line }
         ensures met { IsMet self.old.list pass }
-        ensures apart { IsAbsent pass.line self.old.hand }
+        ensures apart { IsAbsent pass.line self.old.entered }
         ensures some { 0 < pass.line }
         ensures issued { pass.line ≤ self.old.issued }
-        ensures hand { self.new
-            ≡ keeper_view self.old.list (pass.line ∷ self.old.hand) self.old.issued }
+        ensures entered { self.new
+            ≡ keeper_view self.old.list (pass.line ∷ self.old.entered) self.old.issued }
     {
         self.keeper.enter(pass)
     }
 
-    /// The history takes a record of no line or of a line in hand, which is counted in the share.
+    /// The history takes a record of no line or of an entered one, which is counted in the share.
     pub fn note(&mut self, share: &mut Share<N>, noted: RecordData)
         requires part { 0 < share.old.parts }
-        requires line { MayNote self.old.hand (line_in noted) }
+        requires line { MayNote self.old.entered (line_in noted) }
         requires room { length self.old.list + 1 < 2 ^ 64 }
         ensures keeper { self.new
-            ≡ keeper_view (self.old.list ++ noted ∷ []) self.old.hand self.old.issued }
+            ≡ keeper_view (self.old.list ++ noted ∷ []) self.old.entered self.old.issued }
         ensures counted { share.new.amount ≡ share.old.amount + 1 }
         ensures parts { share.new.parts ≡ share.old.parts }
     {
@@ -124,9 +124,9 @@ impl<N: GateName> CountingKeeper<N> {
 
     /// Lets go a pass that was taken in. It has met the whole history.
     pub fn leave(&mut self, entered: Entered<N>) -> Pass<N>
-        requires { Has self.old.hand entered }
-        ensures hand { self.new
-            ≡ keeper_view self.old.list (without_line entered self.old.hand) self.old.issued }
+        requires { Has self.old.entered entered }
+        ensures entered { self.new
+            ≡ keeper_view self.old.list (without_line entered self.old.entered) self.old.issued }
         ensures pass { result ≡ line_view entered self.old.list (length self.old.list) }
     {
         self.keeper.leave(entered)

@@ -28,7 +28,7 @@ fn counted(live: LiveOrders<'_>) -> EndedTotals
 #[tactic(auto, using(crate::proofs::Command_call::few_live, crate::proofs::Command_call::few_of_account, crate::proofs::Command_call::close_ends_all, crate::proofs::Command_call::others_end_none))]
 fn ended_by<G: ShowsState>(gate: &G, action: &Action) -> EndedTotals
     ensures { result ≡ sums_of (ended_among
-        (live (G.seen gate.now).policy (G.seen gate.now).records) action.now) }
+        (live (G.state gate.now).policy (G.state gate.now).records) action.now) }
 {
     gate.is_legal();
     match action {
@@ -46,7 +46,7 @@ fn ended_by<G: ShowsState>(gate: &G, action: &Action) -> EndedTotals
 /// What the request ends, if it is granted. Nobody but an officer has live orders looked at.
 pub fn ends_of<G: ShowsState>(gate: &G, asked: &Asked) -> EndedTotals
     ensures { result ≡ sums_of (ends_of
-        (G.seen gate.now).policy (G.seen gate.now).records asked.now) }
+        (G.state gate.now).policy (G.state gate.now).records asked.now) }
 {
     let Request::Command(command) = &asked.request else {
         return EndedTotals::none();

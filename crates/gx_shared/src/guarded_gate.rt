@@ -9,7 +9,7 @@ ghost use Rattle.gx_access_gate.specs.{Gates.{left_by, matched_by}, Matches.matc
 ghost use Rattle.gx_pass.specs.declared.pass.PassFault.TheVariants as pass_faults;
 ghost use Rattle.gx_pass.specs.Views.{highest_line, mine, of_line};
 ghost use Rattle.gx_door.specs.declared.fault.PullFault.TheVariants as pull_faults;
-ghost use Rattle.gx_door.specs.{Acts.{asked_on, gate_at, gate_met, login_on, AddsOwn, EndsWith, IsLater, IsPulled, IsToldFull, LogsIn, MayBeRefused}, Callers.caller_of, Matching.{EndsSo, Matches, Turns}};
+ghost use Rattle.gx_door.specs.{Acts.{asked_on, gate_at, gate_met, login_on, AddsOwn, EndsWith, IsLater, IsPulled, IsToldFull, LogsIn, MayBeRefused}, Callers.caller_of, Matching.{EndsSo, MatchesBehind, Turns}};
 ghost use Rattle.gx_board.specs.{Summaries.IsBehind, Views.IsView};
 ghost use Rattle.gx_shared.specs.Permits.{all_parts};
 
@@ -20,7 +20,7 @@ use crate::permit::{BlankLedgers, Permits};
 use crate::resuming::resume;
 use crate::steps::{asked_on, leave, match_and_note, match_some, pull, step_and_note, turn};
 use gx_access_gate::{AccessGate, LoginAnswer, Outcome, Pulled, StepFault};
-use gx_board::{Summary, View};
+use gx_board::{BoardView, Summary};
 use gx_door::{Caller, Matched, PullFault, Turned};
 use gx_history::record::{Record, Request};
 use gx_pass::{Blank, GateName, Keeper, Pass, PassFault};
@@ -44,10 +44,10 @@ impl<G: AccessGate, N: GateName> Model for GuardedGate<G, N> {
 
     ghost Value = { List RecordData };
 
-    ghost view = { λ d. (G.seen d.gate).records };
+    ghost view = { λ d. (G.state d.gate).records };
 
-    ghost invariant = { λ d. ((G.seen d.gate).policy ≡ N.policy)
-        × (d.keeper.list ≡ (G.seen d.gate).records) };
+    ghost invariant = { λ d. ((G.state d.gate).policy ≡ N.policy)
+        × (d.keeper.list ≡ (G.state d.gate).records) };
 }
 
 impl<G: AccessGate, N: GateName> GuardedGate<G, N> {
@@ -87,16 +87,16 @@ impl<G: AccessGate, N: GateName> GuardedGate<G, N> {
         blank: Blank,
         ledgers: BlankLedgers,
     ) -> Result<(GuardedGate<G, N>, Permits<N>), OutOfMemory>
-        requires policy { (G.seen gate).policy ≡ N.policy }
+        requires policy { (G.state gate).policy ≡ N.policy }
         requires blank { blank ≡ N.table }
         requires records { ledgers.records ≡ N.name }
         requires lines { ledgers.lines ≡ N.lines }
         requires parts { N.parts ≡ all_parts }
-        ensures guarded { IfOk result (λ made. made.0 ≡ (G.seen gate).records) }
+        ensures guarded { IfOk result (λ made. made.0 ≡ (G.state gate).records) }
         ensures all { IfOk result (λ made. made.1.left + 1 ≡ N.parts) }
-        ensures added { IfOk result (λ made. made.1.added ≡ length (G.seen gate).records) }
+        ensures added { IfOk result (λ made. made.1.added ≡ length (G.state gate).records) }
         ensures issued { IfOk result (λ made.
-            made.1.issued ≡ highest_line (G.seen gate).records) }
+            made.1.issued ≡ highest_line (G.state gate).records) }
     {
         match resume(&gate, blank) {
             Ok(keeper) => {
@@ -251,7 +251,7 @@ impl<G: AccessGate, N: GateName> GuardedGate<G, N> {
         requires part { 0 < share.old.parts }
         ensures front { result.0.front ≡ self.new }
         ensures later { IsLater N.policy pass result.0 }
-        ensures made { Matches pass result.0 moment result.1.made }
+        ensures made { MatchesBehind pass result.0 moment result.1.made }
         ensures own { mine result.0 ≡ mine pass }
         ensures ended { EndsSo result.1.end (gate_at N.policy self.new) result.1.made most }
         ensures adds { share.new.amount ≡ share.old.amount + result.1.made }
@@ -324,14 +324,14 @@ impl<G: AccessGate, N: GateName> GuardedGate<G, N> {
     /// The gate, the pass, which has met all its records, and how many these are. It has all that the pass had met, and of
     /// the pass's line its own records.
     pub fn close(self, pass: Pass<N>) -> (G, Pass<N>, Total<N>)
-        ensures policy { (G.seen result.0).policy ≡ N.policy }
-        ensures records { (G.seen result.0).records ≡ self }
-        ensures legal { IsLegal N.policy (G.seen result.0).records }
-        ensures front { IsPrefix pass.front (G.seen result.0).records }
-        ensures mine { of_line pass.line (G.seen result.0).records ≡ mine pass }
+        ensures policy { (G.state result.0).policy ≡ N.policy }
+        ensures records { (G.state result.0).records ≡ self }
+        ensures legal { IsLegal N.policy (G.state result.0).records }
+        ensures front { IsPrefix pass.front (G.state result.0).records }
+        ensures mine { of_line pass.line (G.state result.0).records ≡ mine pass }
         ensures line { result.1.line ≡ pass.line }
-        ensures met { result.1.front ≡ (G.seen result.0).records }
-        ensures total { result.2.amount ≡ length (G.seen result.0).records }
+        ensures met { result.1.front ≡ (G.state result.0).records }
+        ensures total { result.2.amount ≡ length (G.state result.0).records }
     {
         let GuardedGate { gate, mut keeper } = self;
         let entered = keeper.enter(pass);
@@ -342,8 +342,8 @@ impl<G: AccessGate, N: GateName> GuardedGate<G, N> {
     /// The gate. Where all permits are left, it has as many records as are counted in them.
     /// Part of the interface: an end for who holds no pass, as `close` is for who holds one.
     pub fn take_back(self, permits: Permits<N>) -> G
-        ensures policy { (G.seen result).policy ≡ N.policy }
-        ensures records { (G.seen result).records ≡ self }
+        ensures policy { (G.state result).policy ≡ N.policy }
+        ensures records { (G.state result).records ≡ self }
         ensures counted { permits.left + 1 ≡ N.parts → permits.added ≡ length self }
     {
         let GuardedGate { gate, mut keeper } = self;
@@ -408,7 +408,7 @@ impl<G: ShowsRecords + ShowsState, N: GateName> GuardedGate<G, N> {
         summary: &mut Summary,
         viewer: UserName,
         most: usize,
-    ) -> (Pass<N>, Result<Option<View>, OutOfMemory>)
+    ) -> (Pass<N>, Result<Option<BoardView>, OutOfMemory>)
         requires behind { IsBehind N.policy pass.front summary.old }
         ensures same { self.new ≡ self.old }
         ensures front { result.0.front ≡ self.new }

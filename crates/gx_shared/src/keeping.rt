@@ -32,7 +32,7 @@ use std::thread::Threads;
 use std::time::Clock;
 
 /// What is left of a day that was kept. Its gate is closed, and never dropped.
-pub struct Kept<G, W> {
+pub struct KeptDay<G, W> {
     /// The gate that was served: its records are a legal day.
     pub gate: G,
     /// Why no more records were kept, if so. The server was asked to end then.
@@ -46,20 +46,20 @@ pub struct Kept<G, W> {
 pub fn close_kept<G: ShowsState, N: GateName, J: JournalName, W: Write + Drop>(
     shared: SharedGate<G, N>,
     journal: Journal<SharedGate<G, N>, W, J>,
-) -> (Kept<G, W>, CountedPass<N>, Total<N>)
-    ensures policy { (G.seen result.0.gate).policy ≡ N.policy }
-    ensures legal { IsLegal N.policy (G.seen result.0.gate).records }
-    ensures front { IsPrefix J.earlier (G.seen result.0.gate).records }
-    ensures met { result.1.held.front ≡ (G.seen result.0.gate).records }
-    ensures total { result.2.amount ≡ length (G.seen result.0.gate).records }
+) -> (KeptDay<G, W>, CountedPass<N>, Total<N>)
+    ensures policy { (G.state result.0.gate).policy ≡ N.policy }
+    ensures legal { IsLegal N.policy (G.state result.0.gate).records }
+    ensures front { IsPrefix J.earlier (G.state result.0.gate).records }
+    ensures met { result.1.held.front ≡ (G.state result.0.gate).records }
+    ensures total { result.2.amount ≡ length (G.state result.0.gate).records }
     ensures kept { result.0.fault ≡ None → IsGrown J.begun (W.contents result.0.device)
-        (journal_bytes J.version (drop J.count (G.seen result.0.gate).records)) }
+        (journal_bytes J.version (drop J.count (G.state result.0.gate).records)) }
 {
     let (pass, mut writer) = journal.into_parts();
     let (gate, met, total) = shared.close(pass);
     put_rest(&gate, &mut writer);
     let (device, fault) = writer.into_parts();
-    let kept = Kept {
+    let kept = KeptDay {
         gate,
         fault,
         device,
@@ -68,17 +68,17 @@ pub fn close_kept<G: ShowsState, N: GateName, J: JournalName, W: Write + Drop>(
 }
 
 /// What is left of a day whose journal's writes were counted.
-fn untallied<G, W>(kept: Kept<G, Tallied<'_, W>>) -> Kept<G, W>
+fn untallied<G, W>(kept: KeptDay<G, Tallied<'_, W>>) -> KeptDay<G, W>
     ensures gate { result.gate ≡ kept.entry.gate }
     ensures fault { result.fault ≡ kept.entry.fault }
     ensures device { result.device ≡ kept.entry.device.device }
 {
-    let Kept {
+    let KeptDay {
         gate,
         fault,
         device,
     } = kept;
-    Kept {
+    KeptDay {
         gate,
         fault,
         device: device.into_inner(),
@@ -109,7 +109,7 @@ fn serve_kept<
     page: Option<PagePort>,
     listener: TcpListener,
     connections: u64,
-) -> (Kept<G, W>, CountedPass<N>, Total<N>, Ending)
+) -> (KeptDay<G, W>, CountedPass<N>, Total<N>, Ending)
     requires known { IfSome log (λ l. l.events.known ≡ known_of N.policy []) }
     requires policy { policy.now ≡ N.policy }
     requires version { version ≡ J.version }
@@ -118,13 +118,13 @@ fn serve_kept<
     requires met { pass.held.front ≡ J.earlier }
     requires none_added { pass.added ≡ 0 }
     requires within { count ≤ length J.earlier }
-    ensures policy { (G.seen result.0.gate).policy ≡ N.policy }
-    ensures legal { IsLegal N.policy (G.seen result.0.gate).records }
-    ensures front { IsPrefix J.earlier (G.seen result.0.gate).records }
-    ensures met { result.1.held.front ≡ (G.seen result.0.gate).records }
-    ensures total { result.2.amount ≡ length (G.seen result.0.gate).records }
+    ensures policy { (G.state result.0.gate).policy ≡ N.policy }
+    ensures legal { IsLegal N.policy (G.state result.0.gate).records }
+    ensures front { IsPrefix J.earlier (G.state result.0.gate).records }
+    ensures met { result.1.held.front ≡ (G.state result.0.gate).records }
+    ensures total { result.2.amount ≡ length (G.state result.0.gate).records }
     ensures kept { result.0.fault ≡ None → IsGrown J.begun (W.contents result.0.device)
-        (journal_bytes J.version (drop J.count (G.seen result.0.gate).records)) }
+        (journal_bytes J.version (drop J.count (G.state result.0.gate).records)) }
 {
     let device = Tallied::new(device, &control.journal);
     let door: Journaled<'_, SharedGate<G, N>, Tallied<'_, W>, J> = Journaled::new(
@@ -173,8 +173,8 @@ fn serve_named<
     page: Option<PagePort>,
     listener: TcpListener,
     connections: u64,
-) -> Result<(Kept<G, W>, Ending), PassFault>
-    requires policy { (G.seen gate).policy ≡ N.policy }
+) -> Result<(KeptDay<G, W>, Ending), PassFault>
+    requires policy { (G.state gate).policy ≡ N.policy }
     requires same { policy.now ≡ N.policy }
     requires blank { blank ≡ N.table }
     requires records { ledgers.records ≡ N.name }
@@ -183,14 +183,14 @@ fn serve_named<
     requires version { version ≡ J.version }
     requires begun { W.contents device ≡ J.begun }
     requires count { count ≡ J.count }
-    requires earlier { (G.seen gate).records ≡ J.earlier }
+    requires earlier { (G.state gate).records ≡ J.earlier }
     requires within { count ≤ length J.earlier }
-    ensures policy { IfOk result (λ left. (G.seen left.0.gate).policy ≡ N.policy) }
-    ensures legal { IfOk result (λ left. IsLegal N.policy (G.seen left.0.gate).records) }
-    ensures front { IfOk result (λ left. IsPrefix J.earlier (G.seen left.0.gate).records) }
+    ensures policy { IfOk result (λ left. (G.state left.0.gate).policy ≡ N.policy) }
+    ensures legal { IfOk result (λ left. IsLegal N.policy (G.state left.0.gate).records) }
+    ensures front { IfOk result (λ left. IsPrefix J.earlier (G.state left.0.gate).records) }
     ensures kept { IfOk result (λ left. left.0.fault ≡ None → IsGrown J.begun
         (W.contents left.0.device)
-        (journal_bytes J.version (drop J.count (G.seen left.0.gate).records))) }
+        (journal_bytes J.version (drop J.count (G.state left.0.gate).records))) }
 {
     let Ok(log) = day_log(alloc, gate.policy(), control, count) else {
         gate.close();
@@ -245,17 +245,17 @@ pub fn serve_journaled<
     page: Option<PagePort>,
     listener: TcpListener,
     connections: u64,
-) -> Result<(Kept<G, W>, Ending), PassFault>
-    requires { count ≤ length (G.seen gate).records }
+) -> Result<(KeptDay<G, W>, Ending), PassFault>
+    requires { count ≤ length (G.state gate).records }
     ensures policy { IfOk result
-        (λ left. (G.seen left.0.gate).policy ≡ (G.seen gate).policy) }
+        (λ left. (G.state left.0.gate).policy ≡ (G.state gate).policy) }
     ensures legal { IfOk result
-        (λ left. IsLegal (G.seen gate).policy (G.seen left.0.gate).records) }
+        (λ left. IsLegal (G.state gate).policy (G.state left.0.gate).records) }
     ensures goes_on { IfOk result (λ left.
-        GoesOn (G.seen gate).policy (G.seen gate).records (G.seen left.0.gate).records) }
+        GoesOn (G.state gate).policy (G.state gate).records (G.state left.0.gate).records) }
     ensures kept { IfOk result (λ left. left.0.fault ≡ None → IsGrown (W.contents device)
         (W.contents left.0.device)
-        (journal_bytes version (drop count (G.seen left.0.gate).records))) }
+        (journal_bytes version (drop count (G.state left.0.gate).records))) }
 {
     let mut gate = gate;
     let Ok(blank) = Blank::new(alloc) else {

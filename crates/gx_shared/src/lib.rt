@@ -42,7 +42,7 @@ mod steps;
 
 pub use counted_pass::CountedPass;
 pub use entrance::Entrance;
-pub use keeping::{Kept, close_kept, serve_journaled};
+pub use keeping::{KeptDay, close_kept, serve_journaled};
 pub use permit::{BlankLedgers, Permits};
 pub use serving::{Served, serve};
 pub use shared::SharedGate;

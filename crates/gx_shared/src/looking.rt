@@ -3,7 +3,7 @@
 ghost use Rattle.std.specs.Prelude.{◌≡◌, ◌+◌, IfNone, IfOk, IfSome};
 ghost use Rattle.gx_board.specs.{Summaries.IsBehind, Views.IsView};
 
-use gx_board::{Summary, View, view_of};
+use gx_board::{BoardView, Summary, view_of};
 use gx_records::{ShowsRecords, ShowsState};
 use gx_units::{OutOfMemory, UserName};
 use std::alloc::Global;
@@ -16,11 +16,11 @@ pub fn look<G: ShowsRecords + ShowsState>(
     summary: &mut Summary,
     viewer: UserName,
     most: usize,
-) -> Result<Option<View>, OutOfMemory>
-    requires behind { IsBehind (G.seen gate.now).policy (G.seen gate.now).records summary.old }
-    ensures behind { IsBehind (G.seen gate.now).policy (G.seen gate.now).records summary.new }
+) -> Result<Option<BoardView>, OutOfMemory>
+    requires behind { IsBehind (G.state gate.now).policy (G.state gate.now).records summary.old }
+    ensures behind { IsBehind (G.state gate.now).policy (G.state gate.now).records summary.new }
     ensures view { IfOk result (λ found. IfSome found
-        (IsView (G.seen gate.now).policy (G.seen gate.now).records viewer)) }
+        (IsView (G.state gate.now).policy (G.state gate.now).records viewer)) }
     ensures further { IfOk result (λ found. IfNone found
         (summary.new.counts.records ≡ summary.old.counts.records + most)) }
 {

@@ -13,10 +13,10 @@ const PIECE: u64 = 256;
 
 /// Puts the next records of the gate, so many at most, on the device. Answers whether it did.
 fn put_piece<G: AccessGate, W: Write>(gate: &G, writer: &mut JournalWriter<W>, most: u64) -> bool
-    requires left { writer.old.done + most ≤ length (G.seen gate.now).records }
+    requires left { writer.old.done + most ≤ length (G.state gate.now).records }
     ensures whole { IsTrue result → Appends writer.old.contents writer.new.contents
         (journal_bytes writer.old.version
-        (take most (drop writer.old.done (G.seen gate.now).records))) }
+        (take most (drop writer.old.done (G.state gate.now).records))) }
     ensures done { IsTrue result → writer.new.done ≡ writer.old.done + most }
     ensures version { writer.new.version ≡ writer.old.version }
     ensures sound { IsTrue result → writer.new.fault ≡ None }
@@ -34,9 +34,9 @@ fn put_piece<G: AccessGate, W: Write>(gate: &G, writer: &mut JournalWriter<W>, m
 
 /// Puts all records of the gate on the device that are not there, unless it is broken.
 pub(crate) fn put_rest<G: AccessGate, W: Write>(gate: &G, writer: &mut JournalWriter<W>)
-    requires within { writer.old.done ≤ length (G.seen gate.now).records }
+    requires within { writer.old.done ≤ length (G.state gate.now).records }
     ensures whole { writer.new.fault ≡ None → Appends writer.old.contents writer.new.contents
-        (journal_bytes writer.old.version (drop writer.old.done (G.seen gate.now).records)) }
+        (journal_bytes writer.old.version (drop writer.old.done (G.state gate.now).records)) }
     ensures sound { writer.new.fault ≡ None → writer.old.fault ≡ None }
 {
     if writer.is_broken() {

@@ -12,13 +12,13 @@ use gx_units::OutOfMemory;
 /// So many records are asked for at once.
 const PORTION: u64 = 256;
 
-/// Issues one more line, whose pass stays in the keeper's hand.
+/// Issues one more line, whose pass stays entered.
 #[tactic(auto, using(crate::proofs::Lines_noted::one_more_line))]
 fn hold_one<N: GateName>(keeper: &mut Keeper<N>) -> Result<(), OutOfMemory>
-    requires hand { keeper.old.hand ≡ lines_to keeper.old.issued }
+    requires entered { keeper.old.entered ≡ lines_to keeper.old.issued }
     requires left { keeper.old.issued < 65535 }
     ensures list { keeper.new.list ≡ keeper.old.list }
-    ensures hand { keeper.new.hand ≡ lines_to keeper.new.issued }
+    ensures entered { keeper.new.entered ≡ lines_to keeper.new.issued }
     ensures issued { OnOk result (keeper.new.issued ≡ keeper.old.issued + 1) }
 {
     match keeper.issue() {
@@ -31,11 +31,11 @@ fn hold_one<N: GateName>(keeper: &mut Keeper<N>) -> Result<(), OutOfMemory>
     }
 }
 
-/// Issues the lines up to this one, whose passes stay in the keeper's hand.
+/// Issues the lines up to this one, whose passes stay entered.
 fn hold_up_to<N: GateName>(keeper: &mut Keeper<N>, line: u16) -> Result<(), OutOfMemory>
-    requires hand { keeper.old.hand ≡ lines_to keeper.old.issued }
+    requires entered { keeper.old.entered ≡ lines_to keeper.old.issued }
     ensures list { keeper.new.list ≡ keeper.old.list }
-    ensures hand { keeper.new.hand ≡ lines_to keeper.new.issued }
+    ensures entered { keeper.new.entered ≡ lines_to keeper.new.issued }
     ensures issued { OnOk result (keeper.new.issued ≡ max keeper.old.issued line) }
 {
     while keeper.issued() < line {
@@ -74,7 +74,7 @@ fn note_portion<N: GateName>(keeper: &mut Keeper<N>, records: &[Record]) -> Resu
 fn note_all<G: AccessGate, N: GateName>(keeper: &mut Keeper<N>, gate: &G) -> Result<(), OutOfMemory>
     requires new { keeper.old.list ≡ [] }
     requires stands { IsResuming keeper.old }
-    ensures list { OnOk result (keeper.new.list ≡ (G.seen gate.now).records) }
+    ensures list { OnOk result (keeper.new.list ≡ (G.state gate.now).records) }
     ensures stands { OnOk result (IsResuming keeper.new) }
 {
     let length = gate.length();
@@ -87,7 +87,7 @@ fn note_all<G: AccessGate, N: GateName>(keeper: &mut Keeper<N>, gate: &G) -> Res
     Ok(())
 }
 
-/// The keeper of the gate's records. Their lines stay in the keeper's hand for good.
+/// The keeper of the gate's records. Their lines stay entered for good.
 ///
 /// # Errors
 ///
@@ -95,8 +95,8 @@ fn note_all<G: AccessGate, N: GateName>(keeper: &mut Keeper<N>, gate: &G) -> Res
 #[tactic(auto, using(crate::proofs::Lines_noted::begins))]
 pub fn resume<G: AccessGate, N: GateName>(gate: &G, blank: Blank) -> Result<Keeper<N>, OutOfMemory>
     requires { blank ≡ N.table }
-    ensures keeper { IfOk result (λ k. k.list ≡ (G.seen gate.now).records) }
-    ensures issued { IfOk result (λ k. k.issued ≡ highest_line (G.seen gate.now).records) }
+    ensures keeper { IfOk result (λ k. k.list ≡ (G.state gate.now).records) }
+    ensures issued { IfOk result (λ k. k.issued ≡ highest_line (G.state gate.now).records) }
 {
     let mut keeper = Keeper::open(blank);
     note_all(&mut keeper, gate)?;

@@ -51,11 +51,11 @@ fn serve_shared<
     requires records { ledgers.records ≡ N.name }
     requires lines { ledgers.lines ≡ N.lines }
     requires parts { N.parts ≡ all_parts }
-    ensures policy { IfOk result (λ left. (G.seen left.0.gate).policy ≡ N.policy) }
-    ensures legal { IfOk result (λ left. IsLegal N.policy (G.seen left.0.gate).records) }
-    ensures met { IfOk result (λ left. left.1.held.front ≡ (G.seen left.0.gate).records) }
+    ensures policy { IfOk result (λ left. (G.state left.0.gate).policy ≡ N.policy) }
+    ensures legal { IfOk result (λ left. IsLegal N.policy (G.state left.0.gate).records) }
+    ensures met { IfOk result (λ left. left.1.held.front ≡ (G.state left.0.gate).records) }
     ensures total { IfOk result
-        (λ left. left.2.amount ≡ length (G.seen left.0.gate).records) }
+        (λ left. left.2.amount ≡ length (G.state left.0.gate).records) }
 {
     let log = day_log(alloc, policy, control, 0)?;
     let (door, permits) = SharedGate::<G, N>::new(alloc, policy, blank, ledgers)?;
@@ -106,8 +106,8 @@ fn serve_named<
     requires records { ledgers.records ≡ N.name }
     requires lines { ledgers.lines ≡ N.lines }
     requires parts { N.parts ≡ all_parts }
-    ensures policy { IfOk result (λ served. (G.seen served.gate).policy ≡ N.policy) }
-    ensures legal { IfOk result (λ served. IsLegal N.policy (G.seen served.gate).records) }
+    ensures policy { IfOk result (λ served. (G.state served.gate).policy ≡ N.policy) }
+    ensures legal { IfOk result (λ served. IsLegal N.policy (G.state served.gate).records) }
 {
     match serve_shared::<G, N, R>(
         rt,
@@ -137,8 +137,8 @@ pub fn serve<G: ShowsRecords + ShowsState + Send, R: Threads + Wait + Clock + Sy
     listener: TcpListener,
     connections: u64,
 ) -> Result<Served<G>, ServeFault>
-    ensures policy { IfOk result (λ served. (G.seen served.gate).policy ≡ policy.now) }
-    ensures legal { IfOk result (λ served. IsLegal policy.now (G.seen served.gate).records) }
+    ensures policy { IfOk result (λ served. (G.state served.gate).policy ≡ policy.now) }
+    ensures legal { IfOk result (λ served. IsLegal policy.now (G.state served.gate).records) }
 {
     let blank = Blank::new(alloc)?;
     let ledgers = BlankLedgers::new();

@@ -18,7 +18,7 @@ use crate::counted_pass::CountedPass;
 use crate::guarded_gate::GuardedGate;
 use crate::permit::{BlankLedgers, Permits};
 use gx_access_gate::{AccessGate, LoginAnswer, Outcome, Pulled, StepFault};
-use gx_board::{Summary, View};
+use gx_board::{BoardView, Summary};
 use gx_door::{Caller, Dial, Door, Matched, PullFault, Turned};
 use gx_history::record::{Record, Request};
 use gx_lookout::Lookout;
@@ -91,18 +91,18 @@ impl<G: AccessGate, N: GateName> SharedGate<G, N> {
         blank: Blank,
         ledgers: BlankLedgers,
     ) -> Result<(SharedGate<G, N>, Permits<N>, CountedPass<N>), PassFault>
-        requires policy { (G.seen gate).policy ≡ N.policy }
+        requires policy { (G.state gate).policy ≡ N.policy }
         requires blank { blank ≡ N.table }
         requires records { ledgers.records ≡ N.name }
         requires lines { ledgers.lines ≡ N.lines }
         requires parts { N.parts ≡ all_parts }
         ensures all { IfOk result (λ made. made.1.left + 2 ≡ N.parts) }
-        ensures added { IfOk result (λ made. made.1.added ≡ length (G.seen gate).records) }
-        ensures front { IfOk result (λ made. made.2.held.front ≡ (G.seen gate).records) }
+        ensures added { IfOk result (λ made. made.1.added ≡ length (G.state gate).records) }
+        ensures front { IfOk result (λ made. made.2.held.front ≡ (G.state gate).records) }
         ensures own { IfOk result (λ made. mine made.2.held ≡ []) }
         ensures none_added { IfOk result (λ made. made.2.added ≡ 0) }
         ensures no_lines { IfErr result (λ e.
-            e ≡ pass_faults.NoLines → highest_line (G.seen gate).records ≡ 65535) }
+            e ≡ pass_faults.NoLines → highest_line (G.state gate).records ≡ 65535) }
     {
         let Ok((mut guarded, mut permits)) = GuardedGate::over(gate, blank, ledgers) else {
             return Err(PassFault::OutOfMemory);
@@ -156,14 +156,14 @@ impl<G: AccessGate, N: GateName> SharedGate<G, N> {
     /// The gate, the pass, which has met all its records, and how many these are. It has all that the pass had met, and of
     /// the pass's line its own records.
     pub fn close(self, pass: CountedPass<N>) -> (G, CountedPass<N>, Total<N>)
-        ensures policy { (G.seen result.0).policy ≡ N.policy }
-        ensures legal { IsLegal N.policy (G.seen result.0).records }
-        ensures front { IsPrefix pass.held.front (G.seen result.0).records }
-        ensures mine { of_line pass.held.line (G.seen result.0).records ≡ mine pass.held }
+        ensures policy { (G.state result.0).policy ≡ N.policy }
+        ensures legal { IsLegal N.policy (G.state result.0).records }
+        ensures front { IsPrefix pass.held.front (G.state result.0).records }
+        ensures mine { of_line pass.held.line (G.state result.0).records ≡ mine pass.held }
         ensures line { result.1.held.line ≡ pass.held.line }
-        ensures met { result.1.held.front ≡ (G.seen result.0).records }
+        ensures met { result.1.held.front ≡ (G.state result.0).records }
         ensures added { result.1.added ≡ pass.added }
-        ensures total { result.2.amount ≡ length (G.seen result.0).records }
+        ensures total { result.2.amount ≡ length (G.state result.0).records }
     {
         let SharedGate { guarded } = self;
         let CountedPass { pass, share } = pass;
@@ -175,9 +175,9 @@ impl<G: AccessGate, N: GateName> SharedGate<G, N> {
     /// counted in them.
     /// Part of the interface: an end for who holds no pass, as `close` is for who holds one.
     pub fn take_back(self, permits: Permits<N>) -> G
-        ensures policy { (G.seen result).policy ≡ N.policy }
+        ensures policy { (G.state result).policy ≡ N.policy }
         ensures counted { permits.left + 1 ≡ N.parts
-            → permits.added ≡ length (G.seen result).records }
+            → permits.added ≡ length (G.state result).records }
     {
         let SharedGate { guarded } = self;
         guarded.into_inner().take_back(permits)
@@ -195,7 +195,7 @@ impl<G: ShowsState, N: GateName> Door for SharedGate<G, N> {
 
     ghost policy = { N.policy };
 
-    ghost held = { λ p. p.held };
+    ghost observed = { λ p. p.held };
 
     ghost added = { λ p. p.added };
 
@@ -347,7 +347,7 @@ impl<G: ShowsRecords + ShowsState, N: GateName> Lookout for SharedGate<G, N> {
 
     ghost policy = { N.policy };
 
-    ghost held = { λ p. p.held };
+    ghost observed = { λ p. p.held };
 
     fn look<R: Wait>(
         &self,
@@ -357,7 +357,7 @@ impl<G: ShowsRecords + ShowsState, N: GateName> Lookout for SharedGate<G, N> {
         summary: &mut Summary,
         viewer: UserName,
         most: usize,
-    ) -> (CountedPass<N>, Result<Option<View>, OutOfMemory>) {
+    ) -> (CountedPass<N>, Result<Option<BoardView>, OutOfMemory>) {
         let CountedPass { pass, share } = pass;
         let (pass, found) = self.guarded(rt).look(alloc, pass, summary, viewer, most);
         (CountedPass { pass, share }, found)

@@ -6,7 +6,7 @@ ghost use Rattle.gx_history.specs.{InForce.line_of, Showing.{has_its_first, is_a
 ghost use Rattle.gx_access_gate.specs.{Matches.{matching_of, with_match}, Gates.left_by, Steps.{next_of, with_record}};
 ghost use Rattle.gx_pass.specs.{Rules.Has, Views.{line_view, keeper_view, without_line}};
 ghost use Rattle.gx_door.specs.declared.fault.PullFault.TheVariants as pull_faults;
-ghost use Rattle.gx_door.specs.{Acts.{asked_on, IsPulled, IsToldFull, MayBeRefused}, Endings.{ended_by, sums_of}, Matching.{AddsMatches, EndsSo}};
+ghost use Rattle.gx_door.specs.{Acts.{asked_on, IsPulled, IsToldFull, MayBeRefused}, Endings.{ended_by, sums_of}, Matching.{AddsMatchingSteps, EndsSo}};
 
 use crate::counting::CountingKeeper;
 use crate::ending::{ends_of, if_granted};
@@ -36,7 +36,7 @@ pub fn asked_on(line: u16, user: UserName, request: Request, handed: Moment) -> 
     }
 }
 
-/// Makes the request's step. The keeper, which has its line in hand, notes the record, and it is counted in the share.
+/// Makes the request's step. The keeper, where its line is entered, notes the record, and it is counted in the share.
 ///
 /// A granted Kill or Logout is never refused.
 #[tactic(auto, using(crate::proofs::Refused_call::is_no_granted_end, crate::proofs::Refused_call::is_told_full))]
@@ -48,17 +48,17 @@ pub fn step_and_note<G: AccessGate, N: GateName>(
 ) -> Result<Outcome, StepFault>
     requires part { 0 < share.old.parts }
     requires askable { IsTrue (is_askable asked) }
-    requires line { Has keeper.old.hand asked.line }
-    requires history { keeper.old.list ≡ (G.seen gate.old).records }
-    ensures policy { (G.seen gate.new).policy ≡ (G.seen gate.old).policy }
+    requires line { Has keeper.old.entered asked.line }
+    requires history { keeper.old.list ≡ (G.state gate.old).records }
+    ensures policy { (G.state gate.new).policy ≡ (G.state gate.old).policy }
     ensures done { IfOk result
-        (λ o. (G.seen gate.new).records ≡ with_record (G.seen gate.old) asked o) }
-    ensures next { IfOk result (λ o. next_of (G.seen gate.old) asked ≡ Some (left_by asked o)) }
-    ensures refused { OnErr result (G.seen gate.new ≡ G.seen gate.old) }
-    ensures never_refused { OnErr result (MayBeRefused (G.seen gate.new) asked) }
-    ensures full { IfErr result (IsToldFull (G.seen gate.new)) }
+        (λ o. (G.state gate.new).records ≡ with_record (G.state gate.old) asked o) }
+    ensures next { IfOk result (λ o. next_of (G.state gate.old) asked ≡ Some (left_by asked o)) }
+    ensures refused { OnErr result (G.state gate.new ≡ G.state gate.old) }
+    ensures never_refused { OnErr result (MayBeRefused (G.state gate.new) asked) }
+    ensures full { IfErr result (IsToldFull (G.state gate.new)) }
     ensures keeper { keeper.new
-        ≡ keeper_view (G.seen gate.new).records keeper.old.hand keeper.old.issued }
+        ≡ keeper_view (G.state gate.new).records keeper.old.entered keeper.old.issued }
     ensures adds_one { OnOk result (share.new.amount ≡ share.old.amount + 1) }
     ensures adds_none { OnErr result (share.new.amount ≡ share.old.amount) }
     ensures parts { share.new.parts ≡ share.old.parts }
@@ -79,16 +79,16 @@ pub fn match_and_note<G: AccessGate, N: GateName>(
     handed: Moment,
 ) -> Result<Option<Outcome>, StepFault>
     requires part { 0 < share.old.parts }
-    requires history { keeper.old.list ≡ (G.seen gate.old).records }
-    ensures policy { (G.seen gate.new).policy ≡ (G.seen gate.old).policy }
+    requires history { keeper.old.list ≡ (G.state gate.old).records }
+    ensures policy { (G.state gate.new).policy ≡ (G.state gate.old).policy }
     ensures found { IfOk result
-        (λ found. G.seen gate.new ≡ with_match (G.seen gate.old) handed found) }
-    ensures idle { IfOk result (λ found. IfNone found (matching_of (G.seen gate.new) ≡ None)) }
-    ensures waits { OnErr result (IsTrue (is_some (matching_of (G.seen gate.new)))) }
-    ensures refused { OnErr result (G.seen gate.new ≡ G.seen gate.old) }
-    ensures full { IfErr result (IsToldFull (G.seen gate.new)) }
+        (λ found. G.state gate.new ≡ with_match (G.state gate.old) handed found) }
+    ensures idle { IfOk result (λ found. IfNone found (matching_of (G.state gate.new) ≡ None)) }
+    ensures waits { OnErr result (IsTrue (is_some (matching_of (G.state gate.new)))) }
+    ensures refused { OnErr result (G.state gate.new ≡ G.state gate.old) }
+    ensures full { IfErr result (IsToldFull (G.state gate.new)) }
     ensures keeper { keeper.new
-        ≡ keeper_view (G.seen gate.new).records keeper.old.hand keeper.old.issued }
+        ≡ keeper_view (G.state gate.new).records keeper.old.entered keeper.old.issued }
     ensures adds_one { IfOk result (λ found. IfSome found (λ _.
         share.new.amount ≡ share.old.amount + 1)) }
     ensures adds_none_idle { IfOk result (λ found. IfNone found
@@ -116,13 +116,13 @@ pub fn match_some<G: AccessGate, N: GateName>(
     most: u64,
 ) -> Matched
     requires part { 0 < share.old.parts }
-    requires history { keeper.old.list ≡ (G.seen gate.old).records }
-    ensures policy { (G.seen gate.new).policy ≡ (G.seen gate.old).policy }
-    ensures made { AddsMatches handed result.made
-        (G.seen gate.old).records (G.seen gate.new).records }
-    ensures ended { EndsSo result.end (G.seen gate.new) result.made most }
+    requires history { keeper.old.list ≡ (G.state gate.old).records }
+    ensures policy { (G.state gate.new).policy ≡ (G.state gate.old).policy }
+    ensures made { AddsMatchingSteps handed result.made
+        (G.state gate.old).records (G.state gate.new).records }
+    ensures ended { EndsSo result.end (G.state gate.new) result.made most }
     ensures keeper { keeper.new
-        ≡ keeper_view (G.seen gate.new).records keeper.old.hand keeper.old.issued }
+        ≡ keeper_view (G.state gate.new).records keeper.old.entered keeper.old.issued }
     ensures adds { share.new.amount ≡ share.old.amount + result.made }
     ensures parts { share.new.parts ≡ share.old.parts }
 {
@@ -146,7 +146,7 @@ pub fn match_some<G: AccessGate, N: GateName>(
     }
 }
 
-/// Makes the request's step, and matching steps behind it, none where it is refused. The keeper, which has its line in hand,
+/// Makes the request's step, and matching steps behind it, none where it is refused. The keeper, where its line is entered,
 /// notes the records, and they are counted in the share. Tells what the request's own record ended, which is counted in front of
 /// it: behind it these orders are gone.
 #[tactic(auto, using(crate::proofs::Command_call::told_so))]
@@ -159,20 +159,20 @@ pub fn turn<G: ShowsState, N: GateName>(
 ) -> Result<Turned, StepFault>
     requires part { 0 < share.old.parts }
     requires askable { IsTrue (is_askable asked) }
-    requires line { Has keeper.old.hand asked.line }
-    requires history { keeper.old.list ≡ (G.seen gate.old).records }
-    ensures policy { (G.seen gate.new).policy ≡ (G.seen gate.old).policy }
-    ensures done { IfOk result (λ t. AddsMatches asked.handed t.matched.made
-        (with_record (G.seen gate.old) asked t.outcome) (G.seen gate.new).records) }
+    requires line { Has keeper.old.entered asked.line }
+    requires history { keeper.old.list ≡ (G.state gate.old).records }
+    ensures policy { (G.state gate.new).policy ≡ (G.state gate.old).policy }
+    ensures done { IfOk result (λ t. AddsMatchingSteps asked.handed t.matched.made
+        (with_record (G.state gate.old) asked t.outcome) (G.state gate.new).records) }
     ensures ends { IfOk result (λ t. t.ended ≡ sums_of (ended_by
-        (G.seen gate.old).policy (G.seen gate.old).records (left_by asked t.outcome))) }
+        (G.state gate.old).policy (G.state gate.old).records (left_by asked t.outcome))) }
     ensures ended { IfOk result (λ t.
-        EndsSo t.matched.end (G.seen gate.new) t.matched.made most) }
-    ensures refused { OnErr result (G.seen gate.new ≡ G.seen gate.old) }
-    ensures never_refused { OnErr result (MayBeRefused (G.seen gate.new) asked) }
-    ensures full { IfErr result (IsToldFull (G.seen gate.new)) }
+        EndsSo t.matched.end (G.state gate.new) t.matched.made most) }
+    ensures refused { OnErr result (G.state gate.new ≡ G.state gate.old) }
+    ensures never_refused { OnErr result (MayBeRefused (G.state gate.new) asked) }
+    ensures full { IfErr result (IsToldFull (G.state gate.new)) }
     ensures keeper { keeper.new
-        ≡ keeper_view (G.seen gate.new).records keeper.old.hand keeper.old.issued }
+        ≡ keeper_view (G.state gate.new).records keeper.old.entered keeper.old.issued }
     ensures adds { IfOk result (λ t.
         share.new.amount ≡ share.old.amount + 1 + t.matched.made) }
     ensures adds_none { OnErr result (share.new.amount ≡ share.old.amount) }
@@ -197,10 +197,10 @@ pub fn pull<G: AccessGate>(
     from: u64,
     most: u64,
 ) -> Result<Pulled, PullFault>
-    ensures on { OnOk result (line_of (G.seen gate.now).records user ≡ Some line) }
+    ensures on { OnOk result (line_of (G.state gate.now).records user ≡ Some line) }
     ensures not_on { IfErr result (λ e.
-        e ≡ pull_faults.NotOn ↔ line_of (G.seen gate.now).records user ≢ Some line) }
-    ensures pulled { IfOk result (IsPulled (G.seen gate.now) user from most) }
+        e ≡ pull_faults.NotOn ↔ line_of (G.state gate.now).records user ≢ Some line) }
+    ensures pulled { IfOk result (IsPulled (G.state gate.now) user from most) }
 {
     if gate.on(user) != Some(line) {
         return Err(PullFault::NotOn);
@@ -214,14 +214,14 @@ pub fn leave<G: AccessGate, N: GateName>(
     keeper: &mut CountingKeeper<N>,
     entered: Entered<N>,
 ) -> Pass<N>
-    requires hand { Has keeper.old.hand entered }
-    requires history { keeper.old.list ≡ (G.seen gate.now).records }
+    requires entered { Has keeper.old.entered entered }
+    requires history { keeper.old.list ≡ (G.state gate.now).records }
     ensures pass { result
-        ≡ line_view entered (G.seen gate.now).records (length (G.seen gate.now).records) }
-    ensures legal { IsLegal (G.seen gate.now).policy (G.seen gate.now).records }
+        ≡ line_view entered (G.state gate.now).records (length (G.state gate.now).records) }
+    ensures legal { IsLegal (G.state gate.now).policy (G.state gate.now).records }
     ensures keeper { keeper.new
-        ≡ keeper_view (G.seen gate.now).records
-        (without_line entered keeper.old.hand) keeper.old.issued }
+        ≡ keeper_view (G.state gate.now).records
+        (without_line entered keeper.old.entered) keeper.old.issued }
 {
     gate.is_legal();
     keeper.leave(entered)

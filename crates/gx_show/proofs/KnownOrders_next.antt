@@ -5,7 +5,7 @@ use Rattle.gx_units.specs.{declared.names.{AccountName.AccountName, Token.Token,
 use Rattle.gx_policy.specs.{declared.policy.PolicyData.PolicyData, People.account_of}
 use Rattle.gx_history.specs.{declared.record.{Asked.Asked, RecordData.RecordData, Request.Request}, Orders.{Order, order_entered, order_under, orders, orders_added, orders_made, order_replacing}, Requests.granted_of}
 use Rattle.gx_laws.proofs.Orders_next.{orders_next, orders_none}
-use Rattle.gx_show.specs.{declared.known_order.KnownOrder.KnownOrder, Known.{is_under, known_of, known_orders, order_made, made_by, known_order_under}}
+use Rattle.gx_show.specs.{declared.known_order.KnownOrder.KnownOrder, Known.{is_known_under, known_of, known_orders, order_made, made_by, known_order_under}}
 
 pub known_none : (policy : PolicyData) → known_orders policy [] ≡ []
 unfolding known_orders
@@ -26,7 +26,7 @@ last_mapped f o (x ∷ xs) = last_mapped f (Some x) xs
 
 under_mapped : (known : List Order) (user : UserName) (token : Token) → known_order_under (map known_of known) user token ≡ option_map known_of (order_under known user token)
 under_mapped known user token =
-    ap (last_or None) (kept_mapped known_of (is_under user token) known)
+    ap (last_or None) (kept_mapped known_of (is_known_under user token) known)
     ∙ last_mapped known_of None (filter (λ (o : Order). same_user o.user user && same_token o.token token) known)
 
 made_mapped : (policy : PolicyData) (known : List Order) (r : RecordData) (user : UserName) (request : Request)

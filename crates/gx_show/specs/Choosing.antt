@@ -4,11 +4,11 @@ use Rattle.gx_units.specs.{declared.names.{AccountName.AccountName, RuleId.RuleI
 use Rattle.gx_desk.specs.declared.Action.{Action}
 use Rattle.gx_policy.specs.{declared.policy.{FileRule.FileRule, PolicyData.PolicyData}, Lists.{each_with_earlier, where_true}, People.{account_of, covers, rule_in}, RuleNames.rule_id}
 use Rattle.gx_history.specs.{declared.record.{Asked.Asked, RecordData.RecordData, Request.Request, Verdict.Verdict}, Requests.{action_of, asked_of, named_token}}
-use Rattle.gx_show.specs.{declared.{choice.{Choice.Choice, OrderLife.OrderLife}, known_order.KnownOrder.KnownOrder}, Known.{has_number, known_orders, order_made, known_numbered, known_order_under}}
+use Rattle.gx_show.specs.{declared.{choice.{Choice.Choice, OrderLife.OrderLife}, known_order.KnownOrder.KnownOrder}, Known.{has_known_number, known_orders, order_made, known_numbered, known_order_under}}
 
 -- there is an order, and it passes the test
-abbrev pub is_such : (KnownOrder → Bool) → Option KnownOrder → Bool
-is_such test order = option_map_or test order false
+abbrev pub is_such_order : (KnownOrder → Bool) → Option KnownOrder → Bool
+is_such_order test order = option_map_or test order false
 
 -- the order that a Replace or a Cancel names
 abbrev pub order_named : List KnownOrder → RecordData → Option KnownOrder
@@ -16,14 +16,14 @@ order_named known r = option_and_then (λ (a : Asked). option_and_then (known_or
 
 -- an order that was matched passes the test: of a fill either side
 abbrev pub is_matched : List KnownOrder → (KnownOrder → Bool) → Verdict → Bool
-is_matched known test (Verdict.Filled f) = is_such test (known_numbered known f.taker) || is_such test (known_numbered known f.maker)
-is_matched known test (Verdict.Rested number) = is_such test (known_numbered known number)
-is_matched known test (Verdict.Expired number) = is_such test (known_numbered known number)
+is_matched known test (Verdict.Filled f) = is_such_order test (known_numbered known f.taker) || is_such_order test (known_numbered known f.maker)
+is_matched known test (Verdict.Rested number) = is_such_order test (known_numbered known number)
+is_matched known test (Verdict.Expired number) = is_such_order test (known_numbered known number)
 is_matched known test other = false
 
 -- the record speaks of such an order: it makes one, or names one, or one was matched
 abbrev pub speaks_of : PolicyData → List KnownOrder → RecordData → (KnownOrder → Bool) → Bool
-speaks_of policy known r test = is_such test (order_made policy known r) || (is_such test (order_named known r) || is_matched known test r.verdict)
+speaks_of policy known r test = is_such_order test (order_made policy known r) || (is_such_order test (order_named known r) || is_matched known test r.verdict)
 
 -- the request passes the test, where the record is of a request
 abbrev pub is_asked : (Asked → Bool) → RecordData → Bool
@@ -102,7 +102,7 @@ is_denied other = false
 
 -- the record speaks of the order, or is the Kill or Close Day that it ended by
 abbrev pub concerns_order : PolicyData → List KnownOrder → RecordData → OrderLife → Bool
-concerns_order policy known r life = speaks_of policy known r (has_number life.number) || option_map_or (λ (end : ℕ). end == r.number) life.ended_by false
+concerns_order policy known r life = speaks_of policy known r (has_known_number life.number) || option_map_or (λ (end : ℕ). end == r.number) life.ended_by false
 
 -- what is asked for passes the test; whatever nobody asks for passes
 abbrev pub is_wanted : {X : Type 0} → (X → Bool) → Option X → Bool

@@ -14,20 +14,20 @@ unfoldable pub known_orders : PolicyData → List RecordData → List KnownOrder
 known_orders policy history = map known_of (orders policy history)
 
 -- the order has this number
-abbrev pub has_number : ℕ → KnownOrder → Bool
-has_number number o = o.number == number
+abbrev pub has_known_number : ℕ → KnownOrder → Bool
+has_known_number number o = o.number == number
 
 -- the order is one of the user, and was asked for under the token
-abbrev pub is_under : UserName → Token → KnownOrder → Bool
-is_under user token o = same_user o.user user && same_token o.token token
+abbrev pub is_known_under : UserName → Token → KnownOrder → Bool
+is_known_under user token o = same_user o.user user && same_token o.token token
 
 -- the order of this number
 abbrev pub known_numbered : List KnownOrder → ℕ → Option KnownOrder
-known_numbered known number = find (has_number number) known
+known_numbered known number = find (has_known_number number) known
 
 -- the last order of the user under the token
 abbrev pub known_order_under : List KnownOrder → UserName → Token → Option KnownOrder
-known_order_under known user token = last_such (is_under user token) known
+known_order_under known user token = last_such (is_known_under user token) known
 
 -- the order that a granted request makes, where these were made before
 abbrev pub made_by : PolicyData → List KnownOrder → ℕ → UserName → Request → Option KnownOrder

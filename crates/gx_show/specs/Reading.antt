@@ -20,16 +20,16 @@ abbrev pub AreReadBack : AuditVersion → List RecordData → Type 0
 AreReadBack version records = AllByRecursion (λ (r : RecordData). record_of version (record_bytes version r) ≡ Some r) records
 
 -- why no record follows so many: too few bytes are left, or the next are no record's, whose number this is
-abbrev pub NoneFollows : AuditVersion → ℕ → List ℕ → Option ℕ → Type 0
-NoneFollows version count rest None = length rest < record_size
-NoneFollows version count rest (Some number) = (number ≡ count + 1) × (record_size ≤ length rest) × (record_of version (take record_size rest) ≡ None)
+abbrev pub NoRecordFollows : AuditVersion → ℕ → List ℕ → Option ℕ → Type 0
+NoRecordFollows version count rest None = length rest < record_size
+NoRecordFollows version count rest (Some number) = (number ≡ count + 1) × (record_size ≤ length rest) × (record_of version (take record_size rest) ≡ None)
 
 -- the audit shows these records, up to the first that is none
 pub record IsRead (audit : List ℕ) (records : List RecordData) (bad : Option ℕ) : Type 0 where
   pub shown : AreReadBack (version_of audit) records
   pub rest : List ℕ
   pub bytes_are : all_bytes (version_of audit) records ++ rest ≡ behind_header audit
-  pub ends : NoneFollows (version_of audit) (length records) rest bad
+  pub ends : NoRecordFollows (version_of audit) (length records) rest bad
 
 -- these are the records of the audit that are asked for, of all up to the first that is none
 pub record IsFound (policy : PolicyData) (choice : Choice) (audit : List ℕ) (found : List RecordData) (bad : Option ℕ) : Type 0 where

@@ -3,16 +3,12 @@ use Rattle.std.specs.Prelude.{List, Option, Some, None, option_and_then}
 use Rattle.gx_units.specs.declared.names.AccountName.{AccountName}
 use Rattle.gx_policy.specs.{declared.{policy.PolicyData.PolicyData, rule_name.RuleName.RuleName}, People.account_of}
 use Rattle.gx_history.specs.{declared.record.{Asked.Asked, RecordData.RecordData, Verdict.Verdict}, Reasons.reject_reason, Requests.asked_of}
+use Rattle.gx_endings.specs.Commands.{denied_by}
 use Rattle.gx_fields.specs.{declared.cell.{Beside.Beside, Cell.Cell, EndedOrders.EndedOrders}, Cells.cells_of, Reasons.reason_of, Rows.row_of}
 
 -- the account of the trader who asked
 abbrev pub account_asked : PolicyData → RecordData → Option AccountName
 account_asked policy r = option_and_then (λ (a : Asked). account_of policy a.user) (asked_of r.step)
-
--- the rule that denied the request
-abbrev pub denied_by : Verdict → Option RuleName
-denied_by (Verdict.Denied rule) = Some rule
-denied_by other = None
 
 -- what is told beside the fields of a record: the account of who asked, why it was denied, and what it ended
 abbrev pub beside_of : PolicyData → RecordData → Option EndedOrders → Beside

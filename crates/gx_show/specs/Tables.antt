@@ -2,7 +2,7 @@
 use Rattle.std.specs.{Prelude.{◌≡◌, ℕ, ◌&&◌, List, nat_eq, Bool, Some, if◌then◌else◌}, Option.option_or, Map.lookup}
 use Rattle.gx_units.specs.{declared.names.{Token.Token, UserName.UserName}, Names.{same_user, same_token}}
 use Rattle.gx_history.specs.{declared.live_order.UserToken.UserToken, LiveOrders.key}
-use Rattle.gx_show.specs.{declared.known_order.KnownOrder.KnownOrder, Known.{has_number, is_under, known_numbered, known_order_under}}
+use Rattle.gx_show.specs.{declared.known_order.KnownOrder.KnownOrder, Known.{has_known_number, is_known_under, known_numbered, known_order_under}}
 use Rattle.gx_policy.specs.Lists.{where_true}
 
 -- two tokens of users are the same
@@ -16,9 +16,9 @@ pub record AreFound (known : List KnownOrder) (by_number : List (ℕ × KnownOrd
 
 -- the order is found by its number, unless another was; what is found by other numbers stays
 abbrev pub FindsNumber : KnownOrder → (before after : List (ℕ × KnownOrder)) → Type 0
-FindsNumber o before after = (number : ℕ) → lookup (nat_eq number) after ≡ option_or (lookup (nat_eq number) before) (where_true (has_number number o) o)
+FindsNumber o before after = (number : ℕ) → lookup (nat_eq number) after ≡ option_or (lookup (nat_eq number) before) (where_true (has_known_number number o) o)
 
 -- the order is found by its token; what is found by other tokens stays
 abbrev pub FindsToken : KnownOrder → (before after : List (UserToken × KnownOrder)) → Type 0
 FindsToken o before after =
-    (user : UserName) (token : Token) → lookup (same_user_token (key user token)) after ≡ (if is_under user token o then Some o else lookup (same_user_token (key user token)) before)
+    (user : UserName) (token : Token) → lookup (same_user_token (key user token)) after ≡ (if is_known_under user token o then Some o else lookup (same_user_token (key user token)) before)

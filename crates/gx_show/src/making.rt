@@ -1,7 +1,7 @@
 //! Which order a record makes, and which it speaks of.
 
 ghost use Rattle.std.specs.Prelude.{◌≡◌};
-ghost use Rattle.gx_show.specs.{Choosing.{is_matched, is_such, order_named, speaks_of}, Known.{order_made, made_by}, Testing.passes};
+ghost use Rattle.gx_show.specs.{Choosing.{is_matched, is_such_order, order_named, speaks_of}, Known.{order_made, made_by}, Testing.passes};
 ghost use Rattle.gx_history.specs.Requests.{asked_of, granted_of, named_token};
 
 use crate::known_order::{KnownOrder, OrderTest};
@@ -87,7 +87,7 @@ fn named(known: &KnownOrders, shown: &RecordData) -> Option<KnownOrder>
 
 /// Whether there is an order, and it passes the test.
 fn is_such(order: Option<KnownOrder>, test: OrderTest) -> bool
-    ensures { result ≡ is_such (passes test) order }
+    ensures { result ≡ is_such_order (passes test) order }
 {
     match order {
         Some(order) => order.passes(test),

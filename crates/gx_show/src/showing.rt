@@ -3,9 +3,10 @@
 ghost use Rattle.std.specs.Prelude.{◌≡◌, ◌^◌, ◌-◌, ◌<◌, OnOk};
 
 use crate::style::{ShownForm, Style};
-use crate::table::{denied_by, record_csv, record_json};
+use crate::table::{record_csv, record_json};
 use gx_audit_bytes::{RECORD_SIZE, message_shown, write_record};
 use gx_devices::{CallCounter, WriteFault, write_flushing, write_whole};
+use gx_endings::commands::denied_by;
 use gx_endings::endings::Ending;
 use gx_fields::{EndedOrders, csv_names, reason_of, reject_of};
 use gx_history::record::{Asked, Login, Record, RecordData, Request, Step, Unreadable, Verdict};

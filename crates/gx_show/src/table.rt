@@ -3,14 +3,15 @@
 ghost use Rattle.std.specs.Prelude.{◌≡◌, map, IfOk};
 ghost use Rattle.csv.specs.Writing.{default_writer, row_text};
 ghost use Rattle.gx_fields.specs.Cells.{cell_text};
-ghost use Rattle.gx_show.specs.Rows.{account_asked, beside_of, denied_by, shown_cells};
+ghost use Rattle.gx_show.specs.Rows.{account_asked, beside_of, shown_cells};
 
 use crate::making::asked_in;
+use gx_endings::commands::denied_by;
 use gx_fields::{
     Beside, CELLS, Cell, EndedOrders, cells_of, csv_line, json_line, reason_of, reject_of, row_of,
 };
-use gx_history::record::{RecordData, Verdict};
-use gx_policy::{Policy, RuleName};
+use gx_history::record::RecordData;
+use gx_policy::Policy;
 use gx_units::{AccountName, OutOfMemory};
 use std::alloc::Global;
 
@@ -19,16 +20,6 @@ fn account_asked(policy: &Policy, shown: &RecordData) -> Option<AccountName>
     ensures { result ≡ account_asked policy.now shown.now }
 {
     policy.account_of(asked_in(shown)?.user)
-}
-
-/// The rule that denied the request, if it was denied.
-pub(crate) fn denied_by(verdict: &Verdict) -> Option<RuleName>
-    ensures { result ≡ denied_by verdict.now }
-{
-    match verdict {
-        Verdict::Denied(rule) => Some(*rule),
-        _ => None,
-    }
 }
 
 /// What is told beside the fields of a record.

@@ -10,7 +10,7 @@ use crate::orders::append_order_lines;
 use gx_overview::accounts::{AccountRow, account_rows};
 use gx_overview::commands::{GrantedCommand, granted_commands};
 use gx_overview::day::{DayRow, UserRow, day_row, lines_left, user_rows};
-use gx_overview::executed::{Executed, ExecutedRow, executed_rows};
+use gx_overview::executed::{ExecutedRow, ExecutedTotals, executed_rows};
 use gx_overview::rules::{
     GrossRow, LimitRow, ListingRow, NetRow, gross_rows, limit_rows, listing_rows, net_rows,
 };
@@ -61,7 +61,7 @@ fn append_users(text: &mut Vec<u8>, rows: &[UserRow]) -> Result<(), OutOfMemory>
 }
 
 /// What was executed on a side: shares, and their value.
-fn append_executed(text: &mut Vec<u8>, done: &Executed) -> Result<(), OutOfMemory> {
+fn append_executed(text: &mut Vec<u8>, done: &ExecutedTotals) -> Result<(), OutOfMemory> {
     append_integer(text, done.shares)?;
     append(text, b" for ")?;
     append_decimal(text, done.value)
@@ -270,7 +270,7 @@ fn append_standing<G: ShowsState>(
     commands: &[GrantedCommand],
     rule: &FileRule,
 ) -> Result<(), OutOfMemory>
-    requires { commands.now ≡ granted_commands (G.seen gate.now).records }
+    requires { commands.now ≡ granted_commands (G.state gate.now).records }
 {
     match &rule.kind {
         RuleKind::Exposure(ExposureLimit::GrossShares | ExposureLimit::GrossValue, _, count) => {
@@ -303,7 +303,7 @@ fn append_rules<G: ShowsState>(
     limits: &[LimitRow],
     rules: &[FileRule],
 ) -> Result<(), OutOfMemory>
-    requires { commands.now ≡ granted_commands (G.seen gate.now).records }
+    requires { commands.now ≡ granted_commands (G.state gate.now).records }
 {
     for place in 0..rules.len() {
         let rule = &rules[place];
@@ -323,7 +323,7 @@ fn append_all_rules<G: ShowsState>(
     gate: &G,
     commands: &[GrantedCommand],
 ) -> Result<(), OutOfMemory>
-    requires { commands.now ≡ granted_commands (G.seen gate.now).records }
+    requires { commands.now ≡ granted_commands (G.state gate.now).records }
 {
     let limits = limit_rows(alloc, gate, commands)?;
     append_rules(
@@ -351,7 +351,7 @@ fn append_all_accounts<G: ShowsRecords + ShowsState>(
     gate: &G,
     commands: &[GrantedCommand],
 ) -> Result<(), OutOfMemory>
-    requires { commands.now ≡ granted_commands (G.seen gate.now).records }
+    requires { commands.now ≡ granted_commands (G.state gate.now).records }
 {
     let rows = account_rows(alloc, gate, commands)?;
     let executed = executed_rows(alloc, gate)?;
@@ -365,7 +365,7 @@ fn append_state<G: ShowsRecords + ShowsState>(
     commands: &[GrantedCommand],
     with_orders: bool,
 ) -> Result<(), OutOfMemory>
-    requires { commands.now ≡ granted_commands (G.seen gate.now).records }
+    requires { commands.now ≡ granted_commands (G.state gate.now).records }
 {
     let session = gate.policy().session();
     append_day(text, &session.bytes, &day_row(gate), lines_left(gate))?;

@@ -3,7 +3,7 @@ use Rattle.std.specs.{Prelude.{◌≡◌, ℕ, ℤ, ◌+◌, ◌-◌, ◌*◌, �
 use Rattle.gx_text.specs.{Moments.with_zeros, Shown.json_name}
 use Rattle.gx_control.specs.{declared.answer_times.AnswerCounts.AnswerCounts, Buckets.bounds}
 use Rattle.gx_overview.specs.declared.{day.DayRow.DayRow, rules.LimitRow.LimitRow}
-use Rattle.gx_board.specs.declared.{accounts.AccountState.AccountState, counts.Counts.Counts, denied.DeniedRow.DeniedRow, uses.{GrossUse.GrossUse, NetUse.NetUse}, view.View.View}
+use Rattle.gx_board.specs.declared.{accounts.AccountState.AccountState, counts.Counts.Counts, denied.DeniedRow.DeniedRow, uses.{GrossUse.GrossUse, NetUse.NetUse}, view.BoardView.BoardView}
 use Rattle.gx_status.specs.declared.server.ServerFigures.{ServerFigures}
 
 -- what a figure is, in front of its samples: its name, what it says, and whether it is a counter, a gauge or a histogram
@@ -139,7 +139,7 @@ abbrev pub net_figure : List NetUse → List ℕ
 net_figure rows = net_family ++ flat_map net_sample rows
 
 -- all of them
-abbrev pub view_figures : View → List ℕ
+abbrev pub view_figures : BoardView → List ℕ
 view_figures v =
     records_figure v.counts ++ granted_figure v.counts ++ fills_figure v.counts ++ records_left_figure v.day ++ lines_left_figure v.counts.highest_line
     ++ denied_figure v.denied.items ++ live_figure v.accounts.items ++ killed_figure v.accounts.items

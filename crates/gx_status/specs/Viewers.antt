@@ -1,7 +1,7 @@
 -- What a page is told of its user and of its server, behind a view.
 use Rattle.std.specs.Prelude.{ℕ, Bool, List, ◌++◌, codes, decimal, if◌then◌else◌}
 use Rattle.gx_text.specs.Shown.{json_name}
-use Rattle.gx_board.specs.declared.view.View.{View}
+use Rattle.gx_board.specs.declared.view.BoardView.{BoardView}
 use Rattle.gx_json.specs.Parts.{bool_text, member}
 use Rattle.gx_status.specs.{declared.{server.ServerFigures.ServerFigures, viewer.Viewer.Viewer}, States.view_members}
 
@@ -18,5 +18,5 @@ unfoldable pub server_members : ServerFigures → List ℕ
 server_members s = member (codes "journal") (json_name (journal_word s.is_journaled)) ++ member (codes "connections") (decimal s.connections)
 
 -- the object
-abbrev pub page_text : View → Viewer → List ℕ
+abbrev pub page_text : BoardView → Viewer → List ℕ
 page_text view v = view_members view ++ viewer_members v ++ server_members v.server ++ codes "}"

@@ -4,7 +4,7 @@ ghost use Rattle.std.specs.Prelude.{◌≡◌, ◌++◌, flat_map, OnOk};
 ghost use Rattle.gx_status.specs.Metrics.{denied_family, denied_figure, denied_sample, family, figure, fills_figure, granted_figure, killed_family, killed_figure, killed_sample, left_family, left_figure, left_sample, lines_left_figure, live_family, live_figure, live_sample, records_figure, records_left_figure, sample, sample_of, sample_under, used_family, used_figure, used_sample, view_figures};
 
 use crate::limits::{append_all_limits, append_all_net};
-use gx_board::{AccountState, Counts, DeniedRow, GrossUse, View};
+use gx_board::{AccountState, BoardView, Counts, DeniedRow, GrossUse};
 use gx_overview::day::DayRow;
 use gx_text::{append, append_json_name};
 use gx_units::OutOfMemory;
@@ -411,7 +411,7 @@ fn append_all_left(text: &mut Vec<u8>, rows: &[GrossUse]) -> Result<(), OutOfMem
 /// # Errors
 ///
 /// `OutOfMemory` where memory was refused; then a part of them may stand at the end of the text.
-pub fn append_figures(text: &mut Vec<u8>, view: &View) -> Result<(), OutOfMemory>
+pub fn append_figures(text: &mut Vec<u8>, view: &BoardView) -> Result<(), OutOfMemory>
     ensures { OnOk result (text.new.items ≡ text.old.items ++ view_figures view.now) }
 {
     append_records(text, &view.counts)?;

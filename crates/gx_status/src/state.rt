@@ -2,10 +2,10 @@
 
 ghost use Rattle.std.specs.Prelude.{◌≡◌, ◌++◌, OnOk};
 ghost use Rattle.gx_json.specs.Parts.{member};
-ghost use Rattle.gx_status.specs.{Listings.array_text, States.{count_members, day_end, day_numbers, denial_members, lines_member, people_members, standing_members, use_members, view_members}};
+ghost use Rattle.gx_status.specs.{Listings.array_text, States.{count_members, day_end_members, day_numbers, denial_members, lines_member, people_members, standing_members, use_members, view_members}};
 
 use crate::listing::{Row, append_array};
-use gx_board::{Counts, View};
+use gx_board::{BoardView, Counts};
 use gx_json::{
     append_bool_member, append_first_number, append_key, append_number_member, append_time_member,
 };
@@ -39,9 +39,9 @@ fn append_lines(text: &mut Vec<u8>, line: u16) -> Result<(), OutOfMemory>
 }
 
 /// The moment of the day's last record, and whether it is closed.
-#[tactic(auto, unfolding(crate::specs::States::day_end))]
+#[tactic(auto, unfolding(crate::specs::States::day_end_members))]
 fn append_day_end(text: &mut Vec<u8>, day: &DayRow) -> Result<(), OutOfMemory>
-    ensures { OnOk result (text.new.items ≡ text.old.items ++ day_end day.now) }
+    ensures { OnOk result (text.new.items ≡ text.old.items ++ day_end_members day.now) }
 {
     append_time_member(text, b"at", day.moment)?;
     append_bool_member(text, b"closed", day.is_closed)
@@ -59,7 +59,7 @@ fn append_counts(text: &mut Vec<u8>, counts: &Counts) -> Result<(), OutOfMemory>
 
 /// What stands of accounts and of rules.
 #[tactic(auto, unfolding(crate::specs::States::standing_members))]
-fn append_standing(text: &mut Vec<u8>, view: &View) -> Result<(), OutOfMemory>
+fn append_standing(text: &mut Vec<u8>, view: &BoardView) -> Result<(), OutOfMemory>
     ensures { OnOk result (text.new.items ≡ text.old.items ++ standing_members view.now) }
 {
     append_rows_member(text, b"accounts", view.accounts.as_slice())?;
@@ -68,7 +68,7 @@ fn append_standing(text: &mut Vec<u8>, view: &View) -> Result<(), OutOfMemory>
 
 /// What is used of limits.
 #[tactic(auto, unfolding(crate::specs::States::use_members))]
-fn append_uses(text: &mut Vec<u8>, view: &View) -> Result<(), OutOfMemory>
+fn append_uses(text: &mut Vec<u8>, view: &BoardView) -> Result<(), OutOfMemory>
     ensures { OnOk result (text.new.items ≡ text.old.items ++ use_members view.now) }
 {
     append_rows_member(text, b"gross", view.gross.as_slice())?;
@@ -77,7 +77,7 @@ fn append_uses(text: &mut Vec<u8>, view: &View) -> Result<(), OutOfMemory>
 
 /// What was denied, by each rule and at last.
 #[tactic(auto, unfolding(crate::specs::States::denial_members))]
-fn append_denials(text: &mut Vec<u8>, view: &View) -> Result<(), OutOfMemory>
+fn append_denials(text: &mut Vec<u8>, view: &BoardView) -> Result<(), OutOfMemory>
     ensures { OnOk result (text.new.items ≡ text.old.items ++ denial_members view.now) }
 {
     append_rows_member(text, b"rules", view.denied.as_slice())?;
@@ -86,7 +86,7 @@ fn append_denials(text: &mut Vec<u8>, view: &View) -> Result<(), OutOfMemory>
 
 /// What officers asked for at last, and who is logged in.
 #[tactic(auto, unfolding(crate::specs::States::people_members))]
-fn append_people(text: &mut Vec<u8>, view: &View) -> Result<(), OutOfMemory>
+fn append_people(text: &mut Vec<u8>, view: &BoardView) -> Result<(), OutOfMemory>
     ensures { OnOk result (text.new.items ≡ text.old.items ++ people_members view.now) }
 {
     append_rows_member(text, b"commands", view.commands.as_slice())?;
@@ -99,7 +99,7 @@ fn append_people(text: &mut Vec<u8>, view: &View) -> Result<(), OutOfMemory>
 /// # Errors
 ///
 /// `OutOfMemory` where memory was refused; then a part of it may stand at the end of the text.
-pub(crate) fn append_view(text: &mut Vec<u8>, view: &View) -> Result<(), OutOfMemory>
+pub(crate) fn append_view(text: &mut Vec<u8>, view: &BoardView) -> Result<(), OutOfMemory>
     ensures { OnOk result (text.new.items ≡ text.old.items ++ view_members view.now) }
 {
     append_day_numbers(text, &view.day)?;

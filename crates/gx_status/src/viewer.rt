@@ -5,7 +5,7 @@ ghost use Rattle.gx_status.specs.Viewers.{journal_word, page_text, server_member
 
 use crate::server::ServerFigures;
 use crate::state::append_view;
-use gx_board::View;
+use gx_board::BoardView;
 use gx_json::{append_bool_member, append_name_member, append_number_member};
 use gx_text::append;
 use gx_units::{OutOfMemory, UserName};
@@ -52,7 +52,7 @@ fn append_server(text: &mut Vec<u8>, server: &ServerFigures) -> Result<(), OutOf
 /// # Errors
 ///
 /// `OutOfMemory` where memory was refused; then a part of it may stand at the end of the text.
-pub fn append_page(text: &mut Vec<u8>, view: &View, viewer: &Viewer) -> Result<(), OutOfMemory>
+pub fn append_page(text: &mut Vec<u8>, view: &BoardView, viewer: &Viewer) -> Result<(), OutOfMemory>
     ensures { OnOk result (text.new.items ≡ text.old.items ++ page_text view.now viewer.now) }
 {
     append_view(text, view)?;

@@ -6,10 +6,10 @@ use Rattle.gx_units.proofs.{Names_equal.user_is, Lists_found.get_last, Lists_hol
 use Rattle.gx_ouch.specs.declared.{inbound.EnterOrder.EnterOrder, letters.{CancelReason.CancelReason, EventCode.EventCode, RejectReason.RejectReason}, outbound.Outbound.Outbound}
 use Rattle.gx_desk.specs.declared.{Action.Action}
 use Rattle.gx_policy.specs.{declared.{policy.{Account.Account, PolicyData.PolicyData}, rule_name.RuleName.RuleName}, People.{account_named, account_of, is_trader, role_in}, Lists.slice}
-use Rattle.gx_history.specs.{declared.{live_order.LiveOrder.LiveOrder, «record».{Asked.Asked, RecordData.RecordData, Request.Request, Step.Step, Verdict.Verdict}, report.{Message.Message, Report.Report}}, Executions.{sides}, InForce.is_entitled, Live.{live, live_numbered, live_under}, LiveOrders.{replacement_order, shares_open}, Orders.{Order, ends_account, order_entered, firm_of, orders, orders_made}, Reasons.{denial_code, reject_reason}, Requests.{asked_of, new_token}, Streams.{accepted_of_order, answer, canceled_of, copies_of, copy_of, day_end, ended_of, executed_message, granted_code, rejected_of, replaced_of, report_of, reports_of, reports_of_denial, reports_of_execution, reports_of_grant, reports_of_verdict, stream, to_user}, Verdicts.{IsLegal, next}}
+use Rattle.gx_history.specs.{declared.{live_order.LiveOrder.LiveOrder, «record».{Asked.Asked, RecordData.RecordData, Request.Request, Step.Step, Verdict.Verdict}, report.{Message.Message, Report.Report}}, Executions.{sides}, InForce.is_entitled, Live.{live, live_numbered, live_under}, LiveOrders.{replacement_order, shares_open}, Orders.{Order, ends_account, order_entered, firm_of, orders, orders_made}, Reasons.{denial_code, reject_reason}, Requests.{asked_of, new_token}, Streams.{accepted_of_order, command_answer, canceled_of, copies_of, copy_of, day_end, ended_of, executed_message, granted_code, rejected_of, replaced_of, report_of, reports_of, reports_of_denial, reports_of_execution, reports_of_grant, reports_of_verdict, stream, to_user}, Verdicts.{IsLegal, next}}
 use Rattle.gx_history.proofs.Lists_slice.{slice_is}
 use Rattle.gx_laws.proofs.{Requests_judged.legal_keeps, Streams_next.{stream_next, stream_none}, Orders_numbered.number_left}
-use Rattle.gx_streams.specs.Recorded.{IsRecorded, accepted_at, accepted_from, enter_in, enter_of, house_of, reference_of}
+use Rattle.gx_streams.specs.Recorded.{IsRecorded, accepted_at, accepted_from, enter_in, enter_asked, house_of, reference_of}
 
 -- ---- all items of lists
 
@@ -32,7 +32,7 @@ told_still : (house : Option Firm) (history : List RecordData) (r : RecordData) 
 told_still house history r report is number refers = by (slice_get history (number - 1)) refl (is number refers)
   where
     tells : Option RecordData → Option Report
-    tells found = option_and_then (λ (x : RecordData). option_map (accepted_from house number x.moment) (enter_of x)) found
+    tells found = option_and_then (λ (x : RecordData). option_map (accepted_from house number x.moment) (enter_asked x)) found
 
     by : (found : Option RecordData) → slice_get history (number - 1) ≡ found → accepted_at house history number ≡ Some report → accepted_at house (history ++ r ∷ []) number ≡ Some report
     by None at told = let no : None ≡ Some report = sym (ap tells at) ∙ told in cc
@@ -79,7 +79,7 @@ module _ (policy : PolicyData) (history : List RecordData) (r : RecordData) (use
       there : slice_get (history ++ r ∷ []) (r.number - 1) ≡ Some r
       there = ap (λ n. slice_get (history ++ r ∷ []) n) (let e : r.number - 1 ≡ length history = omega (arith, counts) in e) ∙ get_last history r
 
-      entry : enter_of r ≡ Some m
+      entry : enter_asked r ≡ Some m
       entry = ap (λ s. option_and_then (λ (x : Asked). enter_in x.request) (asked_of s)) asks ∙ ap enter_in enters
 
       is : accepted_from (house_of policy user) r.number r.moment m ≡ report_of r message
@@ -89,7 +89,7 @@ module _ (policy : PolicyData) (history : List RecordData) (r : RecordData) (use
       told number refers =
           let same : number ≡ r.number = sym (same_Some _ _ refers) in
           ap (accepted_at (house_of policy user) (history ++ r ∷ [])) same
-          ∙ ap (option_and_then (λ (x : RecordData). option_map (accepted_from (house_of policy user) r.number x.moment) (enter_of x))) there
+          ∙ ap (option_and_then (λ (x : RecordData). option_map (accepted_from (house_of policy user) r.number x.moment) (enter_asked x))) there
           ∙ ap (option_map (accepted_from (house_of policy user) r.number r.moment)) entry
           ∙ ap (λ (x : Report). Some x) is
 
@@ -132,7 +132,7 @@ module _ (policy : PolicyData) (history : List RecordData) (r : RecordData) (use
       to_others a.user (flat_map told (option_to_list (live_under (live policy history) a.user m.token)))
       (all_flat IsOther told (λ o. (refl, tt)) (option_to_list (live_under (live policy history) a.user m.token)))
   grant_told a (Request.Command c) counts asks is =
-      let answered : List Message = answer r c (granted_code policy (history ++ r ∷ []) c.action) in
+      let answered : List Message = command_answer r c (granted_code policy (history ++ r ∷ []) c.action) in
       all_both IsTold (ended_of (live policy history) c.action user ++ day_end policy c.action user) (to_user a.user user answered)
       (all_both IsTold (ended_of (live policy history) c.action user) (day_end policy c.action user) (told_others _ (ends_others c.action)) (told_others _ (day_others c.action)))
       (to_others a.user answered (refl, tt))
@@ -153,7 +153,7 @@ module _ (policy : PolicyData) (history : List RecordData) (r : RecordData) (use
   denial_others rule (Request.Enter m) = rejected_others rule (Request.Enter m)
   denial_others rule (Request.Replace m) = rejected_others rule (Request.Replace m)
   denial_others rule (Request.Cancel m) = rejected_others rule (Request.Cancel m)
-  denial_others rule (Request.Command c) = all_flat IsOther (answer r c) (λ code. (refl, tt)) (option_to_list (denial_code rule))
+  denial_others rule (Request.Command c) = all_flat IsOther (command_answer r c) (λ code. (refl, tt)) (option_to_list (denial_code rule))
 
   verdict_told : (v : Verdict) (step : Step) → r.number ≡ length history + 1 → r.step ≡ step → AllByRecursion IsTold (reports_of_verdict policy history r v step user)
   verdict_told Verdict.Granted (Step.Asked a) counts asks = grant_told a a.request counts asks refl

@@ -5,7 +5,7 @@ use Rattle.indexmap.specs.IndexMap.{set_value_at}
 use Rattle.gx_units.specs.{Names.same_user, declared.names.UserName.UserName}
 use Rattle.gx_policy.specs.{People.is_reader, declared.policy.User.User}
 use Rattle.gx_history.specs.{Masks.has_account}
-use Rattle.gx_streams.specs.{declared.{fill.{FillRole.FillRole, ReportedFill.ReportedFill}, span.Span.Span}, Fills.{copies_of, copy_of, copy_report, side_of}, Spans.{AreWithin, IsWithin, ReaderSpans, with_copies_counted, no_spans, spans_for}}
+use Rattle.gx_streams.specs.{declared.{fill.{FillRole.FillRole, ReportedFill.ReportedFill}, span.Span.Span}, Fills.{fill_copies, fill_copy, copy_report, fill_side}, Spans.{AreWithin, IsWithin, ReaderSpans, with_copies_counted, no_spans, spans_for}}
 
 -- no reader is told of an account at first
 pub within_first : (users : List User) → AreWithin 0 (flat_map spans_for users)
@@ -64,28 +64,28 @@ within_found read (e ∷ es) user r all is = by (same_user user e.0) is (within_
     by false found later = later found
 
 -- whom none of a fill's accounts is told of has no copy of it
-none_of_party : (read mask : ℕ) (f : ReportedFill) (party : FillRole) → IsWithin read mask → length (copy_of read f party) ≡ 0 → length (copy_of mask f party) ≡ 0
-none_of_party read mask f party within none = by (has_account mask (side_of f party).account_place) refl
+none_of_party : (read mask : ℕ) (f : ReportedFill) (party : FillRole) → IsWithin read mask → length (fill_copy read f party) ≡ 0 → length (fill_copy mask f party) ≡ 0
+none_of_party read mask f party within none = by (has_account mask (fill_side f party).account_place) refl
   where
     copies : Bool → ℕ
     copies b = length (if b then copy_report f party ∷ [] else [])
 
-    by : (b : Bool) → has_account mask (side_of f party).account_place ≡ b → length (copy_of mask f party) ≡ 0
+    by : (b : Bool) → has_account mask (fill_side f party).account_place ≡ b → length (fill_copy mask f party) ≡ 0
     by false is = ap copies is
-    by true is = let clash : 1 ≡ 0 = ap copies (sym (within (side_of f party).account_place is)) ∙ none in omega (arith, clash)
+    by true is = let clash : 1 ≡ 0 = ap copies (sym (within (fill_side f party).account_place is)) ∙ none in omega (arith, clash)
 
-none_of : (read mask : ℕ) (f : ReportedFill) → IsWithin read mask → length (copies_of read f) ≡ 0 → length (copies_of mask f) ≡ 0
+none_of : (read mask : ℕ) (f : ReportedFill) → IsWithin read mask → length (fill_copies read f) ≡ 0 → length (fill_copies mask f) ≡ 0
 none_of read mask f within none =
-    let parts = length-append (copy_of read f FillRole.Taker) (copy_of read f FillRole.Maker) in
-    length-append (copy_of mask f FillRole.Taker) (copy_of mask f FillRole.Maker)
+    let parts = length-append (fill_copy read f FillRole.Taker) (fill_copy read f FillRole.Maker) in
+    length-append (fill_copy mask f FillRole.Taker) (fill_copy mask f FillRole.Maker)
     ∙ omega (arith, parts, none, none_of_party read mask f FillRole.Taker within (omega (arith, parts, none)), none_of_party read mask f FillRole.Maker within (omega (arith, parts, none)))
 
 -- a fill of accounts that no reader is told of is counted for none
-pub none_counted : (read : ℕ) (f : ReportedFill) (rs : List ReaderSpans) → AreWithin read rs → length (copies_of read f) ≡ 0 → map (with_copies_counted f) rs ≡ rs
+pub none_counted : (read : ℕ) (f : ReportedFill) (rs : List ReaderSpans) → AreWithin read rs → length (fill_copies read f) ≡ 0 → map (with_copies_counted f) rs ≡ rs
 none_counted read f [] all none = refl
 none_counted read f (r ∷ rs) all none =
     let with_count : ℕ → ReaderSpans = λ n. record { user = r.user; earlier = r.earlier; current = r.current; count = n } in
-    let same : r.count + length (copies_of r.current.mask f) ≡ r.count = omega (arith, none_of read r.current.mask f all.0 none) in
+    let same : r.count + length (fill_copies r.current.mask f) ≡ r.count = omega (arith, none_of read r.current.mask f all.0 none) in
     ap (λ (s : ReaderSpans). s ∷ map (with_copies_counted f) rs) (ap with_count same)
     ∙ ap (λ l. r ∷ l) (none_counted read f rs all.1 none)
 

@@ -5,7 +5,7 @@ use Rattle.gx_units.specs.{Names.same_user, declared.names.UserName.UserName}
 use Rattle.gx_units.proofs.{Names_equal.user_is, Lists_hold.{all_weaker, all_both, all_mapped}}
 use Rattle.gx_ouch.specs.declared.{letters.{CancelReason.CancelReason, EventCode.EventCode, Liquidity.Liquidity}, outbound.Outbound.Outbound}
 use Rattle.gx_desk.specs.declared.Action.{Action}
-use Rattle.gx_history.specs.{declared.{facts.{Facts.Facts, RuleFigures.RuleFigures}, «record».{Asked.Asked, Fill.Fill, RecordData.RecordData, Request.Request, Step.Step, Verdict.Verdict}, report.{Message.Message, Report.Report}, live_order.LiveOrder.LiveOrder}, Asking.{facts, fits_role}, Executions.{Execution, done, executions, side_of, sides}, Live.{has_come, live, live_numbered, open_now, open_order}, Book.rest_numbers, LiveOrders.shares_open, InForce.is_entitled, Orders.{Order, ends_account, is_dead, order_numbered, orders, total}, Requests.is_login, Rules.{BuiltIn, OfFile, applies, first_forbidding, name_of, written_order}, Streams.{answer, canceled_of, copies, copies_of, copy_of, day_end, ended_of, executed_message, expired_of, granted_code, report_of, reports_of, reports_of_denial, reports_of_execution, reports_of_grant, reports_of_verdict, stream, to_user}, Verdicts.{Follows, IsLegal, facts_now, next, rules_now, verdict_by}}
+use Rattle.gx_history.specs.{declared.{facts.{Facts.Facts, RuleFigures.RuleFigures}, «record».{Asked.Asked, Fill.Fill, RecordData.RecordData, Request.Request, Step.Step, Verdict.Verdict}, report.{Message.Message, Report.Report}, live_order.LiveOrder.LiveOrder}, Asking.{facts, fits_role}, Executions.{Execution, done, executions, side_of, sides}, Live.{has_come, live, live_numbered, open_now, open_order}, Book.rest_numbers, LiveOrders.shares_open, InForce.is_entitled, Orders.{Order, ends_account, is_dead, order_numbered, orders, total}, Requests.is_login, Rules.{BuiltIn, OfFile, applies, first_forbidding, name_of, written_order}, Streams.{command_answer, canceled_of, copies, copies_of, copy_of, day_end, ended_of, executed_message, expired_of, granted_code, report_of, reports_of, reports_of_denial, reports_of_execution, reports_of_grant, reports_of_verdict, stream, to_user}, Verdicts.{Follows, IsLegal, facts_now, next, rules_now, verdict_by}}
 use Rattle.gx_policy.specs.{declared.{policy.{FileRule.FileRule, PolicyData.PolicyData, Role.Role, User.User}, rule_name.RuleName.RuleName}, People.{account_of, account_of_role, is_officer, is_reader, is_trader, role_in, user_in}, RuleNames.{rules_before, rules_behind}}
 use Rattle.gx_streams.specs.Sending.{is_fill}
 use Rattle.gx_laws.proofs.{Requests_judged.{legal_keeps, verdict_left}, Streams_next.{copies_next, copies_none, stream_next, stream_none}, Orders_owned.{IsHisAccounts, orders_are_their_users}, Records_idle.others_not}
@@ -195,7 +195,7 @@ grant_owes r user c a (Request.Enter m) asks e granted = not_to a.user user _ (n
 grant_owes r user c a (Request.Replace m) asks e granted = not_to a.user user _ (not_his r user c a (Request.Replace m) asks e granted refl refl)
 grant_owes r user c a (Request.Cancel m) asks e granted = not_to a.user user _ (not_his r user c a (Request.Cancel m) asks e granted refl refl)
 grant_owes {policy} {history} r user c a (Request.Command m) asks e granted =
-    let told : List Message = answer r m (granted_code policy (history ++ r ∷ []) m.action) in
+    let told : List Message = command_answer r m (granted_code policy (history ++ r ∷ []) m.action) in
     ap (λ (ms : List Message). (ms ++ day_end policy m.action user) ++ to_user a.user user told) (none_ended history m.action user c.is_no_party)
     ∙ ap (λ (ms : List Message). ms ++ to_user a.user user told) (no_day_end m.action user c.is_no_party)
     ∙ not_to a.user user told (not_his r user c a (Request.Command m) asks e granted refl refl)

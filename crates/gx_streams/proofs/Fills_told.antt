@@ -8,7 +8,7 @@ use Rattle.gx_desk.specs.declared.DropCopy.{DropCopy}
 use Rattle.gx_policy.specs.{declared.policy.PolicyData.PolicyData, People.{is_reader, role_in}}
 use Rattle.gx_history.specs.{declared.{«record».{RecordData.RecordData, Verdict.Verdict, Fill.Fill}, report.{Message.Message, Report.Report}}, Executions.{Execution, sides, side_of as side_of_fill}, Orders.{Order, order_numbered, orders}, InForce.is_entitled, Masks.mask_by, Streams.{copies_of, copy_of as drop_copy_of, executed_message, report_of, reports_of, reports_of_execution, reports_of_verdict}}
 use Rattle.gx_laws.proofs.{Masks_bits.has_where, Streams_next.stream_next, Orders_owned.{IsHisAccounts, orders_are_their_users}, Records_idle.others_not}
-use Rattle.gx_streams.specs.{declared.fill.{FillRole.FillRole, ReportedFill.ReportedFill}, Fills.{copy_of, copy_report, executed_of, executed_report, executed_to, side_of}, Kept.UserList, Sending.{AreSent, IsMadeBy, IsSide}, Streams.{AllStreams, ReaderMask, fill_reports, with_fill, with_fill_reports}, Telling.{each_with_more, shown_streams, shown_list, reports_after, with_more}}
+use Rattle.gx_streams.specs.{declared.fill.{FillRole.FillRole, ReportedFill.ReportedFill}, Fills.{fill_copy, copy_report, executed_of, executed_report, executed_to, fill_side}, Kept.UserList, Sending.{AreSent, IsMadeBy, IsSide}, Streams.{AllStreams, ReaderMask, fill_reports, with_fill, with_fill_reports}, Telling.{each_with_more, shown_streams, shown_list, reports_after, with_more}}
 use Rattle.gx_streams.specs.Fills as fills
 use Rattle.gx_streams.proofs.{Copies_only.all_found, Reports_told.{each_told_same, more_told}}
 
@@ -68,17 +68,17 @@ executed_is r e f party at is = ap (λ n. order_report n (fills.executed_of_fill
 copy_is : {policy : PolicyData} (r : RecordData) (e : Execution) (f : ReportedFill) (party : FillRole) → f.moment ≡ r.moment → IsSide policy r e f party → copy_report f party ≡ report_of r (copy_for_him r e)
 unfolding copied copy_for_him
 copy_is r e f party at is =
-    ap (λ n. copied n (record { executed = fills.executed_of_fill f party; account = (side_of f party).account; side = (side_of f party).side })) at
-    ∙ ap (λ x. copied r.moment (record { executed = x; account = (side_of f party).account; side = (side_of f party).side })) is.executed
-    ∙ ap (λ x. copied r.moment (record { executed = executed_message r e; account = x; side = (side_of f party).side })) is.account
+    ap (λ n. copied n (record { executed = fills.executed_of_fill f party; account = (fill_side f party).account; side = (fill_side f party).side })) at
+    ∙ ap (λ x. copied r.moment (record { executed = x; account = (fill_side f party).account; side = (fill_side f party).side })) is.executed
+    ∙ ap (λ x. copied r.moment (record { executed = executed_message r e; account = x; side = (fill_side f party).side })) is.account
     ∙ ap (λ x. copied r.moment (record { executed = executed_message r e; account = e.order.account; side = x })) is.side
 
 -- a party's copy, by the mask in force
 copied_where : {policy : PolicyData} (history : List RecordData) (r : RecordData) (user : UserName) (e : Execution) (f : ReportedFill) (party : FillRole) → length policy.accounts ≤ 64 → f.moment ≡ r.moment → IsSide policy r e f party
-    → copy_of (mask_by (is_entitled policy history user) policy.accounts) f party ≡ one_if (is_entitled policy history user e.order.account) (report_of r (copy_for_him r e))
+    → fill_copy (mask_by (is_entitled policy history user) policy.accounts) f party ≡ one_if (is_entitled policy history user e.order.account) (report_of r (copy_for_him r e))
 unfolding one_if
 copied_where {policy} history r user e f party few at is =
-    ap (λ b. if b then copy_report f party ∷ [] else []) (has_where (is_entitled policy history user) policy.accounts (side_of f party).account_place e.order.account few is.place)
+    ap (λ b. if b then copy_report f party ∷ [] else []) (has_where (is_entitled policy history user) policy.accounts (fill_side f party).account_place e.order.account few is.place)
     ∙ ap (λ (x : Report). if is_entitled policy history user e.order.account then x ∷ [] else []) (copy_is r e f party at is)
 
 -- a party's report, to its user
@@ -102,12 +102,12 @@ pub told_is_owed : {policy : PolicyData} {history : List RecordData} (r : Record
     → AreSent policy history streams → IsMadeBy policy history r f → (user : UserName) → fill_reports streams.readers f user ≡ reports_of policy user (history, r)
 unfolding one_if
 told_is_owed {policy} {history} r streams f few sent is user =
-    ap (λ (o : Option ℕ). option_map_or (λ (mask : ℕ). fills.copies_of mask f) o (executed_of f user)) (sent user)
+    ap (λ (o : Option ℕ). option_map_or (λ (mask : ℕ). fills.fill_copies mask f) o (executed_of f user)) (sent user)
     ∙ by (is_reader (role_in policy.users user)) refl
     ∙ sym (owed_by r user f is)
   where
     told : Bool → List Report
-    told b = option_map_or (λ (mask : ℕ). fills.copies_of mask f) (if b then Some (mask_by (is_entitled policy history user) policy.accounts) else None) (executed_of f user)
+    told b = option_map_or (λ (mask : ℕ). fills.fill_copies mask f) (if b then Some (mask_by (is_entitled policy history user) policy.accounts) else None) (executed_of f user)
 
     own : Bool → Bool → List Report
     own a b = one_if a (report_of r (executed_to_him r is.taker)) ++ one_if b (report_of r (executed_to_him r is.maker))
@@ -120,7 +120,7 @@ told_is_owed {policy} {history} r streams f few sent is user =
         ≡ own (same_user is.taker.order.user user) (same_user is.maker.order.user user) ++ seen (is_entitled policy history user is.taker.order.account) (is_entitled policy history user is.maker.order.account)
     by true reads =
         ap told reads
-        ∙ ap (λ (rs : List Report). rs ++ copy_of (mask_by (is_entitled policy history user) policy.accounts) f FillRole.Maker) (copied_where history r user is.taker f FillRole.Taker few is.moment is.takers)
+        ∙ ap (λ (rs : List Report). rs ++ fill_copy (mask_by (is_entitled policy history user) policy.accounts) f FillRole.Maker) (copied_where history r user is.taker f FillRole.Taker few is.moment is.takers)
         ∙ ap (λ (rs : List Report). one_if (is_entitled policy history user is.taker.order.account) (report_of r (copy_for_him r is.taker)) ++ rs) (copied_where history r user is.maker f FillRole.Maker few is.moment is.makers)
         ∙ sym (ap (λ a. own a (same_user is.maker.order.user user) ++ seen (is_entitled policy history user is.taker.order.account) (is_entitled policy history user is.maker.order.account)) (not_his r user is.taker f FillRole.Taker is.takers reads)
         ∙ ap (λ b. own false b ++ seen (is_entitled policy history user is.taker.order.account) (is_entitled policy history user is.maker.order.account)) (not_his r user is.maker f FillRole.Maker is.makers reads))

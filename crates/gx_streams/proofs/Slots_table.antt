@@ -4,29 +4,29 @@ use Rattle.std.specs.{List.AllByRecursion}
 use Rattle.gx_history.specs.declared.report.{Report.Report}
 use Rattle.gx_policy.specs.Lists.{slice}
 use Rattle.gx_history.proofs.{Lists_slice.slice_is}
-use Rattle.gx_streams.specs.{declared.{stored_report.StoredReport.StoredReport, slot.{Slot.Slot}}, Kept.{ReservedList, with_reserved_last, without_last}, Slots.{AllThere, AreKept, IsThere, KeptDetails, DetailLists, Widens, entries_in, entry_in}}
+use Rattle.gx_streams.specs.{declared.{stored_report.StoredReport.StoredReport, slot.{Slot.Slot}}, Kept.{ReservedList, with_reserved_last, without_last}, Slots.{AllSlotsThere, AreSlotsKept, IsSlotThere, KeptDetails, DetailLists, Widens, entries_in, entry_in}}
 
 -- what slots stand for stays
-same_entries : (before after : DetailLists) (slots : List Slot) → Widens before after → AllThere before slots → entries_in after slots ≡ entries_in before slots
+same_entries : (before after : DetailLists) (slots : List Slot) → Widens before after → AllSlotsThere before slots → entries_in after slots ≡ entries_in before slots
 same_entries before after [] widens all = refl
 same_entries before after (s ∷ slots) widens all = λ i. widens.same s all.0 i ∷ same_entries before after slots widens all.1 i
 
-there_still : (before after : DetailLists) (slots : List Slot) → Widens before after → AllThere before slots → AllThere after slots
+there_still : (before after : DetailLists) (slots : List Slot) → Widens before after → AllSlotsThere before slots → AllSlotsThere after slots
 there_still before after [] widens all = tt
 there_still before after (s ∷ slots) widens all = (widens.there s all.0, there_still before after slots widens all.1)
 
-there_last : (lists : DetailLists) (slots : List Slot) (s : Slot) → AllThere lists slots → IsThere lists s → AllThere lists (slots ++ s ∷ [])
+there_last : (lists : DetailLists) (slots : List Slot) (s : Slot) → AllSlotsThere lists slots → IsSlotThere lists s → AllSlotsThere lists (slots ++ s ∷ [])
 there_last lists [] s all last = (last, tt)
 there_last lists (x ∷ slots) s all last = (all.0, there_last lists slots s all.1 last)
 
 -- one more entry, what is long in it put last, has one more slot
 module _ (k later : KeptDetails) (slots more : List Slot) (e : StoredReport) (s : Slot) where
   pub record AddsOne : Type 0 where
-    pub there : AllThere k.lists slots
+    pub there : AllSlotsThere k.lists slots
     pub kept : Widens k.lists later.lists
     pub last : more ≡ slots ++ s ∷ []
     pub entry : entry_in later.lists s ≡ e
-    pub is_there : IsThere later.lists s
+    pub is_there : IsSlotThere later.lists s
 
   added : AddsOne → entries_in later.lists more ≡ entries_in k.lists slots ++ e ∷ []
   added adds =
@@ -41,10 +41,10 @@ module _ (k later : KeptDetails) (slots more : List Slot) (e : StoredReport) (s 
       fewer : later.reserved ≡ k.reserved - 1
       fewer = omega (arith, reserved)
 
-  pub kept_then : (used capacity used_then capacity_then : ℕ) → AreKept k slots used capacity → AddsOne → used_then + later.reserved ≤ capacity_then → AreKept later more used_then capacity_then
+  pub kept_then : (used capacity used_then capacity_then : ℕ) → AreSlotsKept k slots used capacity → AddsOne → used_then + later.reserved ≤ capacity_then → AreSlotsKept later more used_then capacity_then
   kept_then used capacity used_then capacity_then kept adds room = record {
     there =
-        subst (λ (ss : List Slot). AllThere later.lists ss) (sym adds.last)
+        subst (λ (ss : List Slot). AllSlotsThere later.lists ss) (sym adds.last)
         (there_last later.lists slots s (there_still k.lists later.lists slots adds.kept adds.there) adds.is_there);
     room = room;
   }

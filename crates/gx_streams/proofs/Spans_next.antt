@@ -3,7 +3,7 @@ use Rattle.std.proofs.{Common.{◌≡◌, ℕ, zero, suc, ◌+◌, ◌*◌, ◌-
 use Rattle.std.specs.List.{AllByRecursion}
 use Rattle.gx_history.specs.declared.report.Report.{Report}
 use Rattle.gx_units.specs.{Names.same_user, declared.names.UserName.UserName}
-use Rattle.gx_streams.specs.{declared.{fill.ReportedFill.ReportedFill, span.Span.Span}, Fills.{copies_of, copies_of_all}, Kept.at_first, Spans.{AreNumbered, IsSound, ReaderSpans, items_between, copies_before, copies_in, with_copies_counted, entitled_from, is_named, next_of}, Streams.{ReaderMask, with_mask}, Table.reader_mask}
+use Rattle.gx_streams.specs.{declared.{fill.ReportedFill.ReportedFill, span.Span.Span}, Fills.{fill_copies, copies_of_all}, Kept.at_first, Spans.{AreNumbered, IsSound, ReaderSpans, items_between, copies_before, copies_in, with_copies_counted, entitled_from, is_named, next_of}, Streams.{ReaderMask, with_mask}, Table.reader_mask}
 
 nil_right : {X : Type 0} (xs : List X) → xs ++ [] ≡ xs
 nil_right [] = refl
@@ -11,7 +11,7 @@ nil_right (x ∷ xs) = ap (λ rest. x ∷ rest) (nil_right xs)
 
 all_copies : (mask : ℕ) (xs ys : List ReportedFill) → copies_of_all mask (xs ++ ys) ≡ copies_of_all mask xs ++ copies_of_all mask ys
 all_copies mask [] ys = refl
-all_copies mask (x ∷ xs) ys = ap (λ rest. copies_of mask x ++ rest) (all_copies mask xs ys) ∙ sym (append_assoc (copies_of mask x) (copies_of_all mask xs) (copies_of_all mask ys))
+all_copies mask (x ∷ xs) ys = ap (λ rest. fill_copies mask x ++ rest) (all_copies mask xs ys) ∙ sym (append_assoc (fill_copies mask x) (copies_of_all mask xs) (copies_of_all mask ys))
 
 still_between : (from until : ℕ) (fills : List ReportedFill) (f : ReportedFill) → from ≤ length fills → until ≤ length fills → items_between from until (fills ++ f ∷ []) ≡ items_between from until fills
 still_between from until fills f a b =
@@ -31,15 +31,15 @@ still_before fills f s later current all here =
 
 -- one more fill goes to the current span
 pub one_more : (fills : List ReportedFill) (f : ReportedFill) (spans : List Span) (current : Span) → AllByRecursion (λ (s : Span). s.first_fill ≤ length fills) spans → current.first_fill ≤ length fills
-    → copies_in (fills ++ f ∷ []) spans current ≡ copies_in fills spans current ++ copies_of current.mask f
+    → copies_in (fills ++ f ∷ []) spans current ≡ copies_in fills spans current ++ fill_copies current.mask f
 one_more fills f [] current all here =
     ap (copies_of_all current.mask) (drop-append-le current.first_fill fills (f ∷ []) here)
     ∙ all_copies current.mask (drop current.first_fill fills) (f ∷ [])
-    ∙ ap (λ c. copies_of_all current.mask (drop current.first_fill fills) ++ c) (nil_right (copies_of current.mask f))
+    ∙ ap (λ c. copies_of_all current.mask (drop current.first_fill fills) ++ c) (nil_right (fill_copies current.mask f))
 one_more fills f (s ∷ later) current all here =
     ap (λ part. part ++ copies_in (fills ++ f ∷ []) later current) (still_before fills f s later current all here)
     ∙ ap (λ rest. copies_before fills s later current ++ rest) (one_more fills f later current all.1 here)
-    ∙ sym (append_assoc (copies_before fills s later current) (copies_in fills later current) (copies_of current.mask f))
+    ∙ sym (append_assoc (copies_before fills s later current) (copies_in fills later current) (fill_copies current.mask f))
 
 -- and leaves the numbers of first reports
 numbered_more : (fills : List ReportedFill) (f : ReportedFill) (number : ℕ) (spans : List Span) (current : Span) → AllByRecursion (λ (s : Span). s.first_fill ≤ length fills) spans → current.first_fill ≤ length fills
@@ -110,7 +110,7 @@ all_last [] s n all here = (here, tt)
 all_last (t ∷ spans) s n all here = (all.0, all_last spans s n all.1 here)
 
 -- a reader after one more fill
-noted : (fills : List ReportedFill) (f : ReportedFill) (r : ReaderSpans) → length (copies_of r.current.mask f) ≤ 2 → IsSound fills r → IsSound (fills ++ f ∷ []) (with_copies_counted f r)
+noted : (fills : List ReportedFill) (f : ReportedFill) (r : ReaderSpans) → length (fill_copies r.current.mask f) ≤ 2 → IsSound fills r → IsSound (fills ++ f ∷ []) (with_copies_counted f r)
 noted fills f r two sound =
     let more : length (fills ++ f ∷ []) ≡ length fills + 1 = length-append fills (f ∷ []) in
     let few = sound.few in
@@ -118,7 +118,7 @@ noted fills f r two sound =
     record {
       begun = all_more r.earlier (length fills) (length (fills ++ f ∷ [])) (omega (arith, more)) sound.begun;
       now_begun = omega (arith, more, open_now);
-      count_is = ap (λ n. n + length (copies_of r.current.mask f)) sound.count_is ∙ sym (length-append (copies_in fills r.earlier r.current) (copies_of r.current.mask f)) ∙ ap length (sym (one_more fills f r.earlier r.current sound.begun sound.now_begun));
+      count_is = ap (λ n. n + length (fill_copies r.current.mask f)) sound.count_is ∙ sym (length-append (copies_in fills r.earlier r.current) (fill_copies r.current.mask f)) ∙ ap length (sym (one_more fills f r.earlier r.current sound.begun sound.now_begun));
       numbered = numbered_more fills f 1 r.earlier r.current sound.begun sound.now_begun sound.numbered;
       few = omega (arith, more, few, two);
     }
@@ -133,7 +133,7 @@ masked fills mask r sound = let counts = sound.count_is in record {
   few = sound.few;
 }
 
-two_at_most : (mask : ℕ) (f : ReportedFill) → length (copies_of mask f) ≤ 2
+two_at_most : (mask : ℕ) (f : ReportedFill) → length (fill_copies mask f) ≤ 2
 two_at_most mask f = grind arith
 
 pub all_noted : (fills : List ReportedFill) (f : ReportedFill) (rs : List ReaderSpans) → AllByRecursion (IsSound fills) rs → AllByRecursion (IsSound (fills ++ f ∷ [])) (map (with_copies_counted f) rs)

@@ -5,7 +5,7 @@ use Rattle.gx_units.specs.{Names.same_user, declared.names.UserName.UserName}
 use Rattle.gx_units.proofs.Names_equal.{user_is_itself}
 use Rattle.gx_policy.specs.{declared.policy.{User.User, PolicyData.PolicyData}, People.is_reader}
 use Rattle.gx_history.specs.declared.report.Report.{Report}
-use Rattle.gx_streams.specs.{declared.{stored_report.StoredReport.StoredReport, fill.ReportedFill.ReportedFill}, Kept.{ReservedList, UserList, list_of, empty_list, empty_lists, empty_user_list}, Spans.{IsSound, ReaderSpans, first_spans, is_named, no_spans, spans_for}, Streams.{AllStreams, ReaderMask, empty_streams, no_mask}, Table.{IsSoundTable, IsThere, kept_copies, list_shown, reader_mask, streams_of}}
+use Rattle.gx_streams.specs.{declared.{stored_report.StoredReport.StoredReport, fill.ReportedFill.ReportedFill}, Kept.{ReservedList, UserList, list_of, empty_list, empty_lists, empty_user_list}, Spans.{IsSound, ReaderSpans, first_spans, is_named, no_spans, spans_for}, Streams.{AllStreams, ReaderMask, empty_streams, no_mask}, Table.{IsSoundTable, IsFillThere, kept_copies, list_shown, reader_mask, streams_of}}
 use Rattle.gx_streams.proofs.{UserLists_shown.{AllKnown}, Readers_silent.silent_first}
 
 -- whoever is found among readers without spans has nothing
@@ -39,7 +39,7 @@ opened policy =
     let state : List (UserList Report) → List ReaderMask → AllStreams = λ t r. record { lists = t; readers = r } in
     ap (λ t. state t (map reader_mask (first_spans policy))) (told policy.users policy.users) ∙ ap (state (map empty_user_list policy.users)) (masked policy.users)
 
-there : (users : List User) → AllByRecursion (λ (l : UserList StoredReport). AllByRecursion (IsThere 0) l.kept.items) (map empty_user_list users)
+there : (users : List User) → AllByRecursion (λ (l : UserList StoredReport). AllByRecursion (IsFillThere 0) l.kept.items) (map empty_user_list users)
 there [] = tt
 there (u ∷ users) = (tt, there users)
 

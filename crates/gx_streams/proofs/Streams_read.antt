@@ -5,7 +5,7 @@ use Rattle.gx_units.specs.{Names.same_user, declared.names.UserName.UserName}
 use Rattle.gx_units.proofs.Names_equal.{user_is}
 use Rattle.gx_policy.specs.Lists.{slice}
 use Rattle.gx_history.specs.declared.report.Report.{Report}
-use Rattle.gx_streams.specs.{declared.{fill.ReportedFill.ReportedFill, span.Span.Span, stored_report.StoredReport.StoredReport}, Fills.{copies_of, copies_of_all}, Kept.{ReservedList, UserList, is_known, items_in, list_of, reserved_in}, Spans.{AreNumbered, IsSound, ReaderSpans, items_between, copies_before, copies_in, is_named, next_of}, Streams.{AllStreams, reports_in}, Table.{IsSoundTable, kept_copies, kept_reports, report_of, streams_of}, Windows.{Taken, taken_after, window}}
+use Rattle.gx_streams.specs.{declared.{fill.ReportedFill.ReportedFill, span.Span.Span, stored_report.StoredReport.StoredReport}, Fills.{fill_copies, copies_of_all}, Kept.{ReservedList, UserList, is_known, items_in, list_of, reserved_in}, Spans.{AreNumbered, IsSound, ReaderSpans, items_between, copies_before, copies_in, is_named, next_of}, Streams.{AllStreams, reports_in}, Table.{IsSoundTable, kept_copies, kept_reports, report_stored, streams_of}, Windows.{Taken, taken_after, window}}
 use Rattle.gx_history.proofs.Lists_slice.{slice_is}
 use Rattle.gx_streams.proofs.{Slots_table.mapped_slice, UserLists_shown.{found_reader, found_shown}, Windows_passed.after_both}
 
@@ -34,7 +34,7 @@ read_copies fills told readers self user r found sound view =
 
 -- anyone else reads his entries' reports
 pub read_told : (fills : List ReportedFill) (told : List (UserList StoredReport)) (readers : List ReaderSpans) (self : AllStreams) (user : UserName)
-    → None ≡ find (is_named user) readers → streams_of fills told readers ≡ self → map (report_of fills) (items_in told user) ≡ reports_in self user
+    → None ≡ find (is_named user) readers → streams_of fills told readers ≡ self → map (report_stored fills) (items_in told user) ≡ reports_in self user
 read_told fills told readers self user none view =
     sym (
     sym (ap (λ (s : AllStreams). reports_in s user) view)
@@ -43,7 +43,7 @@ read_told fills told readers self user none view =
     ∙ by (list_of told user)
     )
   where
-    by : (o : Option (UserList StoredReport)) → option_map_or (λ (l : UserList StoredReport). map (report_of fills) l.kept.items) o [] ≡ map (report_of fills) (option_map_or (λ (l : UserList StoredReport). l.kept.items) o [])
+    by : (o : Option (UserList StoredReport)) → option_map_or (λ (l : UserList StoredReport). map (report_stored fills) l.kept.items) o [] ≡ map (report_stored fills) (option_map_or (λ (l : UserList StoredReport). l.kept.items) o [])
     by None = refl
     by (Some l) = refl
 
@@ -79,12 +79,12 @@ length_map f (x ∷ xs) = ap suc (length_map f xs)
 
 pub told_count : (fills : List ReportedFill) (told : List (UserList StoredReport)) (readers : List ReaderSpans) (self : AllStreams) (user : UserName)
     → None ≡ find (is_named user) readers → streams_of fills told readers ≡ self → length (items_in told user) ≡ length (reports_in self user)
-told_count fills told readers self user none view = length_map (report_of fills) (items_in told user) ∙ ap length (read_told fills told readers self user none view)
+told_count fills told readers self user none view = length_map (report_stored fills) (items_in told user) ∙ ap length (read_told fills told readers self user none view)
 
 pub told_slice : (fills : List ReportedFill) (told : List (UserList StoredReport)) (readers : List ReaderSpans) (self : AllStreams) (user : UserName) (from most : ℕ)
-    → None ≡ find (is_named user) readers → streams_of fills told readers ≡ self → map (report_of fills) (slice (items_in told user) from most) ≡ slice (reports_in self user) from most
+    → None ≡ find (is_named user) readers → streams_of fills told readers ≡ self → map (report_stored fills) (slice (items_in told user) from most) ≡ slice (reports_in self user) from most
 told_slice fills told readers self user from most none view =
-    mapped_slice (report_of fills) (items_in told user) from most
+    mapped_slice (report_stored fills) (items_in told user) from most
     ∙ ap (λ (l : List Report). slice l from most) (read_told fills told readers self user none view)
 
 pub taken_is : (reports : List Report) (from most : ℕ) → (taken_after reports (window (from - 1) most)).taken ≡ slice reports from most
@@ -147,17 +147,17 @@ spans_step fills spans current i d w now start part size next later within rest 
     ∙ ap (λ l. taken_after l w) (copies_step fills spans current i d within)
     ∙ before
 
-fills_left : (mask : ℕ) (fills : List ReportedFill) (i : ℕ) (d : ReportedFill) → i < length fills → copies_of mask (get_or fills i d) ++ copies_of_all mask (drop (i + 1) fills) ≡ copies_of_all mask (drop i fills)
+fills_left : (mask : ℕ) (fills : List ReportedFill) (i : ℕ) (d : ReportedFill) → i < length fills → fill_copies mask (get_or fills i d) ++ copies_of_all mask (drop (i + 1) fills) ≡ copies_of_all mask (drop i fills)
 fills_left mask [] i d within = absurd (omega (arith, within))
 fills_left mask (f ∷ fills) zero d within = refl
 fills_left mask (f ∷ fills) (suc i) d within =
-    ap (λ n. copies_of mask (get_or fills i d) ++ copies_of_all mask (drop n (f ∷ fills))) (let e : suc i + 1 ≡ suc (i + 1) = omega arith in e)
+    ap (λ n. fill_copies mask (get_or fills i d) ++ copies_of_all mask (drop n (f ∷ fills))) (let e : suc i + 1 ≡ suc (i + 1) = omega arith in e)
     ∙ fills_left mask fills i d (omega (arith, within))
 
-pub fills_step : (mask : ℕ) (fills : List ReportedFill) (i : ℕ) (d : ReportedFill) (w now start : Taken) → i < length fills → now ≡ taken_after (copies_of mask (get_or fills i d)) w
+pub fills_step : (mask : ℕ) (fills : List ReportedFill) (i : ℕ) (d : ReportedFill) (w now start : Taken) → i < length fills → now ≡ taken_after (fill_copies mask (get_or fills i d)) w
     → taken_after (copies_of_all mask (drop i fills)) w ≡ start → taken_after (copies_of_all mask (drop (i + 1) fills)) now ≡ start
 fills_step mask fills i d w now start within passed before =
     ap (taken_after (copies_of_all mask (drop (i + 1) fills))) passed
-    ∙ after_both (copies_of mask (get_or fills i d)) (copies_of_all mask (drop (i + 1) fills)) w
+    ∙ after_both (fill_copies mask (get_or fills i d)) (copies_of_all mask (drop (i + 1) fills)) w
     ∙ ap (λ l. taken_after l w) (fills_left mask fills i d within)
     ∙ before

@@ -3,7 +3,7 @@ use denote.Param.Send.{IsSend, sendable}
 use denote.Param.SendFields.{as_row_send, declared_send, variants_send}
 use Rattle.std.proofs.Crossing.{crosses}
 use Rattle.gx_history.specs.contracts.report.Report as report
-use Rattle.gx_streams.specs.contracts.details.Details as details
+use Rattle.gx_streams.specs.contracts.details.ReportDetails as details
 use Rattle.gx_streams.specs.contracts.fill.ReportedFill as fill
 use Rattle.gx_streams.specs.contracts.readers.Readers as readers
 use Rattle.gx_streams.specs.contracts.slot.AcceptedAt as accepted

@@ -4,7 +4,7 @@ use Rattle.std.specs.{Prelude.{Option, Some, None, is_some, option_map}, Option.
 use Rattle.gx_units.specs.{Names.same_user, declared.names.UserName.UserName}
 use Rattle.gx_units.proofs.{Names_equal.user_is, Lists_found.{get_before, get_last}}
 use Rattle.gx_history.specs.declared.report.Report.{Report}
-use Rattle.gx_streams.specs.{declared.{fill.{ReportedFill.ReportedFill, FillRole.FillRole}, stored_report.StoredReport.StoredReport}, Fills.{copies_of, executed_report, side_of}, Kept.{ReservedList, UserList, at_first, is_known, list_of, on_user, reserved_in, with_reserved_last, with_last, with_reserved}, Spans.{IsSound, ReaderSpans, with_copies_counted, entitled_from, is_named}, Streams.{ReaderMask, mask_in, with_fill_reports}, Table.{IsThere, kept_copies, kept_reports, list_shown, no_report, reader_mask, report_of}}
+use Rattle.gx_streams.specs.{declared.{fill.{ReportedFill.ReportedFill, FillRole.FillRole}, stored_report.StoredReport.StoredReport}, Fills.{fill_copies, executed_report, fill_side}, Kept.{ReservedList, UserList, at_first, is_known, list_of, on_user, reserved_in, with_reserved_last, with_last, with_reserved}, Spans.{IsSound, ReaderSpans, with_copies_counted, entitled_from, is_named}, Streams.{ReaderMask, mask_in, with_fill_reports}, Table.{IsFillThere, kept_copies, kept_reports, list_shown, no_report, reader_mask, report_stored}}
 use Rattle.gx_streams.proofs.{Spans_next.{none_yet, one_more}, Users_table.known_after}
 
 abbrev row : UserName → ReservedList Report → UserList Report
@@ -104,19 +104,19 @@ change_shown fills rs change shown user (l ∷ ls) none follows =
 abbrev reports_state : ℕ → List Report → ReservedList Report
 reports_state reserved items = record { items = items; reserved = reserved }
 
-last_follows : (fills : List ReportedFill) (e : StoredReport) (k : ReservedList StoredReport) → kept_reports fills (with_last e k) ≡ with_last (report_of fills e) (kept_reports fills k)
-last_follows fills e k = ap (reports_state k.reserved) (map-append (report_of fills) k.items (e ∷ []))
+last_follows : (fills : List ReportedFill) (e : StoredReport) (k : ReservedList StoredReport) → kept_reports fills (with_last e k) ≡ with_last (report_stored fills e) (kept_reports fills k)
+last_follows fills e k = ap (reports_state k.reserved) (map-append (report_stored fills) k.items (e ∷ []))
 
-kept_last_follows : (fills : List ReportedFill) (e : StoredReport) (k : ReservedList StoredReport) → kept_reports fills (with_reserved_last e k) ≡ with_reserved_last (report_of fills e) (kept_reports fills k)
-kept_last_follows fills e k = ap (reports_state (k.reserved - 1)) (map-append (report_of fills) k.items (e ∷ []))
+kept_last_follows : (fills : List ReportedFill) (e : StoredReport) (k : ReservedList StoredReport) → kept_reports fills (with_reserved_last e k) ≡ with_reserved_last (report_stored fills e) (kept_reports fills k)
+kept_last_follows fills e k = ap (reports_state (k.reserved - 1)) (map-append (report_stored fills) k.items (e ∷ []))
 
 pub last_shown : (fills : List ReportedFill) (rs : List ReaderSpans) (e : StoredReport) (user : UserName) (ls : List (UserList StoredReport)) → find (is_named user) rs ≡ None
-    → map (list_shown fills rs) (on_user user (with_last e) ls) ≡ on_user user (with_last (report_of fills e)) (map (list_shown fills rs) ls)
-last_shown fills rs e user ls none = change_shown fills rs (with_last e) (with_last (report_of fills e)) user ls none (last_follows fills e)
+    → map (list_shown fills rs) (on_user user (with_last e) ls) ≡ on_user user (with_last (report_stored fills e)) (map (list_shown fills rs) ls)
+last_shown fills rs e user ls none = change_shown fills rs (with_last e) (with_last (report_stored fills e)) user ls none (last_follows fills e)
 
 pub kept_last_shown : (fills : List ReportedFill) (rs : List ReaderSpans) (e : StoredReport) (user : UserName) (ls : List (UserList StoredReport)) → find (is_named user) rs ≡ None
-    → map (list_shown fills rs) (on_user user (with_reserved_last e) ls) ≡ on_user user (with_reserved_last (report_of fills e)) (map (list_shown fills rs) ls)
-kept_last_shown fills rs e user ls none = change_shown fills rs (with_reserved_last e) (with_reserved_last (report_of fills e)) user ls none (kept_last_follows fills e)
+    → map (list_shown fills rs) (on_user user (with_reserved_last e) ls) ≡ on_user user (with_reserved_last (report_stored fills e)) (map (list_shown fills rs) ls)
+kept_last_shown fills rs e user ls none = change_shown fills rs (with_reserved_last e) (with_reserved_last (report_stored fills e)) user ls none (kept_last_follows fills e)
 
 pub places_made_shown : (fills : List ReportedFill) (rs : List ReaderSpans) (n : ℕ) (user : UserName) (ls : List (UserList StoredReport)) → find (is_named user) rs ≡ None
     → map (list_shown fills rs) (on_user user (with_reserved n) ls) ≡ on_user user (with_reserved n) (map (list_shown fills rs) ls)
@@ -125,36 +125,36 @@ places_made_shown fills rs n user ls none = change_shown fills rs (with_reserved
 -- ---- the fills of entries are there
 
 abbrev pub AllThere : ℕ → List (UserList StoredReport) → Type 0
-AllThere n ls = AllByRecursion (λ (l : UserList StoredReport). AllByRecursion (IsThere n) l.kept.items) ls
+AllThere n ls = AllByRecursion (λ (l : UserList StoredReport). AllByRecursion (IsFillThere n) l.kept.items) ls
 
-there_last : (n : ℕ) (items : List StoredReport) (e : StoredReport) → AllByRecursion (IsThere n) items → IsThere n e → AllByRecursion (IsThere n) (items ++ e ∷ [])
+there_last : (n : ℕ) (items : List StoredReport) (e : StoredReport) → AllByRecursion (IsFillThere n) items → IsFillThere n e → AllByRecursion (IsFillThere n) (items ++ e ∷ [])
 there_last n [] e all here = (here, tt)
 there_last n (x ∷ xs) e all here = (all.0, there_last n xs e all.1 here)
 
 there_changed : (n : ℕ) (change : ReservedList StoredReport → ReservedList StoredReport) (user : UserName) (ls : List (UserList StoredReport))
-    → ((k : ReservedList StoredReport) → AllByRecursion (IsThere n) k.items → AllByRecursion (IsThere n) (change k).items) → AllThere n ls → AllThere n (on_user user change ls)
+    → ((k : ReservedList StoredReport) → AllByRecursion (IsFillThere n) k.items → AllByRecursion (IsFillThere n) (change k).items) → AllThere n ls → AllThere n (on_user user change ls)
 there_changed n change user [] keeps all = tt
 there_changed n change user (l ∷ ls) keeps all =
     (step (same_user user l.user), there_changed n change user ls keeps all.1)
   where
-    step : (b : Bool) → AllByRecursion (IsThere n) ((if b then record { user = l.user; kept = change l.kept } else l).kept.items)
+    step : (b : Bool) → AllByRecursion (IsFillThere n) ((if b then record { user = l.user; kept = change l.kept } else l).kept.items)
     step true = keeps l.kept all.0
     step false = all.0
 
-pub there_with_last : (n : ℕ) (e : StoredReport) (user : UserName) (ls : List (UserList StoredReport)) → IsThere n e → AllThere n ls → AllThere n (on_user user (with_last e) ls)
+pub there_with_last : (n : ℕ) (e : StoredReport) (user : UserName) (ls : List (UserList StoredReport)) → IsFillThere n e → AllThere n ls → AllThere n (on_user user (with_last e) ls)
 there_with_last n e user ls here all = there_changed n (with_last e) user ls (λ k h. there_last n k.items e h here) all
 
-pub there_with_kept_last : (n : ℕ) (e : StoredReport) (user : UserName) (ls : List (UserList StoredReport)) → IsThere n e → AllThere n ls → AllThere n (on_user user (with_reserved_last e) ls)
+pub there_with_kept_last : (n : ℕ) (e : StoredReport) (user : UserName) (ls : List (UserList StoredReport)) → IsFillThere n e → AllThere n ls → AllThere n (on_user user (with_reserved_last e) ls)
 there_with_kept_last n e user ls here all = there_changed n (with_reserved_last e) user ls (λ k h. there_last n k.items e h here) all
 
 pub there_with_places : (n places : ℕ) (user : UserName) (ls : List (UserList StoredReport)) → AllThere n ls → AllThere n (on_user user (with_reserved places) ls)
 there_with_places n places user ls all = there_changed n (with_reserved places) user ls (λ k h. h) all
 
-there_more : (m n : ℕ) (e : StoredReport) → m ≤ n → IsThere m e → IsThere n e
+there_more : (m n : ℕ) (e : StoredReport) → m ≤ n → IsFillThere m e → IsFillThere n e
 there_more m n (StoredReport.Typed report) h here = tt
 there_more m n (StoredReport.Filled place party) h here = omega (arith, h, here)
 
-there_all_more : (m n : ℕ) (items : List StoredReport) → m ≤ n → AllByRecursion (IsThere m) items → AllByRecursion (IsThere n) items
+there_all_more : (m n : ℕ) (items : List StoredReport) → m ≤ n → AllByRecursion (IsFillThere m) items → AllByRecursion (IsFillThere n) items
 there_all_more m n [] h all = tt
 there_all_more m n (e ∷ es) h all = (there_more m n e h all.0, there_all_more m n es h all.1)
 
@@ -164,13 +164,13 @@ there_more_fills m n (l ∷ ls) h all = (there_all_more m n l.kept.items h all.0
 
 -- ---- one more fill
 
-same_report : (fills : List ReportedFill) (f : ReportedFill) (e : StoredReport) → IsThere (length fills) e → report_of (fills ++ f ∷ []) e ≡ report_of fills e
+same_report : (fills : List ReportedFill) (f : ReportedFill) (e : StoredReport) → IsFillThere (length fills) e → report_stored (fills ++ f ∷ []) e ≡ report_stored fills e
 same_report fills f (StoredReport.Typed report) here = refl
 same_report fills f (StoredReport.Filled place party) here = ap (λ (o : Option ReportedFill). option_map_or (λ (g : ReportedFill). executed_report g party) o no_report) (get_before fills (f ∷ []) place here)
 
-same_reports : (fills : List ReportedFill) (f : ReportedFill) (items : List StoredReport) → AllByRecursion (IsThere (length fills)) items → map (report_of (fills ++ f ∷ [])) items ≡ map (report_of fills) items
+same_reports : (fills : List ReportedFill) (f : ReportedFill) (items : List StoredReport) → AllByRecursion (IsFillThere (length fills)) items → map (report_stored (fills ++ f ∷ [])) items ≡ map (report_stored fills) items
 same_reports fills f [] all = refl
-same_reports fills f (e ∷ es) all = ap (λ x. x ∷ map (report_of (fills ++ f ∷ [])) es) (same_report fills f e all.0) ∙ ap (λ rest. report_of fills e ∷ rest) (same_reports fills f es all.1)
+same_reports fills f (e ∷ es) all = ap (λ x. x ∷ map (report_stored (fills ++ f ∷ [])) es) (same_report fills f e all.0) ∙ ap (λ rest. report_stored fills e ∷ rest) (same_reports fills f es all.1)
 
 -- both sides of the fill at this place put last, the taker's first
 abbrev pub with_sides : ReportedFill → ℕ → List (UserList StoredReport) → List (UserList StoredReport)
@@ -178,7 +178,7 @@ with_sides f place told = on_user f.maker.user (with_last (StoredReport.Filled p
 
 -- a list with a party's side last, if it is the party's user's
 abbrev with_side : ReportedFill → ℕ → FillRole → UserList StoredReport → UserList StoredReport
-with_side f place party l = if same_user (side_of f party).user l.user then record { user = l.user; kept = with_last (StoredReport.Filled place party) l.kept } else l
+with_side f place party l = if same_user (fill_side f party).user l.user then record { user = l.user; kept = with_last (StoredReport.Filled place party) l.kept } else l
 
 found_counted : (f : ReportedFill) (rs : List ReaderSpans) (name : UserName) → find (is_named name) (map (with_copies_counted f) rs) ≡ option_map (with_copies_counted f) (find (is_named name) rs)
 found_counted f [] name = refl
@@ -196,7 +196,7 @@ found_reader P (x ∷ xs) name r found all = by (same_user name x.user) found (�
     by false is rest = rest is
 
 -- the list of one user after the fill, by whether either side is his
-one_list : (fills : List ReportedFill) (f : ReportedFill) (rs : List ReaderSpans) (l : UserList StoredReport) → AllByRecursion (IsSound fills) rs → AllByRecursion (IsThere (length fills)) l.kept.items
+one_list : (fills : List ReportedFill) (f : ReportedFill) (rs : List ReaderSpans) (l : UserList StoredReport) → AllByRecursion (IsSound fills) rs → AllByRecursion (IsFillThere (length fills)) l.kept.items
     → list_shown (fills ++ f ∷ []) (map (with_copies_counted f) rs) (with_side f (length fills) FillRole.Maker (with_side f (length fills) FillRole.Taker l)) ≡ with_fill_reports (map reader_mask rs) f (list_shown fills rs l)
 one_list fills f rs l sound there =
     ap (list_shown both (map (with_copies_counted f) rs))
@@ -215,26 +215,26 @@ one_list fills f rs l sound there =
     own : Bool → Bool → List Report
     own a b = (if a then executed_report f FillRole.Taker ∷ [] else []) ++ (if b then executed_report f FillRole.Maker ∷ [] else [])
 
-    shows : (party : FillRole) → report_of both (StoredReport.Filled (length fills) party) ≡ executed_report f party
+    shows : (party : FillRole) → report_stored both (StoredReport.Filled (length fills) party) ≡ executed_report f party
     shows party = ap (λ (o : Option ReportedFill). option_map_or (λ (g : ReportedFill). executed_report g party) o no_report) (get_last fills f)
 
-    was : map (report_of both) l.kept.items ≡ map (report_of fills) l.kept.items
+    was : map (report_stored both) l.kept.items ≡ map (report_stored fills) l.kept.items
     was = same_reports fills f l.kept.items there
 
     add : ReservedList Report → List Report → ReservedList Report
     add k more = record { items = k.items ++ more; reserved = k.reserved }
 
     with_found : Option ReaderSpans → List Report → List Report
-    with_found o more = option_map_or (λ (mask : ℕ). copies_of mask f) (option_map (λ (r : ReaderSpans). r.current.mask) o) more
+    with_found o more = option_map_or (λ (mask : ℕ). fill_copies mask f) (option_map (λ (r : ReaderSpans). r.current.mask) o) more
 
     -- a reader has the copies, any other what his entries show more
     shown : (k : ReservedList StoredReport) (more : List Report) → kept_reports both k ≡ add (kept_reports fills l.kept) more
         → row l.user (kept_shown both (find (is_named l.user) (map (with_copies_counted f) rs)) k)
-        ≡ row l.user (add (kept_shown fills (find (is_named l.user) rs) l.kept) (option_map_or (λ (mask : ℕ). copies_of mask f) (mask_in (map reader_mask rs) l.user) more))
+        ≡ row l.user (add (kept_shown fills (find (is_named l.user) rs) l.kept) (option_map_or (λ (mask : ℕ). fill_copies mask f) (mask_in (map reader_mask rs) l.user) more))
     shown k more follows =
         ap (λ o. row l.user (kept_shown both o k)) (found_counted f rs l.user)
         ∙ at (find (is_named l.user) rs) refl
-        ∙ ap (λ o. row l.user (add (kept_shown fills (find (is_named l.user) rs) l.kept) (option_map_or (λ (mask : ℕ). copies_of mask f) o more))) (sym (mask_found rs l.user))
+        ∙ ap (λ o. row l.user (add (kept_shown fills (find (is_named l.user) rs) l.kept) (option_map_or (λ (mask : ℕ). fill_copies mask f) o more))) (sym (mask_found rs l.user))
       where
         at : (o : Option ReaderSpans) → find (is_named l.user) rs ≡ o
             → row l.user (kept_shown both (option_map (with_copies_counted f) (find (is_named l.user) rs)) k)
@@ -252,29 +252,29 @@ one_list fills f rs l sound there =
     items_state : List Report → ReservedList Report
     items_state items = record { items = items; reserved = l.kept.reserved }
 
-    taker_last : map (report_of both) (l.kept.items ++ StoredReport.Filled (length fills) FillRole.Taker ∷ []) ≡ map (report_of fills) l.kept.items ++ executed_report f FillRole.Taker ∷ []
+    taker_last : map (report_stored both) (l.kept.items ++ StoredReport.Filled (length fills) FillRole.Taker ∷ []) ≡ map (report_stored fills) l.kept.items ++ executed_report f FillRole.Taker ∷ []
     taker_last =
-        map-append (report_of both) l.kept.items (StoredReport.Filled (length fills) FillRole.Taker ∷ [])
-        ∙ ap (λ xs. xs ++ report_of both (StoredReport.Filled (length fills) FillRole.Taker) ∷ []) was
-        ∙ ap (λ r. map (report_of fills) l.kept.items ++ r ∷ []) (shows FillRole.Taker)
+        map-append (report_stored both) l.kept.items (StoredReport.Filled (length fills) FillRole.Taker ∷ [])
+        ∙ ap (λ xs. xs ++ report_stored both (StoredReport.Filled (length fills) FillRole.Taker) ∷ []) was
+        ∙ ap (λ r. map (report_stored fills) l.kept.items ++ r ∷ []) (shows FillRole.Taker)
 
     by : (a b : Bool) → list_shown both (map (with_copies_counted f) rs) (sides a b)
-        ≡ row l.user (add (kept_shown fills (find (is_named l.user) rs) l.kept) (option_map_or (λ (mask : ℕ). copies_of mask f) (mask_in (map reader_mask rs) l.user) (own a b)))
+        ≡ row l.user (add (kept_shown fills (find (is_named l.user) rs) l.kept) (option_map_or (λ (mask : ℕ). fill_copies mask f) (mask_in (map reader_mask rs) l.user) (own a b)))
     by true true =
         shown (sides true true).kept (own true true)
         (ap items_state
-        (map-append (report_of both) (l.kept.items ++ StoredReport.Filled (length fills) FillRole.Taker ∷ []) (StoredReport.Filled (length fills) FillRole.Maker ∷ [])
-        ∙ ap (λ xs. xs ++ report_of both (StoredReport.Filled (length fills) FillRole.Maker) ∷ []) taker_last
-        ∙ ap (λ r. (map (report_of fills) l.kept.items ++ executed_report f FillRole.Taker ∷ []) ++ r ∷ []) (shows FillRole.Maker)
-        ∙ append_assoc (map (report_of fills) l.kept.items) (executed_report f FillRole.Taker ∷ []) (executed_report f FillRole.Maker ∷ [])))
+        (map-append (report_stored both) (l.kept.items ++ StoredReport.Filled (length fills) FillRole.Taker ∷ []) (StoredReport.Filled (length fills) FillRole.Maker ∷ [])
+        ∙ ap (λ xs. xs ++ report_stored both (StoredReport.Filled (length fills) FillRole.Maker) ∷ []) taker_last
+        ∙ ap (λ r. (map (report_stored fills) l.kept.items ++ executed_report f FillRole.Taker ∷ []) ++ r ∷ []) (shows FillRole.Maker)
+        ∙ append_assoc (map (report_stored fills) l.kept.items) (executed_report f FillRole.Taker ∷ []) (executed_report f FillRole.Maker ∷ [])))
     by true false = shown (sides true false).kept (own true false) (ap items_state taker_last)
     by false true =
         shown (sides false true).kept (own false true)
         (ap items_state
-        (map-append (report_of both) l.kept.items (StoredReport.Filled (length fills) FillRole.Maker ∷ [])
-        ∙ ap (λ xs. xs ++ report_of both (StoredReport.Filled (length fills) FillRole.Maker) ∷ []) was
-        ∙ ap (λ r. map (report_of fills) l.kept.items ++ r ∷ []) (shows FillRole.Maker)))
-    by false false = shown l.kept [] (ap items_state (was ∙ sym (append-nil (map (report_of fills) l.kept.items))))
+        (map-append (report_stored both) l.kept.items (StoredReport.Filled (length fills) FillRole.Maker ∷ [])
+        ∙ ap (λ xs. xs ++ report_stored both (StoredReport.Filled (length fills) FillRole.Maker) ∷ []) was
+        ∙ ap (λ r. map (report_stored fills) l.kept.items ++ r ∷ []) (shows FillRole.Maker)))
+    by false false = shown l.kept [] (ap items_state (was ∙ sym (append-nil (map (report_stored fills) l.kept.items))))
 
 pub fill_shown : (fills : List ReportedFill) (f : ReportedFill) (rs : List ReaderSpans) (ls : List (UserList StoredReport)) → AllByRecursion (IsSound fills) rs → AllThere (length fills) ls
     → map (list_shown (fills ++ f ∷ []) (map (with_copies_counted f) rs)) (with_sides f (length fills) ls) ≡ map (with_fill_reports (map reader_mask rs) f) (map (list_shown fills rs) ls)

@@ -6,9 +6,9 @@ use Rattle.gx_units.specs.{Names.same_user, declared.names.UserName.UserName}
 use Rattle.gx_streams.specs.declared.fill.{ReportedFill.ReportedFill, FillSide.FillSide, FillRole.FillRole}
 
 -- a party's side of the fill
-abbrev pub side_of : ReportedFill → FillRole → FillSide
-side_of f FillRole.Taker = f.taker
-side_of f FillRole.Maker = f.maker
+abbrev pub fill_side : ReportedFill → FillRole → FillSide
+fill_side f FillRole.Taker = f.taker
+fill_side f FillRole.Maker = f.maker
 
 -- the taker took from the book, and the maker had put there
 abbrev pub liquidity_of : FillRole → Liquidity
@@ -17,7 +17,7 @@ liquidity_of FillRole.Maker = Liquidity.Added
 
 -- Executed, for a party's side
 abbrev pub executed_of_fill : ReportedFill → FillRole → Executed
-executed_of_fill f party = record { token = (side_of f party).token; shares = f.shares; price = f.price; liquidity = liquidity_of party; match_number = f.match_number }
+executed_of_fill f party = record { token = (fill_side f party).token; shares = f.shares; price = f.price; liquidity = liquidity_of party; match_number = f.match_number }
 
 -- the report to the user of a party's side
 abbrev pub executed_report : ReportedFill → FillRole → Report
@@ -25,24 +25,24 @@ executed_report f party = record { timestamp = f.moment; message = Message.Order
 
 -- the drop copy of a party's side
 abbrev pub copy_report : ReportedFill → FillRole → Report
-copy_report f party = record { timestamp = f.moment; message = Message.DropCopy (record { executed = executed_of_fill f party; account = (side_of f party).account; side = (side_of f party).side }) }
+copy_report f party = record { timestamp = f.moment; message = Message.DropCopy (record { executed = executed_of_fill f party; account = (fill_side f party).account; side = (fill_side f party).side }) }
 
 -- the report of a party's side, if it is the user's
 abbrev pub executed_to : ReportedFill → UserName → FillRole → List Report
-executed_to f user party = if same_user (side_of f party).user user then executed_report f party ∷ [] else []
+executed_to f user party = if same_user (fill_side f party).user user then executed_report f party ∷ [] else []
 
 -- the reports of his sides, the taker's first
 abbrev pub executed_of : ReportedFill → UserName → List Report
 executed_of f user = executed_to f user FillRole.Taker ++ executed_to f user FillRole.Maker
 
 -- the drop copy of a party's side, if the mask has its account
-abbrev pub copy_of : ℕ → ReportedFill → FillRole → List Report
-copy_of mask f party = if has_account mask (side_of f party).account_place then copy_report f party ∷ [] else []
+abbrev pub fill_copy : ℕ → ReportedFill → FillRole → List Report
+fill_copy mask f party = if has_account mask (fill_side f party).account_place then copy_report f party ∷ [] else []
 
 -- the drop copies of a fill, the taker's side first
-abbrev pub copies_of : ℕ → ReportedFill → List Report
-copies_of mask f = copy_of mask f FillRole.Taker ++ copy_of mask f FillRole.Maker
+abbrev pub fill_copies : ℕ → ReportedFill → List Report
+fill_copies mask f = fill_copy mask f FillRole.Taker ++ fill_copy mask f FillRole.Maker
 
 -- the drop copies of fills, in their order
 abbrev pub copies_of_all : ℕ → List ReportedFill → List Report
-copies_of_all mask fills = flat_map (copies_of mask) fills
+copies_of_all mask fills = flat_map (fill_copies mask) fills

@@ -15,8 +15,8 @@ enter_in (Request.Enter m) = Some m
 enter_in other = None
 
 -- the Enter that the record asks for
-abbrev pub enter_of : RecordData → Option EnterOrder
-enter_of r = option_and_then (λ (a : Asked). enter_in a.request) (asked_of r.step)
+abbrev pub enter_asked : RecordData → Option EnterOrder
+enter_asked r = option_and_then (λ (a : Asked). enter_in a.request) (asked_of r.step)
 
 -- Accepted, to a user of this firm, of the order of this number that was entered so
 abbrev pub accepted_from : Option Firm → (number moment : ℕ) → EnterOrder → Report
@@ -31,7 +31,7 @@ accepted_from house number moment m = record {
 
 -- Accepted, of the record of this number, if an order was entered by it
 abbrev pub accepted_at : Option Firm → List RecordData → ℕ → Option Report
-accepted_at house records number = option_and_then (λ (r : RecordData). option_map (accepted_from house number r.moment) (enter_of r)) (slice_get records (number - 1))
+accepted_at house records number = option_and_then (λ (r : RecordData). option_map (accepted_from house number r.moment) (enter_asked r)) (slice_get records (number - 1))
 
 -- the number of the order that a message says was accepted
 abbrev pub reference_of : Message → Option ℕ

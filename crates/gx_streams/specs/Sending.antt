@@ -3,7 +3,7 @@ use Rattle.std.specs.{Prelude.{◌≡◌, ℕ, Bool, true, false, IsFalse, List,
 use Rattle.gx_units.specs.declared.names.UserName.{UserName}
 use Rattle.gx_policy.specs.{declared.policy.{Account.Account, PolicyData.PolicyData}, People.{is_reader, role_in}}
 use Rattle.gx_history.specs.{declared.record.{Fill.Fill, RecordData.RecordData, Verdict.Verdict}, Executions.{Execution, sides}, InForce.is_entitled, Masks.mask_by, Streams.executed_message}
-use Rattle.gx_streams.specs.{declared.fill.{FillRole.FillRole, ReportedFill.ReportedFill}, Fills.{executed_of_fill, side_of}, Streams.{AllStreams, mask_of}}
+use Rattle.gx_streams.specs.{declared.fill.{FillRole.FillRole, ReportedFill.ReportedFill}, Fills.{executed_of_fill, fill_side}, Streams.{AllStreams, mask_of}}
 
 -- the accounts that are the user's by these records, if he is a reader
 abbrev pub mask_in_force : PolicyData → List RecordData → UserName → Option ℕ
@@ -25,11 +25,11 @@ is_fill other = false
 
 -- a party's side of the told fill is this side of the record's, for an order of one who is no reader
 pub record IsSide (policy : PolicyData) (r : RecordData) (e : Execution) (f : ReportedFill) (party : FillRole) : Type 0 where
-  pub user : (side_of f party).user ≡ e.order.user
-  pub account : (side_of f party).account ≡ e.order.account
-  pub side : (side_of f party).side ≡ e.order.terms.side
+  pub user : (fill_side f party).user ≡ e.order.user
+  pub account : (fill_side f party).account ≡ e.order.account
+  pub side : (fill_side f party).side ≡ e.order.terms.side
   pub executed : executed_of_fill f party ≡ executed_message r e
-  pub place : option_map (λ (a : Account). a.name) (slice_get policy.accounts (side_of f party).account_place) ≡ Some e.order.account
+  pub place : option_map (λ (a : Account). a.name) (slice_get policy.accounts (fill_side f party).account_place) ≡ Some e.order.account
   pub reads_not : IsFalse (is_reader (role_in policy.users e.order.user))
 
 -- the told fill is the one that the record makes, after these

@@ -2,7 +2,7 @@
 use Rattle.std.specs.{Prelude.{◌≡◌, ℕ, ◌+◌, ◌<◌, ◌≤◌, ⊤, List, [], length, map, slice_get}, Option.option_map_or, List.AllByRecursion}
 use Rattle.gx_ouch.specs.declared.outbound.{Outbound.Outbound}
 use Rattle.gx_history.specs.declared.report.{Message.Message, Report.Report}
-use Rattle.gx_streams.specs.{declared.{entries.Lists.Lists, stored_report.StoredReport.StoredReport, fill.{FillRole.FillRole, ReportedFill.ReportedFill}, slot.{AcceptedAt.AcceptedAt, CanceledAt.CanceledAt, Slot.Slot}}, Table.{no_report, report_of}}
+use Rattle.gx_streams.specs.{declared.{entries.SlotLists.SlotLists, stored_report.StoredReport.StoredReport, fill.{FillRole.FillRole, ReportedFill.ReportedFill}, slot.{AcceptedAt.AcceptedAt, CanceledAt.CanceledAt, Slot.Slot}}, Table.{no_report, report_stored}}
 
 -- what is long in a user's entries, each kind in their order
 pub record DetailLists : Type 0 where
@@ -10,7 +10,7 @@ pub record DetailLists : Type 0 where
   pub others : List Report
 
 -- the lists, where they lie
-abbrev pub lists_of : Lists → DetailLists
+abbrev pub lists_of : SlotLists → DetailLists
 lists_of l = record { canceled = l.canceled.now; others = l.others.now }
 
 -- none of any kind
@@ -44,26 +44,26 @@ entries_in lists slots = map (entry_in lists) slots
 
 -- the report of a slot's entry
 abbrev pub report_in_slot : List ReportedFill → DetailLists → Slot → Report
-report_in_slot fills lists slot = report_of fills (entry_in lists slot)
+report_in_slot fills lists slot = report_stored fills (entry_in lists slot)
 
 -- what the slot names is there
-abbrev pub IsThere : DetailLists → Slot → Type 0
-IsThere lists (Slot.Accepted a) = ⊤
-IsThere lists (Slot.Canceled place) = place < length lists.canceled
-IsThere lists (Slot.Other place) = place < length lists.others
-IsThere lists (Slot.Taker place) = ⊤
-IsThere lists (Slot.Maker place) = ⊤
+abbrev pub IsSlotThere : DetailLists → Slot → Type 0
+IsSlotThere lists (Slot.Accepted a) = ⊤
+IsSlotThere lists (Slot.Canceled place) = place < length lists.canceled
+IsSlotThere lists (Slot.Other place) = place < length lists.others
+IsSlotThere lists (Slot.Taker place) = ⊤
+IsSlotThere lists (Slot.Maker place) = ⊤
 
 -- what the slots name is there
-abbrev pub AllThere : DetailLists → List Slot → Type 0
-AllThere lists slots = AllByRecursion (IsThere lists) slots
+abbrev pub AllSlotsThere : DetailLists → List Slot → Type 0
+AllSlotsThere lists slots = AllByRecursion (IsSlotThere lists) slots
 
 -- what was there is there still, and stands for the same
 pub record Widens (before after : DetailLists) : Type 0 where
-  pub there : (s : Slot) → IsThere before s → IsThere after s
-  pub same : (s : Slot) → IsThere before s → entry_in after s ≡ entry_in before s
+  pub there : (s : Slot) → IsSlotThere before s → IsSlotThere after s
+  pub same : (s : Slot) → IsSlotThere before s → entry_in after s ≡ entry_in before s
 
 -- what each slot names is there, and there is room for the slots of those entries that places are reserved for
-pub record AreKept (kept : KeptDetails) (slots : List Slot) (used capacity : ℕ) : Type 0 where
-  pub there : AllThere kept.lists slots
+pub record AreSlotsKept (kept : KeptDetails) (slots : List Slot) (used capacity : ℕ) : Type 0 where
+  pub there : AllSlotsThere kept.lists slots
   pub room : used + kept.reserved ≤ capacity

@@ -3,7 +3,7 @@ use Rattle.std.specs.{Map.values_of, Prelude.{IsTrue, ◌≡◌, ◌≤◌, ℕ,
 use Rattle.gx_units.specs.{Names.same_user, declared.names.UserName.UserName}
 use Rattle.gx_policy.specs.{declared.policy.{User.User, PolicyData.PolicyData}, People.is_reader}
 use Rattle.gx_history.specs.{Masks.has_account, declared.report.Report.{Report}}
-use Rattle.gx_streams.specs.{declared.{fill.ReportedFill.ReportedFill, span.Span.Span}, Fills.{copies_of, copies_of_all}}
+use Rattle.gx_streams.specs.{declared.{fill.ReportedFill.ReportedFill, span.Span.Span}, Fills.{fill_copies, copies_of_all}}
 
 -- a reader's spans, and how many reports he has
 pub record ReaderSpans : Type 0 where
@@ -38,7 +38,7 @@ AreNumbered fills number (s ∷ later) current =
 
 -- the reader has the copies of one more fill
 abbrev pub with_copies_counted : ReportedFill → ReaderSpans → ReaderSpans
-with_copies_counted f r = record { user = r.user; earlier = r.earlier; current = r.current; count = r.count + length (copies_of r.current.mask f) }
+with_copies_counted f r = record { user = r.user; earlier = r.earlier; current = r.current; count = r.count + length (fill_copies r.current.mask f) }
 
 -- another mask is in force from this fill on
 abbrev pub entitled_from : ℕ → ℕ → ReaderSpans → ReaderSpans

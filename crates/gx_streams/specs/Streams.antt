@@ -3,7 +3,7 @@ use Rattle.std.specs.{Prelude.{ℕ, Bool, ◌&&◌, not, is_some, List, [], ◌�
 use Rattle.gx_units.specs.{Names.same_user, declared.names.UserName.UserName}
 use Rattle.gx_policy.specs.{declared.policy.{PolicyData.PolicyData, User.User}, People.is_reader}
 use Rattle.gx_history.specs.declared.report.Report.{Report}
-use Rattle.gx_streams.specs.{declared.fill.ReportedFill.ReportedFill, Fills.{copies_of, executed_of}, Kept.{ReservedList, UserList, at_first, is_known, items_in, empty_lists, on_user}}
+use Rattle.gx_streams.specs.{declared.fill.ReportedFill.ReportedFill, Fills.{fill_copies, executed_of}, Kept.{ReservedList, UserList, at_first, is_known, items_in, empty_lists, on_user}}
 
 -- a reader, and the accounts whose later fills he gets, in the file's order, the first in the lowest bit
 pub record ReaderMask : Type 0 where
@@ -37,7 +37,7 @@ on_list_of user change streams = record { lists = on_user user change streams.li
 
 -- what a fill tells a user: a reader the drop copies by his mask, any other the reports of his sides
 abbrev pub fill_reports : List ReaderMask → ReportedFill → UserName → List Report
-fill_reports readers f user = option_map_or (λ (mask : ℕ). copies_of mask f) (mask_in readers user) (executed_of f user)
+fill_reports readers f user = option_map_or (λ (mask : ℕ). fill_copies mask f) (mask_in readers user) (executed_of f user)
 
 -- a user's list with what the fill tells him last
 abbrev pub with_fill_reports : List ReaderMask → ReportedFill → UserList Report → UserList Report

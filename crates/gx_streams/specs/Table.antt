@@ -18,18 +18,18 @@ abbrev pub no_report : Report
 no_report = record { timestamp = 0; message = Message.Order (Outbound.SystemEvent EventCode.EndOfDay) }
 
 -- the report that an entry stands for
-abbrev pub report_of : List ReportedFill → StoredReport → Report
-report_of fills (StoredReport.Typed report) = report
-report_of fills (StoredReport.Filled place party) = option_map_or (λ (f : ReportedFill). executed_report f party) (slice_get fills place) no_report
+abbrev pub report_stored : List ReportedFill → StoredReport → Report
+report_stored fills (StoredReport.Typed report) = report
+report_stored fills (StoredReport.Filled place party) = option_map_or (λ (f : ReportedFill). executed_report f party) (slice_get fills place) no_report
 
 -- the fill of the entry, if it has one, is there
-abbrev pub IsThere : ℕ → StoredReport → Type 0
-IsThere count (StoredReport.Typed report) = Unit {0}
-IsThere count (StoredReport.Filled place party) = place < count
+abbrev pub IsFillThere : ℕ → StoredReport → Type 0
+IsFillThere count (StoredReport.Typed report) = Unit {0}
+IsFillThere count (StoredReport.Filled place party) = place < count
 
 -- the reports that entries stand for
 abbrev pub kept_reports : List ReportedFill → ReservedList StoredReport → ReservedList Report
-kept_reports fills kept = record { items = map (report_of fills) kept.items; reserved = kept.reserved }
+kept_reports fills kept = record { items = map (report_stored fills) kept.items; reserved = kept.reserved }
 
 -- the drop copies that a reader's spans stand for; no place is reserved for him
 abbrev pub kept_copies : List ReportedFill → ReaderSpans → ReservedList Report
@@ -49,7 +49,7 @@ streams_of fills lists readers = record { lists = map (list_shown fills readers)
 
 -- each entry's fill is there; each reader's spans are sound, and he is one of the users, and has no entry
 pub record IsSoundTable (fills : List ReportedFill) (told : List (UserList StoredReport)) (readers : List ReaderSpans) : Type 0 where
-  pub there : AllByRecursion (λ (l : UserList StoredReport). AllByRecursion (IsThere (length fills)) l.kept.items) told
+  pub there : AllByRecursion (λ (l : UserList StoredReport). AllByRecursion (IsFillThere (length fills)) l.kept.items) told
   pub sound : AllByRecursion (IsSound fills) readers
   pub known : AllByRecursion (λ (r : ReaderSpans). IsTrue (is_known told r.user)) readers
   pub silent : AllByRecursion (λ (r : ReaderSpans). items_in told r.user ≡ []) readers

@@ -1,9 +1,9 @@
 //! What is long in a user's entries.
 
 ghost use Rattle.std.specs.Prelude.{◌≡◌, ◌+◌, ◌<◌, ◌≤◌, Some, IfOk, IsOk, OnErr, OnOk, vec_capacity, vec_len};
-ghost use Rattle.gx_streams.specs.{declared.stored_report.StoredReport.{StoredReport}, Recorded.reference_in, Slots.{IsThere, Widens, canceled_report, entries_in, entry_in, no_details}};
+ghost use Rattle.gx_streams.specs.{declared.stored_report.StoredReport.{StoredReport}, Recorded.reference_in, Slots.{IsSlotThere, Widens, canceled_report, entries_in, entry_in, no_details}};
 
-use crate::entries::{Entries, Lists};
+use crate::entries::{Entries, SlotLists};
 use crate::fill::FillRole;
 use crate::slot::{AcceptedAt, CanceledAt, Slot};
 use crate::stored_report::StoredReport;
@@ -15,13 +15,13 @@ use std::marker::Model;
 
 /// What is long in a user's entries, each kind in their order, and places reserved for more.
 #[derive(Drop)]
-pub(crate) struct Details {
+pub(crate) struct ReportDetails {
     canceled: Vec<CanceledAt>,
     others: Vec<Report>,
     reserved: usize,
 }
 
-impl Model for Details {
+impl Model for ReportDetails {
     ghost use Rattle.std.specs.Prelude.{◌+◌, ◌≤◌, vec_len, vec_capacity};
     ghost use Rattle.gx_streams.specs.Slots.{KeptDetails};
 
@@ -66,13 +66,13 @@ pub(crate) fn make_room<T>(items: &mut Vec<T>, more: usize) -> Result<(), OutOfM
     grow(items, more)
 }
 
-impl Details {
+impl ReportDetails {
     /// None, and no place reserved, with room for those of so many entries.
-    pub(crate) fn new(alloc: Global, room: usize) -> Result<Details, OutOfMemory>
+    pub(crate) fn new(alloc: Global, room: usize) -> Result<ReportDetails, OutOfMemory>
         ensures lists { IfOk result (λ details. details.lists ≡ no_details) }
         ensures reserved { IfOk result (λ details. details.reserved ≡ 0) }
     {
-        Ok(Details {
+        Ok(ReportDetails {
             canceled: Vec::with_capacity(alloc, room)?,
             others: Vec::with_capacity(alloc, room)?,
             reserved: 0,
@@ -108,7 +108,7 @@ impl Details {
         ensures kept { Widens self.old.lists self.new.lists }
         ensures reserved { self.new.reserved + 1 ≡ self.old.reserved }
         ensures entry { entry_in self.new.lists result ≡ StoredReport.Typed report.now }
-        ensures there { IsThere self.new.lists result }
+        ensures there { IsSlotThere self.new.lists result }
     {
         self.reserved -= 1;
         Slot::Accepted(AcceptedAt::of(report, number))
@@ -122,7 +122,7 @@ impl Details {
         ensures reserved { self.new.reserved + 1 ≡ self.old.reserved }
         ensures entry { entry_in self.new.lists result
             ≡ StoredReport.Typed (canceled_report canceled) }
-        ensures there { IsThere self.new.lists result }
+        ensures there { IsSlotThere self.new.lists result }
     {
         self.reserved -= 1;
         let place = self.canceled.len();
@@ -137,7 +137,7 @@ impl Details {
         ensures kept { Widens self.old.lists self.new.lists }
         ensures reserved { self.new.reserved + 1 ≡ self.old.reserved }
         ensures entry { entry_in self.new.lists result ≡ StoredReport.Typed report }
-        ensures there { IsThere self.new.lists result }
+        ensures there { IsSlotThere self.new.lists result }
     {
         self.reserved -= 1;
         let place = self.others.len();
@@ -152,7 +152,7 @@ impl Details {
         ensures kept { Widens self.old.lists self.new.lists }
         ensures reserved { self.new.reserved + 1 ≡ self.old.reserved }
         ensures entry { entry_in self.new.lists result ≡ StoredReport.Filled place party }
-        ensures there { IsThere self.new.lists result }
+        ensures there { IsSlotThere self.new.lists result }
     {
         self.reserved -= 1;
         match party {
@@ -168,7 +168,7 @@ impl Details {
         ensures kept { Widens self.old.lists self.new.lists }
         ensures reserved { self.new.reserved + 1 ≡ self.old.reserved }
         ensures entry { entry_in self.new.lists result ≡ StoredReport.Typed report }
-        ensures there { IsThere self.new.lists result }
+        ensures there { IsSlotThere self.new.lists result }
     {
         match &report.message {
             Message::Order(Outbound::Accepted(accepted)) => {
@@ -189,7 +189,7 @@ impl Details {
         ensures kept { Widens self.old.lists self.new.lists }
         ensures reserved { self.new.reserved + 1 ≡ self.old.reserved }
         ensures entry { entry_in self.new.lists result ≡ entry }
-        ensures there { IsThere self.new.lists result }
+        ensures there { IsSlotThere self.new.lists result }
     {
         match entry {
             StoredReport::Typed(report) => self.put_report(report),
@@ -202,7 +202,7 @@ impl Details {
     pub(crate) fn entries<'a>(&'a self, slots: &'a [Slot]) -> Entries<'a>
         ensures { result ≡ entries_in self.now.lists slots.now }
     {
-        let lists = Lists {
+        let lists = SlotLists {
             canceled: self.canceled.as_slice(),
             others: self.others.as_slice(),
         };

@@ -2,7 +2,7 @@
 
 ghost use Rattle.std.specs.{Prelude.{◌≡◌, [], length, map, OnOk}, List.AllByRecursion};
 ghost use Rattle.gx_policy.specs.Lists.{slice};
-ghost use Rattle.gx_streams.specs.{declared.stored_report.StoredReport.{StoredReport}, Recorded.IsRecorded, Slots.{lists_of, report_in_slot}, Table.{no_report, report_of}};
+ghost use Rattle.gx_streams.specs.{declared.stored_report.StoredReport.{StoredReport}, Recorded.IsRecorded, Slots.{lists_of, report_in_slot}, Table.{no_report, report_stored}};
 
 use crate::fill::{FillRole, ReportedFill};
 use crate::recorded::Source;
@@ -15,7 +15,7 @@ use std::marker::Model;
 
 /// The lists in which slots name places.
 #[derive(Clone, Copy)]
-pub(crate) struct Lists<'a> {
+pub(crate) struct SlotLists<'a> {
     pub(crate) canceled: &'a [CanceledAt],
     pub(crate) others: &'a [Report],
 }
@@ -23,7 +23,7 @@ pub(crate) struct Lists<'a> {
 /// Some of a user's entries, one behind the other.
 #[derive(Drop)]
 pub(crate) struct Entries<'a> {
-    pub(crate) lists: Lists<'a>,
+    pub(crate) lists: SlotLists<'a>,
     pub(crate) slots: &'a [Slot],
 }
 
@@ -49,7 +49,7 @@ pub(crate) fn no_report() -> Report
 /// Executed, to the user of this side of the fill at this place.
 #[inline(always)]
 fn executed(fills: &[ReportedFill], place: usize, party: FillRole) -> Report
-    ensures { result ≡ report_of fills.now (StoredReport.Filled place party) }
+    ensures { result ≡ report_stored fills.now (StoredReport.Filled place party) }
 {
     match fills.get(place) {
         Some(fill) => fill.report(party),
@@ -59,7 +59,12 @@ fn executed(fills: &[ReportedFill], place: usize, party: FillRole) -> Report
 
 /// The report of the slot's entry, which lies in one of these lists, is of one of these fills, or is told by the records.
 #[inline(always)]
-fn report_at(lists: &Lists<'_>, fills: &[ReportedFill], source: &Source<'_>, slot: &Slot) -> Report
+fn report_at(
+    lists: &SlotLists<'_>,
+    fills: &[ReportedFill],
+    source: &Source<'_>,
+    slot: &Slot,
+) -> Report
     requires recorded { IsRecorded source.now.house source.now.records.now
         (report_in_slot fills.now (lists_of lists.now) slot.now) }
     ensures { result ≡ report_in_slot fills.now (lists_of lists.now) slot.now }
@@ -81,7 +86,7 @@ fn report_at(lists: &Lists<'_>, fills: &[ReportedFill], source: &Source<'_>, slo
 
 /// Puts the reports of these slots' entries into the list, in place of those there. Its room is kept.
 fn put_each(
-    lists: &Lists<'_>,
+    lists: &SlotLists<'_>,
     fills: &[ReportedFill],
     source: &Source<'_>,
     slots: &[Slot],
@@ -105,7 +110,7 @@ impl<'a> Entries<'a> {
     pub(crate) fn none() -> Entries<'a>
         ensures { result ≡ [] }
     {
-        let lists = Lists {
+        let lists = SlotLists {
             canceled: &[],
             others: &[],
         };
@@ -137,8 +142,8 @@ impl<'a> Entries<'a> {
         reports: &mut Vec<Report>,
     ) -> Result<(), OutOfMemory>
         requires recorded { AllByRecursion (IsRecorded source.now.house source.now.records.now)
-            (map (report_of fills.now) self.now) }
-        ensures { OnOk result (reports.new.items ≡ map (report_of fills.now) self.now) }
+            (map (report_stored fills.now) self.now) }
+        ensures { OnOk result (reports.new.items ≡ map (report_stored fills.now) self.now) }
     {
         put_each(&self.lists, fills, source, self.slots, reports)
     }

@@ -2,7 +2,7 @@
 
 ghost use Rattle.std.specs.Prelude.{◌≡◌, ◌≤◌, length};
 ghost use Rattle.gx_history.specs.Masks.{has_account};
-ghost use Rattle.gx_streams.specs.Fills.{copies_of, copy_report, executed_of_fill, executed_report, liquidity_of, side_of};
+ghost use Rattle.gx_streams.specs.Fills.{fill_copies, copy_report, executed_of_fill, executed_report, liquidity_of, fill_side};
 
 use gx_desk::DropCopy;
 use gx_history::report::{Message, Report};
@@ -70,7 +70,7 @@ impl FillRole {
 
 impl ReportedFill {
     fn side(&self, party: FillRole) -> &FillSide
-        ensures { result.now ≡ side_of self.now party }
+        ensures { result.now ≡ fill_side self.now party }
     {
         match party {
             FillRole::Taker => &self.taker,
@@ -117,14 +117,14 @@ impl ReportedFill {
 
     /// Whether a reader with this mask is told of the party's side.
     pub(crate) fn concerns(&self, mask: u64, party: FillRole) -> bool
-        ensures { result ≡ has_account mask (side_of self.now party).account_place }
+        ensures { result ≡ has_account mask (fill_side self.now party).account_place }
     {
         has_account(mask, self.side(party).account_place)
     }
 
     /// How many drop copies a reader with this mask is sent.
     pub(crate) fn count(&self, mask: u64) -> usize
-        ensures count { result ≡ length (copies_of mask self.now) }
+        ensures count { result ≡ length (fill_copies mask self.now) }
         ensures few { result ≤ 2 }
     {
         let taker = if self.concerns(mask, FillRole::Taker) {

@@ -3,7 +3,7 @@
 ghost use Rattle.std.specs.Prelude.{◌≡◌, ◌≤◌, ◌<◌, IfOk, IsOk, OnOk, OnErr};
 ghost use Rattle.gx_streams.specs.Kept.{empty_list, with_reserved_last, with_last, with_reserved, without_last};
 
-use crate::details::{Details, make_room};
+use crate::details::{ReportDetails, make_room};
 use crate::entries::Entries;
 use crate::slot::Slot;
 use crate::stored_report::StoredReport;
@@ -15,18 +15,18 @@ use std::marker::Model;
 #[derive(Drop)]
 pub(crate) struct Stream {
     slots: Vec<Slot>,
-    details: Details,
+    details: ReportDetails,
 }
 
 impl Model for Stream {
     ghost use Rattle.std.specs.Prelude.{vec_len, vec_capacity};
-    ghost use Rattle.gx_streams.specs.{Kept.{ReservedList}, Slots.{AreKept, entries_in}, declared.stored_report.StoredReport.{StoredReport}};
+    ghost use Rattle.gx_streams.specs.{Kept.{ReservedList}, Slots.{AreSlotsKept, entries_in}, declared.stored_report.StoredReport.{StoredReport}};
 
     ghost Value = { ReservedList StoredReport };
 
     ghost view = { λ s. record { items = entries_in s.details.lists s.slots.items; reserved = s.details.reserved } };
 
-    ghost invariant = { λ s. AreKept s.details s.slots.items (vec_len s.slots) (vec_capacity s.slots) };
+    ghost invariant = { λ s. AreSlotsKept s.details s.slots.items (vec_len s.slots) (vec_capacity s.slots) };
 }
 
 impl Stream {
@@ -36,7 +36,7 @@ impl Stream {
     {
         Ok(Stream {
             slots: Vec::with_capacity(alloc, room)?,
-            details: Details::new(alloc, room)?,
+            details: ReportDetails::new(alloc, room)?,
         })
     }
 

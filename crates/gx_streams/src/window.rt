@@ -1,7 +1,7 @@
 //! Reports that are asked for, among those that pass by.
 
 ghost use Rattle.std.specs.Prelude.{◌≡◌, [], ◌∷◌, ◌&&◌, ◌==◌, nat_le, length, OnOk};
-ghost use Rattle.gx_streams.specs.{Fills.{copies_of, copies_of_all, copy_of}, Spans.{copies_in, next_of, AreNumbered}, Windows.{taken_after, is_full, window}};
+ghost use Rattle.gx_streams.specs.{Fills.{fill_copies, copies_of_all, fill_copy}, Spans.{copies_in, next_of, AreNumbered}, Windows.{taken_after, is_full, window}};
 
 use crate::fill::{FillRole, ReportedFill};
 use crate::span::Span;
@@ -73,7 +73,7 @@ impl Window {
         fill: &ReportedFill,
         party: FillRole,
     ) -> Result<(), OutOfMemory>
-        ensures { OnOk result (self.new ≡ taken_after (copy_of mask fill.now party) self.old) }
+        ensures { OnOk result (self.new ≡ taken_after (fill_copy mask fill.now party) self.old) }
     {
         if fill.concerns(mask, party) {
             self.see(fill.copy(party))
@@ -84,7 +84,7 @@ impl Window {
 
     #[tactic(auto, using(crate::proofs::Windows_passed::after_both))]
     fn see_fill(&mut self, mask: u64, fill: &ReportedFill) -> Result<(), OutOfMemory>
-        ensures { OnOk result (self.new ≡ taken_after (copies_of mask fill.now) self.old) }
+        ensures { OnOk result (self.new ≡ taken_after (fill_copies mask fill.now) self.old) }
     {
         self.see_side(mask, fill, FillRole::Taker)?;
         self.see_side(mask, fill, FillRole::Maker)

@@ -2,8 +2,8 @@
 use Rattle.std.proofs.{Common.{◌≡◌, ℕ, zero, suc, ◌+◌, ◌*◌, ◌-◌, ◌/◌, ◌%◌, ◌^◌, ◌<◌, ◌≤◌, Bool, true, false, not, cond, ◌&&◌, List, [], ◌∷◌, ◌++◌, length, drop, replicate, fold, Some, None, refl, ap, ◌∙◌, arith, rules, decimal, nat_le, nat_lt, length-append, append_assoc}, lemmas.{Bool.{Decides.nat_tests, eqb-true, lt-ltb, le-leb}, List.length-replicate, Str.Parse.{IsNumeralModel, numerals_by_fold}, Fmt.{digits_value-decimal, decimal_is_IsNumeral, decimal_nonempty, length-decimal-le}}, Math.Seq.{take-append_seam, drop-append-add}}
 use Rattle.std.specs.{Int.IsInRange, Prelude.{◌==◌, position, option_map}, List.{list_all, position_or_len}, Char.is_ascii_digit}
 use Rattle.gx_soup.specs.Login.{with_digit, spelled_number}
-use Rattle.gx_script_text.specs.Words.{is_empty, number_of}
-use Rattle.gx_lines.specs.Showing.{decimals_text, price_text}
+use Rattle.gx_script_text.specs.Words.{is_empty, number_of_bits}
+use Rattle.gx_lines.specs.Showing.{price_decimals_text, price_text}
 use Rattle.gx_text.specs.Moments.{with_zeros}
 use Rattle.gx_terminal.specs.{Prices.{is_point, in_32_bits, decimals_of, pointed_price, price_at, price_of}, PriceLaws.PricesAreReadBack}
 use Rattle.gx_soup.proofs.Number_read.{digits_are}
@@ -36,7 +36,7 @@ read_by : (empty digits small : Bool) (n : ℕ) → empty ≡ false → digits �
     → cond ((not empty && digits) && small) (Some n) None ≡ Some n
 read_by empty digits small n e d s = rw (e, d, s) refl
 
-read : (ds : List ℕ) (n : ℕ) → Spells ds n → n < 2 ^ 32 → number_of 32 ds ≡ Some n
+read : (ds : List ℕ) (n : ℕ) → Spells ds n → n < 2 ^ 32 → number_of_bits 32 ds ≡ Some n
 read ds n k h =
     read_by (is_empty ds) (list_all is_ascii_digit ds) (nat_lt (spelled_number ds) (2 ^ 32)) (spelled_number ds) (not_empty ds k.some) (digits_are ds k.digits)
     (rw k.value (lt-ltb n (2 ^ 32) h))
@@ -65,10 +65,10 @@ length_with_zeros n k some below h =
     let short = length-decimal-le n k some below h in
     omega (arith, length-append (replicate (n - length (decimal k)) 48) (decimal k), length-replicate {A = ℕ} (n - length (decimal k)) 48)
 
-decimals_by : (ds : List ℕ) (n k : ℕ) → length ds ≡ n → nat_le n 4 ≡ true → number_of 32 ds ≡ Some k → decimals_of ds ≡ Some (k * 10 ^ (4 - n))
+decimals_by : (ds : List ℕ) (n k : ℕ) → length ds ≡ n → nat_le n 4 ≡ true → number_of_bits 32 ds ≡ Some k → decimals_of ds ≡ Some (k * 10 ^ (4 - n))
 decimals_by ds n k len few r =
-    ap (λ m. cond (nat_le m 4) (option_map (λ number. number * 10 ^ (4 - m)) (number_of 32 ds)) None) len
-    ∙ (ap (λ b. cond b (option_map (λ number. number * 10 ^ (4 - n)) (number_of 32 ds)) None) few
+    ap (λ m. cond (nat_le m 4) (option_map (λ number. number * 10 ^ (4 - m)) (number_of_bits 32 ds)) None) len
+    ∙ (ap (λ b. cond b (option_map (λ number. number * 10 ^ (4 - n)) (number_of_bits 32 ds)) None) few
     ∙ ap (option_map (λ number. number * 10 ^ (4 - n))) r)
 
 -- so many digits behind the point
@@ -119,5 +119,5 @@ pointed ds t d f p k h part sum small =
 pub prices_are_read_back : PricesAreReadBack
 unfolding price_text
 prices_are_read_back p h =
-    pointed (decimal (p / 10000)) (decimals_text (p % 10000)) (p / 10000) (p % 10000) p (spells_decimal (p / 10000) (omega (arith, h))) (omega (arith, h))
+    pointed (decimal (p / 10000)) (price_decimals_text (p % 10000)) (p / 10000) (p % 10000) p (spells_decimal (p / 10000) (omega (arith, h))) (omega (arith, h))
     (part_by (p % 10000) _ _ (omega arith) refl refl) (omega arith) h

@@ -14,4 +14,4 @@ pub use help::HELP;
 pub use laws::prices_are_read_back;
 pub use status::Status;
 pub use wish::{Lifetime, NewOrder, NewTerms, Side, Wish};
-pub use wrong::{ExpectedInput, Wrong};
+pub use wrong::{ExpectedInput, WrongWord};

@@ -1,77 +1,84 @@
 //! A line of a terminal, read.
 
 ghost use Rattle.std.specs.Prelude.{◌≡◌, ◌+◌, [], bytes_eq, MatchResult};
-ghost use Rattle.gx_script_text.specs.{ScriptLines.without_cr, Words.{name_of, number_of, itself}};
-ghost use Rattle.gx_terminal.specs.{Cursor.{Reads, next, next_or, value_at_end, wrong_at, word_meaning}, Prices.price_of, Wishes.{killed_of, kill_form, lift_form, limit_form, stock_form, reader_form, close_of, close_form, command_form, lifetime_of, enter_form, replace_form, cancel_form, order_form, wish_form, is_comment, wish_of}, declared.wish.Lifetime.TheVariants.Day};
+ghost use Rattle.gx_script_text.specs.{ScriptLines.without_cr, Words.{padded_name, number_of_bits, itself}};
+ghost use Rattle.gx_terminal.specs.{Cursor.{Reads, next_word, next_or, value_at_end, wrong_at, word_meaning}, Prices.price_of, Wishes.{killed_of, kill_wish, lift_wish, limit_wish, stock_wish, reader_wish, close_confirmed, close_wish, command_wish, lifetime_of, enter_wish, replace_wish, cancel_wish, order_form, wish_form, is_comment, wish_of}, declared.wish.Lifetime.TheVariants.Day};
 ghost use Rattle.gx_terminal.specs.declared.wrong.ExpectedInput.TheVariants as places;
 
 use crate::price::price;
 use crate::wish::{Lifetime, NewOrder, NewTerms, Side, Wish};
-use crate::words::{Words, name, number32, number64};
-use crate::wrong::{ExpectedInput, Wrong};
+use crate::words::{LineWords, name, number32, number64};
+use crate::wrong::{ExpectedInput, WrongWord};
 use gx_desk::{Action, WrittenName};
 use gx_ouch::CancelOrder;
 use gx_units::{AccountName, RuleId, Symbol, Token};
 
 /// What the last word taken stands for, or that it is wrong.
-fn standing<T: Drop>(words: &Words, found: Option<T>, wanted: ExpectedInput) -> Result<T, Wrong>
+fn standing<T: Drop>(
+    words: &LineWords,
+    found: Option<T>,
+    wanted: ExpectedInput,
+) -> Result<T, WrongWord>
     ensures { Reads (word_meaning wanted found words.now) words.now result }
 {
-    found.ok_or(Wrong {
+    found.ok_or(WrongWord {
         word: words.taken(),
         wanted,
     })
 }
 
-fn take_word<'a>(words: &mut Words<'a>, wanted: ExpectedInput) -> Result<&'a [u8], Wrong>
+fn take_word<'a>(words: &mut LineWords<'a>, wanted: ExpectedInput) -> Result<&'a [u8], WrongWord>
     ensures { MatchResult result
-        (λ word. next wanted itself words.old ≡ Ok (word.now, words.new))
+        (λ word. next_word wanted itself words.old ≡ Ok (word.now, words.new))
         (λ wrong. (words.old.words ≡ []) × (wrong ≡ wrong_at (words.old.taken + 1) wanted)) }
 {
     match words.next() {
         Some(word) => Ok(word),
-        None => Err(Wrong {
+        None => Err(WrongWord {
             word: words.taken() + 1,
             wanted,
         }),
     }
 }
 
-fn take_name<const N: usize>(words: &mut Words, wanted: ExpectedInput) -> Result<[u8; N], Wrong>
-    ensures { Reads (next wanted (name_of N) words.old) words.new result }
+fn take_name<const N: usize>(
+    words: &mut LineWords,
+    wanted: ExpectedInput,
+) -> Result<[u8; N], WrongWord>
+    ensures { Reads (next_word wanted (padded_name N) words.old) words.new result }
 {
     let word = take_word(words, wanted)?;
     standing(words, name(word), wanted)
 }
 
-fn take_number64(words: &mut Words, wanted: ExpectedInput) -> Result<u64, Wrong>
-    ensures { Reads (next wanted (number_of 64) words.old) words.new result }
+fn take_number64(words: &mut LineWords, wanted: ExpectedInput) -> Result<u64, WrongWord>
+    ensures { Reads (next_word wanted (number_of_bits 64) words.old) words.new result }
 {
     let word = take_word(words, wanted)?;
     standing(words, number64(word), wanted)
 }
 
-fn take_number32(words: &mut Words, wanted: ExpectedInput) -> Result<u32, Wrong>
-    ensures { Reads (next wanted (number_of 32) words.old) words.new result }
+fn take_number32(words: &mut LineWords, wanted: ExpectedInput) -> Result<u32, WrongWord>
+    ensures { Reads (next_word wanted (number_of_bits 32) words.old) words.new result }
 {
     let word = take_word(words, wanted)?;
     standing(words, number32(word), wanted)
 }
 
-fn take_price(words: &mut Words) -> Result<u32, Wrong>
-    ensures { Reads (next places.Price price_of words.old) words.new result }
+fn take_price(words: &mut LineWords) -> Result<u32, WrongWord>
+    ensures { Reads (next_word places.Price price_of words.old) words.new result }
 {
     let word = take_word(words, ExpectedInput::Price)?;
     standing(words, price(word), ExpectedInput::Price)
 }
 
 /// The value, where no word is left.
-fn ended<T: Drop>(words: &mut Words, value: T) -> Result<T, Wrong>
+fn ended<T: Drop>(words: &mut LineWords, value: T) -> Result<T, WrongWord>
     ensures { result ≡ value_at_end value words.old }
 {
     match words.next() {
         None => Ok(value),
-        Some(_) => Err(Wrong {
+        Some(_) => Err(WrongWord {
             word: words.taken(),
             wanted: ExpectedInput::End,
         }),
@@ -95,26 +102,26 @@ fn killed(word: &[u8]) -> Option<Wish>
     Some(Wish::Ask(Action::Kill(AccountName { bytes })))
 }
 
-#[tactic(auto, unfolding(crate::specs::Wishes::kill_form))]
-fn kill_form(words: &mut Words) -> Result<Wish, Wrong>
-    ensures { result ≡ kill_form words.old }
+#[tactic(auto, unfolding(crate::specs::Wishes::kill_wish))]
+fn kill_form(words: &mut LineWords) -> Result<Wish, WrongWord>
+    ensures { result ≡ kill_wish words.old }
 {
     let word = take_word(words, ExpectedInput::AccountOrAll)?;
     let kill = standing(words, killed(word), ExpectedInput::AccountOrAll)?;
     ended(words, kill)
 }
 
-#[tactic(auto, unfolding(crate::specs::Wishes::lift_form))]
-fn lift_form(words: &mut Words) -> Result<Wish, Wrong>
-    ensures { result ≡ lift_form words.old }
+#[tactic(auto, unfolding(crate::specs::Wishes::lift_wish))]
+fn lift_form(words: &mut LineWords) -> Result<Wish, WrongWord>
+    ensures { result ≡ lift_wish words.old }
 {
     let bytes = take_name(words, ExpectedInput::Account)?;
     ended(words, Wish::Ask(Action::Lift(AccountName { bytes })))
 }
 
-#[tactic(auto, unfolding(crate::specs::Wishes::limit_form))]
-fn limit_form(words: &mut Words) -> Result<Wish, Wrong>
-    ensures { result ≡ limit_form words.old }
+#[tactic(auto, unfolding(crate::specs::Wishes::limit_wish))]
+fn limit_form(words: &mut LineWords) -> Result<Wish, WrongWord>
+    ensures { result ≡ limit_wish words.old }
 {
     let bytes = take_name(words, ExpectedInput::Rule)?;
     let limit = take_number64(words, ExpectedInput::Value)?;
@@ -122,9 +129,9 @@ fn limit_form(words: &mut Words) -> Result<Wish, Wrong>
 }
 
 /// A rule and a stock.
-#[tactic(auto, unfolding(crate::specs::Wishes::stock_form))]
-fn stock_form(words: &mut Words) -> Result<(RuleId, Symbol), Wrong>
-    ensures { result ≡ stock_form words.old }
+#[tactic(auto, unfolding(crate::specs::Wishes::stock_wish))]
+fn stock_form(words: &mut LineWords) -> Result<(RuleId, Symbol), WrongWord>
+    ensures { result ≡ stock_wish words.old }
 {
     let rule = take_name(words, ExpectedInput::Rule)?;
     let stock = take_name(words, ExpectedInput::Stock)?;
@@ -132,9 +139,9 @@ fn stock_form(words: &mut Words) -> Result<(RuleId, Symbol), Wrong>
 }
 
 /// A reader and an account.
-#[tactic(auto, unfolding(crate::specs::Wishes::reader_form))]
-fn reader_form(words: &mut Words) -> Result<(WrittenName, AccountName), Wrong>
-    ensures { result ≡ reader_form words.old }
+#[tactic(auto, unfolding(crate::specs::Wishes::reader_wish))]
+fn reader_form(words: &mut LineWords) -> Result<(WrittenName, AccountName), WrongWord>
+    ensures { result ≡ reader_wish words.old }
 {
     let reader = take_name(words, ExpectedInput::Reader)?;
     let account = take_name(words, ExpectedInput::Account)?;
@@ -146,9 +153,9 @@ fn reader_form(words: &mut Words) -> Result<(WrittenName, AccountName), Wrong>
 }
 
 /// That the day is to be closed.
-#[tactic(auto, unfolding(crate::specs::Wishes::close_of))]
+#[tactic(auto, unfolding(crate::specs::Wishes::close_confirmed))]
 fn closing(word: &[u8]) -> Option<Wish>
-    ensures { result ≡ close_of word.now }
+    ensures { result ≡ close_confirmed word.now }
 {
     if is(word, b"--yes") {
         return Some(Wish::Ask(Action::CloseDay));
@@ -156,9 +163,9 @@ fn closing(word: &[u8]) -> Option<Wish>
     None
 }
 
-#[tactic(auto, unfolding(crate::specs::Wishes::close_form))]
-fn close_form(words: &mut Words) -> Result<Wish, Wrong>
-    ensures { result ≡ close_form words.old }
+#[tactic(auto, unfolding(crate::specs::Wishes::close_wish))]
+fn close_form(words: &mut LineWords) -> Result<Wish, WrongWord>
+    ensures { result ≡ close_wish words.old }
 {
     let word = take_word(words, ExpectedInput::Yes)?;
     let close = standing(words, closing(word), ExpectedInput::Yes)?;
@@ -166,9 +173,9 @@ fn close_form(words: &mut Words) -> Result<Wish, Wrong>
 }
 
 /// The command that the word names, of the words behind it.
-#[tactic(auto, unfolding(crate::specs::Wishes::command_form))]
-fn command_form(form: &[u8], words: &mut Words) -> Result<Wish, Wrong>
-    ensures { result ≡ command_form form.now words.old }
+#[tactic(auto, unfolding(crate::specs::Wishes::command_wish))]
+fn command_form(form: &[u8], words: &mut LineWords) -> Result<Wish, WrongWord>
+    ensures { result ≡ command_wish form.now words.old }
 {
     if is(form, b"kill") {
         return kill_form(words);
@@ -198,7 +205,7 @@ fn command_form(form: &[u8], words: &mut Words) -> Result<Wish, Wrong>
     if is(form, b"close") {
         return close_form(words);
     }
-    Err(Wrong {
+    Err(WrongWord {
         word: words.taken(),
         wanted: ExpectedInput::Form,
     })
@@ -217,7 +224,7 @@ fn lifetime(word: &[u8]) -> Option<Lifetime>
 }
 
 /// The lifetime of an order: a day, where no word is left.
-fn take_lifetime(words: &mut Words) -> Result<Lifetime, Wrong>
+fn take_lifetime(words: &mut LineWords) -> Result<Lifetime, WrongWord>
     ensures { Reads (next_or Day places.Lifetime lifetime_of words.old) words.new result }
 {
     match words.next() {
@@ -226,9 +233,9 @@ fn take_lifetime(words: &mut Words) -> Result<Lifetime, Wrong>
     }
 }
 
-#[tactic(auto, unfolding(crate::specs::Wishes::enter_form))]
-fn enter_form(side: Side, words: &mut Words) -> Result<Wish, Wrong>
-    ensures { result ≡ enter_form side words.old }
+#[tactic(auto, unfolding(crate::specs::Wishes::enter_wish))]
+fn enter_form(side: Side, words: &mut LineWords) -> Result<Wish, WrongWord>
+    ensures { result ≡ enter_wish side words.old }
 {
     let shares = take_number32(words, ExpectedInput::Shares)?;
     let stock = take_name(words, ExpectedInput::Stock)?;
@@ -244,9 +251,9 @@ fn enter_form(side: Side, words: &mut Words) -> Result<Wish, Wrong>
     ended(words, Wish::Enter(order))
 }
 
-#[tactic(auto, unfolding(crate::specs::Wishes::replace_form))]
-fn replace_form(words: &mut Words) -> Result<Wish, Wrong>
-    ensures { result ≡ replace_form words.old }
+#[tactic(auto, unfolding(crate::specs::Wishes::replace_wish))]
+fn replace_form(words: &mut LineWords) -> Result<Wish, WrongWord>
+    ensures { result ≡ replace_wish words.old }
 {
     let token = take_name(words, ExpectedInput::Token)?;
     let shares = take_number32(words, ExpectedInput::Shares)?;
@@ -262,8 +269,8 @@ fn replace_form(words: &mut Words) -> Result<Wish, Wrong>
 }
 
 /// The new size of an order that is canceled: 0, where no word is left.
-fn take_size(words: &mut Words) -> Result<u32, Wrong>
-    ensures { Reads (next_or 0 places.Shares (number_of 32) words.old) words.new result }
+fn take_size(words: &mut LineWords) -> Result<u32, WrongWord>
+    ensures { Reads (next_or 0 places.Shares (number_of_bits 32) words.old) words.new result }
 {
     match words.next() {
         None => Ok(0),
@@ -271,9 +278,9 @@ fn take_size(words: &mut Words) -> Result<u32, Wrong>
     }
 }
 
-#[tactic(auto, unfolding(crate::specs::Wishes::cancel_form))]
-fn cancel_form(words: &mut Words) -> Result<Wish, Wrong>
-    ensures { result ≡ cancel_form words.old }
+#[tactic(auto, unfolding(crate::specs::Wishes::cancel_wish))]
+fn cancel_form(words: &mut LineWords) -> Result<Wish, WrongWord>
+    ensures { result ≡ cancel_wish words.old }
 {
     let bytes = take_name(words, ExpectedInput::Token)?;
     let shares = take_size(words)?;
@@ -286,7 +293,7 @@ fn cancel_form(words: &mut Words) -> Result<Wish, Wrong>
 
 /// What a trader asks for, or else the command that the word names.
 #[tactic(auto, unfolding(crate::specs::Wishes::order_form))]
-fn order_form(form: &[u8], words: &mut Words) -> Result<Wish, Wrong>
+fn order_form(form: &[u8], words: &mut LineWords) -> Result<Wish, WrongWord>
     ensures { result ≡ order_form form.now words.old }
 {
     if is(form, b"buy") {
@@ -306,7 +313,7 @@ fn order_form(form: &[u8], words: &mut Words) -> Result<Wish, Wrong>
 
 /// What the word names, of the words behind it.
 #[tactic(auto, unfolding(crate::specs::Wishes::wish_form))]
-fn wish_form(form: &[u8], words: &mut Words) -> Result<Wish, Wrong>
+fn wish_form(form: &[u8], words: &mut LineWords) -> Result<Wish, WrongWord>
     ensures { result ≡ wish_form form.now words.old }
 {
     if is(form, b"watch") {
@@ -345,10 +352,10 @@ impl Wish {
     ///
     /// Which word is wrong, and what was wanted there.
     #[tactic(auto, unfolding(crate::specs::Wishes::wish_of))]
-    pub fn read(line: &[u8]) -> Result<Wish, Wrong>
+    pub fn read(line: &[u8]) -> Result<Wish, WrongWord>
         ensures { result ≡ wish_of line.now }
     {
-        let mut words = Words::new(without_cr(line));
+        let mut words = LineWords::new(without_cr(line));
         let Some(form) = words.next() else {
             return Ok(Wish::Nothing);
         };

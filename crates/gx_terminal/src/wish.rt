@@ -1,7 +1,7 @@
 //! What a line of a terminal asks for.
 
 ghost use Rattle.std.specs.Prelude.{◌≡◌};
-ghost use Rattle.gx_terminal.specs.Wishes.{command_of, indicator_of, time_in_force_of, enter_order, replace_order, order_of};
+ghost use Rattle.gx_terminal.specs.Wishes.{command_wished, indicator_of, time_in_force_of, wished_order, wished_replace, order_of};
 
 use gx_desk::{Action, Command, Tag};
 use gx_ouch::{CancelOrder, EnterOrder, Inbound, ReplaceOrder};
@@ -104,7 +104,7 @@ pub enum Wish {
 impl NewOrder {
     /// The order under this token, plain in all else.
     fn with_token(&self, token: Token) -> EnterOrder
-        ensures { result ≡ enter_order token self.now }
+        ensures { result ≡ wished_order token self.now }
     {
         EnterOrder {
             token,
@@ -127,7 +127,7 @@ impl NewOrder {
 impl NewTerms {
     /// The order under this token, plain in all else.
     fn with_token(&self, token: Token) -> ReplaceOrder
-        ensures { result ≡ replace_order token self.now }
+        ensures { result ≡ wished_replace token self.now }
     {
         ReplaceOrder {
             existing_token: self.token,
@@ -145,7 +145,7 @@ impl NewTerms {
 impl Wish {
     /// The command that is wished, under this tag; None where the wish is no single command.
     pub fn command(&self, tag: Tag) -> Option<Command>
-        ensures { result ≡ command_of tag self.now }
+        ensures { result ≡ command_wished tag self.now }
     {
         match self {
             Wish::Ask(action) => Some(Command {

@@ -2,7 +2,7 @@
 
 ghost use Rattle.std.specs.{Prelude.{◌≡◌, ◌+◌, ◌≤◌, ◌^◌, length, ◌∷◌, [], IsFalse, slice_index, position, MatchOption}, List.list_all, Char.is_ascii_digit};
 ghost use Rattle.gx_units.specs.Spelling.{is_space};
-ghost use Rattle.gx_script_text.specs.Words.{is_visible, is_name, is_number, name_of, number_of};
+ghost use Rattle.gx_script_text.specs.Words.{is_visible_byte, is_name, is_number, padded_name, number_of_bits};
 ghost use Rattle.gx_terminal.specs.Cursor.{words_between, left_of};
 
 use gx_soup::spelled_value;
@@ -11,12 +11,12 @@ use std::marker::Model;
 
 /// The words that are left of a line. Contracts see how many were taken, and the list of those that are left.
 #[derive(Drop)]
-pub(crate) struct Words<'a> {
+pub(crate) struct LineWords<'a> {
     rest: &'a [u8],
     taken: usize,
 }
 
-impl<'a> Model for Words<'a> {
+impl<'a> Model for LineWords<'a> {
     ghost use Rattle.std.specs.Prelude.{◌+◌, ◌≤◌, ◌^◌, length};
     ghost use Rattle.gx_terminal.specs.Cursor.{Left, left_of, words_between};
 
@@ -27,12 +27,12 @@ impl<'a> Model for Words<'a> {
     ghost invariant = { λ words. words.taken + length words.rest.now ≤ 2 ^ 63 };
 }
 
-impl<'a> Words<'a> {
+impl<'a> LineWords<'a> {
     /// All words of a line.
-    pub(crate) fn new(line: &'a [u8]) -> Words<'a>
+    pub(crate) fn new(line: &'a [u8]) -> LineWords<'a>
         ensures { result ≡ left_of 0 (words_between line.now) }
     {
-        Words {
+        LineWords {
             rest: line,
             taken: 0,
         }
@@ -93,7 +93,7 @@ fn end_of_word(text: &[u8]) -> Option<usize>
 
 /// A name, filled up with spaces.
 pub(crate) fn name<const N: usize>(word: &[u8]) -> Option<[u8; N]>
-    ensures { result ≡ name_of N word.now }
+    ensures { result ≡ padded_name N word.now }
 {
     if !is_name(word) {
         return None;
@@ -108,7 +108,7 @@ fn is_name(word: &[u8]) -> bool
 }
 
 fn are_visible(text: &[u8]) -> bool
-    ensures { result ≡ list_all is_visible text.now }
+    ensures { result ≡ list_all is_visible_byte text.now }
 {
     text.iter().all(|byte| *byte >= b'!' && *byte <= b'~')
 }
@@ -127,7 +127,7 @@ fn are_digits(text: &[u8]) -> bool
 
 /// A number of 64 bits.
 pub(crate) fn number64(word: &[u8]) -> Option<u64>
-    ensures { result ≡ number_of 64 word.now }
+    ensures { result ≡ number_of_bits 64 word.now }
 {
     if !is_number(word) {
         return None;
@@ -137,7 +137,7 @@ pub(crate) fn number64(word: &[u8]) -> Option<u64>
 
 /// A number of 32 bits.
 pub(crate) fn number32(word: &[u8]) -> Option<u32>
-    ensures { result ≡ number_of 32 word.now }
+    ensures { result ≡ number_of_bits 32 word.now }
 {
     if !is_number(word) {
         return None;

@@ -61,14 +61,14 @@ impl ExpectedInput {
 /// Which word of a line is wrong, counted from 1, and what was wanted there. Where the line ends too early it is the word
 /// behind its last one.
 #[derive(Clone, Copy, PartialEq, Eq)]
-pub struct Wrong {
+pub struct WrongWord {
     /// Which word it is.
     pub word: usize,
     /// What was wanted there.
     pub wanted: ExpectedInput,
 }
 
-impl fmt::Display for Wrong {
+impl fmt::Display for WrongWord {
     fn fmt<W: fmt::Write>(&self, f: &mut fmt::Formatter<W>) -> fmt::Result {
         let word = self.word;
         let text = self.wanted.text();

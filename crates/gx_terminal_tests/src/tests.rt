@@ -7,7 +7,9 @@ use gx_ouch::{
     Accepted, CancelReason, Canceled, EventCode, Executed, Inbound, Liquidity, OrderTerms,
     Outbound, RejectReason, Rejected, Replaced,
 };
-use gx_terminal::{ExpectedInput, HELP, Lifetime, NewOrder, NewTerms, Side, Status, Wish, Wrong};
+use gx_terminal::{
+    ExpectedInput, HELP, Lifetime, NewOrder, NewTerms, Side, Status, Wish, WrongWord,
+};
 use gx_text::Form;
 use gx_units::{AccountName, Firm, OutOfMemory, RuleId, Symbol, Token};
 
@@ -35,7 +37,7 @@ fn is_read(line: &[u8], wish: Wish) -> bool {
 fn is_wrong(line: &[u8], word: usize, wanted: ExpectedInput) -> bool {
     match Wish::read(line) {
         Ok(_) => false,
-        Err(wrong) => wrong == Wrong { word, wanted },
+        Err(wrong) => wrong == WrongWord { word, wanted },
     }
 }
 

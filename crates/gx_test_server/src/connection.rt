@@ -10,7 +10,7 @@ use std::thread;
 use std::time::{Clock, Duration};
 
 /// How many microseconds a thread that waits for a peer sleeps between two checks.
-const POLL_INTERVAL: u64 = 50;
+const POLL_INTERVAL_MICROS: u64 = 50;
 
 /// What a peer has sent, and how far the server has read it.
 #[derive(Drop)]
@@ -240,7 +240,7 @@ impl MemoryConnection {
             if self.hung_up.is_raised() || !pause.check() {
                 return;
             }
-            thread::sleep(rt, Duration::from_micros(POLL_INTERVAL));
+            thread::sleep(rt, Duration::from_micros(POLL_INTERVAL_MICROS));
         }
         unreachable!()
     }

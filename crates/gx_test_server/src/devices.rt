@@ -7,7 +7,7 @@ use std::time::{Clock, Duration};
 use std::{io, thread};
 
 /// How many microseconds a read that finds nothing sleeps before it tries again.
-const POLL_INTERVAL: u64 = 50;
+const POLL_INTERVAL_MICROS: u64 = 50;
 
 /// What the server reads from. A read waits for bytes, for the end, or until the server has hung up.
 pub(crate) struct MemoryReader<'x, R> {
@@ -39,7 +39,7 @@ impl<R: Wait + Clock> Read for MemoryReader<'_, R> {
                 ReadAttempt::Bytes(count) => return Ok(count.min(most)),
                 ReadAttempt::Nothing => thread::sleep(
                     self.rt,
-                    Duration::from_micros(POLL_INTERVAL),
+                    Duration::from_micros(POLL_INTERVAL_MICROS),
                 ),
             }
         }

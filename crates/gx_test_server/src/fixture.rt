@@ -13,7 +13,7 @@ use std::sync::Arc;
 const PLACES: u16 = 100;
 
 /// How many seconds a peer has to log in; no scenario hangs up on one who is late.
-const LOGIN_WITHIN: u64 = 10;
+const LOGIN_WITHIN_SECONDS: u64 = 10;
 
 /// What the threads of a scenario share: the door, the reception, the clock and the server's control.
 #[derive(Drop)]
@@ -48,7 +48,7 @@ impl<'x, D, A, R> ServerFixture<'x, D, A, R> {
                 alloc,
                 DayClock::at(UtcOffset::UTC, None, None, 0),
                 PLACES,
-                LOGIN_WITHIN,
+                LOGIN_WITHIN_SECONDS,
                 log,
             ),
         })

@@ -14,7 +14,7 @@ use std::thread;
 use std::time::{Clock, Duration};
 
 /// How many microseconds lie between two checks of what is waited for.
-const POLL_INTERVAL: u64 = 100;
+const POLL_INTERVAL_MICROS: u64 = 100;
 
 /// How often it is checked at most.
 const MOST_POLLS: u64 = 40_000;
@@ -88,7 +88,7 @@ impl<'x, D: Door, A, R: Wait + Clock> ScenarioRun<'x, D, A, R> {
             if self.has_come(pass, &condition) {
                 return true;
             }
-            thread::sleep(self.fixture.rt, Duration::from_micros(POLL_INTERVAL));
+            thread::sleep(self.fixture.rt, Duration::from_micros(POLL_INTERVAL_MICROS));
         }
         false
     }

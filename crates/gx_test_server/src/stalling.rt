@@ -45,7 +45,7 @@ impl<D: Door, C: Wait + Clock> Door for StallingDoor<'_, D, C> {
 
     ghost policy = { D.policy };
 
-    ghost held = { D.held };
+    ghost observed = { D.observed };
 
     ghost added = { D.added };
 

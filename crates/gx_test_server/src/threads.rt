@@ -22,7 +22,7 @@ use std::thread::Threads;
 use std::time::Clock;
 
 /// How many milliseconds a writer rests at most, since the clock of a scenario stands still.
-const WRITER_REST: u64 = 1;
+const WRITER_REST_MILLIS: u64 = 1;
 
 /// Serves a user who was admitted until his connection ends. Answers why he was cut off, if he was.
 fn serve_user<
@@ -41,7 +41,7 @@ fn serve_user<
 where
     D::Pass: Send,
 {
-    let wakeup = WriterWakeup::new(fixture.alloc, WRITER_REST).ok()?;
+    let wakeup = WriterWakeup::new(fixture.alloc, WRITER_REST_MILLIS).ok()?;
     let shared = SharedConnection::new(rt, pass, caller);
     let door = &StallingDoor::new(fixture.rt, fixture.door, connection);
     let (_hung_up, listening) = run_connection(

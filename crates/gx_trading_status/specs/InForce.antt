@@ -4,7 +4,7 @@ use Rattle.gx_units.specs.declared.names.UserName.{UserName}
 use Rattle.gx_desk.specs.declared.Action.{Action}
 use Rattle.gx_policy.specs.declared.policy.{Account.Account, PolicyData.PolicyData, User.User}
 use Rattle.gx_history.specs.{declared.{moves.Move.{Move, TheVariants.{Commands, PutsOn}}, «record».RecordData.RecordData}, InForce.{is_closed, kill_in_force, line_of}, Verdicts.last_moment}
-use Rattle.gx_trading_status.specs.StatusData.{AccountKill, TradingStatusData, UserLine, closed_day, with_line, with_mark}
+use Rattle.gx_trading_status.specs.StatusData.{AccountKill, TradingStatusData, UserLine, closed_day, with_user_line, with_mark}
 
 -- the user on no line
 abbrev pub off_line : User → UserLine
@@ -53,6 +53,6 @@ day_commanded officer other day = day
 
 -- the day, once a record has done this
 abbrev pub status_moved : Move → TradingStatusData → TradingStatusData
-status_moved (PutsOn user line) day = with_line user line day
+status_moved (PutsOn user line) day = with_user_line user line day
 status_moved (Commands officer c) day = day_commanded officer c.action day
 status_moved other day = day

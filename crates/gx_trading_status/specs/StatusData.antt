@@ -44,8 +44,8 @@ abbrev pub put_on : UserName → Option ℕ → UserLine → UserLine
 put_on user line u = record { user = u.user; line = if same_user u.user user then line else u.line }
 
 -- the day with the user on this line, or on none
-abbrev pub with_line : UserName → Option ℕ → TradingStatusData → TradingStatusData
-with_line user line day = record { lifters = day.lifters; lines = map (put_on user line) day.lines; kills = day.kills; closed = day.closed; moment = day.moment }
+abbrev pub with_user_line : UserName → Option ℕ → TradingStatusData → TradingStatusData
+with_user_line user line day = record { lifters = day.lifters; lines = map (put_on user line) day.lines; kills = day.kills; closed = day.closed; moment = day.moment }
 
 -- the entry after one more Kill (None) of the account, or Lift of it by this officer
 abbrev pub kill_entry_after : Lifters → AccountName → Option UserName → AccountKill → AccountKill

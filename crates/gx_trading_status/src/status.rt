@@ -3,7 +3,7 @@
 ghost use Rattle.std.specs.{Option.option_map_or, Prelude.{◌≡◌, IfOk, Some, None, false, not, option_map}};
 ghost use Rattle.gx_policy.specs.declared.policy.Lifters.TheVariants.{Two};
 ghost use Rattle.gx_history.specs.InForce.{has_lifted, is_untouched, kill_after};
-ghost use Rattle.gx_trading_status.specs.{StatusData.{at_moment, kill_in, killed_in, line_in, with_line, with_mark}, InForce.{day_commanded, status_moved, fresh_status, fresh_kills, fresh_lines}, View.{kills_of, lifted_by, lines_of}};
+ghost use Rattle.gx_trading_status.specs.{StatusData.{at_moment, kill_in, killed_in, line_in, with_user_line, with_mark}, InForce.{day_commanded, status_moved, fresh_status, fresh_kills, fresh_lines}, View.{kills_of, lifted_by, lines_of}};
 
 use gx_desk::Action;
 use gx_history::moves::Move;
@@ -185,7 +185,7 @@ impl TradingStatus {
     }
 
     fn put_on(&mut self, user: UserName, line: Option<u16>)
-        ensures { self.new ≡ with_line user line self.old }
+        ensures { self.new ≡ with_user_line user line self.old }
     {
         let Some(place) = self.lines.get_mut(&user) else {
             return;

@@ -76,12 +76,6 @@ pub get_last : {X : Type 0} (xs : List X) (x : X) → slice_get (xs ++ x ∷ [])
 get_last [] x = refl
 get_last (y ∷ xs) x = get_last xs x
 
--- as a loop knows an item
-pub item_at : {X : Type 0} (xs : List X) (place : ℕ) (x : X) → slice_get xs place ≡ Some x → x ≡ get_or xs place x
-item_at [] place x is = refl
-item_at (y ∷ xs) zero x is = sym (same_Some _ _ is)
-item_at (y ∷ xs) (suc place) x is = item_at xs place x is
-
 pub one_more_taken : {X : Type 0} (xs : List X) (place : ℕ) (x : X) → slice_get xs place ≡ Some x → take (place + 1) xs ≡ take place xs ++ x ∷ []
 one_more_taken [] place x found = cc
 one_more_taken (y ∷ xs) zero x found = ap (λ z. z ∷ []) (same_Some _ _ found)

@@ -8,7 +8,7 @@ use Rattle.gx_laws.proofs.Keys_differ.{all_members}
 use Rattle.gx_records.specs.State.{limit_in_force}
 use Rattle.gx_peaks.specs.{declared.{figure.Figure.Figure, key.PeakKey.PeakKey, peak.Reading.Reading}, Figures.{amount, is_counted, used_of}, Keys.{key_of, same_key}, Noting.IsSame, Raising.reading_of, Same.{key_is, key_is_itself}}
 use Rattle.gx_peaks.proofs.{OnePeak_next.whole, Figures_same.amounts_same, Figure_sort.is_some_always}
-use Rattle.gx_warnings.specs.{declared.{mark.Mark.Mark, warning.Warning.Warning}, Keeping.{IsEntry, IsKnown}, Marks.{mark_of, same_mark}, Noting.{with_figure, with_figures, with_share, with_warning}, Warnings.{IsFirstPassed, is_passed, passes}}
+use Rattle.gx_warnings.specs.{declared.{mark.Mark.Mark, warning.Warning.Warning}, Keeping.{IsEntry, IsKnown}, Marks.{mark_of, same_mark}, Noting.{with_figure, with_figure_warnings, with_share, with_warning}, Warnings.{IsFirstPassed, is_passed, passes}}
 use Rattle.gx_warnings.proofs.{Entries_next.{found_elsewhere, found_last, none_counts, one_more_counts}, Share_first.{begins, first_stays, known_goes_on, never_now}}
 
 -- marks that are the same are equal
@@ -259,8 +259,8 @@ module _ (policy : PolicyData) (shares : List ℕ) (earlier : List RecordData) (
           subst (λ (u : ℕ). Step (λ f s. IsSame policy f g) es (end u)) (ap (λ (o : Option ℕ). unwrap_or o 0) e)
           (in_other_words (One g counted shares) (λ f s. IsSame policy f g) es (end (amount policy g all)) (λ f c s a same. (same.same_key, a)) (shares_put g counted shares (all_members shares) es))
 
-  pub figures_put : (gs : List Figure) (es : List (Mark × Warning)) → Step (λ f s. Covers policy gs f) es (with_figures policy all shares es gs)
+  pub figures_put : (gs : List Figure) (es : List (Mark × Warning)) → Step (λ f s. Covers policy gs f) es (with_figure_warnings policy all shares es gs)
   figures_put [] es = nothing_done (λ f s. Covers policy [] f) es (λ f c s a none. none)
   figures_put (g ∷ gs) es =
-      one_then_other (λ f s. IsSame policy f g) (λ f s. Covers policy gs f) es (with_figure policy all shares es g) (with_figures policy all shares (with_figure policy all shares es g) gs)
+      one_then_other (λ f s. IsSame policy f g) (λ f s. Covers policy gs f) es (with_figure policy all shares es g) (with_figure_warnings policy all shares (with_figure policy all shares es g) gs)
       (figure_put g es) (figures_put gs (with_figure policy all shares es g))

@@ -5,7 +5,7 @@ use Rattle.gx_units.proofs.Lists_hold.{all_weaker}
 use Rattle.gx_policy.specs.declared.policy.PolicyData.{PolicyData}
 use Rattle.gx_history.specs.declared.record.RecordData.{RecordData}
 use Rattle.gx_peaks.specs.{declared.figure.Figure.Figure, Figures.is_counted}
-use Rattle.gx_warnings.specs.{declared.{mark.Mark.Mark, warning.Warning.Warning}, Keeping.{IsEntry, IsKnown, Keeps}, Marks.{mark_of, same_mark}, Warnings.{AreWarnings, IsWarning, is_of, is_passed}}
+use Rattle.gx_warnings.specs.{declared.{mark.Mark.Mark, warning.Warning.Warning}, Keeping.{IsEntry, IsKnown, Keeps}, Marks.{mark_of, same_mark}, Warnings.{AreWarnings, IsWarning, is_of_share, is_passed}}
 use Rattle.gx_warnings.proofs.Entries_next.{counts_first, one_counts}
 
 abbrev told : (Mark × Warning) → Warning
@@ -26,10 +26,10 @@ in_order_told policy entries rise i j d low within =
     (subst (λ (w : Warning). (get_or entries i e).1.reading.number ≤ w.reading.number) (sym second) (rise i j e low below))
 
 counts_told : (policy : PolicyData) (shares : List ℕ) (records : List RecordData) (f : Figure) (s : ℕ) (entries : List (Mark × Warning)) → AllByRecursion (IsEntry policy shares records) entries
-    → count_by (is_of policy f s) (map told entries) ≡ count_by (λ (e : Mark × Warning). same_mark (mark_of policy f s) e.0) entries
+    → count_by (is_of_share policy f s) (map told entries) ≡ count_by (λ (e : Mark × Warning). same_mark (mark_of policy f s) e.0) entries
 counts_told policy shares records f s [] h = refl
 counts_told policy shares records f s (e ∷ entries) h =
-    counts_first (is_of policy f s) e.1 (map told entries)
+    counts_first (is_of_share policy f s) e.1 (map told entries)
     ∙ (λ i. cond (same_mark (mark_of policy f s) (sym h.0.has_mark i)) 1 0 + counts_told policy shares records f s entries h.1 i)
     ∙ sym (counts_first (λ (e : Mark × Warning). same_mark (mark_of policy f s) e.0) e entries)
 
@@ -43,7 +43,7 @@ exactly {policy} shares {records} entries keeps = record {
 }
   where
     by : (f : Figure) → is_counted policy f ≡ true → (s : ℕ) → list_any (λ (a : ℕ). a == s) shares ≡ true → (n : ℕ) → is_passed policy f s (take n records) ≡ true
-        → (found : Option Warning) → lookup (same_mark (mark_of policy f s)) entries ≡ found → count_by (is_of policy f s) (map told entries) ≡ 1
+        → (found : Option Warning) → lookup (same_mark (mark_of policy f s)) entries ≡ found → count_by (is_of_share policy f s) (map told entries) ≡ 1
     by f counted s asked n passed None e =
         let no : false ≡ true = sym (subst (IsKnown policy f s records) e (keeps.known f counted s asked) n) ∙ passed in
         cc

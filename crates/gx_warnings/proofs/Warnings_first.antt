@@ -6,7 +6,7 @@ use Rattle.gx_history.specs.declared.record.RecordData.{RecordData}
 use Rattle.gx_records.specs.State.{limit_in_force}
 use Rattle.gx_peaks.specs.{declared.figure.Figure.Figure, Figures.{amount, is_counted}}
 use Rattle.gx_peaks.proofs.Peaks_first.{amount_none}
-use Rattle.gx_warnings.specs.{declared.{mark.Mark.Mark, warning.Warning.Warning, warnings.Warnings.Warnings}, Keeping.{AreKept, Keeps}, Warnings.is_passed}
+use Rattle.gx_warnings.specs.{declared.{mark.Mark.Mark, warning.Warning.Warning, warnings.Warnings.Warnings}, Keeping.{AreWarningsKept, Keeps}, Warnings.is_passed}
 use Rattle.gx_warnings.proofs.Share_first.{none_short}
 
 nothing_passed : (policy : PolicyData) (f : Figure) → is_counted policy f ≡ true → (share n : ℕ) → is_passed policy f share (take {A = RecordData} n []) ≡ false
@@ -22,7 +22,7 @@ none_kept policy shares = record {
   once = λ mark. omega arith;
 }
 
-pub empty_keeps : (w : Warnings) (asked : List ℕ) → w.table.entries.entries ≡ [] → w.shares.items ≡ 0 ∷ asked → (policy : PolicyData) → AreKept policy [] w
+pub empty_keeps : (w : Warnings) (asked : List ℕ) → w.table.entries.entries ≡ [] → w.shares.items ≡ 0 ∷ asked → (policy : PolicyData) → AreWarningsKept policy [] w
 empty_keeps w asked empty shares policy = record {
   keeps = subst (Keeps policy w.shares.items []) (sym empty) (none_kept policy w.shares.items);
   first_uses = ap (λ (ss : List ℕ). list_any (λ (a : ℕ). a == 0) ss) shares;

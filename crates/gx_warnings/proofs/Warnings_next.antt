@@ -7,9 +7,9 @@ use Rattle.gx_policy.specs.{declared.policy.PolicyData.PolicyData, Soundness.is_
 use Rattle.gx_history.specs.{declared.{live_order.LiveOrder.LiveOrder, «record».RecordData.RecordData}, Live.{live, live_numbered}, Verdicts.{Follows, IsLegal}}
 use Rattle.gx_laws.proofs.Streams_next.{legal_before}
 use Rattle.gx_records.specs.State.{limit_in_force}
-use Rattle.gx_peaks.specs.{declared.figure.Figure.Figure, Figures.{amount, is_counted}, Noting.{IsOfAccount, side_of}, Raising.reading_of, Touching.{gains_of, set_in, sets_limit}}
+use Rattle.gx_peaks.specs.{declared.figure.Figure.Figure, Figures.{amount, is_counted}, Noting.{IsOfAccount, stock_side_of}, Raising.reading_of, Touching.{gains_of, set_in, sets_limit}}
 use Rattle.gx_peaks.proofs.{Peaks_next.gainer_is_known, NewOrder_live.account_is_known, Figures_unraised.{counts_gain, counts_order, no_rise}, OnePeak_next.front, Figures_same.{counts_it, counts_its_gain}, Limit_kept.limit_is_kept, Figure_sort.{Sort, amount_is, has_sort, sort_of}}
-use Rattle.gx_warnings.specs.{declared.{mark.Mark.Mark, warning.Warning.Warning}, Keeping.{IsEntry, IsKnown, Keeps}, Marks.{mark_of, same_mark}, Moving.{figures_among, figures_of_gain, figures_of_order, figures_of_setting, warnings_after}, Noting.with_figures, Warnings.{is_passed, passes}}
+use Rattle.gx_warnings.specs.{declared.{mark.Mark.Mark, warning.Warning.Warning}, Keeping.{IsEntry, IsKnown, Keeps}, Marks.{mark_of, same_mark}, Moving.{figures_among, figures_of_gain, figures_of_order, figures_of_setting, warnings_after}, Noting.with_figure_warnings, Warnings.{is_passed, passes}}
 use Rattle.gx_warnings.proofs.{Figures_covered.{account_covers, covers_left, covers_right, setting_covers}, Share_first.{first_stays, never_goes_on, never_now, none_short}, Limit_none.none_stays, Warnings_call.{Covers, Goes, Lags, Now, Step, figures_put}}
 
 -- no more than before passes no more, of the same limit
@@ -70,7 +70,7 @@ module _ (policy : PolicyData) (shares : List ℕ) (sound : is_sound policy ≡ 
   figures = warnings_after policy records r (gains_of policy earlier r) es
 
   abbrev last : List (Mark × Warning)
-  last = with_figures policy records shares es figures
+  last = with_figure_warnings policy records shares es figures
 
   parts : IsLegal policy earlier × Follows policy (earlier, r)
   parts = legal_before earlier r legal
@@ -158,10 +158,10 @@ module _ (policy : PolicyData) (shares : List ℕ) (sound : is_sound policy ≡ 
         (covers_left policy f (figures_of_order policy (live_numbered (live policy records) r.number)) (figures_of_gain policy (gains_of policy earlier r))
         (subst (λ (x : Option LiveOrder). Covers policy (figures_of_order policy x) f) (sym e) (either (counts_it policy f s o is (account_is_known r.number o sound legal e) k))))
       where
-        either : IsOfAccount policy o.account None f ⊎ IsOfAccount policy o.account (Some (side_of o)) f → Covers policy (figures_among o.account None policy.rules ++ figures_among o.account (Some (side_of o)) policy.rules) f
-        either (inl gross) = covers_left policy f (figures_among o.account None policy.rules) (figures_among o.account (Some (side_of o)) policy.rules) (account_covers policy o.account None f gross)
+        either : IsOfAccount policy o.account None f ⊎ IsOfAccount policy o.account (Some (stock_side_of o)) f → Covers policy (figures_among o.account None policy.rules ++ figures_among o.account (Some (stock_side_of o)) policy.rules) f
+        either (inl gross) = covers_left policy f (figures_among o.account None policy.rules) (figures_among o.account (Some (stock_side_of o)) policy.rules) (account_covers policy o.account None f gross)
         either (inr net) =
-            covers_right policy f (figures_among o.account None policy.rules) (figures_among o.account (Some (side_of o)) policy.rules) (account_covers policy o.account (Some (side_of o)) f net)
+            covers_right policy f (figures_among o.account None policy.rules) (figures_among o.account (Some (stock_side_of o)) policy.rules) (account_covers policy o.account (Some (stock_side_of o)) f net)
 
     by_order : (found : Option LiveOrder) → live_numbered (live policy records) r.number ≡ found → Now policy shares earlier r last f share
     by_order None e = by_gain (ap (λ (o : Option LiveOrder). option_map_or (counts_order s) o false) e) (gains_of policy earlier r) refl
@@ -184,10 +184,10 @@ module _ (policy : PolicyData) (shares : List ℕ) (sound : is_sound policy ≡ 
 -- once the figures are read that the last record can have raised, and those whose limit it set
 pub all_carried : {policy : PolicyData} (shares : List ℕ) {records earlier : List RecordData} (r : RecordData) (seller : Option AccountName) (figures : List Figure) (old new : List (Mark × Warning)) → is_sound policy ≡ true
     → IsLegal policy records → list_any (λ (asked : ℕ). asked == 0) shares ≡ true → records ≡ earlier ++ r ∷ [] → Keeps policy shares earlier old → seller ≡ gains_of policy earlier r
-    → figures ≡ warnings_after policy records r seller old → new ≡ with_figures policy records shares old figures → Keeps policy shares records new
+    → figures ≡ warnings_after policy records r seller old → new ≡ with_figure_warnings policy records shares old figures → Keeps policy shares records new
 all_carried {policy} shares {records} {earlier} r seller figures old new sound legal first_uses is keeps sells lists puts =
-    let P : List RecordData → Type 0 = λ h. IsLegal policy h → figures ≡ warnings_after policy h r (gains_of policy earlier r) old → new ≡ with_figures policy h shares old figures → Keeps policy shares h new in
+    let P : List RecordData → Type 0 = λ h. IsLegal policy h → figures ≡ warnings_after policy h r (gains_of policy earlier r) old → new ≡ with_figure_warnings policy h shares old figures → Keeps policy shares h new in
     subst P (sym is)
     (λ legal lists puts.
-    subst (Keeps policy shares (earlier ++ r ∷ [])) (sym (puts ∙ ap (with_figures policy (earlier ++ r ∷ []) shares old) lists)) (carried_at policy shares sound earlier r legal first_uses old keeps))
+    subst (Keeps policy shares (earlier ++ r ∷ [])) (sym (puts ∙ ap (with_figure_warnings policy (earlier ++ r ∷ []) shares old) lists)) (carried_at policy shares sound earlier r legal first_uses old keeps))
     legal (lists ∙ ap (λ (a : Option AccountName). warnings_after policy records r a old) sells) puts

@@ -28,11 +28,11 @@ abbrev pub warnings_of : Warnings → List Warning
 warnings_of warnings = map (λ (entry : Mark × Warning). entry.1) warnings.table.entries.entries
 
 -- these are the warnings over these records, those of a first use among them
-pub record AreKept (policy : PolicyData) (records : List RecordData) (warnings : Warnings) : Type 0 where
+pub record AreWarningsKept (policy : PolicyData) (records : List RecordData) (warnings : Warnings) : Type 0 where
   pub keeps : Keeps policy warnings.shares.items records warnings.table.entries.entries
   pub first_uses : IsTrue (list_any (λ (asked : ℕ). asked == 0) warnings.shares.items)
 
 -- and whose sell the record that comes next fills is known
-pub record IsExpecting (policy : PolicyData) (records : List RecordData) (next : RecordData) (warnings : Warnings) : Type 0 where
-  pub kept : AreKept policy records warnings
+pub record AreWarningsExpecting (policy : PolicyData) (records : List RecordData) (next : RecordData) (warnings : Warnings) : Type 0 where
+  pub kept : AreWarningsKept policy records warnings
   pub seller : warnings.seller ≡ gains_of policy records next

@@ -3,7 +3,7 @@ use Rattle.std.specs.{Prelude.{◌==◌, ◌&&◌, List, [], ◌∷◌, ◌++◌
 use Rattle.gx_units.specs.{Names.same_rule, declared.names.{AccountName.AccountName, RuleId.RuleId}}
 use Rattle.gx_policy.specs.declared.policy.{FileRule.FileRule, PolicyData.PolicyData}
 use Rattle.gx_history.specs.{declared.{facts.StockSide.StockSide, live_order.LiveOrder.LiveOrder, «record».RecordData.RecordData}, Live.{live, live_numbered}}
-use Rattle.gx_peaks.specs.{declared.figure.Figure.Figure, Figures.counts, Noting.side_of, Touching.set_in}
+use Rattle.gx_peaks.specs.{declared.figure.Figure.Figure, Figures.counts, Noting.stock_side_of, Touching.set_in}
 use Rattle.gx_warnings.specs.declared.{mark.Mark.Mark, warning.Warning.Warning}
 
 -- the rule's figure of the account, on this side of a stock or on none
@@ -17,7 +17,7 @@ figures_among account side rules = map (figure_under account side) (filter (λ (
 -- those that count an order, if there is one
 abbrev pub figures_of_order : PolicyData → Option LiveOrder → List Figure
 figures_of_order policy None = []
-figures_of_order policy (Some o) = figures_among o.account None policy.rules ++ figures_among o.account (Some (side_of o)) policy.rules
+figures_of_order policy (Some o) = figures_among o.account None policy.rules ++ figures_among o.account (Some (stock_side_of o)) policy.rules
 
 -- those that count what the account gains, if there is one
 abbrev pub figures_of_gain : PolicyData → Option AccountName → List Figure

@@ -21,5 +21,5 @@ with_figure policy records shares entries figure =
     (used_of policy figure records) entries
 
 -- with those of all these figures
-abbrev pub with_figures : PolicyData → List RecordData → List ℕ → List (Mark × Warning) → List Figure → List (Mark × Warning)
-with_figures policy records shares entries figures = fold (with_figure policy records shares) entries figures
+abbrev pub with_figure_warnings : PolicyData → List RecordData → List ℕ → List (Mark × Warning) → List Figure → List (Mark × Warning)
+with_figure_warnings policy records shares entries figures = fold (with_figure policy records shares) entries figures

@@ -28,12 +28,12 @@ pub record IsWarning (policy : PolicyData) (shares : List ℕ) (records : List R
   pub reading : w.reading ≡ reading_of policy (take w.reading.number records) w.figure.rule (amount policy w.figure (take w.reading.number records))
 
 -- the warning is of this share of the figure
-abbrev pub is_of : PolicyData → Figure → ℕ → Warning → Bool
-is_of policy figure share w = same_mark (mark_of policy figure share) (mark_of policy w.figure w.share)
+abbrev pub is_of_share : PolicyData → Figure → ℕ → Warning → Bool
+is_of_share policy figure share w = same_mark (mark_of policy figure share) (mark_of policy w.figure w.share)
 
 -- Each is a warning, in the order of their records, and there is exactly one of each share that a figure has passed.
 pub record AreWarnings (policy : PolicyData) (shares : List ℕ) (records : List RecordData) (told : List Warning) : Type 0 where
   pub each : AllByRecursion (IsWarning policy shares records) told
   pub in_order : IsNonDecreasingBy (λ (w : Warning). w.reading.number) told
   pub exactly_one : (figure : Figure) → IsTrue (is_counted policy figure) → (share : ℕ) → IsTrue (list_any (λ (asked : ℕ). asked == share) shares)
-      → (n : ℕ) → IsTrue (is_passed policy figure share (take n records)) → count_by (is_of policy figure share) told ≡ 1
+      → (n : ℕ) → IsTrue (is_passed policy figure share (take n records)) → count_by (is_of_share policy figure share) told ≡ 1

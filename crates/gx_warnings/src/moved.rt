@@ -44,8 +44,8 @@ fn add_order<G: ShowsState>(
     number: u64,
 ) -> Result<(), OutOfMemory>
     ensures { OnOk result (list.new.items ≡ list.old.items
-        ++ figures_of_order (G.seen gate.now).policy
-        (live_numbered (live (G.seen gate.now).policy (G.seen gate.now).records) number)) }
+        ++ figures_of_order (G.state gate.now).policy
+        (live_numbered (live (G.state gate.now).policy (G.state gate.now).records) number)) }
 {
     let Some(order) = gate.live_order(number) else {
         return Ok(());
@@ -64,7 +64,7 @@ fn add_gain<G: ShowsState>(
     seller: Option<AccountName>,
 ) -> Result<(), OutOfMemory>
     ensures { OnOk result (list.new.items
-        ≡ list.old.items ++ figures_of_gain (G.seen gate.now).policy seller) }
+        ≡ list.old.items ++ figures_of_gain (G.state gate.now).policy seller) }
 {
     match seller {
         Some(account) => add_figures(list, gate.policy().rules(), account, None),
@@ -126,8 +126,8 @@ impl WarningTable {
         left: &RecordData,
         seller: Option<AccountName>,
     ) -> Result<(), OutOfMemory>
-        ensures { OnOk result (list.new.items ≡ warnings_after (G.seen gate.now).policy
-            (G.seen gate.now).records left.now seller self.now.entries.entries) }
+        ensures { OnOk result (list.new.items ≡ warnings_after (G.state gate.now).policy
+            (G.state gate.now).records left.now seller self.now.entries.entries) }
     {
         list.clear();
         add_order(list, gate, left.number)?;

@@ -3,7 +3,7 @@
 ghost use Rattle.std.specs.{Prelude.{◌≡◌, fold, is_some, OnOk}, Map.lookup};
 ghost use Rattle.indexmap.specs.IndexMap.{IsEmpty};
 ghost use Rattle.gx_peaks.specs.Raising.{reading_of};
-ghost use Rattle.gx_warnings.specs.{Marks.same_mark, Noting.{with_figure, with_figures, with_share, with_warning}};
+ghost use Rattle.gx_warnings.specs.{Marks.same_mark, Noting.{with_figure, with_figure_warnings, with_share, with_warning}};
 
 use crate::mark::Mark;
 use crate::warning::Warning;
@@ -24,7 +24,7 @@ pub struct WarningTable {
 
 /// What the figure of the rule, which comes to this, is behind the gate's last record.
 fn reading<G: ShowsState>(gate: &G, rule: RuleId, used: u128) -> Reading
-    ensures { result ≡ reading_of (G.seen gate.now).policy (G.seen gate.now).records rule used }
+    ensures { result ≡ reading_of (G.state gate.now).policy (G.state gate.now).records rule used }
 {
     Reading {
         used,
@@ -95,7 +95,7 @@ impl WarningTable {
         figure: Figure,
     ) -> Result<(), OutOfMemory>
         ensures noted { OnOk result (self.new.entries.entries
-            ≡ with_figure (G.seen gate.now).policy (G.seen gate.now).records shares.now
+            ≡ with_figure (G.state gate.now).policy (G.state gate.now).records shares.now
             self.old.entries.entries figure) }
     {
         let Some(used) = figure.used(gate) else {
@@ -118,7 +118,7 @@ impl WarningTable {
         figures: &[Figure],
     ) -> Result<(), OutOfMemory>
         ensures noted { OnOk result (self.new.entries.entries
-            ≡ with_figures (G.seen gate.now).policy (G.seen gate.now).records shares.now
+            ≡ with_figure_warnings (G.state gate.now).policy (G.state gate.now).records shares.now
             self.old.entries.entries figures.now) }
     {
         for figure in figures {

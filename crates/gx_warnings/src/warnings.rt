@@ -3,7 +3,7 @@
 ghost use Rattle.std.specs.Prelude.{◌≡◌, ◌∷◌, List, [], IfOk, length, slice_get};
 ghost use Rattle.gx_history.specs.declared.record.RecordData.{RecordData};
 ghost use Rattle.gx_policy.specs.declared.policy.PolicyData.{PolicyData};
-ghost use Rattle.gx_warnings.specs.{Keeping.{AreKept, warnings_of}, Warnings.AreWarnings};
+ghost use Rattle.gx_warnings.specs.{Keeping.{AreWarningsKept, warnings_of}, Warnings.AreWarnings};
 
 use crate::table::WarningTable;
 use crate::warning::Warning;
@@ -43,7 +43,7 @@ impl Warnings {
     /// `OutOfMemory` where memory was refused.
     pub fn new(alloc: Global, shares: &[u8]) -> Result<Warnings, OutOfMemory>
         ensures shares { IfOk result (λ warnings. warnings.shares.items ≡ 0 ∷ shares.now) }
-        ensures none { (policy : PolicyData) → IfOk result (AreKept policy []) }
+        ensures none { (policy : PolicyData) → IfOk result (AreWarningsKept policy []) }
     {
         let shares = with_zero(alloc, shares)?;
         Ok(Warnings {
@@ -59,7 +59,7 @@ impl Warnings {
     pub fn count(&self) -> usize
         ensures count { result ≡ length (warnings_of self.now) }
         ensures exact { (policy : PolicyData) (records : List RecordData)
-            → AreKept policy records self.now
+            → AreWarningsKept policy records self.now
             → AreWarnings policy self.now.shares.items records (warnings_of self.now) }
     {
         self.table.entries.len()

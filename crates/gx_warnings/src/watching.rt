@@ -10,15 +10,15 @@ use gx_units::OutOfMemory;
 
 impl<G: ShowsState> Watches<G> for Warnings {
     ghost use Rattle.std.specs.Prelude.{ℕ, List};
-    ghost use Rattle.gx_warnings.specs.Keeping.{AreKept, IsExpecting};
+    ghost use Rattle.gx_warnings.specs.Keeping.{AreWarningsKept, AreWarningsExpecting};
 
     ghost Asked = { List ℕ };
 
     ghost asked = { λ warnings. warnings.shares.items };
 
-    ghost saw = { λ warnings policy records. AreKept policy records warnings };
+    ghost saw = { λ warnings policy records. AreWarningsKept policy records warnings };
 
-    ghost expects = { λ warnings policy records next. IsExpecting policy records next warnings };
+    ghost expects = { λ warnings policy records next. AreWarningsExpecting policy records next warnings };
 
     fn before(&mut self, gate: &G, next: &RecordData) -> Result<(), OutOfMemory> {
         self.seller = gains_of(gate, next);

@@ -6,7 +6,7 @@ use Rattle.gx_text.specs.declared.form.Form.{Form}
 use Rattle.gx_events.specs.Lines.{LogState}
 use Rattle.gx_audit.specs.declared.fault.AuditFault.{AuditFault}
 use Rattle.gx_follower.specs.Followers.{FollowerData}
-use Rattle.gx_warnings.specs.{declared.warning.Warning.Warning, Keeping.AreKept}
+use Rattle.gx_warnings.specs.{declared.warning.Warning.Warning, Keeping.AreWarningsKept}
 use Rattle.gx_monitor.specs.{declared.monitor.Monitor.Monitor, Logs.IsLogOf}
 
 -- the policy, the bytes that were read, the records that were made of them, how many of the bytes are whole, and the fault at
@@ -47,4 +47,4 @@ told_all w = record {
 pub record IsFollowing (follower : FollowerData) (monitor : Monitor) : Type 0 where
   pub goes_on : follower.fault ≡ None
   pub log : IsLogOf follower.policy follower.records monitor.watched.first
-  pub warnings : AreKept follower.policy follower.records monitor.watched.second
+  pub warnings : AreWarningsKept follower.policy follower.records monitor.watched.second

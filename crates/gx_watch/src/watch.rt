@@ -161,8 +161,8 @@ impl<G: ShowsRecords + ShowsState> Watch<G> {
 
     /// The gate.
     pub fn gate(&self) -> &G
-        ensures policy { (G.seen result.now).policy ≡ self.now.policy }
-        ensures records { (G.seen result.now).records ≡ self.now.records }
+        ensures policy { (G.state result.now).policy ≡ self.now.policy }
+        ensures records { (G.state result.now).records ≡ self.now.records }
     {
         self.follower.gate()
     }

@@ -7,7 +7,7 @@ use Rattle.gx_policy.specs.{declared.{policy.PolicyData.PolicyData, rule_name.Ru
 use Rattle.gx_endings.specs.Commands.{denied_by}
 use Rattle.gx_overview.specs.Accounts.{capped_count}
 use Rattle.gx_activity.proofs.{Counts_next.one_more_is, Counts_bounds.fits, Table_next.table_from}
-use Rattle.gx_whatif.specs.{contracts.heading.HeadingPartialEq.TheImpl.{eq-value}, declared.{change.Change.Change, heading.{Heading.Heading, HeadingRow.HeadingRow}}, Counting.{counted_each, never, once_more, so_often, table_of}, Headings.{all_headings, denied_no_more, denied_now, heading_row, heading_rows, headings, of_account, same_heading}}
+use Rattle.gx_whatif.specs.{contracts.heading.HeadingPartialEq.TheImpl.{eq-value}, declared.{change.VerdictChange.VerdictChange, heading.{Heading.Heading, HeadingRow.HeadingRow}}, Counting.{counted_each, heading_uncounted, heading_once_more, heading_count, heading_table}, Headings.{all_headings, denied_no_more, denied_now, heading_row, heading_rows, headings, heading_of_account, same_heading}}
 
 -- ---- headings are the same where they are equal
 
@@ -59,7 +59,7 @@ same_tests = λ i a b. compared a b i
 
 -- ---- one more
 
-more_often : (came : List Heading) (x h : Heading) → so_often (came ++ x ∷ []) h ≡ cond (same_heading x h) (once_more (so_often came h)) (so_often came h)
+more_often : (came : List Heading) (x h : Heading) → heading_count (came ++ x ∷ []) h ≡ cond (same_heading x h) (heading_once_more (heading_count came h)) (heading_count came h)
 more_often came x h = ap (λ (n : ℕ). row (capped_count n)) (sum_by_push (λ (y : Heading). cond (same_heading y h) 1 0) came x) ∙ by (same_heading x h)
   where
     row : ℕ → HeadingRow
@@ -73,21 +73,21 @@ more_often came x h = ap (λ (n : ℕ). row (capped_count n)) (sum_by_push (λ (
     by false = ap row (one_more_is false before)
 
 -- these behind those that came
-pub table_grows : (came more : List Heading) → counted_each (table_of came) more ≡ table_of (came ++ more)
+pub table_grows : (came more : List Heading) → counted_each (heading_table came) more ≡ heading_table (came ++ more)
 table_grows came more =
-    table_from same_heading same_itself same_are_equal (λ (x : Heading). x) so_often never (λ (x : Heading) (row : HeadingRow). once_more row) (λ x. refl) more_often came more
+    table_from same_heading same_itself same_are_equal (λ (x : Heading). x) heading_count heading_uncounted (λ (x : Heading) (row : HeadingRow). heading_once_more row) (λ x. refl) more_often came more
 
 -- one change further
-pub counted_further : (policy : PolicyData) (found : List Change) (i : ℕ) (c d : Change) (before after : List (Heading × HeadingRow)) → i < length found → c ≡ get_or found i d
-    → before ≡ table_of (all_headings policy (take i found)) → after ≡ counted_each before (headings policy c) → after ≡ table_of (all_headings policy (take (i + 1) found))
+pub counted_further : (policy : PolicyData) (found : List VerdictChange) (i : ℕ) (c d : VerdictChange) (before after : List (Heading × HeadingRow)) → i < length found → c ≡ get_or found i d
+    → before ≡ heading_table (all_headings policy (take i found)) → after ≡ counted_each before (headings policy c) → after ≡ heading_table (all_headings policy (take (i + 1) found))
 counted_further policy found i c d before after within is so_far counted =
     counted
     ∙ ap (λ (entries : List (Heading × HeadingRow)). counted_each entries (headings policy c)) so_far
     ∙ table_grows (all_headings policy (take i found)) (headings policy c)
-    ∙ ap table_of
+    ∙ ap heading_table
     (ap (λ (more : List Heading). all_headings policy (take i found) ++ more) (sym (append-nil (headings policy c)))
     ∙ sym (flat_map-append (headings policy) (take i found) (c ∷ []))
-    ∙ ap (all_headings policy) (ap (λ (x : Change). take i found ++ x ∷ []) is ∙ sym (take_more found i d within)))
+    ∙ ap (all_headings policy) (ap (λ (x : VerdictChange). take i found ++ x ∷ []) is ∙ sym (take_more found i d within)))
 
 -- ---- no count stops
 
@@ -117,7 +117,7 @@ no_more_is : (rule : Option RuleName) (h : Heading) → often h (denied_no_more 
 no_more_is None h = omega arith
 no_more_is (Some rule) h = one_is (Heading.DeniedNoMore (rule_id rule)) h
 
-account_heading_is : (account : Option AccountName) (h : Heading) → often h (of_account account ∷ []) ≤ cond (2 == sort_of h) 1 0
+account_heading_is : (account : Option AccountName) (h : Heading) → often h (heading_of_account account ∷ []) ≤ cond (2 == sort_of h) 1 0
 account_heading_is None h = one_is Heading.OfNoAccount h
 account_heading_is (Some account) h = one_is (Heading.OfAccount account) h
 
@@ -128,12 +128,12 @@ one_sort (Heading.OfAccount account) = omega arith
 one_sort Heading.OfNoAccount = omega arith
 
 -- a change comes under a heading once at most
-once_at_most : (policy : PolicyData) (c : Change) (h : Heading) → often h (headings policy c) ≤ 1
+once_at_most : (policy : PolicyData) (c : VerdictChange) (h : Heading) → often h (headings policy c) ≤ 1
 once_at_most policy c h =
     let test : Heading → ℕ = λ (x : Heading). cond (same_heading x h) 1 0 in
     let now : List Heading = denied_now (option_and_then denied_by c.told) in
     let no_more : List Heading = denied_no_more (denied_by c.recorded) in
-    let whose : List Heading = of_account (option_and_then (account_of policy) c.user) ∷ [] in
+    let whose : List Heading = heading_of_account (option_and_then (account_of policy) c.user) ∷ [] in
     omega (
       arith,
       sum_by-append test (now ++ no_more) whose,
@@ -145,25 +145,25 @@ once_at_most policy c h =
     )
 
 -- so a heading comes no more often than there are changes
-few_came : (policy : PolicyData) (found : List Change) (h : Heading) → often h (all_headings policy found) ≤ length found
+few_came : (policy : PolicyData) (found : List VerdictChange) (h : Heading) → often h (all_headings policy found) ≤ length found
 few_came policy [] h = omega arith
 few_came policy (c ∷ found) h =
     let test : Heading → ℕ = λ (x : Heading). cond (same_heading x h) 1 0 in
     omega (arith, sum_by-append test (headings policy c) (all_headings policy found), once_at_most policy c h, few_came policy found h)
 
-all_fit : (policy : PolicyData) (found : List Change) (n : ℕ) → n ≡ length found → n < 2 ^ 64 → (h : Heading) → so_often (all_headings policy found) h ≡ heading_row (all_headings policy found) h
+all_fit : (policy : PolicyData) (found : List VerdictChange) (n : ℕ) → n ≡ length found → n < 2 ^ 64 → (h : Heading) → heading_count (all_headings policy found) h ≡ heading_row (all_headings policy found) h
 all_fit policy found n is few h = ap row (fits (often h (all_headings policy found)) (omega (arith, few_came policy found h)))
   where
     row : ℕ → HeadingRow
     row count = record { heading = h; count = count }
 
 -- the rows alone
-pub rows_are : (policy : PolicyData) (found : List Change) (entries : List (Heading × HeadingRow)) (rows : List HeadingRow) (n : ℕ) → entries ≡ table_of (all_headings policy found)
+pub rows_are : (policy : PolicyData) (found : List VerdictChange) (entries : List (Heading × HeadingRow)) (rows : List HeadingRow) (n : ℕ) → entries ≡ heading_table (all_headings policy found)
     → rows ≡ map (λ (e : Heading × HeadingRow). e.1) entries → n ≡ length found → n < 2 ^ 64 → rows ≡ heading_rows policy found
 rows_are policy found entries rows n is listed many few =
     let came : List Heading = all_headings policy found in
     listed
     ∙ ap (map (λ (e : Heading × HeadingRow). e.1)) is
-    ∙ map-map {B = Heading × HeadingRow} (λ (e : Heading × HeadingRow). e.1) (λ (h : Heading). (h, so_often came h)) (once same_heading (map (λ (h : Heading). h) came))
-    ∙ map_same (so_often came) (heading_row came) (all_fit policy found n many few) (once same_heading (map (λ (h : Heading). h) came))
+    ∙ map-map {B = Heading × HeadingRow} (λ (e : Heading × HeadingRow). e.1) (λ (h : Heading). (h, heading_count came h)) (once same_heading (map (λ (h : Heading). h) came))
+    ∙ map_same (heading_count came) (heading_row came) (all_fit policy found n many few) (once same_heading (map (λ (h : Heading). h) came))
     ∙ ap (λ (hs : List Heading). map (heading_row came) (once same_heading hs)) (map-id came)

@@ -1,4 +1,4 @@
--- What one more record makes of the day under the other policy, and of its changes.
+-- What one more record makes of the day under the other policy, and of its verdict_changes.
 use Rattle.std.proofs.{Common.{◌≡◌, ℕ, ◌≤◌, Bool, true, false, List, [], ◌∷◌, ◌++◌, length, length-append, refl, ap, sym, ◌∙◌, subst, arith}, lemmas.List.{Elements.filter_map-append, Sums.fold-append}}
 use Rattle.std.specs.{Prelude.{Option, Some, None, filter_map, fold, option_to_list}, Option.option_map_or}
 use Rattle.gx_units.proofs.Lists_found.{one_found}
@@ -6,7 +6,7 @@ use Rattle.gx_policy.specs.{declared.policy.PolicyData.PolicyData, Lists.each_wi
 use Rattle.gx_history.specs.{declared.record.{RecordData.RecordData, Step.Step}, Settling.settled_records, Verdicts.{after_step, day_limit, next}}
 use Rattle.gx_laws.proofs.{Lists_next.each_after_next, Matches_end.{settled_adds, settled_idle}}
 use Rattle.gx_access_gate.specs.{Gates.GateData, Matches.settled_gate, Steps.IsFull}
-use Rattle.gx_whatif.specs.{declared.change.Change.Change, Redone.{Redone, redone_next, settled_where, redone_under, nothing_redone}, Differing.{change_of, changes}}
+use Rattle.gx_whatif.specs.{declared.change.VerdictChange.VerdictChange, Redone.{Redone, redone_next, settled_where, redone_under, nothing_redone}, Differing.{change_of, verdict_changes}}
 
 -- the day goes on by the step of the record
 pub under_next : (old new : PolicyData) (records : List RecordData) (r : RecordData) → redone_under old new (records ++ r ∷ []) ≡ redone_next old new (redone_under old new records) (records, r)
@@ -16,13 +16,13 @@ under_next old new records r =
     ∙ fold-append (redone_next old new) nothing_redone (each_with_earlier records) ((records, r) ∷ [])
 
 -- and the change of the record stands last, if it is one
-pub changes_next : (old new : PolicyData) (records : List RecordData) (r : RecordData) → changes old new (records ++ r ∷ []) ≡ changes old new records ++ option_to_list (change_of old new records r)
+pub changes_next : (old new : PolicyData) (records : List RecordData) (r : RecordData) → verdict_changes old new (records ++ r ∷ []) ≡ verdict_changes old new records ++ option_to_list (change_of old new records r)
 changes_next old new records r =
     ap (filter_map at) (each_after_next [] records r)
     ∙ filter_map-append at (each_with_earlier records) ((records, r) ∷ [])
-    ∙ ap (λ (more : List Change). filter_map at (each_with_earlier records) ++ more) (one_found (change_of old new records r))
+    ∙ ap (λ (more : List VerdictChange). filter_map at (each_with_earlier records) ++ more) (one_found (change_of old new records r))
   where
-    at : (List RecordData × RecordData) → Option Change
+    at : (List RecordData × RecordData) → Option VerdictChange
     at entry = change_of old new entry.0 entry.1
 
 longer : {X : Type 0} (n : ℕ) (before after more : List X) → after ≡ before ++ more → n ≤ length before → n ≤ length after

@@ -4,7 +4,7 @@ use Rattle.std.specs.{Prelude.{Option, Some, None, option_map, option_to_list, u
 use Rattle.gx_policy.specs.{declared.policy.PolicyData.PolicyData, RuleNames.rule_id}
 use Rattle.gx_history.specs.{declared.{live_order.LiveOrder.LiveOrder, «record».{RecordData.RecordData, Verdict.Verdict}}, Live.waiting, Verdicts.{Follows, after_step, next}}
 use Rattle.gx_laws.proofs.{Requests_judged.legal_keeps, Orders_numbered.next_number, Runs_legal.idle_where_none_waits, Matches_end.settled_idle}
-use Rattle.gx_whatif.specs.{declared.change.Change.Change, Redone.{Redone, redone_with, is_at_rest, is_none, settled_where, redone_under, with_more}, Differing.{change_of, change_where, changes, in_day, is_as_told, same_verdict, source_of, told_behind}, Laws.{NothingDiffersUnderItsOwn}}
+use Rattle.gx_whatif.specs.{declared.change.VerdictChange.VerdictChange, Redone.{Redone, redone_with, is_at_rest, is_none, settled_where, redone_under, with_more}, Differing.{change_of, change_where, verdict_changes, in_day, is_as_told, same_verdict, source_of, verdict_behind}, Laws.{NothingDiffersUnderItsOwn}}
 use Rattle.gx_whatif.proofs.OtherDay_next.{changes_next, under_next}
 
 -- each number is that of its own record
@@ -57,7 +57,7 @@ no_change : (r : RecordData) (told : Option Verdict) → told ≡ Some r.verdict
 no_change r told is =
     ap (change_where r) is ∙ ap (λ (b : Bool). cond b None (Some (change_with r))) (same_as_itself r.verdict)
   where
-    change_with : RecordData → Change
+    change_with : RecordData → VerdictChange
     change_with x = record { number = x.number; user = Rattle.gx_whatif.specs.Differing.asker x.step; recorded = x.verdict; told = Some x.verdict }
 
 -- where the day is at rest nothing is left to settle
@@ -77,7 +77,7 @@ record IsItself (policy : PolicyData) (records : List RecordData) : Type 0 where
   same_day : (redone_under policy policy records).records ≡ records
   own : AreOwn (redone_under policy policy records).sources
   counted : length (redone_under policy policy records).sources ≡ length records + 1
-  none : changes policy policy records ≡ []
+  none : verdict_changes policy policy records ≡ []
 
 own_at_first : AreOwn (0 ∷ [])
 own_at_first zero = refl
@@ -101,7 +101,7 @@ one_further policy h r so follows =
     ∙ ap (redone_with r.number day) made
     ∙ ap (λ (n : ℕ). record { records = h ++ r ∷ []; sources = with_more n r.number day.sources }) count in
     let number : r.number ≡ length day.sources = next_number r follows ∙ sym so.counted in
-    let told : told_behind policy day r.step ≡ Some r.verdict =
+    let told : verdict_behind policy day r.step ≡ Some r.verdict =
     ap (option_map (λ (x : RecordData). in_day day.sources x.verdict)) left ∙ ap (λ (v : Verdict). Some v) (as_it_is day.sources so.own r.verdict) in
     record {
       same_day = ap (λ (d : Redone). d.records) whole;
@@ -109,8 +109,8 @@ one_further policy h r so follows =
       counted = ap (λ (d : Redone). length d.sources) whole ∙ omega (arith, length-append day.sources (r.number ∷ []), length-append h (r ∷ []), so.counted);
       none =
           changes_next policy policy h r
-          ∙ ap (λ (list : List Change). list ++ option_to_list (change_of policy policy h r)) so.none
-          ∙ ap option_to_list (no_change r (told_behind policy day r.step) told);
+          ∙ ap (λ (list : List VerdictChange). list ++ option_to_list (change_of policy policy h r)) so.none
+          ∙ ap option_to_list (no_change r (verdict_behind policy day r.step) told);
     }
 
 pub nothing_differs : NothingDiffersUnderItsOwn

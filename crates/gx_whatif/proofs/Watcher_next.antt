@@ -5,15 +5,15 @@ use Rattle.gx_policy.specs.declared.policy.PolicyData.{PolicyData}
 use Rattle.gx_history.specs.{declared.record.{RecordData.RecordData, Verdict.Verdict}, Live.{live, waiting}, Orders.orders, Verdicts.{day_limit, IsLegal}}
 use Rattle.gx_access_gate.specs.Gates.{GateData}
 use Rattle.gx_endings.specs.Endings.{Grows}
-use Rattle.gx_whatif.specs.{declared.change.Change.Change, Answering.IsFilled, Following.{AreAllOf, AreRedone, IsFollowed, IsSoFar}, Redone.{Redone, is_at_rest, records_behind, redo_where, the_day, redone_under}, Differing.{change_where, changes, told_behind}}
+use Rattle.gx_whatif.specs.{declared.change.VerdictChange.VerdictChange, Answering.IsFilled, Following.{AreAllOf, AreRedone, IsFollowed, IsSoFar}, Redone.{Redone, is_at_rest, records_behind, redo_where, the_day, redone_under}, Differing.{change_where, verdict_changes, verdict_behind}}
 use Rattle.gx_whatif.proofs.OtherDay_next.{changes_next, still_full, under_next}
 
 -- the day under the gate's policy so far
-is_the_day : {old : PolicyData} (gate : GateData) (sources : List ℕ) (found : List Change) {records : List RecordData} → AreRedone old gate sources found records → the_day gate sources ≡ redone_under old gate.policy records
+is_the_day : {old : PolicyData} (gate : GateData) (sources : List ℕ) (found : List VerdictChange) {records : List RecordData} → AreRedone old gate sources found records → the_day gate sources ≡ redone_under old gate.policy records
 is_the_day gate sources found {records} so = λ i. record { records = so.records_are i; sources = so.sources_are i }
 
 -- the next record was followed
-module _ (meant : Option PolicyData) (old : PolicyData) (gate after : GateData) (sources more numbers left : List ℕ) (found grow : List Change) (earlier : List RecordData) (r : RecordData) (at_rest : Bool) (told : Option Verdict) where
+module _ (meant : Option PolicyData) (old : PolicyData) (gate after : GateData) (sources more numbers left : List ℕ) (found grow : List VerdictChange) (earlier : List RecordData) (r : RecordData) (at_rest : Bool) (told : Option Verdict) where
   abbrev day : Redone
   day = redone_under old gate.policy earlier
 
@@ -25,16 +25,16 @@ module _ (meant : Option PolicyData) (old : PolicyData) (gate after : GateData) 
       ∙ ap (λ (b : Bool). redo_where b gate.policy day r) rests
       ∙ sym (under_next old gate.policy earlier r)
 
-  changes_are : AreRedone old gate sources found earlier → told ≡ told_behind gate.policy (the_day gate sources) r.step → Grows found (change_where r told) grow
-      → grow ≡ changes old gate.policy (earlier ++ r ∷ [])
+  changes_are : AreRedone old gate sources found earlier → told ≡ verdict_behind gate.policy (the_day gate sources) r.step → Grows found (change_where r told) grow
+      → grow ≡ verdict_changes old gate.policy (earlier ++ r ∷ [])
   changes_are so is grows =
       grows
-      ∙ ap (λ (list : List Change). list ++ option_to_list (change_where r told)) so.changes_are
-      ∙ ap (λ (t : Option Verdict). changes old gate.policy earlier ++ option_to_list (change_where r t)) (is ∙ ap (λ (d : Redone). told_behind gate.policy d r.step) (is_the_day gate sources found so))
+      ∙ ap (λ (list : List VerdictChange). list ++ option_to_list (change_where r told)) so.changes_are
+      ∙ ap (λ (t : Option Verdict). verdict_changes old gate.policy earlier ++ option_to_list (change_where r t)) (is ∙ ap (λ (d : Redone). verdict_behind gate.policy d r.step) (is_the_day gate sources found so))
       ∙ sym (changes_next old gate.policy earlier r)
 
   redone : AreRedone old gate sources found earlier → at_rest ≡ is_at_rest old (earlier ++ r ∷ []) → redo_where at_rest gate.policy (the_day gate sources) r ≡ the_day after more
-      → told ≡ told_behind gate.policy (the_day gate sources) r.step → Grows found (change_where r told) grow → after.policy ≡ gate.policy
+      → told ≡ verdict_behind gate.policy (the_day gate sources) r.step → Grows found (change_where r told) grow → after.policy ≡ gate.policy
       → AreRedone old after more grow (earlier ++ r ∷ [])
   redone so rests made is grows same =
       let whole = day_is so rests made in
@@ -52,15 +52,15 @@ module _ (meant : Option PolicyData) (old : PolicyData) (gate after : GateData) 
       (subst (λ (b : Bool). day_limit ≤ length (records_behind b gate.policy day.records r)) rests
       (subst (λ (d : Redone). day_limit ≤ length (records_behind at_rest gate.policy d.records r)) (is_the_day gate sources found so) full))
 
-abbrev far : PolicyData → GateData → List ℕ → List Change → List RecordData → Bool → Type 0
+abbrev far : PolicyData → GateData → List ℕ → List VerdictChange → List RecordData → Bool → Type 0
 far old gate sources found records full = IsSoFar full old gate sources found records
 
 -- where the day is made again, it is so one record further
-pub followed_on : (meant : Option PolicyData) (full : Bool) {old : PolicyData} (gate after : GateData) (sources more numbers left : List ℕ) (found grow : List Change) (records : List RecordData) {earlier : List RecordData} (r : RecordData) (at_rest : Bool) (told : Option Verdict)
+pub followed_on : (meant : Option PolicyData) (full : Bool) {old : PolicyData} (gate after : GateData) (sources more numbers left : List ℕ) (found grow : List VerdictChange) (records : List RecordData) {earlier : List RecordData} (r : RecordData) (at_rest : Bool) (told : Option Verdict)
     → full ≡ false → records ≡ earlier ++ r ∷ [] → IsFollowed meant full old gate sources numbers found earlier → AreAllOf old records left → at_rest ≡ is_at_rest old records
     → after.policy ≡ gate.policy
     → redo_where at_rest gate.policy (the_day gate sources) r ≡ the_day after more
-    → told ≡ told_behind gate.policy (the_day gate sources) r.step → Grows found (change_where r told) grow
+    → told ≡ verdict_behind gate.policy (the_day gate sources) r.step → Grows found (change_where r told) grow
     → IsFollowed meant full old after more left grow records
 followed_on meant full {old} gate after sources more numbers left found grow records {earlier} r at_rest told goes last so all rests same made is grows =
     record {
@@ -75,7 +75,7 @@ followed_on meant full {old} gate after sources more numbers left found grow rec
     }
 
 -- where the day is full already
-pub followed_full : (meant : Option PolicyData) (full : Bool) {old : PolicyData} (gate : GateData) (sources numbers left : List ℕ) (found : List Change) (records : List RecordData) {earlier : List RecordData} (r : RecordData)
+pub followed_full : (meant : Option PolicyData) (full : Bool) {old : PolicyData} (gate : GateData) (sources numbers left : List ℕ) (found : List VerdictChange) (records : List RecordData) {earlier : List RecordData} (r : RecordData)
     → full ≡ true → records ≡ earlier ++ r ∷ [] → IsFollowed meant full old gate sources numbers found earlier → AreAllOf old records left
     → IsFollowed meant full old gate sources left found records
 followed_full meant full {old} gate sources numbers left found records {earlier} r goes last so all =
@@ -89,7 +89,7 @@ followed_full meant full {old} gate sources numbers left found records {earlier}
     }
 
 -- and where it is now
-pub followed_filled : (meant : Option PolicyData) (full : Bool) {old : PolicyData} (gate after : GateData) (sources more numbers left : List ℕ) (found : List Change) (records : List RecordData) {earlier : List RecordData} (r : RecordData) (at_rest : Bool)
+pub followed_filled : (meant : Option PolicyData) (full : Bool) {old : PolicyData} (gate after : GateData) (sources more numbers left : List ℕ) (found : List VerdictChange) (records : List RecordData) {earlier : List RecordData} (r : RecordData) (at_rest : Bool)
     → full ≡ false → records ≡ earlier ++ r ∷ [] → IsFollowed meant full old gate sources numbers found earlier → AreAllOf old records left → at_rest ≡ is_at_rest old records
     → after.policy ≡ gate.policy
     → day_limit ≤ length (records_behind at_rest gate.policy gate.records r)
@@ -107,7 +107,7 @@ followed_filled meant full {old} gate after sources more numbers left found reco
     }
 
 -- before any record
-pub begun : (meant : Option PolicyData) (old : PolicyData) (gate : GateData) (sources numbers : List ℕ) (found : List Change) (other : PolicyData)
+pub begun : (meant : Option PolicyData) (old : PolicyData) (gate : GateData) (sources numbers : List ℕ) (found : List VerdictChange) (other : PolicyData)
     → meant ≡ Some other → gate.policy ≡ other → gate.records ≡ [] → sources ≡ 0 ∷ [] → numbers ≡ [] → found ≡ [] → IsFollowed meant false old gate sources numbers found []
 unfolding redone_under waiting live orders
 begun meant old gate sources numbers found other is same none first no_number no_change =
@@ -121,7 +121,7 @@ some_policy : (a b : PolicyData) → Some a ≡ Some b → a ≡ b
 some_policy a b e = cc
 
 -- what was made is a legal day, as the gate's records are
-pub made_legal : (meant : Option PolicyData) (full : Bool) (old other : PolicyData) (gate : GateData) (sources numbers : List ℕ) (found : List Change) (records : List RecordData)
+pub made_legal : (meant : Option PolicyData) (full : Bool) (old other : PolicyData) (gate : GateData) (sources numbers : List ℕ) (found : List VerdictChange) (records : List RecordData)
     → IsFollowed meant full old gate sources numbers found records → full ≡ false → meant ≡ Some other → IsLegal gate.policy gate.records → IsLegal other (redone_under old other records).records
 made_legal meant full old other gate sources numbers found records so goes is legal =
     let made : AreRedone old gate sources found records = subst (far old gate sources found records) goes so.so_far in

@@ -3,7 +3,7 @@ use Rattle.std.specs.{Prelude.{ℕ, Bool, true, false, ◌&&◌, ◌==◌, List,
 use Rattle.gx_units.specs.{Names.same_rule, declared.names.UserName.UserName}
 use Rattle.gx_policy.specs.{declared.policy.PolicyData.PolicyData, Lists.each_with_earlier, RuleNames.rule_id}
 use Rattle.gx_history.specs.{declared.record.{Fill.Fill, RecordData.RecordData, Step.Step, Verdict.Verdict}, Verdicts.next}
-use Rattle.gx_whatif.specs.{declared.change.Change.Change, Redone.{Redone, redone_under}}
+use Rattle.gx_whatif.specs.{declared.change.VerdictChange.VerdictChange, Redone.{Redone, redone_under}}
 
 -- the number that the order of this one has in the day: that of the record whose step it came of
 abbrev pub source_of : List ℕ → ℕ → ℕ
@@ -19,12 +19,12 @@ in_day sources (Verdict.Rested number) = Verdict.Rested (source_of sources numbe
 in_day sources (Verdict.Expired number) = Verdict.Expired (source_of sources number)
 
 -- the verdict on this step behind the redone day, if it leaves a record there
-abbrev pub told_behind : PolicyData → Redone → Step → Option Verdict
-told_behind new day step = option_map (λ (r : RecordData). in_day day.sources r.verdict) (next new day.records step)
+abbrev pub verdict_behind : PolicyData → Redone → Step → Option Verdict
+verdict_behind new day step = option_map (λ (r : RecordData). in_day day.sources r.verdict) (next new day.records step)
 
 -- what the new policy tells of a record that stands behind these
-abbrev pub told_of : PolicyData → PolicyData → List RecordData → RecordData → Option Verdict
-told_of old new earlier r = told_behind new (redone_under old new earlier) r.step
+abbrev pub verdict_under : PolicyData → PolicyData → List RecordData → RecordData → Option Verdict
+verdict_under old new earlier r = verdict_behind new (redone_under old new earlier) r.step
 
 -- the same orders, as many shares and the same price
 abbrev pub same_fill : Fill → Fill → Bool
@@ -50,14 +50,14 @@ asker (Step.Asked a) = Some a.user
 asker (Step.Matching handed) = None
 
 -- a record of which this is told, where that is another verdict or none
-abbrev pub change_where : RecordData → Option Verdict → Option Change
+abbrev pub change_where : RecordData → Option Verdict → Option VerdictChange
 change_where r told =
     if is_as_told r.verdict told then None else Some (record { number = r.number; user = asker r.step; recorded = r.verdict; told = told })
 
--- what changes of a record that stands behind these
-abbrev pub change_of : PolicyData → PolicyData → List RecordData → RecordData → Option Change
-change_of old new earlier r = change_where r (told_of old new earlier r)
+-- what verdict_changes of a record that stands behind these
+abbrev pub change_of : PolicyData → PolicyData → List RecordData → RecordData → Option VerdictChange
+change_of old new earlier r = change_where r (verdict_under old new earlier r)
 
--- each record whose verdict changes, in their order
-abbrev pub changes : PolicyData → PolicyData → List RecordData → List Change
-changes old new records = filter_map (λ (entry : List RecordData × RecordData). change_of old new entry.0 entry.1) (each_with_earlier records)
+-- each record whose verdict verdict_changes, in their order
+abbrev pub verdict_changes : PolicyData → PolicyData → List RecordData → List VerdictChange
+verdict_changes old new records = filter_map (λ (entry : List RecordData × RecordData). change_of old new entry.0 entry.1) (each_with_earlier records)

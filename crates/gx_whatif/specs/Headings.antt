@@ -3,7 +3,7 @@ use Rattle.std.specs.{Prelude.{Bool, true, false, List, [], ◌∷◌, ◌++◌,
 use Rattle.gx_units.specs.{Names.{same_account, same_rule}, declared.names.AccountName.AccountName}
 use Rattle.gx_policy.specs.{declared.{policy.PolicyData.PolicyData, rule_name.RuleName.RuleName}, Lists.once, People.account_of, RuleNames.rule_id}
 use Rattle.gx_endings.specs.Commands.{denied_by}
-use Rattle.gx_whatif.specs.declared.{change.Change.Change, heading.{Heading.Heading, HeadingRow.HeadingRow}}
+use Rattle.gx_whatif.specs.declared.{change.VerdictChange.VerdictChange, heading.{Heading.Heading, HeadingRow.HeadingRow}}
 
 -- the same sort of heading, of the same rule or account
 abbrev pub same_heading : Heading → Heading → Bool
@@ -24,17 +24,17 @@ denied_no_more None = []
 denied_no_more (Some rule) = Heading.DeniedNoMore (rule_id rule) ∷ []
 
 -- that of an account, or of none
-abbrev pub of_account : Option AccountName → Heading
-of_account None = Heading.OfNoAccount
-of_account (Some account) = Heading.OfAccount account
+abbrev pub heading_of_account : Option AccountName → Heading
+heading_of_account None = Heading.OfNoAccount
+heading_of_account (Some account) = Heading.OfAccount account
 
 -- the headings of a change: the rule that denies now, the rule that denied, and the account that the asker trades for
-abbrev pub headings : PolicyData → Change → List Heading
+abbrev pub headings : PolicyData → VerdictChange → List Heading
 headings policy c =
-    denied_now (option_and_then denied_by c.told) ++ denied_no_more (denied_by c.recorded) ++ of_account (option_and_then (account_of policy) c.user) ∷ []
+    denied_now (option_and_then denied_by c.told) ++ denied_no_more (denied_by c.recorded) ++ heading_of_account (option_and_then (account_of policy) c.user) ∷ []
 
 -- those of all changes, in their order
-abbrev pub all_headings : PolicyData → List Change → List Heading
+abbrev pub all_headings : PolicyData → List VerdictChange → List Heading
 all_headings policy found = flat_map (headings policy) found
 
 -- how often a heading came
@@ -42,5 +42,5 @@ abbrev pub heading_row : List Heading → Heading → HeadingRow
 heading_row came h = record { heading = h; count = count_by (λ (x : Heading). same_heading x h) came }
 
 -- a row for each heading that came, in the order in which they first did
-abbrev pub heading_rows : PolicyData → List Change → List HeadingRow
+abbrev pub heading_rows : PolicyData → List VerdictChange → List HeadingRow
 heading_rows policy found = map (heading_row (all_headings policy found)) (once same_heading (all_headings policy found))

@@ -3,20 +3,20 @@ use Rattle.std.specs.Prelude.{◌≡◌, ℕ, List, [], ◌∷◌, codes, map, O
 use Rattle.gx_policy.specs.declared.policy.PolicyData.{PolicyData}
 use Rattle.gx_history.specs.{declared.record.{Step.Step, Verdict.Verdict}, Verdicts.run}
 use Rattle.gx_worked_examples.specs.Sample.{alice, bob, sample, with_rules, login, buys, sells, matches, granted, denied_by, filled}
-use Rattle.gx_whatif.specs.{declared.change.Change.Change, Differing.changes}
+use Rattle.gx_whatif.specs.{declared.change.VerdictChange.VerdictChange, Differing.verdict_changes}
 
 -- a change by its number, and the two verdicts
-pub record Told : Type 0 where
+pub record ChangeRow : Type 0 where
   pub number : ℕ
   pub recorded : Verdict
   pub told : Option Verdict
 
-abbrev pub told_row : ℕ → Verdict → Option Verdict → Told
-told_row number recorded now = record { number = number; recorded = recorded; told = now }
+abbrev pub change_row : ℕ → Verdict → Option Verdict → ChangeRow
+change_row number recorded now = record { number = number; recorded = recorded; told = now }
 
--- what changes of the day of these steps
-abbrev pub changes_of : PolicyData → PolicyData → List Step → List Told
-changes_of old new steps = map (λ (c : Change). told_row c.number c.recorded c.told) (changes old new (run old steps))
+-- what verdict_changes of the day of these steps
+abbrev pub changes_of : PolicyData → PolicyData → List Step → List ChangeRow
+changes_of old new steps = map (λ (c : VerdictChange). change_row c.number c.recorded c.told) (verdict_changes old new (run old steps))
 
 -- the sample policy without a rule
 abbrev pub ruleless : PolicyData
@@ -37,7 +37,7 @@ a_rule_comes_steps =
 -- a rule that comes denies her order, and its matching steps find none waiting
 abbrev pub ARuleComes : Type 0
 ARuleComes = changes_of ruleless sample a_rule_comes_steps
-    ≡ told_row 5 granted (Some (denied_by (codes "GROSS"))) ∷ told_row 6 (filled 5 3 100 10000) None ∷ told_row 7 (Verdict.Rested 5) None ∷ []
+    ≡ change_row 5 granted (Some (denied_by (codes "GROSS"))) ∷ change_row 6 (filled 5 3 100 10000) None ∷ change_row 7 (Verdict.Rested 5) None ∷ []
 
 -- GROSS denies what ALICE buys, and BOB's sell finds nobody
 abbrev pub a_rule_goes_steps : List Step
@@ -53,4 +53,4 @@ a_rule_goes_steps =
 -- day
 abbrev pub ARuleGoes : Type 0
 ARuleGoes = changes_of sample ruleless a_rule_goes_steps
-    ≡ told_row 3 (denied_by (codes "GROSS")) (Some granted) ∷ told_row 5 (Verdict.Rested 4) (Some (filled 4 3 100 10000)) ∷ []
+    ≡ change_row 3 (denied_by (codes "GROSS")) (Some granted) ∷ change_row 5 (Verdict.Rested 4) (Some (filled 4 3 100 10000)) ∷ []

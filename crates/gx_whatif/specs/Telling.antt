@@ -4,7 +4,7 @@ use Rattle.gx_history.specs.declared.record.Verdict.{Verdict}
 use Rattle.gx_json.specs.Parts.{first_member, member}
 use Rattle.gx_script_text.specs.Printing.{line_end, verdict_text}
 use Rattle.gx_text.specs.Shown.{json_name, json_string, shown_name}
-use Rattle.gx_whatif.specs.declared.{change.Change.Change, heading.{Heading.Heading, HeadingRow.HeadingRow}}
+use Rattle.gx_whatif.specs.declared.{change.VerdictChange.VerdictChange, heading.{Heading.Heading, HeadingRow.HeadingRow}}
 
 -- a verdict in words; a step that leaves no record has none
 abbrev pub told_text : Option Verdict → List ℕ
@@ -12,7 +12,7 @@ told_text None = codes "no record"
 told_text (Some verdict) = verdict_text verdict
 
 -- the line of the first change, if there is one
-abbrev pub first_line : List Change → List ℕ
+abbrev pub first_line : List VerdictChange → List ℕ
 first_line [] = []
 first_line (c ∷ more) = codes "first " ++ decimal c.number ++ codes ": " ++ verdict_text c.recorded ++ codes " -> " ++ told_text c.told ++ line_end
 
@@ -28,7 +28,7 @@ abbrev pub heading_line : HeadingRow → List ℕ
 heading_line row = heading_text row.heading ++ codes ": " ++ decimal row.count ++ line_end
 
 -- how many of how many records change, the first of them, and a line for each heading
-abbrev pub whatif_text : ℕ → List Change → List HeadingRow → List ℕ
+abbrev pub whatif_text : ℕ → List VerdictChange → List HeadingRow → List ℕ
 whatif_text count found rows = codes "changed " ++ decimal (length found) ++ codes " of " ++ decimal count ++ line_end ++ first_line found ++ flat_map heading_line rows
 
 -- a verdict as a string, or null where there is none
@@ -37,7 +37,7 @@ told_json None = codes "null"
 told_json (Some verdict) = json_string (verdict_text verdict)
 
 -- the first change as an object, or null
-abbrev pub first_json : List Change → List ℕ
+abbrev pub first_json : List VerdictChange → List ℕ
 first_json [] = codes "null"
 first_json (c ∷ more) =
     first_member (codes "record") (decimal c.number) ++ member (codes "recorded") (told_json (Some c.recorded)) ++ member (codes "told") (told_json c.told) ++ codes "}"
@@ -59,11 +59,11 @@ rows_json [] = []
 rows_json (row ∷ rows) = heading_json row ++ flat_map (λ (other : HeadingRow). codes "," ++ heading_json other) rows
 
 -- what stands in the braces of the whole
-abbrev pub whatif_members : ℕ → List Change → List HeadingRow → List ℕ
+abbrev pub whatif_members : ℕ → List VerdictChange → List HeadingRow → List ℕ
 whatif_members count found rows =
     first_member (codes "records") (decimal count) ++ member (codes "changed") (decimal (length found)) ++ member (codes "first") (first_json found)
     ++ member (codes "counts") (codes "[" ++ rows_json rows ++ codes "]")
 
 -- the whole as one object, on a line
-abbrev pub whatif_json : ℕ → List Change → List HeadingRow → List ℕ
+abbrev pub whatif_json : ℕ → List VerdictChange → List HeadingRow → List ℕ
 whatif_json count found rows = whatif_members count found rows ++ (codes "}" ++ line_end)

@@ -8,7 +8,7 @@ use gx_units::UserName;
 
 /// A record of a day whose verdict is another under another policy.
 #[derive(Clone, Copy, PartialEq, Eq)]
-pub struct Change {
+pub struct VerdictChange {
     /// The number of the record; the first of the day is 1.
     pub number: u64,
     /// Who asked; None of a matching step.
@@ -89,13 +89,13 @@ fn asker(step: &Step) -> Option<UserName>
 }
 
 /// The change of a record of which this is told, if it is one.
-pub(crate) fn change_where(left: &RecordData, told: Option<Verdict>) -> Option<Change>
+pub(crate) fn change_where(left: &RecordData, told: Option<Verdict>) -> Option<VerdictChange>
     ensures { result ≡ change_where left.now told }
 {
     if is_as_told(&left.verdict, &told) {
         return None;
     }
-    Some(Change {
+    Some(VerdictChange {
         number: left.number,
         user: asker(&left.step),
         recorded: left.verdict,

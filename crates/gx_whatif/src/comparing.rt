@@ -3,7 +3,7 @@
 ghost use Rattle.std.specs.Prelude.{◌≡◌, IfErr, IfOk, Some};
 ghost use Rattle.gx_whatif.specs.Answering.{IsComparison, IsWhatIf, IsWhatIfFault};
 
-use crate::change::Change;
+use crate::change::VerdictChange;
 use crate::fault::WhatIfFault;
 use crate::heading::{HeadingRow, heading_rows};
 use crate::other_day::{MeansPolicy, OtherDay};
@@ -19,7 +19,7 @@ pub struct WhatIf {
     /// How many records the day has.
     pub records: u64,
     /// Each record whose verdict changes, in their order.
-    pub changes: Vec<Change>,
+    pub changes: Vec<VerdictChange>,
     /// How many changes come under each heading.
     pub rows: Vec<HeadingRow>,
 }
@@ -28,7 +28,7 @@ pub struct WhatIf {
 #[derive(Drop)]
 struct Comparison {
     records: u64,
-    changes: Vec<Change>,
+    changes: Vec<VerdictChange>,
 }
 
 /// What the other policy changes of the audit's day, a day under its own policy.

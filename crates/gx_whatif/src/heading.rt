@@ -2,10 +2,10 @@
 
 ghost use Rattle.std.specs.{Map.lookup, Prelude.{◌≡◌, IfOk, OnOk, map, option_and_then, unwrap_or}};
 ghost use Rattle.gx_endings.specs.Commands.{denied_by};
-ghost use Rattle.gx_whatif.specs.{Counting.{counted_each, counted_once, never, once_more, table_of}, Headings.{all_headings, denied_no_more, denied_now, heading_rows, headings, of_account, same_heading}};
+ghost use Rattle.gx_whatif.specs.{Counting.{counted_each, heading_counted, heading_uncounted, heading_once_more, heading_table}, Headings.{all_headings, denied_no_more, denied_now, heading_rows, headings, heading_of_account, same_heading}};
 ghost use Rattle.gx_policy.specs.People.{account_of_role, role_in};
 
-use crate::change::Change;
+use crate::change::VerdictChange;
 use gx_history::record::Verdict;
 use gx_people::People;
 use gx_policy::{Policy, RuleName};
@@ -37,7 +37,7 @@ pub struct HeadingRow {
 
 impl HeadingRow {
     fn once_more(self) -> HeadingRow
-        ensures { result ≡ once_more self }
+        ensures { result ≡ heading_once_more self }
     {
         HeadingRow {
             heading: self.heading,
@@ -79,7 +79,7 @@ fn account_of(people: &People, user: Option<UserName>) -> Option<AccountName>
 
 /// The heading of the account, or of none.
 fn of_account(account: Option<AccountName>) -> Heading
-    ensures { result ≡ of_account account }
+    ensures { result ≡ heading_of_account account }
 {
     match account {
         Some(account) => Heading::OfAccount(account),
@@ -90,7 +90,7 @@ fn of_account(account: Option<AccountName>) -> Heading
 /// The row of the heading, or that of one which never came.
 fn row_of(table: &IndexMap<Heading, HeadingRow>, heading: Heading) -> HeadingRow
     ensures { result
-        ≡ unwrap_or (lookup (same_heading heading) table.now.entries) (never heading) }
+        ≡ unwrap_or (lookup (same_heading heading) table.now.entries) (heading_uncounted heading) }
 {
     match table.get(&heading) {
         Some(row) => *row,
@@ -100,7 +100,7 @@ fn row_of(table: &IndexMap<Heading, HeadingRow>, heading: Heading) -> HeadingRow
 
 fn count(table: &mut IndexMap<Heading, HeadingRow>, heading: Heading) -> Result<(), OutOfMemory>
     ensures counted { OnOk result
-        (table.new.entries ≡ counted_once table.old.entries heading) }
+        (table.new.entries ≡ heading_counted table.old.entries heading) }
 {
     let row = row_of(table, heading);
     table.insert(heading, row.once_more())?;
@@ -138,7 +138,7 @@ fn count_change(
     table: &mut IndexMap<Heading, HeadingRow>,
     policy: &Policy,
     people: &People,
-    change: &Change,
+    change: &VerdictChange,
 ) -> Result<(), OutOfMemory>
     requires people { people.now ≡ policy.now.users }
     ensures counted { OnOk result (table.new.entries
@@ -153,10 +153,10 @@ fn count_change(
 fn count_all(
     alloc: Global,
     policy: &Policy,
-    found: &[Change],
+    found: &[VerdictChange],
 ) -> Result<IndexMap<Heading, HeadingRow>, OutOfMemory>
     ensures table { IfOk result
-        (λ table. table.entries ≡ table_of (all_headings policy.now found.now)) }
+        (λ table. table.entries ≡ heading_table (all_headings policy.now found.now)) }
 {
     let people = People::new(alloc, policy)?;
     let mut table = IndexMap::new(alloc);
@@ -175,7 +175,7 @@ fn count_all(
 pub(crate) fn heading_rows(
     alloc: Global,
     policy: &Policy,
-    found: &[Change],
+    found: &[VerdictChange],
 ) -> Result<Vec<HeadingRow>, OutOfMemory>
     ensures rows { IfOk result (λ rows. rows.items ≡ heading_rows policy.now found.now) }
 {

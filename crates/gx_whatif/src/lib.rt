@@ -12,7 +12,7 @@ mod stepping;
 mod telling;
 mod waiting;
 
-pub use change::Change;
+pub use change::VerdictChange;
 pub use comparing::{WhatIf, what_if};
 pub use fault::WhatIfFault;
 pub use heading::{Heading, HeadingRow};

@@ -6,9 +6,9 @@ ghost use Rattle.gx_audit_bytes.specs.Reading.{IsAskableStep};
 ghost use Rattle.gx_endings.specs.Endings.{Grows};
 ghost use Rattle.gx_history.specs.Verdicts.{day_limit, IsLegal};
 ghost use Rattle.gx_records.specs.Watching.{earlier_of};
-ghost use Rattle.gx_whatif.specs.{Differing.{change_where, told_behind}, Redone.{records_behind, redo_where, the_day}};
+ghost use Rattle.gx_whatif.specs.{Differing.{change_where, verdict_behind}, Redone.{records_behind, redo_where, the_day}};
 
-use crate::change::{Change, change_where};
+use crate::change::{VerdictChange, change_where};
 use crate::stepping::{add_more, make_step, settle_where, told_in_day};
 use crate::waiting::note_waiting;
 use gx_access_gate::{AccessGate, StepFault};
@@ -40,7 +40,7 @@ pub(crate) struct OtherDay<G: AccessGate, N: MeansPolicy> {
     sources: Vec<u64>,
     waiting: Vec<u64>,
     /// The changes so far.
-    pub changes: Vec<Change>,
+    pub changes: Vec<VerdictChange>,
     /// The day under the policy that is meant has no room for a step: nothing is noted from then on.
     pub full: bool,
     of: PhantomData<N>,
@@ -48,8 +48,8 @@ pub(crate) struct OtherDay<G: AccessGate, N: MeansPolicy> {
 
 /// That the gate can be asked for the step of its last record.
 fn last_is_askable<G: ShowsRecords>(gate: &G, left: &RecordData)
-    requires last { (G.seen gate.now).records
-        ≡ earlier_of (G.seen gate.now).records ++ left.now ∷ [] }
+    requires last { (G.state gate.now).records
+        ≡ earlier_of (G.state gate.now).records ++ left.now ∷ [] }
     ensures { IsAskableStep left.now.step }
 {
     let records = gate.shown_records();
@@ -68,15 +68,15 @@ fn redo<G: AccessGate>(
     at_rest: bool,
 ) -> Result<Option<Verdict>, StepFault>
     requires askable { IsAskableStep left.now.step }
-    ensures policy { (G.seen gate.new).policy ≡ (G.seen gate.old).policy }
-    ensures day { OnOk result (redo_where at_rest (G.seen gate.old).policy
-        (the_day (G.seen gate.old) sources.old.items) left.now
-        ≡ the_day (G.seen gate.new) sources.new.items) }
-    ensures told { IfOk result (λ told. told ≡ told_behind (G.seen gate.old).policy
-        (the_day (G.seen gate.old) sources.old.items) left.now.step) }
+    ensures policy { (G.state gate.new).policy ≡ (G.state gate.old).policy }
+    ensures day { OnOk result (redo_where at_rest (G.state gate.old).policy
+        (the_day (G.state gate.old) sources.old.items) left.now
+        ≡ the_day (G.state gate.new) sources.new.items) }
+    ensures told { IfOk result (λ told. told ≡ verdict_behind (G.state gate.old).policy
+        (the_day (G.state gate.old) sources.old.items) left.now.step) }
     ensures day_full { IfErr result (λ e. e ≡ faults.DayFull → day_limit ≤ length
         (records_behind
-        at_rest (G.seen gate.old).policy (G.seen gate.old).records left.now)) }
+        at_rest (G.state gate.old).policy (G.state gate.old).records left.now)) }
 {
     let told = match make_step(gate, left.step) {
         Ok(told) => told_in_day(sources.as_slice(), told),
@@ -90,7 +90,7 @@ fn redo<G: AccessGate>(
 
 /// Notes the change of a record of which this is told, if it is one.
 fn note_change(
-    changes: &mut Vec<Change>,
+    changes: &mut Vec<VerdictChange>,
     left: &RecordData,
     told: Option<Verdict>,
 ) -> Result<(), OutOfMemory>
@@ -112,7 +112,8 @@ impl<G: AccessGate, N: MeansPolicy> OtherDay<G, N> {
     pub(crate) fn open(alloc: Global, other: &Policy) -> Result<OtherDay<G, N>, OutOfMemory>
         requires meant { N.meant ≡ Some other.now }
         ensures before { IfOk result (λ w. (old : PolicyData) → IsFollowed
-            N.meant w.full old (G.seen w.gate) w.sources.items w.waiting.items w.changes.items []) }
+            N.meant w.full old (G.state w.gate)
+            w.sources.items w.waiting.items w.changes.items []) }
     {
         let sources = Vec::from_slice(alloc, &[0])?;
         let gate = G::open(alloc, other)?;
@@ -127,10 +128,10 @@ impl<G: AccessGate, N: MeansPolicy> OtherDay<G, N> {
     }
 
     /// The changes; None where the day under the policy that is meant had no room for a step.
-    pub(crate) fn end(self) -> Option<Vec<Change>>
+    pub(crate) fn end(self) -> Option<Vec<VerdictChange>>
         ensures none { self.full ≡ true → result ≡ None }
         ensures some { self.full ≡ false → result ≡ Some self.changes }
-        ensures legal { IsLegal (G.seen self.gate).policy (G.seen self.gate).records }
+        ensures legal { IsLegal (G.state self.gate).policy (G.state self.gate).records }
     {
         // that its records are those of a legal day
         self.gate.is_legal();
@@ -153,10 +154,10 @@ impl<G: ShowsRecords + ShowsState, N: MeansPolicy> Watches<G> for OtherDay<G, N>
     ghost asked = { λ _. tt };
 
     ghost saw = { λ w policy records. IsFollowed
-        N.meant w.full policy (G.seen w.gate) w.sources.items w.waiting.items w.changes.items records };
+        N.meant w.full policy (G.state w.gate) w.sources.items w.waiting.items w.changes.items records };
 
     ghost expects = { λ w policy records next. IsFollowed
-        N.meant w.full policy (G.seen w.gate) w.sources.items w.waiting.items w.changes.items records };
+        N.meant w.full policy (G.state w.gate) w.sources.items w.waiting.items w.changes.items records };
 
     fn before(&mut self, _gate: &G, _next: &RecordData) -> Result<(), OutOfMemory> {
         Ok(())

@@ -17,13 +17,13 @@ pub(crate) fn make_step<G: AccessGate>(
     step: Step,
 ) -> Result<Option<Verdict>, StepFault>
     requires askable { IsAskableStep step }
-    ensures policy { (G.seen gate.new).policy ≡ (G.seen gate.old).policy }
-    ensures records { OnOk result ((G.seen gate.new).records
-        ≡ after_step (G.seen gate.old).policy (G.seen gate.old).records step) }
+    ensures policy { (G.state gate.new).policy ≡ (G.state gate.old).policy }
+    ensures records { OnOk result ((G.state gate.new).records
+        ≡ after_step (G.state gate.old).policy (G.state gate.old).records step) }
     ensures told { IfOk result (λ told. told ≡ option_map (λ (r : RecordData). r.verdict)
-        (next (G.seen gate.old).policy (G.seen gate.old).records step)) }
+        (next (G.state gate.old).policy (G.state gate.old).records step)) }
     ensures day_full { IfErr result (λ e. e ≡ faults.DayFull
-        → day_limit ≤ length (G.seen gate.old).records) }
+        → day_limit ≤ length (G.state gate.old).records) }
 {
     match step {
         Step::Asked(asked) => {
@@ -43,11 +43,11 @@ pub(crate) fn settle_where<G: AccessGate>(
     at_rest: bool,
     moment: Moment,
 ) -> Result<(), StepFault>
-    ensures policy { (G.seen gate.new).policy ≡ (G.seen gate.old).policy }
-    ensures records { OnOk result ((G.seen gate.new).records ≡ settled_where
-        at_rest (G.seen gate.old).policy (G.seen gate.old).records moment) }
+    ensures policy { (G.state gate.new).policy ≡ (G.state gate.old).policy }
+    ensures records { OnOk result ((G.state gate.new).records ≡ settled_where
+        at_rest (G.state gate.old).policy (G.state gate.old).records moment) }
     ensures day_full { IfErr result (λ e. e ≡ faults.DayFull → day_limit ≤ length
-        (settled_where at_rest (G.seen gate.old).policy (G.seen gate.old).records moment)) }
+        (settled_where at_rest (G.state gate.old).policy (G.state gate.old).records moment)) }
 {
     if !at_rest {
         return Ok(());
@@ -57,11 +57,11 @@ pub(crate) fn settle_where<G: AccessGate>(
 
 /// Makes matching steps at this moment until no order waits.
 fn settle<G: AccessGate>(gate: &mut G, moment: Moment) -> Result<(), StepFault>
-    ensures policy { (G.seen gate.new).policy ≡ (G.seen gate.old).policy }
-    ensures records { OnOk result ((G.seen gate.new).records
-        ≡ settled_records (G.seen gate.old).policy (G.seen gate.old).records moment) }
+    ensures policy { (G.state gate.new).policy ≡ (G.state gate.old).policy }
+    ensures records { OnOk result ((G.state gate.new).records
+        ≡ settled_records (G.state gate.old).policy (G.state gate.old).records moment) }
     ensures day_full { IfErr result (λ e. e ≡ faults.DayFull → day_limit
-        ≤ length (settled_records (G.seen gate.old).policy (G.seen gate.old).records moment)) }
+        ≤ length (settled_records (G.state gate.old).policy (G.state gate.old).records moment)) }
 {
     loop {
         match gate.match_one(moment) {

@@ -8,7 +8,7 @@ ghost use Rattle.gx_json.specs.Parts.{member};
 ghost use Rattle.gx_text.specs.Shown.{shown_name};
 ghost use Rattle.gx_whatif.specs.{Telling.{first_json, first_line, heading_json, heading_line, heading_member, heading_text, rows_json, told_json, told_text, whatif_json, whatif_members, whatif_text}, declared.heading.HeadingRow.HeadingRow};
 
-use crate::change::Change;
+use crate::change::VerdictChange;
 use crate::comparing::WhatIf;
 use crate::heading::{Heading, HeadingRow};
 use gx_history::record::Verdict;
@@ -29,7 +29,7 @@ fn append_told(text: &mut Vec<u8>, told: &Option<Verdict>) -> Result<(), OutOfMe
     }
 }
 
-fn append_first(text: &mut Vec<u8>, found: &[Change]) -> Result<(), OutOfMemory>
+fn append_first(text: &mut Vec<u8>, found: &[VerdictChange]) -> Result<(), OutOfMemory>
     ensures { OnOk result (text.new.items ≡ text.old.items ++ first_line found.now) }
 {
     match found {
@@ -125,7 +125,11 @@ fn append_told_json(
     }
 }
 
-fn append_first_json(text: &mut Vec<u8>, alloc: Global, found: &[Change]) -> Result<(), OutOfMemory>
+fn append_first_json(
+    text: &mut Vec<u8>,
+    alloc: Global,
+    found: &[VerdictChange],
+) -> Result<(), OutOfMemory>
     ensures { OnOk result (text.new.items ≡ text.old.items ++ first_json found.now) }
 {
     match found {
@@ -192,7 +196,7 @@ fn append_rows(text: &mut Vec<u8>, rows: &[HeadingRow]) -> Result<(), OutOfMemor
 fn append_first_member(
     text: &mut Vec<u8>,
     alloc: Global,
-    found: &[Change],
+    found: &[VerdictChange],
 ) -> Result<(), OutOfMemory>
     ensures { OnOk result
         (text.new.items ≡ text.old.items ++ member (codes "first") (first_json found.now)) }
@@ -215,7 +219,7 @@ fn append_members(
     text: &mut Vec<u8>,
     alloc: Global,
     records: u64,
-    found: &[Change],
+    found: &[VerdictChange],
     rows: &[HeadingRow],
 ) -> Result<(), OutOfMemory>
     ensures { OnOk result

@@ -12,7 +12,7 @@ use gx_units::OutOfMemory;
 /// Whether the live order of this number waits.
 fn waits<G: ShowsState>(gate: &G, number: u64) -> bool
     ensures { result ≡ waits_numbered
-        (live (G.seen gate.now).policy (G.seen gate.now).records) number }
+        (live (G.state gate.now).policy (G.state gate.now).records) number }
 {
     match gate.live_order(number) {
         Some(order) => order.waits,
@@ -23,7 +23,7 @@ fn waits<G: ShowsState>(gate: &G, number: u64) -> bool
 /// Takes out the numbers of orders that don't wait.
 fn sweep<G: ShowsState>(numbers: &mut Vec<u64>, gate: &G)
     ensures { numbers.new.items ≡ filter
-        (waits_numbered (live (G.seen gate.now).policy (G.seen gate.now).records))
+        (waits_numbered (live (G.state gate.now).policy (G.state gate.now).records))
         numbers.old.items }
 {
     numbers.retain(|number| waits(gate, *number));
@@ -37,14 +37,14 @@ pub(crate) fn note_waiting<G: ShowsState>(
     gate: &G,
     left: &RecordData,
 ) -> Result<bool, OutOfMemory>
-    requires last { (G.seen gate.now).records
-        ≡ earlier_of (G.seen gate.now).records ++ left.now ∷ [] }
-    requires all { AreAllOf (G.seen gate.now).policy
-        (earlier_of (G.seen gate.now).records) numbers.old.items }
-    ensures all { OnOk result (AreAllOf (G.seen gate.now).policy
-        (G.seen gate.now).records numbers.new.items) }
+    requires last { (G.state gate.now).records
+        ≡ earlier_of (G.state gate.now).records ++ left.now ∷ [] }
+    requires all { AreAllOf (G.state gate.now).policy
+        (earlier_of (G.state gate.now).records) numbers.old.items }
+    ensures all { OnOk result (AreAllOf (G.state gate.now).policy
+        (G.state gate.now).records numbers.new.items) }
     ensures at_rest { IfOk result (λ rests. rests
-        ≡ is_at_rest (G.seen gate.now).policy (G.seen gate.now).records) }
+        ≡ is_at_rest (G.state gate.now).policy (G.state gate.now).records) }
 {
     // that the records are those of a legal day
     gate.is_legal();

@@ -8,7 +8,7 @@ ghost use Rattle.gx_door.specs.declared.fault.PullFault.TheVariants as pull_faul
 ghost use Rattle.gx_door.specs.Acts.{IsLater, history_met};
 ghost use Rattle.gx_session.specs.{Events.is_over, Outboxes.left_after, Table.turn};
 ghost use Rattle.gx_session.specs.Happenings as happens;
-ghost use Rattle.gx_serve.specs.{Marks.{mark_sent, cursor_sent}, States.{HasLooked, WasTold}, Seeking.{due_of, cursor_after, IsQuiet, Seeks, WasGreeted, WasPulled, WasSought, WasWatched}, Speech.{is_ending, Begins, IsDue, IsShown}, Tellings.sent_of};
+ghost use Rattle.gx_serve.specs.{Marks.{mark_sent, cursor_sent}, States.{HasMetMore, WasTold}, Seeking.{due_of, cursor_after, IsQuiet, Seeks, WasGreeted, WasPulled, WasSought, WasWatched}, Speech.{is_ending, Begins, IsDue, AreReportsShown}, Tellings.sent_of};
 
 use crate::state::{ConnectionState, ShutdownNoted};
 use gx_access_gate::{LoginAnswer, Pulled, StepFault};
@@ -38,9 +38,9 @@ pub struct Bookmark {
 }
 
 impl Model for Bookmark {
-    ghost use Rattle.gx_serve.specs.Marks.{mark, Mark};
+    ghost use Rattle.gx_serve.specs.Marks.{mark, SentMark};
 
-    ghost Value = { Mark };
+    ghost Value = { SentMark };
 
     ghost view = { λ b. mark b.user b.login b.next };
 }
@@ -206,8 +206,8 @@ impl<T: Drop> ConnectionState<T> {
         requires clock { R.shown moment }
         ensures quiet { IsQuiet (is_over self.new.session.phase) result }
         ensures told { WasTold D.policy self.old.user happens.Tick moment
-            self.old.session (history_met D.held self.old.pass)
-            self.new.session (history_met D.held self.new.pass) }
+            self.old.session (history_met D.observed self.old.pass)
+            self.new.session (history_met D.observed self.new.pass) }
         ensures user { self.new.user ≡ self.old.user }
         ensures answer { self.new.outbox.answer ≡ self.old.outbox.answer }
     {
@@ -232,8 +232,8 @@ impl<T: Drop> ConnectionState<T> {
         requires clock { R.shown moment }
         ensures greeted { WasGreeted self.old.outbox.answer
             D.policy self.old.user self.old.login moment
-            self.old.session (history_met D.held self.old.pass)
-            self.new.session (history_met D.held self.new.pass) result }
+            self.old.session (history_met D.observed self.old.pass)
+            self.new.session (history_met D.observed self.new.pass) result }
         ensures taken { self.new.outbox.answer ≡ None }
         ensures user { self.new.user ≡ self.old.user }
     {
@@ -255,8 +255,8 @@ impl<T: Drop> ConnectionState<T> {
 
     /// How many records there are.
     pub(super) fn length<D: Door<Pass = T>>(&mut self, door: &D) -> u64
-        ensures told { history_met D.held self.new.pass
-            ≡ with_told (history_met D.held self.old.pass) result }
+        ensures told { history_met D.observed self.new.pass
+            ≡ with_told (history_met D.observed self.old.pass) result }
         ensures user { self.new.user ≡ self.old.user }
         ensures session { self.new.session ≡ self.old.session }
         ensures outbox { self.new.outbox ≡ self.old.outbox }
@@ -277,14 +277,14 @@ impl<T: Drop> ConnectionState<T> {
         door: &D,
         bookmark: &Bookmark,
     ) -> Result<Pulled, PullFault>
-        ensures shown { IfOk result (IsShown D.policy bookmark.now.user bookmark.now.next) }
+        ensures shown { IfOk result (AreReportsShown D.policy bookmark.now.user bookmark.now.next) }
         ensures not_on { IfErr result (λ e. e ≡ pull_faults.NotOn
-            ↔ line_of (history_met D.held self.new.pass).front (folded_user bookmark.now.user)
-            ≢ Some (history_met D.held self.old.pass).line) }
+            ↔ line_of (history_met D.observed self.new.pass).front (folded_user bookmark.now.user)
+            ≢ Some (history_met D.observed self.old.pass).line) }
         ensures later { IsLater D.policy
-            (history_met D.held self.old.pass) (history_met D.held self.new.pass) }
-        ensures looked { HasLooked (history_met D.held self.old.pass)
-            (history_met D.held self.new.pass) }
+            (history_met D.observed self.old.pass) (history_met D.observed self.new.pass) }
+        ensures looked { HasMetMore (history_met D.observed self.old.pass)
+            (history_met D.observed self.new.pass) }
         ensures user { self.new.user ≡ self.old.user }
         ensures session { self.new.session ≡ self.old.session }
         ensures outbox { self.new.outbox ≡ self.old.outbox }
@@ -309,8 +309,8 @@ impl<T: Drop> ConnectionState<T> {
     ) -> NextWrite
         requires clock { R.shown moment }
         ensures pulled { WasPulled D.policy self.old.user bookmark.now moment
-            self.old.session (history_met D.held self.old.pass) self.old.cursor
-            self.new.session (history_met D.held self.new.pass) self.new.cursor result }
+            self.old.session (history_met D.observed self.old.pass) self.old.cursor
+            self.new.session (history_met D.observed self.new.pass) self.new.cursor result }
         ensures user { self.new.user ≡ self.old.user }
     {
         let count = self.length(door);
@@ -344,8 +344,8 @@ impl<T: Drop> ConnectionState<T> {
     ) -> NextWrite
         requires clock { R.shown moment }
         ensures sought { Seeks None self.new.outbox D.policy self.old.user bookmark.now moment
-            self.old.session (history_met D.held self.old.pass) self.old.cursor
-            self.new.session (history_met D.held self.new.pass) self.new.cursor result }
+            self.old.session (history_met D.observed self.old.pass) self.old.cursor
+            self.new.session (history_met D.observed self.new.pass) self.new.cursor result }
         ensures user { self.new.user ≡ self.old.user }
     {
         if self.session.is_over() {
@@ -370,8 +370,8 @@ impl<T: Drop> ConnectionState<T> {
         requires clock { R.shown moment }
         ensures watched { WasWatched self.old.outbox self.new.outbox
             D.policy self.old.user bookmark.now moment
-            self.old.session (history_met D.held self.old.pass) self.old.cursor
-            self.new.session (history_met D.held self.new.pass) self.new.cursor result }
+            self.old.session (history_met D.observed self.old.pass) self.old.cursor
+            self.new.session (history_met D.observed self.new.pass) self.new.cursor result }
         ensures user { self.new.user ≡ self.old.user }
     {
         self.tell(rt, door, Event::Tick, moment);
@@ -395,8 +395,8 @@ impl<T: Drop> ConnectionState<T> {
         requires clock { R.shown moment }
         ensures sought { WasSought self.old.outbox self.new.outbox
             D.policy self.old.user bookmark.now moment
-            self.old.session (history_met D.held self.old.pass) self.old.cursor
-            self.new.session (history_met D.held self.new.pass) self.new.cursor result }
+            self.old.session (history_met D.observed self.old.pass) self.old.cursor
+            self.new.session (history_met D.observed self.new.pass) self.new.cursor result }
         ensures user { self.new.user ≡ self.old.user }
     {
         match self.outbox.sign.take() {
@@ -423,8 +423,8 @@ impl<T: Drop> ConnectionState<T> {
         requires clock { R.shown moment }
         ensures mark { bookmark.new ≡ mark_sent bookmark.old fetched }
         ensures told { WasTold D.policy self.old.user (sent_of fetched.pulled) moment
-            self.old.session (history_met D.held self.old.pass)
-            self.new.session (history_met D.held self.new.pass) }
+            self.old.session (history_met D.observed self.old.pass)
+            self.new.session (history_met D.observed self.new.pass) }
         ensures user { self.new.user ≡ self.old.user }
         ensures outbox { self.new.outbox ≡ left_after self.old.outbox
             (turn self.old.session (sent_of fetched.pulled) moment).reply.send }

@@ -25,11 +25,11 @@ impl<T: Drop> ConnectionState<T> {
         ensures stays { IsTrue self.old.is_settled → IsTrue result }
         ensures same { IsTrue self.old.is_settled → self.new.pass ≡ self.old.pass }
         ensures idle { IsFalse self.old.is_settled → IsTrue result
-            → matching_of (gate_met D.policy (history_met D.held self.new.pass)) ≡ None }
+            → matching_of (gate_met D.policy (history_met D.observed self.new.pass)) ≡ None }
         ensures matched { IsFalse self.old.is_settled → WasMatched D.policy moment
-            (history_met D.held self.old.pass) (history_met D.held self.new.pass) }
-        ensures own { mine (history_met D.held self.new.pass)
-            ≡ mine (history_met D.held self.old.pass) }
+            (history_met D.observed self.old.pass) (history_met D.observed self.new.pass) }
+        ensures own { mine (history_met D.observed self.new.pass)
+            ≡ mine (history_met D.observed self.old.pass) }
         ensures user { self.new.user ≡ self.old.user }
         ensures session { self.new.session ≡ self.old.session }
         ensures outbox { self.new.outbox ≡ self.old.outbox }

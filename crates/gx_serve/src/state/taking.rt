@@ -4,7 +4,7 @@ ghost use Rattle.std.specs.Prelude.{◌≡◌};
 ghost use Rattle.gx_serve.specs.Takings.{IsTakenIn};
 
 use crate::conduct::Exclusion;
-use crate::state::{Break, BrokenOff, ConnectionState, Told};
+use crate::state::{Break, BrokenOff, ConnectionState, TakenPacket};
 use gx_door::{Dial, Door};
 use gx_soup::ClientPacket;
 use gx_units::Moment;
@@ -14,7 +14,7 @@ use std::sync::Wait;
 #[derive(Drop)]
 pub enum Taken<'a> {
     /// The session was told of it.
-    Told(Told<'a>),
+    Packet(TakenPacket<'a>),
     /// Its user was put out, and the session was told that it ends.
     Excluded(Exclusion, BrokenOff),
 }
@@ -47,7 +47,7 @@ impl<T: Drop> ConnectionState<T> {
                 let told = self.break_off(rt, door, Break::Fault, moment);
                 Taken::Excluded(why, told)
             }
-            None => Taken::Told(self.take(rt, door, packet, moment)),
+            None => Taken::Packet(self.take(rt, door, packet, moment)),
         }
     }
 }

@@ -1,6 +1,6 @@
-use Rattle.std.proofs.Common.{arith, ◌∙◌}
-use Rattle.gx_units.proofs.Lists_found.{item_at}
-use Rattle.gx_activity.proofs.{Known_next.nothing_known, Positions_next.{positions_further, positions_known, positions_none}}
+use Rattle.std.proofs.{Common.{sym, arith, ◌∙◌}, lemmas.Option.get_or_from_slice_get}
+use Rattle.gx_overview.proofs.Fills_call.{nothing_known}
+use Rattle.gx_activity.proofs.{Positions_next.{positions_further, positions_known, positions_none}}
 use Rattle.gx_activity.proofs.positions.note_records.Goals as goal
 
 pub loop-place-init : goal.loop-place-init
@@ -13,8 +13,8 @@ pub loop-place-preserved : goal.loop-place-preserved
 loop-place-preserved c = record {
   knows =
       positions_known c.args.policy.now c.args.records.now c.loop-place.place c.at.result c.at.result c.loop-place.owners c.note_record.new.owners c.loop-place.table.entries c.note_record.new.table.entries
-      (omega (arith, c.loop-place-test.true, c.len-place-end.ensures)) (item_at c.args.records.now c.loop-place.place c.at.result c.at.ensures) c.loop-place.invariant.knows c.in_ok-note_record.ensures.noted;
+      (omega (arith, c.loop-place-test.true, c.len-place-end.ensures)) (sym (get_or_from_slice_get c.args.records.now c.loop-place.place c.at.result c.at.result c.at.ensures)) c.loop-place.invariant.knows c.in_ok-note_record.ensures.noted;
   rows =
       positions_further c.args.policy.now c.args.records.now c.loop-place.place c.at.result c.at.result c.loop-place.owners c.note_record.new.owners c.loop-place.table.entries c.note_record.new.table.entries
-      (omega (arith, c.loop-place-test.true, c.len-place-end.ensures)) (item_at c.args.records.now c.loop-place.place c.at.result c.at.ensures) c.loop-place.invariant.knows c.in_ok-note_record.ensures.noted c.loop-place.invariant.rows;
+      (omega (arith, c.loop-place-test.true, c.len-place-end.ensures)) (sym (get_or_from_slice_get c.args.records.now c.loop-place.place c.at.result c.at.result c.at.ensures)) c.loop-place.invariant.knows c.in_ok-note_record.ensures.noted c.loop-place.invariant.rows;
 }

@@ -9,9 +9,9 @@ loop-at-init g c = record {
   within = c.requires.within;
   policy = refl;
   few = omega (arith, ap length c.requires.new);
-  saw = subst (λ (records : List RecordData). g.W.Watches.saw c.args.watcher.now (g.G.AccessGate.seen c.args.gate.now).policy records) (sym c.requires.new) c.requires.saw;
-  shown = none_shown c.args.version (g.G.AccessGate.seen c.args.gate.now).records c.requires.new;
-  bytes = begins c.args.version (g.G.AccessGate.seen c.args.gate.now).policy (g.G.AccessGate.seen c.args.gate.now).records c.args.audit.now c.args.start c.requires.new c.requires.front;
+  saw = subst (λ (records : List RecordData). g.W.Watches.saw c.args.watcher.now (g.G.AccessGate.state c.args.gate.now).policy records) (sym c.requires.new) c.requires.saw;
+  shown = none_shown c.args.version (g.G.AccessGate.state c.args.gate.now).records c.requires.new;
+  bytes = begins c.args.version (g.G.AccessGate.state c.args.gate.now).policy (g.G.AccessGate.state c.args.gate.now).records c.args.audit.now c.args.start c.requires.new c.requires.front;
 }
 
 pub loop-at-preserved : goal.loop-at-preserved
@@ -23,20 +23,20 @@ loop-at-preserved g c = record {
   shown =
       shown_further c.args.version c.record_at.result c.loop-at.invariant.shown c.in-Ok.ensures.ok;
   bytes =
-      bytes_further c.args.version (g.G.AccessGate.seen c.args.gate.now).policy c.record_at.result c.args.audit.now c.loop-at.at
+      bytes_further c.args.version (g.G.AccessGate.state c.args.gate.now).policy c.record_at.result c.args.audit.now c.loop-at.at
       c.loop-at.invariant.bytes c.in-Ok.ensures.ok c.record_at.ensures;
 }
 
 pub returns-in-Err-clause-fault : goal.returns-in-Err-clause-fault
 returns-in-Err-clause-fault g c =
-    fault_told c.args.version (g.G.AccessGate.seen c.args.gate.now).policy c.record_at.result c.args.audit.now c.loop-at.at c.in-Err.fault
+    fault_told c.args.version (g.G.AccessGate.state c.args.gate.now).policy c.record_at.result c.args.audit.now c.loop-at.at c.in-Err.fault
     c.loop-at.invariant.policy c.requires.version c.check_watched.ensures.legal c.loop-at.invariant.shown c.loop-at.invariant.bytes (omega arith)
     c.record_at.ensures c.in-Err.ensures.fault
 
 pub returns-then-length-most-clause-saw : goal.returns-then-length-most-clause-saw
 returns-then-length-most-clause-saw g c =
-    subst (λ (policy : PolicyData). g.W.Watches.saw c.loop-at.watcher policy (g.G.AccessGate.seen c.loop-at.gate).records) c.loop-at.invariant.policy c.loop-at.invariant.saw
+    subst (λ (policy : PolicyData). g.W.Watches.saw c.loop-at.watcher policy (g.G.AccessGate.state c.loop-at.gate).records) c.loop-at.invariant.policy c.loop-at.invariant.saw
 
 pub returns-clause-saw : goal.returns-clause-saw
 returns-clause-saw g c =
-    subst (λ (policy : PolicyData). g.W.Watches.saw c.loop-at.watcher policy (g.G.AccessGate.seen c.loop-at.gate).records) c.loop-at.invariant.policy c.loop-at.invariant.saw
+    subst (λ (policy : PolicyData). g.W.Watches.saw c.loop-at.watcher policy (g.G.AccessGate.state c.loop-at.gate).records) c.loop-at.invariant.policy c.loop-at.invariant.saw

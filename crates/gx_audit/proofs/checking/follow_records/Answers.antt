@@ -6,8 +6,8 @@ pub loop-at-init : goal.loop-at-init
 loop-at-init g c = record {
   within = c.requires.within;
   policy = refl;
-  shown = none_shown c.args.version (g.G.AccessGate.seen c.args.gate.now).records c.requires.new;
-  bytes = begins c.args.version (g.G.AccessGate.seen c.args.gate.now).policy (g.G.AccessGate.seen c.args.gate.now).records c.args.bytes.now c.args.start c.requires.new c.requires.front;
+  shown = none_shown c.args.version (g.G.AccessGate.state c.args.gate.now).records c.requires.new;
+  bytes = begins c.args.version (g.G.AccessGate.state c.args.gate.now).policy (g.G.AccessGate.state c.args.gate.now).records c.args.bytes.now c.args.start c.requires.new c.requires.front;
 }
 
 pub loop-at-preserved : goal.loop-at-preserved
@@ -17,13 +17,13 @@ loop-at-preserved g c = record {
   shown =
       shown_further c.args.version c.record_at.result c.loop-at.invariant.shown c.in-Ok.ensures.ok;
   bytes =
-      bytes_further c.args.version (g.G.AccessGate.seen c.args.gate.now).policy c.record_at.result c.args.bytes.now c.loop-at.at
+      bytes_further c.args.version (g.G.AccessGate.state c.args.gate.now).policy c.record_at.result c.args.bytes.now c.loop-at.at
       c.loop-at.invariant.bytes c.in-Ok.ensures.ok c.record_at.ensures;
 }
 
 pub returns-in-Err-clause-fault : goal.returns-in-Err-clause-fault
 returns-in-Err-clause-fault g c =
-    fault_told c.args.version (g.G.AccessGate.seen c.args.gate.now).policy c.record_at.result c.args.bytes.now c.loop-at.at c.in-Err.fault
+    fault_told c.args.version (g.G.AccessGate.state c.args.gate.now).policy c.record_at.result c.args.bytes.now c.loop-at.at c.in-Err.fault
     c.loop-at.invariant.policy c.requires.version c.check_record.ensures.legal c.loop-at.invariant.shown c.loop-at.invariant.bytes (omega arith)
     c.record_at.ensures c.in-Err.ensures.fault
 

@@ -5,9 +5,9 @@ use Rattle.gx_audit.proofs.checking.follow_records.Given as goal
 abbrev pub invariant-loop-at : goal.invariant-loop-at
 invariant-loop-at g l = record {
   within : l.at ≤ length l.bytes;
-  policy : (g.G.AccessGate.seen l.gate).policy ≡ (g.G.AccessGate.seen l.fn.gate).policy;
-  shown : AreShown l.version (g.G.AccessGate.seen l.gate).records;
-  bytes : whole_audit l.version (g.G.AccessGate.seen l.fn.gate).policy (g.G.AccessGate.seen l.gate).records ++ drop l.at l.bytes ≡ l.bytes;
+  policy : (g.G.AccessGate.state l.gate).policy ≡ (g.G.AccessGate.state l.fn.gate).policy;
+  shown : AreShown l.version (g.G.AccessGate.state l.gate).records;
+  bytes : whole_audit l.version (g.G.AccessGate.state l.fn.gate).policy (g.G.AccessGate.state l.gate).records ++ drop l.at l.bytes ≡ l.bytes;
 }
 
 abbrev pub decreases-loop-at : goal.decreases-loop-at

@@ -9,8 +9,8 @@ use Rattle.gx_board.proofs.accounts.live_orders.Goals as goal
 -- all users are counted, and their orders are the account's
 pub returns : goal.returns
 returns g c =
-    let policy = (g.G.AccessGate.seen c.args.gate.now).policy in
-    let records = (g.G.AccessGate.seen c.args.gate.now).records in
+    let policy = (g.G.AccessGate.state c.args.gate.now).policy in
+    let records = (g.G.AccessGate.state c.args.gate.now).records in
     let sound : is_sound policy ≡ true = subst (λ (p : PolicyData). is_sound p ≡ true) c.policy.ensures c.rules.ensures.sound in
     let seen : length policy.users ≤ c.loop-user.user-index =
     subst (λ (users : List User). length users ≤ c.loop-user.user-index) (c.users-user-items.ensures ∙ ap (λ (p : PolicyData). p.users) c.policy-2.ensures) c.loop-user-test.false

@@ -4,4 +4,4 @@ use Rattle.gx_board.specs.Views.{gross_uses_of}
 use Rattle.gx_board.proofs.uses.gross_uses_among.Given as goal
 
 abbrev pub invariant-loop-rule : goal.invariant-loop-rule
-invariant-loop-rule g l = l.uses.items ≡ flat_map (gross_uses_of (g.G.AccessGate.seen l.gate).policy (g.G.AccessGate.seen l.gate).records l.viewer) (take l.rule-index l.rules)
+invariant-loop-rule g l = l.uses.items ≡ flat_map (gross_uses_of (g.G.AccessGate.state l.gate).policy (g.G.AccessGate.state l.gate).records l.viewer) (take l.rule-index l.rules)

@@ -5,4 +5,4 @@ use Rattle.gx_board.specs.Sight.{is_user_shown}
 use Rattle.gx_board.proofs.view.users_shown.Given as goal
 
 abbrev pub invariant-loop-row : goal.invariant-loop-row
-invariant-loop-row g l = l.shown.items ≡ filter (λ (row : UserRow). is_user_shown (g.G.AccessGate.seen l.gate).policy (g.G.AccessGate.seen l.gate).records l.viewer row.user) (take l.row-index l.rows)
+invariant-loop-row g l = l.shown.items ≡ filter (λ (row : UserRow). is_user_shown (g.G.AccessGate.state l.gate).policy (g.G.AccessGate.state l.gate).records l.viewer row.user) (take l.row-index l.rows)

@@ -36,19 +36,19 @@ returns-in-Err-clause-cut g c = fault_stands _ _ _ _ _ _ c.loop.invariant.stands
 
 pub returns-in_err-leave-clause-cut : goal.returns-in_err-leave-clause-cut
 returns-in_err-leave-clause-cut g c =
-    on_any _ _ (λ fault. never_cut _ _ _ fault _ _ (g.G.AccessGate.seen c.loop.gate) c.loop.connection (stands_on_line _ _ _ _ _ _ c.loop.invariant.stands) c.in_err-leave.ensures.asks c.in_err-leave.ensures.sure)
+    on_any _ _ (λ fault. never_cut _ _ _ fault _ _ (g.G.AccessGate.state c.loop.gate) c.loop.connection (stands_on_line _ _ _ _ _ _ c.loop.invariant.stands) c.in_err-leave.ensures.asks c.in_err-leave.ensures.sure)
 
 pub returns-in_err-over-clause-cut : goal.returns-in_err-over-clause-cut
 returns-in_err-over-clause-cut g c =
     let s = c.loop.invariant.stands in
     let p = err_from_is_err_and c.from_residual-in_err-over.result c.from_residual-in_err-over.ensures.1 in
-    on_fault _ _ _ _ p.1 p.2 (cut_in _ _ _ s _ _ _ _ _ _ _ c.in-Ok.ensures.bytes.0 (omega (arith, c.in-Ok.ensures.bound)) (c.in_err-over.ensures.err (g.G.AccessGate.seen c.args.gate.now) c.args.first s.bytes s.follows))
+    on_fault _ _ _ _ p.1 p.2 (cut_in _ _ _ s _ _ _ _ _ _ _ c.in-Ok.ensures.bytes.0 (omega (arith, c.in-Ok.ensures.bound)) (c.in_err-over.ensures.err (g.G.AccessGate.state c.args.gate.now) c.args.first s.bytes s.follows))
 
 pub returns-in_err-leave-2-clause-cut : goal.returns-in_err-leave-2-clause-cut
 returns-in_err-leave-2-clause-cut g c =
     let s = c.loop.invariant.stands in
     let now = stands_next _ _ _ s _ _ _ _ c.in-Ok.ensures.bytes.0 (c.in_ok-over.ensures.ok _ _ s.bytes s.follows).takes in
-    on_any _ _ (λ fault. never_cut _ _ _ fault _ _ (g.G.AccessGate.seen c.exchange.new.gate) c.exchange.new.connection (stands_on_line _ _ _ _ _ _ now) c.in_err-leave-2.ensures.asks c.in_err-leave-2.ensures.sure)
+    on_any _ _ (λ fault. never_cut _ _ _ fault _ _ (g.G.AccessGate.state c.exchange.new.gate) c.exchange.new.connection (stands_on_line _ _ _ _ _ _ now) c.in_err-leave-2.ensures.asks c.in_err-leave-2.ensures.sure)
 
 pub returns-clause-cut : goal.returns-clause-cut
 returns-clause-cut g c = fault_stands _ _ _ _ _ _ c.loop.invariant.stands _ Endless tt (Keeps-refl _)

@@ -4,11 +4,11 @@ use Rattle.gx_follower.proofs.piece.take_all.Given as goal
 
 abbrev pub invariant-loop-left : goal.invariant-loop-left
 invariant-loop-left g l = record {
-  settled : IsSettled l.reading (g.G.AccessGate.seen l.gate);
-  policy : (g.G.AccessGate.seen l.gate).policy ≡ (g.G.AccessGate.seen l.fn.gate).policy;
-  saw : g.W.Watches.saw l.watcher (g.G.AccessGate.seen l.gate).policy (g.G.AccessGate.seen l.gate).records;
+  settled : IsSettled l.reading (g.G.AccessGate.state l.gate);
+  policy : (g.G.AccessGate.state l.gate).policy ≡ (g.G.AccessGate.state l.fn.gate).policy;
+  saw : g.W.Watches.saw l.watcher (g.G.AccessGate.state l.gate).policy (g.G.AccessGate.state l.gate).records;
   asked : g.W.Watches.asked l.watcher ≡ g.W.Watches.asked l.fn.watcher;
-  read : read_of l.reading (g.G.AccessGate.seen l.gate) ++ l.left ≡ read_of l.fn.reading (g.G.AccessGate.seen l.fn.gate) ++ l.bytes;
+  read : read_of l.reading (g.G.AccessGate.state l.gate) ++ l.left ≡ read_of l.fn.reading (g.G.AccessGate.state l.fn.gate) ++ l.bytes;
 }
 
 abbrev pub decreases-loop-left : goal.decreases-loop-left

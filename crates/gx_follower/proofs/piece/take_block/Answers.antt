@@ -7,5 +7,5 @@ use Rattle.gx_follower.proofs.piece.take_block.Goals as goal
 
 pub take_record-requires-clause-version : goal.take_record-requires-clause-version
 take_record-requires-clause-version g c =
-    version_behind c.in-Some.known (g.G.AccessGate.seen c.args.gate.now) c.args.block.now
-    (subst (λ (v : Option AuditVersion). HasBegun v (g.G.AccessGate.seen c.args.gate.now)) c.in-Some.is c.requires.begun)
+    version_behind c.in-Some.known (g.G.AccessGate.state c.args.gate.now) c.args.block.now
+    (subst (λ (v : Option AuditVersion). HasBegun v (g.G.AccessGate.state c.args.gate.now)) c.in-Some.is c.requires.begun)

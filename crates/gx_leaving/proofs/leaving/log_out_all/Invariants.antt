@@ -7,7 +7,7 @@ use Rattle.gx_leaving.proofs.leaving.log_out_all.Given as goal
 
 abbrev pub invariant-loop-place : goal.invariant-loop-place
 invariant-loop-place g l = record {
-  policy : (g.G.AccessGate.seen l.gate).policy ≡ (g.G.AccessGate.seen l.fn.gate).policy;
-  added : AddsLogouts l.fn.moment (g.G.AccessGate.seen l.fn.gate).records (g.G.AccessGate.seen l.gate).records;
-  off : AllByRecursion (λ (u : User). IsOff (g.G.AccessGate.seen l.gate).records (folded_user u.name)) (take l.place (g.G.AccessGate.seen l.fn.gate).policy.users);
+  policy : (g.G.AccessGate.state l.gate).policy ≡ (g.G.AccessGate.state l.fn.gate).policy;
+  added : AddsLogouts l.fn.moment (g.G.AccessGate.state l.fn.gate).records (g.G.AccessGate.state l.gate).records;
+  off : AllByRecursion (λ (u : User). IsOff (g.G.AccessGate.state l.gate).records (folded_user u.name)) (take l.place (g.G.AccessGate.state l.fn.gate).policy.users);
 }

@@ -6,8 +6,8 @@ use Rattle.gx_overview.proofs.accounts.account_rows.Goals as goal
 
 pub returns : goal.returns
 returns g c =
-    let policy = (g.G.AccessGate.seen c.args.gate.now).policy in
-    let records = (g.G.AccessGate.seen c.args.gate.now).records in
+    let policy = (g.G.AccessGate.state c.args.gate.now).policy in
+    let records = (g.G.AccessGate.state c.args.gate.now).records in
     record {
       rows =
           c.in_ok-rows.ensures

@@ -3,4 +3,4 @@ use Rattle.gx_overview.specs.Rules.{net_row}
 use Rattle.gx_overview.proofs.rules.net_rows_of.Given as goal
 
 abbrev pub invariant-loop-stock : goal.invariant-loop-stock
-invariant-loop-stock g l = l.rows.items ≡ map (net_row (g.G.AccessGate.seen l.gate).policy (g.G.AccessGate.seen l.gate).records l.rule l.account) (take l.stock-index l.stocks)
+invariant-loop-stock g l = l.rows.items ≡ map (net_row (g.G.AccessGate.state l.gate).policy (g.G.AccessGate.state l.gate).records l.rule l.account) (take l.stock-index l.stocks)

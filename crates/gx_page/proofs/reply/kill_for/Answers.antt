@@ -9,8 +9,8 @@ use Rattle.gx_page.proofs.reply.kill_for.Goals as goal
 pub from_parts-requires : goal.from_parts-requires
 from_parts-requires g c = record {
   behind =
-      behind_all (g.L.Lookout.held c.kill-pass.result.0).front c.into_parts-pass.result.1
-      (board_goes_on g.L.Lookout.held g.D.Door.held g.D.Door.policy c.args.board c.into_parts-pass.result.0 c.kill-pass.result.0 c.kill-pass.result.1 c.requires.held c.into_parts-pass.ensures.held c.kill-pass.ensures.later
+      behind_all (g.L.Lookout.observed c.kill-pass.result.0).front c.into_parts-pass.result.1
+      (board_goes_on g.L.Lookout.observed g.D.Door.observed g.D.Door.policy c.args.board c.into_parts-pass.result.0 c.kill-pass.result.0 c.kill-pass.result.1 c.requires.held c.into_parts-pass.ensures.held c.kill-pass.ensures.later
       c.kill-pass.ensures.untouched)
       c.into_parts-pass.ensures.behind;
 }
@@ -18,14 +18,14 @@ from_parts-requires g c = record {
 -- a deed, or a refusal that leaves the pass as it was; and what was announced
 pub returns-clause-kill : goal.returns-clause-kill
 returns-clause-kill g c =
-    told_so g.L.Lookout.held g.D.Door.held g.D.Door.policy c.args.secret.now.bytes c.args.board c.from_parts.result c.into_parts-pass.result.0 c.kill-pass.result.0 c.args.caller c.args.form.now c.kill-pass.result.1
+    told_so g.L.Lookout.observed g.D.Door.observed g.D.Door.policy c.args.secret.now.bytes c.args.board c.from_parts.result c.into_parts-pass.result.0 c.kill-pass.result.0 c.args.caller c.args.form.now c.kill-pass.result.1
     c.announce-announced.result c.requires.held c.into_parts-pass.ensures.held c.from_parts.ensures.held
-    (done_so g.D.Door.held _ _ c.into_parts-pass.result.0 c.kill-pass.result.0 c.args.caller c.args.form.now _ c.kill-pass.result.1 c.kill-pass.ensures.refused c.kill-pass.ensures.untouched c.kill-pass.ensures.permitted
+    (done_so g.D.Door.observed _ _ c.into_parts-pass.result.0 c.kill-pass.result.0 c.args.caller c.args.form.now _ c.kill-pass.result.1 c.kill-pass.ensures.refused c.kill-pass.ensures.untouched c.kill-pass.ensures.permitted
     c.kill-pass.ensures.named c.kill-pass.ensures.steps)
     (c.announce-announced.ensures ∙ c.ended_of.ensures)
 
 pub returns-clause-later : goal.returns-clause-later
 returns-clause-later g c =
     subst (λ (h : LineView). IsPrefix c.args.board.front h.front) (sym c.from_parts.ensures.held)
-    (board_goes_on g.L.Lookout.held g.D.Door.held g.D.Door.policy c.args.board c.into_parts-pass.result.0 c.kill-pass.result.0 c.kill-pass.result.1 c.requires.held c.into_parts-pass.ensures.held c.kill-pass.ensures.later
+    (board_goes_on g.L.Lookout.observed g.D.Door.observed g.D.Door.policy c.args.board c.into_parts-pass.result.0 c.kill-pass.result.0 c.kill-pass.result.1 c.requires.held c.into_parts-pass.ensures.held c.kill-pass.ensures.later
     c.kill-pass.ensures.untouched)

@@ -14,9 +14,9 @@ returns-in_err-write_flushing-in-Ok-clause-err g c =
 
 pub returns-in-Err-Bad-clause-ok : goal.returns-in-Err-Bad-clause-ok
 returns-in-Err-Bad-clause-ok g c =
-    let left = subst (Leaves (g.G.AccessGate.seen c.args.gate.now) (line_effect (g.G.AccessGate.seen c.args.gate.now) c.args.line.now) (g.G.AccessGate.seen c.take_line.new.gate)) c.in-Err-Bad.field-0-is c.in-Err-Bad.ensures.err in
+    let left = subst (Leaves (g.G.AccessGate.state c.args.gate.now) (line_effect (g.G.AccessGate.state c.args.gate.now) c.args.line.now) (g.G.AccessGate.state c.take_line.new.gate)) c.in-Err-Bad.field-0-is c.in-Err-Bad.ensures.err in
     ends_bad _ _ _ _ _ _ left.0 left.1 refl
 
 pub returns-in-Err-OutOfMemory-clause-err : goal.returns-in-Err-OutOfMemory-clause-err
 returns-in-Err-OutOfMemory-clause-err g c =
-    half_done _ _ _ _ _ (subst (Leaves (g.G.AccessGate.seen c.args.gate.now) (line_effect (g.G.AccessGate.seen c.args.gate.now) c.args.line.now) (g.G.AccessGate.seen c.take_line.new.gate)) c.in-Err-OutOfMemory.field-0-is c.in-Err-OutOfMemory.ensures.err)
+    half_done _ _ _ _ _ (subst (Leaves (g.G.AccessGate.state c.args.gate.now) (line_effect (g.G.AccessGate.state c.args.gate.now) c.args.line.now) (g.G.AccessGate.state c.take_line.new.gate)) c.in-Err-OutOfMemory.field-0-is c.in-Err-OutOfMemory.ensures.err)

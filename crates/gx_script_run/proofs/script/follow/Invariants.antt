@@ -6,7 +6,7 @@ use Rattle.gx_script_run.proofs.script.follow.Given as goal
 
 abbrev pub invariant-loop : goal.invariant-loop
 invariant-loop g l = record {
-  stands : Stands (way (g.G.AccessGate.seen l.fn.gate)) (IsSoFar (g.G.AccessGate.seen l.fn.gate) (g.G.AccessGate.seen l.gate) l.held.rest.items l.held.progress.lines) (flow_of g.R.Read.remaining g.W.Write.contents l.fn.reader l.reader l.fn.writer l.writer);
+  stands : Stands (way (g.G.AccessGate.state l.fn.gate)) (IsSoFar (g.G.AccessGate.state l.fn.gate) (g.G.AccessGate.state l.gate) l.held.rest.items l.held.progress.lines) (flow_of g.R.Read.remaining g.W.Write.contents l.fn.reader l.reader l.fn.writer l.writer);
   counted : l.held.progress.lines ≤ 4096 * l.counter;
   calls : counted_on l.fn.reader.calls l.counter ≤ l.reader.calls;
   reads : l.reader.failed ≡ l.fn.reader.failed;

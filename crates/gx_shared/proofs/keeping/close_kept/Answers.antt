@@ -9,13 +9,13 @@ use Rattle.gx_shared.proofs.keeping.close_kept.Goals as goal
 
 pub returns-clause-front : goal.returns-clause-front
 returns-clause-front g c =
-    let records = (g.G.AccessGate.seen c.close-gate.result.0).records in
+    let records = (g.G.AccessGate.state c.close-gate.result.0).records in
     let begins : IsPrefix c.args.journal.met.front records = subst (λ (h : LineView). IsPrefix h.front records) c.into_parts-pass.ensures.met c.close-gate.ensures.front in
     earlier_kept g.J.JournalName.version g.J.JournalName.begun g.J.JournalName.count c.args.journal records c.into_parts-pass.ensures.kept begins
 
 pub returns-clause-kept : goal.returns-clause-kept
 returns-clause-kept g c = λ none.
-    let records = (g.G.AccessGate.seen c.close-gate.result.0).records in
+    let records = (g.G.AccessGate.state c.close-gate.result.0).records in
     let after = c.put_rest.new.writer in
     let is = c.into_parts-pass.ensures.writer in
     let begins : IsPrefix c.args.journal.met.front records = subst (λ (h : LineView). IsPrefix h.front records) c.into_parts-pass.ensures.met c.close-gate.ensures.front in

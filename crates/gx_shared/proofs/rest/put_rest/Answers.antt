@@ -15,7 +15,7 @@ loop-writer-init g c =
       sound = sound;
       begun = sound;
       version = refl;
-      bytes = none_appended c.args.writer.now.version c.args.writer.now.contents c.args.writer.now.done (g.G.AccessGate.seen c.args.gate.now).records;
+      bytes = none_appended c.args.writer.now.version c.args.writer.now.contents c.args.writer.now.done (g.G.AccessGate.state c.args.gate.now).records;
     }
 
 pub loop-writer-preserved : goal.loop-writer-preserved
@@ -29,8 +29,8 @@ loop-writer-preserved g c =
       begun = c.loop-writer.invariant.begun;
       version = c.put_piece.ensures.version ∙ c.loop-writer.invariant.version;
       bytes =
-          rest_put c.args.writer.now.version (g.G.AccessGate.seen c.args.gate.now).records c.args.writer.now now c.put_piece.new.writer c.min-most.result c.loop-writer.invariant.first
+          rest_put c.args.writer.now.version (g.G.AccessGate.state c.args.gate.now).records c.args.writer.now now c.put_piece.new.writer c.min-most.result c.loop-writer.invariant.first
           (omega (arith, c.min-most.ensures, c.length-count.ensures.count, c.done-in-loop-writer.ensures, c.loop-writer.invariant.within)) c.loop-writer.invariant.bytes
-          (subst (λ (v : AuditVersion). Appends now.contents c.put_piece.new.writer.contents (journal_bytes v (take c.min-most.result (drop now.done (g.G.AccessGate.seen c.args.gate.now).records))))
+          (subst (λ (v : AuditVersion). Appends now.contents c.put_piece.new.writer.contents (journal_bytes v (take c.min-most.result (drop now.done (g.G.AccessGate.state c.args.gate.now).records))))
           c.loop-writer.invariant.version (c.if-not-put_piece.ensures.whole refl)) done;
     }

@@ -6,11 +6,11 @@ use Rattle.gx_shared.proofs.rest.put_rest.Given as goal
 abbrev pub invariant-loop-writer : goal.invariant-loop-writer
 invariant-loop-writer g l = record {
   first : l.fn.writer.done ≤ l.writer.done;
-  within : l.writer.done ≤ length (g.G.AccessGate.seen l.gate).records;
+  within : l.writer.done ≤ length (g.G.AccessGate.state l.gate).records;
   sound : l.writer.fault ≡ None;
   begun : l.fn.writer.fault ≡ None;
   version : l.writer.version ≡ l.fn.writer.version;
-  bytes : Appends l.fn.writer.contents l.writer.contents (journal_bytes l.fn.writer.version (records_between l.fn.writer.done l.writer.done (g.G.AccessGate.seen l.gate).records));
+  bytes : Appends l.fn.writer.contents l.writer.contents (journal_bytes l.fn.writer.version (records_between l.fn.writer.done l.writer.done (g.G.AccessGate.state l.gate).records));
 }
 
 abbrev pub decreases-loop-writer : goal.decreases-loop-writer

@@ -5,7 +5,7 @@ use Rattle.gx_shared.proofs.resuming.hold_up_to.Given as goal
 abbrev pub invariant-loop-keeper : goal.invariant-loop-keeper
 invariant-loop-keeper g l = record {
   list : l.keeper.list ≡ l.fn.keeper.list;
-  hand : l.keeper.hand ≡ lines_to l.keeper.issued;
+  entered : l.keeper.entered ≡ lines_to l.keeper.issued;
   most : max l.keeper.issued l.line ≡ max l.fn.keeper.issued l.line;
 }
 

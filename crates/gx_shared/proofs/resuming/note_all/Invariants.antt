@@ -4,7 +4,7 @@ use Rattle.gx_shared.proofs.resuming.note_all.Given as goal
 
 abbrev pub invariant-loop-done : goal.invariant-loop-done
 invariant-loop-done g l = record {
-  list : l.keeper.list ≡ take l.done (g.G.AccessGate.seen l.gate).records;
+  list : l.keeper.list ≡ take l.done (g.G.AccessGate.state l.gate).records;
   stands : IsResuming l.keeper;
 }
 

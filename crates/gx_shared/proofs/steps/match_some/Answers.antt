@@ -6,9 +6,9 @@ use Rattle.gx_shared.proofs.steps.match_some.Goals as goal
 
 pub loop-made-preserved : goal.loop-made-preserved
 loop-made-preserved g c =
-    let first = (g.G.AccessGate.seen c.args.gate.now) in
-    let was = (g.G.AccessGate.seen c.loop-made.gate) in
-    let is = (g.G.AccessGate.seen c.match_and_note.new.gate) in
+    let first = (g.G.AccessGate.state c.args.gate.now) in
+    let was = (g.G.AccessGate.state c.loop-made.gate) in
+    let is = (g.G.AccessGate.state c.match_and_note.new.gate) in
     let inv = c.loop-made.invariant in
     let more = c.loop-made-test.true in
     let one_added : c.match_and_note.new.share.amount ≡ c.loop-made.share.amount + 1 = subst (λ (found : Option Outcome). IfSome found (λ _. c.match_and_note.new.share.amount ≡ c.loop-made.share.amount + 1)) c.in-Ok-Some.field-0-is c.in-Ok-Some.ensures.adds_one in
@@ -16,7 +16,7 @@ loop-made-preserved g c =
     record {
       policy = c.match_and_note.ensures.policy ∙ inv.policy;
       made = one_more c.args.handed c.loop-made.made c.in-Ok-Some.field-0-0 first.records was is inv.made found_one;
-      keeper = c.match_and_note.ensures.keeper ∙ ap (λ (k : KeeperView). keeper_view is.records k.hand k.issued) inv.keeper;
+      keeper = c.match_and_note.ensures.keeper ∙ ap (λ (k : KeeperView). keeper_view is.records k.entered k.issued) inv.keeper;
       adds = one_added ∙ (ap (λ (n : ℕ). n + 1) inv.adds ∙ omega arith);
       parts = c.match_and_note.ensures.parts ∙ inv.parts;
       few = omega arith;

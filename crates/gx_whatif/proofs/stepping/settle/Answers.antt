@@ -6,9 +6,9 @@ use Rattle.gx_whatif.proofs.stepping.settle.Goals as goal
 
 pub returns-in-Ok-None-clause-records : goal.returns-in-Ok-None-clause-records
 returns-in-Ok-None-clause-records g c =
-    ap (λ (gate : GateData). gate.records) (c.in-Ok-None.ensures.records ∙ ap (with_match (g.G.AccessGate.seen c.loop-fault.gate) c.args.moment) c.in-Ok-None.field-0-is)
-    ∙ settled_here (g.G.AccessGate.seen c.args.gate.now) (g.G.AccessGate.seen c.loop-fault.gate) c.args.moment c.loop-fault.invariant (c.in-Ok-None.ensures.next ∙ ap (option_map (matched_by c.args.moment)) c.in-Ok-None.field-0-is)
+    ap (λ (gate : GateData). gate.records) (c.in-Ok-None.ensures.records ∙ ap (with_match (g.G.AccessGate.state c.loop-fault.gate) c.args.moment) c.in-Ok-None.field-0-is)
+    ∙ settled_here (g.G.AccessGate.state c.args.gate.now) (g.G.AccessGate.state c.loop-fault.gate) c.args.moment c.loop-fault.invariant (c.in-Ok-None.ensures.next ∙ ap (option_map (matched_by c.args.moment)) c.in-Ok-None.field-0-is)
 
 pub returns-in-Err-clause-day_full : goal.returns-in-Err-clause-day_full
 returns-in-Err-clause-day_full g c full =
-    full_settled (g.G.AccessGate.seen c.args.gate.now) (g.G.AccessGate.seen c.loop-fault.gate) c.args.moment c.loop-fault.invariant (c.in-Err.ensures.day_full full)
+    full_settled (g.G.AccessGate.state c.args.gate.now) (g.G.AccessGate.state c.loop-fault.gate) c.args.moment c.loop-fault.invariant (c.in-Err.ensures.day_full full)

@@ -1,6 +1,6 @@
 use Rattle.std.proofs.Common.{◌-◌, ◌∙◌, sym, ap}
 use Rattle.gx_history.specs.{Book.is_buy, LiveOrders.shares_open}
-use Rattle.gx_book.specs.{Books.{is_sound_book, on_side}, Queue.left_with, Resting.resting_of, Table.book_of}
+use Rattle.gx_book.specs.{Books.{is_sound_book, with_one_side}, Queue.left_with, Resting.resting_of, Table.book_of}
 use Rattle.gx_book.proofs.{Side_order.in_order_left, Stocks_table.{sound_on_side, unlisted_stays, written_back}}
 use Rattle.gx_book.proofs.book.Book.reduce.Goals as goal
 
@@ -20,5 +20,5 @@ pub returns : goal.returns
 returns c =
     let f = left_with (resting_of c.args.order.now) (shares_open c.args.order.now - c.args.shares) in
     written_back c.self.inside.by_stock.entries _ c.args.order.now.terms.stock c.is_buy.result f c.in-Some.sides.now c.reduce.new.self (c.get_mut_near.follows.holds c.reduce.new.self).0 c.reduce.ensures c.in-Some.ensures.unique c.in-Some.ensures.value
-    ∙ ap (on_side c.args.order.now.terms.stock c.is_buy.result f) c.self.view_is
-    ∙ ap (λ b. on_side c.args.order.now.terms.stock b f c.args.self.now) c.is_buy.ensures
+    ∙ ap (with_one_side c.args.order.now.terms.stock c.is_buy.result f) c.self.view_is
+    ∙ ap (λ b. with_one_side c.args.order.now.terms.stock b f c.args.self.now) c.is_buy.ensures

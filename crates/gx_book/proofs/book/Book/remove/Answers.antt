@@ -1,6 +1,6 @@
 use Rattle.std.proofs.Common.{List, ◌∙◌, sym, ap, length, not}
 use Rattle.gx_history.specs.Book.{is_buy}
-use Rattle.gx_book.specs.{Books.{StockOrders, all_orders, is_sound_book, on_side}, Queue.{is_same, without_order}, Resting.resting_of, Table.book_of}
+use Rattle.gx_book.specs.{Books.{StockOrders, all_orders, is_sound_book, with_one_side}, Queue.{is_same, without_order}, Resting.resting_of, Table.book_of}
 use Rattle.gx_book.proofs.{Side_order.in_order_filter, Stocks_table.{fewer_back, sound_on_side, unlisted_stays, written_back}}
 use Rattle.gx_book.proofs.book.Book.remove.Goals as goal
 
@@ -23,8 +23,8 @@ returns-clause-removed c =
     let o = c.args.order.now in
     let f = without_order (resting_of o) in
     written_back c.self.inside.by_stock.entries _ o.terms.stock c.is_buy.result f c.in_ok-sides.sides.now c.remove.new.self (c.get_mut_near.follows.holds c.remove.new.self).0 c.remove.ensures.removed c.in_ok-sides.ensures.unique c.in_ok-sides.ensures.value
-    ∙ ap (on_side o.terms.stock c.is_buy.result f) c.self.view_is
-    ∙ ap (λ b. on_side o.terms.stock b f c.args.self.now) c.is_buy.ensures
+    ∙ ap (with_one_side o.terms.stock c.is_buy.result f) c.self.view_is
+    ∙ ap (λ b. with_one_side o.terms.stock b f c.args.self.now) c.is_buy.ensures
 
 pub returns-clause-counted : goal.returns-clause-counted
 returns-clause-counted c =

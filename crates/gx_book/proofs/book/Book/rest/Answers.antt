@@ -1,7 +1,7 @@
 use Rattle.std.proofs.Common.{◌∙◌, sym, ap}
 use Rattle.gx_units.proofs.Results_hold.{on_err}
 use Rattle.gx_history.specs.Book.{is_buy}
-use Rattle.gx_book.specs.{Books.{is_sound_book, on_side}, Queue.with_order, Resting.resting_of, Table.book_of}
+use Rattle.gx_book.specs.{Books.{is_sound_book, with_one_side}, Queue.with_order, Resting.resting_of, Table.book_of}
 use Rattle.gx_book.proofs.{Side_order.in_order_placed, Stocks_table.{sound_on_side, unlisted_stays, written_back, written_same}}
 use Rattle.gx_book.proofs.book.Book.rest.Goals as goal
 
@@ -32,5 +32,5 @@ pub returns-clause-ok : goal.returns-clause-ok
 returns-clause-ok c =
     let o = c.args.order.now in
     written_back c.self.inside.by_stock.entries _ o.terms.stock c.is_buy.result (with_order c.is_buy.result (resting_of o)) c.in-Some.sides.now c.put.new.self (c.get_mut_near.follows.holds c.put.new.self).0 c.in_ok-put.ensures.ok c.in-Some.ensures.unique c.in-Some.ensures.value
-    ∙ ap (on_side o.terms.stock c.is_buy.result (with_order c.is_buy.result (resting_of o))) c.self.view_is
-    ∙ ap (λ b. on_side o.terms.stock b (with_order b (resting_of o)) c.args.self.now) c.is_buy.ensures
+    ∙ ap (with_one_side o.terms.stock c.is_buy.result (with_order c.is_buy.result (resting_of o))) c.self.view_is
+    ∙ ap (λ b. with_one_side o.terms.stock b (with_order b (resting_of o)) c.args.self.now) c.is_buy.ensures

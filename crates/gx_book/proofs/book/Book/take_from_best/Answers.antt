@@ -1,6 +1,6 @@
 use Rattle.std.proofs.Common.{◌∙◌, sym, ap}
 use Rattle.gx_history.specs.Book.{is_buy}
-use Rattle.gx_book.specs.{Books.{is_sound_book, on_side}, Queue.taken_from_first, Table.book_of}
+use Rattle.gx_book.specs.{Books.{is_sound_book, with_one_side}, Queue.taken_from_first, Table.book_of}
 use Rattle.gx_book.proofs.{Side_order.in_order_taken, Stocks_table.{sound_on_side, unlisted_stays, written_back}}
 use Rattle.gx_book.proofs.book.Book.take_from_best.Goals as goal
 
@@ -20,5 +20,5 @@ pub returns : goal.returns
 returns c =
     let f = taken_from_first c.args.shares in
     written_back c.self.inside.by_stock.entries _ c.args.stock c.is_buy.result f c.in-Some.sides.now c.take_from_first.new.self (c.get_mut_near.follows.holds c.take_from_first.new.self).0 c.take_from_first.ensures c.in-Some.ensures.unique c.in-Some.ensures.value
-    ∙ ap (on_side c.args.stock c.is_buy.result f) c.self.view_is
-    ∙ ap (λ b. on_side c.args.stock b f c.args.self.now) c.is_buy.ensures
+    ∙ ap (with_one_side c.args.stock c.is_buy.result f) c.self.view_is
+    ∙ ap (λ b. with_one_side c.args.stock b f c.args.self.now) c.is_buy.ensures

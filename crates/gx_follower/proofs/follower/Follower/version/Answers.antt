@@ -8,4 +8,4 @@ use Rattle.gx_follower.proofs.follower.Follower.version.Goals as goal
 pub returns-clause-shown : goal.returns-clause-shown
 returns-clause-shown g c =
     subst (λ (f : FollowerData). f.fault ≡ None → IfSome c.self.inside.reading.version (λ version. version_of f.read ≡ version)) c.self.view_is
-    (λ none. shows c.self.inside.reading (g.G.AccessGate.seen c.self.inside.gate) (c.self.invariant none))
+    (λ none. shows c.self.inside.reading (g.G.AccessGate.state c.self.inside.gate) (c.self.invariant none))

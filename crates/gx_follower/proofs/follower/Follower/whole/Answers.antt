@@ -7,4 +7,4 @@ use Rattle.gx_follower.proofs.follower.Follower.whole.Goals as goal
 pub returns-clause-whole : goal.returns-clause-whole
 returns-clause-whole g c =
     subst (λ (f : FollowerData). f.fault ≡ None → AreWhole f.policy f.read f.records f.whole) c.self.view_is
-    (λ none. are_whole c.self.inside.reading (g.G.AccessGate.seen c.self.inside.gate) (c.self.invariant none))
+    (λ none. are_whole c.self.inside.reading (g.G.AccessGate.state c.self.inside.gate) (c.self.invariant none))

@@ -8,7 +8,7 @@ abbrev pub invariant-loop : goal.invariant-loop
 invariant-loop g l = record {
   next : (goal.iterator-loop g).can_next l.iterator';
   finite : (goal.iterator-loop g).is_finite l.iterator';
-  later : GoesOn g.L.Lookout.policy l.fn.self (g.L.Lookout.held l.pass);
-  own : mine (g.L.Lookout.held l.pass) ≡ mine l.fn.self;
-  behind : IsBehind g.L.Lookout.policy (g.L.Lookout.held l.pass).front l.summary;
+  later : GoesOn g.L.Lookout.policy l.fn.self (g.L.Lookout.observed l.pass);
+  own : mine (g.L.Lookout.observed l.pass) ≡ mine l.fn.self;
+  behind : IsBehind g.L.Lookout.policy (g.L.Lookout.observed l.pass).front l.summary;
 }

@@ -8,8 +8,8 @@ use Rattle.gx_monitor.proofs.day_log.DayLogWatches.after.Goals as goal
 
 pub returns-clause-saw : goal.returns-clause-saw
 returns-clause-saw g c =
-    let policy = (g.G.AccessGate.seen c.args.gate.now).policy in
-    let records = (g.G.AccessGate.seen c.args.gate.now).records in
+    let policy = (g.G.AccessGate.state c.args.gate.now).policy in
+    let records = (g.G.AccessGate.state c.args.gate.now).records in
     ok_then c.append.result
     (λ puts.
     log_goes_on records c.args._left.now c.args.self.now _ c.as_slice.result.now c.in_ok-lines.lines.items c.requires.last c.requires.expects

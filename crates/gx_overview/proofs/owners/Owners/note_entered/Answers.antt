@@ -1,7 +1,8 @@
 use Rattle.std.proofs.Common.{◌∙◌, ap, sym}
 use Rattle.std.specs.{Option.option_and_then, Prelude.List}
 use Rattle.gx_policy.specs.{People.{account_of_role, role_in}, declared.policy.User.User}
-use Rattle.gx_overview.proofs.Owners_next.{entered_known, ok_then}
+use Rattle.gx_units.proofs.Results_hold.{ok_then}
+use Rattle.gx_overview.proofs.Owners_next.{entered_known}
 use Rattle.gx_overview.proofs.owners.Owners.note_entered.Goals as goal
 
 pub returns : goal.returns

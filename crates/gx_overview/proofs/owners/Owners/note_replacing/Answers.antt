@@ -1,5 +1,6 @@
 use Rattle.std.proofs.Common.{◌∙◌, sym}
-use Rattle.gx_overview.proofs.Owners_next.{ok_then, replaced_known}
+use Rattle.gx_units.proofs.Results_hold.{ok_then}
+use Rattle.gx_overview.proofs.Owners_next.{replaced_known}
 use Rattle.gx_overview.proofs.owners.Owners.note_replacing.Goals as goal
 
 pub returns : goal.returns

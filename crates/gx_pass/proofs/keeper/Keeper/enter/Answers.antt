@@ -20,4 +20,4 @@ load-requires g c =
     let m = c.self.inside.seat.me in
     let h = line_view_of c.pass.inside.seat.me.0 in
     let it = keeper_view_of m.0 in
-    (j.0 ∙ i.0 ∙ sym own, one_word _ _ own i.2, meets _ c.join_seat.new.seat.id c.join_seat.new.seat.me (keeper_view it.list (h.line ∷ it.hand) it.issued) h (j.2 ∙ (λ k. (view_of_meeting m.0 c.pass.inside.seat.me.0, (i.3 k).1))))
+    (j.0 ∙ i.0 ∙ sym own, one_word _ _ own i.2, meets _ c.join_seat.new.seat.id c.join_seat.new.seat.me (keeper_view it.list (h.line ∷ it.entered) it.issued) h (j.2 ∙ (λ k. (view_of_meeting m.0 c.pass.inside.seat.me.0, (i.3 k).1))))

@@ -17,20 +17,20 @@ pub loop-place-init : goal.loop-place-init
 loop-place-init g c = (
   c.requires.theirs,
   refl,
-  no_place_yet (g.G.AccessGate.seen c.args.gate.now).policy (g.G.AccessGate.seen c.args.gate.now).records c.args.rule (keys_of c.args.self.now.peaks.entries) c.args.self.now,
+  no_place_yet (g.G.AccessGate.state c.args.gate.now).policy (g.G.AccessGate.state c.args.gate.now).records c.args.rule (keys_of c.args.self.now.peaks.entries) c.args.self.now,
 )
 
 pub loop-place-preserved : goal.loop-place-preserved
 loop-place-preserved g c = (
   c.in_ok-note_place.ensures.theirs,
   c.in_ok-note_place.ensures.keys ∙ c.loop-place.invariant.1,
-  one_more_place (g.G.AccessGate.seen c.args.gate.now).policy (g.G.AccessGate.seen c.args.gate.now).records c.args.rule (keys_of c.args.self.now.peaks.entries) c.loop-place.place c.args.self.now c.loop-place.self
+  one_more_place (g.G.AccessGate.state c.args.gate.now).policy (g.G.AccessGate.state c.args.gate.now).records c.args.rule (keys_of c.args.self.now.peaks.entries) c.loop-place.place c.args.self.now c.loop-place.self
       c.note_place.new.self (within g c) c.loop-place.invariant.1 c.loop-place.invariant.2 c.in_ok-note_place.ensures.noted,
 )
 
 pub returns : goal.returns
 returns g c = record {
   noted =
-      all_places (g.G.AccessGate.seen c.args.gate.now).policy (g.G.AccessGate.seen c.args.gate.now).records c.args.rule (keys_of c.args.self.now.peaks.entries) c.loop-place.place c.args.self.now c.loop-place.self
+      all_places (g.G.AccessGate.state c.args.gate.now).policy (g.G.AccessGate.state c.args.gate.now).records c.args.rule (keys_of c.args.self.now.peaks.entries) c.loop-place.place c.args.self.now c.loop-place.self
       (whole g c) c.loop-place.invariant.1 c.loop-place.invariant.2;
 }

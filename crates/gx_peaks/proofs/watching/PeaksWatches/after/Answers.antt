@@ -10,8 +10,8 @@ use Rattle.gx_peaks.proofs.watching.PeaksWatches.after.Goals as goal
 
 pub returns-clause-saw : goal.returns-clause-saw
 returns-clause-saw g c =
-    let policy = (g.G.AccessGate.seen c.args.gate.now).policy in
-    let records = (g.G.AccessGate.seen c.args.gate.now).records in
+    let policy = (g.G.AccessGate.state c.args.gate.now).policy in
+    let records = (g.G.AccessGate.state c.args.gate.now).records in
     ok_then c.note_setting.result
     (λ third.
     all_held c.args.left.now c.args.self.now.seller c.args.self.now.table c.note_order.new.self c.note_gain.new.self c.note_setting.new.self

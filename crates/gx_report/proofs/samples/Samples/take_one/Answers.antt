@@ -11,4 +11,4 @@ returns-clause-taken g c =
     one_more c.args.self.now _ c.requires.due c.requires.taken
     refl refl refl
     (c.in_ok-take_samples.ensures.taken
-    ∙ ap (λ (seats : List Seat). c.args.self.now.list.items ++ map (sample_of (g.G.AccessGate.seen c.args.gate.now).policy (g.G.AccessGate.seen c.args.gate.now).records) seats) c.as_slice.ensures.value)
+    ∙ ap (λ (seats : List Seat). c.args.self.now.list.items ++ map (sample_of (g.G.AccessGate.state c.args.gate.now).policy (g.G.AccessGate.state c.args.gate.now).records) seats) c.as_slice.ensures.value)

@@ -9,8 +9,8 @@ use Rattle.gx_shared.proofs.guarded_gate.GuardedGate.act_with_pass.Goals as goal
 
 pub returns-clause-later : goal.returns-clause-later
 returns-clause-later g c =
-    let was = (g.G.AccessGate.seen c.self.inside.gate) in
-    let now = (g.G.AccessGate.seen c.step_and_note-result.new.gate) in
+    let was = (g.G.AccessGate.state c.self.inside.gate) in
+    let now = (g.G.AccessGate.state c.step_and_note-result.new.gate) in
     let all = c.leave.ensures.pass ∙ ap (λ (l : ℕ). line_view l now.records (length now.records)) c.enter-entered.ensures.line in
     let met : IsMet was.records c.args.pass = subst (λ (xs : List RecordData). IsMet xs c.args.pass) c.self.invariant.1 c.enter-entered.ensures.met in
     let begins = step_begins c.asked_on-asked.result c.step_and_note-result.result was now c.step_and_note-result.ensures.done c.step_and_note-result.ensures.refused in
@@ -19,8 +19,8 @@ returns-clause-later g c =
 
 pub returns-clause-done : goal.returns-clause-done
 returns-clause-done g c =
-    let was = (g.G.AccessGate.seen c.self.inside.gate) in
-    let now = (g.G.AccessGate.seen c.step_and_note-result.new.gate) in
+    let was = (g.G.AccessGate.state c.self.inside.gate) in
+    let now = (g.G.AccessGate.state c.step_and_note-result.new.gate) in
     let a = asked_on c.args.pass.line c.args.user c.args.request c.args.moment in
     let is : c.asked_on-asked.result ≡ a = c.asked_on-asked.ensures.asked ∙ ap (λ (l : ℕ). asked_on l c.args.user c.args.request c.args.moment) c.line-line.ensures in
     let all = c.leave.ensures.pass ∙ ap (λ (l : ℕ). line_view l now.records (length now.records)) c.enter-entered.ensures.line in
@@ -30,7 +30,7 @@ returns-clause-done g c =
 
 pub returns-clause-never_refused : goal.returns-clause-never_refused
 returns-clause-never_refused g c =
-    let now = (g.G.AccessGate.seen c.step_and_note-result.new.gate) in
+    let now = (g.G.AccessGate.state c.step_and_note-result.new.gate) in
     let a = asked_on c.args.pass.line c.args.user c.args.request c.args.moment in
     let is : c.asked_on-asked.result ≡ a = c.asked_on-asked.ensures.asked ∙ ap (λ (l : ℕ). asked_on l c.args.user c.args.request c.args.moment) c.line-line.ensures in
     stays_refused c.step_and_note-result.result now g.N.GateName.policy c.asked_on-asked.result a (c.step_and_note-result.ensures.policy ∙ c.self.invariant.0) is c.step_and_note-result.ensures.never_refused

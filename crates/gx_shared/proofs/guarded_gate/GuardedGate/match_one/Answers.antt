@@ -7,8 +7,8 @@ use Rattle.gx_shared.proofs.guarded_gate.GuardedGate.match_one.Goals as goal
 
 pub returns-clause-later : goal.returns-clause-later
 returns-clause-later g c =
-    let was = (g.G.AccessGate.seen c.self.inside.gate) in
-    let now = (g.G.AccessGate.seen c.match_and_note-result.new.gate) in
+    let was = (g.G.AccessGate.state c.self.inside.gate) in
+    let now = (g.G.AccessGate.state c.match_and_note-result.new.gate) in
     let all = c.leave.ensures.pass ∙ ap (λ (l : ℕ). line_view l now.records (length now.records)) c.enter-entered.ensures.line in
     let met : IsMet was.records c.args.pass = subst (λ (xs : List RecordData). IsMet xs c.args.pass) c.self.invariant.1 c.enter-entered.ensures.met in
     let begins = match_begins c.args.moment c.match_and_note-result.result was now c.match_and_note-result.ensures.found c.match_and_note-result.ensures.refused in
@@ -17,8 +17,8 @@ returns-clause-later g c =
 
 pub returns-clause-own : goal.returns-clause-own
 returns-clause-own g c =
-    let was = (g.G.AccessGate.seen c.self.inside.gate) in
-    let now = (g.G.AccessGate.seen c.match_and_note-result.new.gate) in
+    let was = (g.G.AccessGate.state c.self.inside.gate) in
+    let now = (g.G.AccessGate.state c.match_and_note-result.new.gate) in
     let all = c.leave.ensures.pass ∙ ap (λ (l : ℕ). line_view l now.records (length now.records)) c.enter-entered.ensures.line in
     let met : IsMet was.records c.args.pass = subst (λ (xs : List RecordData). IsMet xs c.args.pass) c.self.invariant.1 c.enter-entered.ensures.met in
     match_is_nobodys c.args.moment c.match_and_note-result.result was now c.args.pass c.leave.result all met c.enter-entered.ensures.some c.match_and_note-result.ensures.found c.match_and_note-result.ensures.refused

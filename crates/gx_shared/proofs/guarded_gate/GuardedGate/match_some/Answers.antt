@@ -8,8 +8,8 @@ use Rattle.gx_shared.proofs.guarded_gate.GuardedGate.match_some.Goals as goal
 
 pub returns-clause-later : goal.returns-clause-later
 returns-clause-later g c =
-    let was = (g.G.AccessGate.seen c.self.inside.gate) in
-    let now = (g.G.AccessGate.seen c.match_some-matched.new.gate) in
+    let was = (g.G.AccessGate.state c.self.inside.gate) in
+    let now = (g.G.AccessGate.state c.match_some-matched.new.gate) in
     let all = c.leave.ensures.pass ∙ ap (λ (l : ℕ). line_view l now.records (length now.records)) c.enter-entered.ensures.line in
     let met : IsMet was.records c.args.pass = subst (λ (xs : List RecordData). IsMet xs c.args.pass) c.self.invariant.1 c.enter-entered.ensures.met in
     let later = still_met c.args.moment c.match_some-matched.result.made c.args.pass c.enter-entered.ensures.some met c.match_some-matched.ensures.made in
@@ -18,16 +18,16 @@ returns-clause-later g c =
 
 pub returns-clause-made : goal.returns-clause-made
 returns-clause-made g c =
-    let was = (g.G.AccessGate.seen c.self.inside.gate) in
-    let now = (g.G.AccessGate.seen c.match_some-matched.new.gate) in
+    let was = (g.G.AccessGate.state c.self.inside.gate) in
+    let now = (g.G.AccessGate.state c.match_some-matched.new.gate) in
     let all = c.leave.ensures.pass ∙ ap (λ (l : ℕ). line_view l now.records (length now.records)) c.enter-entered.ensures.line in
     let met : IsMet was.records c.args.pass = subst (λ (xs : List RecordData). IsMet xs c.args.pass) c.self.invariant.1 c.enter-entered.ensures.met in
     matches c.args.moment c.match_some-matched.result.made c.args.pass c.leave.result all met c.match_some-matched.ensures.made
 
 pub returns-clause-own : goal.returns-clause-own
 returns-clause-own g c =
-    let was = (g.G.AccessGate.seen c.self.inside.gate) in
-    let now = (g.G.AccessGate.seen c.match_some-matched.new.gate) in
+    let was = (g.G.AccessGate.state c.self.inside.gate) in
+    let now = (g.G.AccessGate.state c.match_some-matched.new.gate) in
     let all = c.leave.ensures.pass ∙ ap (λ (l : ℕ). line_view l now.records (length now.records)) c.enter-entered.ensures.line in
     let met : IsMet was.records c.args.pass = subst (λ (xs : List RecordData). IsMet xs c.args.pass) c.self.invariant.1 c.enter-entered.ensures.met in
     let later = still_met c.args.moment c.match_some-matched.result.made c.args.pass c.enter-entered.ensures.some met c.match_some-matched.ensures.made in

@@ -2,7 +2,7 @@ use Rattle.std.proofs.Common.{◌≡◌, List, ◌∙◌, ap, length, map, subst
 use Rattle.gx_policy.specs.Lists.{slice}
 use Rattle.gx_history.specs.declared.report.Report.{Report}
 use Rattle.std.specs.List.{AllByRecursion}
-use Rattle.gx_streams.specs.{declared.{stored_report.StoredReport.StoredReport, fill.ReportedFill.ReportedFill}, Recorded.IsRecorded, Spans.{AreNumbered, copies_in}, Table.report_of}
+use Rattle.gx_streams.specs.{declared.{stored_report.StoredReport.StoredReport, fill.ReportedFill.ReportedFill}, Recorded.IsRecorded, Spans.{AreNumbered, copies_in}, Table.report_stored}
 use Rattle.gx_streams.proofs.{Streams_read.{count_read, read_copies, sound_reader, told_count, told_slice}, Readers_silent.found_silent}
 use Rattle.gx_streams.proofs.streams.Streams.put_slice.Goals as goal
 
@@ -40,8 +40,8 @@ put_reports-requires c =
     record {
       recorded =
           subst (λ (l : List Report). AllByRecursion (IsRecorded c.args.house c.args.records.now) l)
-          (sym (ap (λ (f : List ReportedFill). map (report_of f) c.slice.result) c.as_slice-fills.ensures.value
-          ∙ (ap (map (report_of c.self.inside.fills.items)) (c.slice.ensures ∙ ap (λ (l : List StoredReport). slice l c.args.from c.args.most) c.find-entries.ensures)
+          (sym (ap (λ (f : List ReportedFill). map (report_stored f) c.slice.result) c.as_slice-fills.ensures.value
+          ∙ (ap (map (report_stored c.self.inside.fills.items)) (c.slice.ensures ∙ ap (λ (l : List StoredReport). slice l c.args.from c.args.most) c.find-entries.ensures)
           ∙ told_slice c.self.inside.fills.items c.self.inside.lists c.self.inside.readers c.args.self.now c.args.user c.args.from c.args.most c.in-None.ensures c.self.view_is)))
           c.requires.recorded;
     }
@@ -49,8 +49,8 @@ put_reports-requires c =
 pub returns-in_ok-put_reports-in-None-clause-part : goal.returns-in_ok-put_reports-in-None-clause-part
 returns-in_ok-put_reports-in-None-clause-part c =
     c.in_ok-put_reports-in-None.ensures
-    ∙ (ap (λ (f : List ReportedFill). map (report_of f) c.slice.result) c.as_slice-fills.ensures.value
-    ∙ (ap (map (report_of c.self.inside.fills.items)) (c.slice.ensures ∙ ap (λ (l : List StoredReport). slice l c.args.from c.args.most) c.find-entries.ensures)
+    ∙ (ap (λ (f : List ReportedFill). map (report_stored f) c.slice.result) c.as_slice-fills.ensures.value
+    ∙ (ap (map (report_stored c.self.inside.fills.items)) (c.slice.ensures ∙ ap (λ (l : List StoredReport). slice l c.args.from c.args.most) c.find-entries.ensures)
     ∙ told_slice c.self.inside.fills.items c.self.inside.lists c.self.inside.readers c.args.self.now c.args.user c.args.from c.args.most c.in-None.ensures c.self.view_is))
 
 pub returns-in_ok-put_reports-in-None-clause-count : goal.returns-in_ok-put_reports-in-None-clause-count

@@ -1,5 +1,5 @@
 use Rattle.std.proofs.Common.{List, ◌∙◌, ap}
-use Rattle.gx_trading_status.specs.{StatusData.{TradingStatusData, UserLine, with_line}, View.{kills_of, lines_of}}
+use Rattle.gx_trading_status.specs.{StatusData.{TradingStatusData, UserLine, with_user_line}, View.{kills_of, lines_of}}
 use Rattle.gx_trading_status.proofs.Status_table.{line_unknown, line_written}
 use Rattle.gx_trading_status.proofs.status.TradingStatus.put_on.Goals as goal
 
@@ -10,7 +10,7 @@ returns-in_default c =
     let with_these : List UserLine → TradingStatusData = λ lines. record { lifters = inside.lifters; lines = lines; kills = kills_of inside.kills.entries; closed = inside.closed; moment = inside.moment } in
     ap (λ lines. with_these (lines_of lines.entries)) c.get_mut.follows.holds-at-none
     ∙ ap with_these (line_unknown c.args.user c.args.line inside.lines.entries c.in_default.ensures.value)
-    ∙ ap (with_line c.args.user c.args.line) c.self.view_is
+    ∙ ap (with_user_line c.args.user c.args.line) c.self.view_is
 
 -- the line is written in place
 pub returns : goal.returns
@@ -19,4 +19,4 @@ returns c =
     let with_these : List UserLine → TradingStatusData = λ lines. record { lifters = inside.lifters; lines = lines; kills = kills_of inside.kills.entries; closed = inside.closed; moment = inside.moment } in
     ap (λ entries. with_these (lines_of entries)) (c.get_mut.follows.holds c.args.line).0
     ∙ ap with_these (line_written c.args.user c.args.line inside.lines.entries c.in-Some.ensures.unique)
-    ∙ ap (with_line c.args.user c.args.line) c.self.view_is
+    ∙ ap (with_user_line c.args.user c.args.line) c.self.view_is

@@ -4,8 +4,8 @@ use Rattle.gx_units.proofs.Results_hold.{ok_then}
 
 pub returns : goal.returns
 returns g c =
-    let policy = (g.G.AccessGate.seen c.args.gate.now).policy in
-    let records = (g.G.AccessGate.seen c.args.gate.now).records in
+    let policy = (g.G.AccessGate.state c.args.gate.now).policy in
+    let records = (g.G.AccessGate.state c.args.gate.now).records in
     record {
       noted =
           ok_then c.note_shares.result

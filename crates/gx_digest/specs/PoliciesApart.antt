@@ -2,7 +2,7 @@
 use Rattle.std.specs.{Prelude.{◌≡◌, ◌<◌, ◌^◌, length, map, codes}, List.AllByRecursion}
 use Rattle.gx_units.specs.declared.names.{AccountName.AccountName, Symbol.Symbol}
 use Rattle.gx_policy.specs.declared.policy.{PolicyData.PolicyData, Account.Account, Stock.Stock, User.User, Role.Role, Scope.Scope, FileRule.FileRule, RuleKind.RuleKind}
-use Rattle.gx_digest.specs.PolicyText.{policy_text, stocks_of, limit_of, back_of}
+use Rattle.gx_digest.specs.PolicyText.{policy_text, stocks_or_none, limit_or_zero, back_of}
 
 -- the user, with a blank password
 abbrev pub without_password : User → User
@@ -38,7 +38,7 @@ abbrev pub IsUserSized : User → Type 0
 IsUserSized u = (length u.name.bytes ≡ 6) × IsRoleSized u.role
 
 abbrev pub IsKindSized : RuleKind → Type 0
-IsKindSized k = AllByRecursion IsSymbolSized (stocks_of k) × (limit_of k < 2 ^ 64) × (back_of k < 2 ^ 64)
+IsKindSized k = AllByRecursion IsSymbolSized (stocks_or_none k) × (limit_or_zero k < 2 ^ 64) × (back_of k < 2 ^ 64)
 
 abbrev pub IsRuleSized : FileRule → Type 0
 IsRuleSized r = (length r.name.bytes ≡ 8) × IsKindSized r.kind × IsScopeSized r.scope

@@ -1,7 +1,7 @@
 use Rattle.std.proofs.Common.{ap, sym, ◌∙◌}
 use Rattle.gx_terminal.specs.Cursor.{Left}
 use Rattle.gx_terminal.proofs.Words_cut.{word_found, word_last}
-use Rattle.gx_terminal.proofs.words.Words.next.Goals as goal
+use Rattle.gx_terminal.proofs.words.LineWords.next.Goals as goal
 
 pub returns-in-Some-clause-first : goal.returns-in-Some-clause-first
 returns-in-Some-clause-first c =

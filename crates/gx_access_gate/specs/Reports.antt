@@ -14,8 +14,8 @@ abbrev pub reads : GateData → UserName → Bool
 reads gate user = is_reader (role_in gate.policy.users user)
 
 -- the drop copies of each fill of an account that was the reader's before it
-abbrev pub copies_of : GateData → UserName → List Report
-copies_of gate reader = copies gate.policy gate.records reader
+abbrev pub reader_copies : GateData → UserName → List Report
+reader_copies gate reader = copies gate.policy gate.records reader
 
 -- the day is closed, and no report of the user has this number
 abbrev pub ends_before : GateData → UserName → ℕ → Bool
