@@ -90,7 +90,8 @@ fn of_account(account: Option<AccountName>) -> Heading
 /// The row of the heading, or that of one which never came.
 fn row_of(table: &IndexMap<Heading, HeadingRow>, heading: Heading) -> HeadingRow
     ensures { result
-        ≡ unwrap_or (lookup (same_heading heading) table.now.entries) (heading_uncounted heading) }
+        ≡ unwrap_or (lookup (same_heading heading) table.now.entries)
+        (heading_uncounted heading) }
 {
     match table.get(&heading) {
         Some(row) => *row,
