@@ -1,6 +1,6 @@
 //! `gate show`: which records of an audit are shown, and what is told where none can be.
 
-ghost use Rattle.std.specs.Prelude.{◌^◌, ◌<◌};
+ghost use Rattle.std.specs.Prelude.{◌<◌};
 
 use gx_audit::{endings_of, order_ends_of};
 use gx_clock::TimeOfDay;

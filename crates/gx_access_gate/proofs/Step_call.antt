@@ -1,5 +1,5 @@
 -- What a step and a pull make of a gate.
-use Rattle.std.proofs.Common.{◌≡◌, ◌<◌, List, [], ◌∷◌, ◌++◌, Option, Some, refl, sym, ap, ◌∙◌}
+use Rattle.std.proofs.Common.{◌≡◌, List, [], ◌∷◌, ◌++◌, Option, Some, refl, sym, ap, ◌∙◌}
 use Rattle.std.specs.Option.{option_map_or}
 use Rattle.gx_history.specs.{declared.record.{Asked.Asked, RecordData.RecordData, Step.Step}, Verdicts.{next, after_step}}
 use Rattle.gx_policy.specs.declared.policy.PolicyData.{PolicyData}

@@ -1,6 +1,6 @@
 -- The row of an account, once something is done by an account.
 use Rattle.std.proofs.Common.{◌≡◌, Bool, true, false, cond, List, [], ◌∷◌, refl, ap, sym, ◌∙◌}
-use Rattle.std.specs.{Prelude.{Option, Some, None, fold, unwrap_or}, Map.lookup}
+use Rattle.std.specs.{Prelude.{Option, Some, fold, unwrap_or}, Map.lookup}
 use Rattle.gx_units.specs.{Names.same_account, declared.names.AccountName.AccountName}
 use Rattle.gx_units.proofs.Names_equal.{account_is}
 use Rattle.gx_overview.proofs.Accounts_next.{inserted}

@@ -1,13 +1,13 @@
 -- No count comes near 64 bits, and the rows stand as they were noted.
-use Rattle.std.proofs.{Common.{◌≡◌, ℕ, ◌+◌, ◌<◌, ◌≤◌, ◌*◌, ◌^◌, arith, Bool, List, [], ◌∷◌, ◌++◌, map, length, take, drop, refl, ap, sym, ◌∙◌, length-append}, lemmas.List.{length-map, Sums.count_by-le-length}}
+use Rattle.std.proofs.{Common.{◌≡◌, ℕ, ◌+◌, ◌<◌, ◌≤◌, ◌*◌, ◌^◌, arith, Bool, List, [], ◌∷◌, ◌++◌, map, length, refl, ◌∙◌, length-append}, lemmas.List.Sums.count_by-le-length}
 use Rattle.std.specs.Prelude.{Option, Some, None, count_by, flat_map, option_and_then, option_to_list}
 use Rattle.gx_units.specs.{Names.same_account, declared.names.AccountName.AccountName}
 use Rattle.gx_units.proofs.Lists_found.{few_found, map_same}
 use Rattle.gx_ouch.specs.declared.letters.Liquidity.{Liquidity}
 use Rattle.gx_policy.specs.{declared.policy.{Account.Account, PolicyData.PolicyData}, Lists.{each_after, each_with_earlier}}
-use Rattle.gx_history.specs.{declared.record.{Fill.Fill, RecordData.RecordData, Request.Request, Verdict.Verdict}, Book.rested_of, Executions.{Execution, executions, executions_of, side_of, sides_in}, Orders.{Order, order_numbered, orders}, Requests.is_granted}
+use Rattle.gx_history.specs.{declared.«record».{Fill.Fill, RecordData.RecordData, Request.Request, Verdict.Verdict}, Book.rested_of, Executions.{Execution, executions, executions_of, side_of, sides_in}, Orders.{Order, order_numbered, orders}, Requests.{is_granted, is_denied}}
 use Rattle.gx_overview.specs.Accounts.{capped_count}
-use Rattle.gx_activity.specs.{declared.activity.ActivityRow.ActivityRow, Activity.{activity_row, order_expired, is_asked, is_cancel, is_denied, is_enter, is_replace, orders_of, orders_said, requests_of}, Noting.{capped_requests, row_in, so_far}}
+use Rattle.gx_activity.specs.{declared.activity.ActivityRow.ActivityRow, Activity.{activity_row, order_expired, is_asked, is_cancel, is_enter, is_replace, orders_of, orders_said, requests_of}, Noting.{capped_requests, row_in, so_far}}
 use Rattle.gx_activity.proofs.Counts_next.{the_requests, the_row}
 
 pub fits : (n : ℕ) → n < 2 ^ 64 → capped_count n ≡ n

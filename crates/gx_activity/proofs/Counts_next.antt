@@ -4,11 +4,11 @@ use Rattle.std.specs.{Prelude.{Option, Some, None, count_by, filter_map, fold, o
 use Rattle.gx_units.specs.{Names.same_account, declared.names.AccountName.AccountName}
 use Rattle.gx_units.proofs.Lists_found.{one_found}
 use Rattle.gx_ouch.specs.declared.letters.Liquidity.{Liquidity}
-use Rattle.gx_policy.specs.{declared.policy.{Account.Account, PolicyData.PolicyData}, Lists.each_with_earlier, People.account_of}
-use Rattle.gx_history.specs.{declared.record.{Asked.Asked, Fill.Fill, RecordData.RecordData, Request.Request, Step.Step, Verdict.Verdict}, Book.rested_of, Executions.{Execution, executions, side_of, sides_in}, Orders.{Order, order_numbered, orders}, Requests.{asked_of, is_granted}}
+use Rattle.gx_policy.specs.{declared.policy.{Account.Account, PolicyData.PolicyData}, Lists.each_with_earlier, People.{account_of, trades_for}}
+use Rattle.gx_history.specs.{declared.«record».{Asked.Asked, Fill.Fill, RecordData.RecordData, Request.Request, Step.Step, Verdict.Verdict}, Book.rested_of, Executions.{Execution, executions, side_of, sides_in}, Orders.{Order, order_numbered, orders}, Requests.{asked_of, is_granted, is_denied}}
 use Rattle.gx_laws.proofs.{Orders_next.executions_next, Lists_next.each_after_next}
-use Rattle.gx_overview.specs.Accounts.{capped_count}
-use Rattle.gx_activity.specs.{declared.{activity.{ActivityRow.ActivityRow, OrderRequests.OrderRequests}, deeds.Deed.Deed}, Activity.{order_expired, is_asked, is_cancel, is_denied, is_enter, is_replace, orders_of, orders_said, trades_for}, Noting.{deed_of, deeds_in, one_more, row_done, so_far}}
+use Rattle.gx_overview.specs.Accounts.{capped_count, one_more}
+use Rattle.gx_activity.specs.{declared.{activity.{ActivityRow.ActivityRow, OrderRequests.OrderRequests}, deeds.Deed.Deed}, Activity.{order_expired, is_asked, is_cancel, is_enter, is_replace, orders_of, orders_said}, Noting.{deed_of, deeds_in, row_done, so_far}}
 use Rattle.gx_overview.proofs.LiveOrders_call.{count_capped}
 
 pub no_more : (n : ℕ) → capped_count (n + 0) ≡ capped_count n

@@ -1,9 +1,9 @@
 -- What is known and counted, once one more record is noted.
-use Rattle.std.proofs.{Common.{◌≡◌, ℕ, ◌+◌, ◌<◌, List, [], ◌∷◌, ◌++◌, map, length, take, get_or, refl, ap, sym, subst, ◌∙◌}, lemmas.List.take_more}
+use Rattle.std.proofs.{Common.{◌≡◌, ℕ, ◌+◌, ◌<◌, List, [], ◌∷◌, ◌++◌, length, take, get_or, refl, ap, sym, subst, ◌∙◌}, lemmas.List.take_more}
 use Rattle.gx_units.specs.declared.names.AccountName.{AccountName}
 use Rattle.gx_policy.specs.declared.policy.{Account.Account, PolicyData.PolicyData}
 use Rattle.gx_history.specs.{declared.record.RecordData.RecordData, Executions.executions, Orders.orders}
-use Rattle.gx_laws.proofs.Orders_next.{orders_next, orders_none}
+use Rattle.gx_laws.proofs.Orders_next.{orders_next}
 use Rattle.gx_overview.specs.{declared.owners.Owners.Owners, Executed.KnowOrders}
 use Rattle.gx_activity.specs.{declared.activity.ActivityRow.ActivityRow, Activity.idle, Noting.{NoteDeeds, deeds_in, row_in, so_far}}
 use Rattle.gx_activity.proofs.{Counts_next.row_next, AccountRow_next.row_after}

@@ -1,13 +1,13 @@
 -- What one more fill makes of the positions.
 use Rattle.std.proofs.{Common.{◌≡◌, ℕ, ◌+◌, ◌<◌, Bool, true, false, not, cond, ◌&&◌, List, [], ◌∷◌, ◌++◌, map, length, take, get_or, arith, refl, ap, sym, subst, ◌∙◌}, lemmas.{Slice.Eq.bytes_eq-Decides, List.take_more, Simd.map-map, Bool.and_parts}}
 use Rattle.std.specs.Prelude.{fold}
-use Rattle.gx_units.specs.{Money.value, Names.{same_account, same_stock}}
+use Rattle.gx_units.specs.{Money.{value, capped_at_128_bits}, Names.{same_account, same_stock}}
 use Rattle.gx_units.proofs.Names_equal.{account_is, stock_is, account_is_itself}
 use Rattle.gx_policy.specs.{declared.policy.PolicyData.PolicyData, Lists.once}
 use Rattle.gx_history.specs.{declared.record.RecordData.RecordData, Book.is_buy, Executions.{Execution, executions, sides_in}, Figures.done_of_chosen, Orders.orders}
 use Rattle.gx_laws.proofs.Orders_next.{executions_next, executions_none, orders_next}
-use Rattle.gx_overview.specs.{declared.{executed.ExecutedTotals.ExecutedTotals, owners.Owners.Owners}, Accounts.capped_at_128_bits, Executed.{KnowOrders, value_of_chosen}}
-use Rattle.gx_overview.proofs.{LiveOrders_call.sum_capped, Fills_call.{shares_next, value_next}}
+use Rattle.gx_overview.specs.{declared.{executed.ExecutedTotals.ExecutedTotals, owners.Owners.Owners}, Executed.{KnowOrders, value_of_chosen}}
+use Rattle.gx_overview.proofs.{LiveOrders_call.sum_capped, Fills_call.{the_sums, shares_next, value_next}}
 use Rattle.gx_activity.specs.{declared.positions.{Position.Position, PositionRow.PositionRow}, Positions.{is_in, no_position, position_of, position_row, position_rows, position_with, position_row_of, same_position}, Positioning.{NotePositions, entries_after, position_table, table_of}}
 use Rattle.gx_activity.proofs.Table_next.{listed_value_of, table_from}
 
@@ -23,9 +23,6 @@ same_are_equal p q same =
     λ i. record { account = account_is p.account q.account parts.0 i; stock = stock_is p.stock q.stock parts.1 i }
 
 -- ---- the row of a position, with one more side of a fill
-
-abbrev the_sums : ℕ → ℕ → ExecutedTotals
-the_sums shares worth = record { shares = shares; value = worth }
 
 abbrev the_row : Position → ExecutedTotals → ExecutedTotals → PositionRow
 the_row p bought sold = record { position = p; bought = bought; sold = sold }

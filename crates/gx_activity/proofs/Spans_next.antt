@@ -1,9 +1,9 @@
 -- What one more record adds to the counts of a span.
 use Rattle.std.proofs.{Common.{◌≡◌, ℕ, ◌+◌, ◌<◌, ◌≤◌, ◌^◌, Bool, true, false, cond, ◌&&◌, List, [], ◌∷◌, ◌++◌, length, take, get_or, arith, ap, sym, ◌∙◌}, lemmas.List.{take_more, Sums.{count_by-le-length, sum_by_push}}}
-use Rattle.gx_history.specs.declared.record.RecordData.{RecordData}
+use Rattle.gx_history.specs.{declared.«record».RecordData.RecordData, Requests.{is_denied, is_fill}}
 use Rattle.gx_laws.specs.HistoryLaws.{grants_order}
 use Rattle.gx_overview.specs.Accounts.{capped_count}
-use Rattle.gx_activity.specs.{declared.spans.SpanRow.SpanRow, Activity.is_denied, Spans.{is_filled, is_in_span, so_many_in, span_row}, Spanning.{span_noted, span_so_far, span_with}}
+use Rattle.gx_activity.specs.{declared.spans.SpanRow.SpanRow, Spans.{is_in_span, so_many_in, span_row}, Spanning.{span_noted, span_so_far, span_with}}
 use Rattle.gx_activity.proofs.{Counts_next.{no_more, one_more_is}, Counts_bounds.fits}
 
 abbrev the_row : ℕ → ℕ → ℕ → SpanRow
@@ -14,14 +14,14 @@ module _ (from width k : ℕ) (records : List RecordData) (r : RecordData) where
   orders = so_many_in from width k grants_order records
 
   abbrev fills : ℕ
-  fills = so_many_in from width k (λ (x : RecordData). is_filled x.verdict) records
+  fills = so_many_in from width k (λ (x : RecordData). is_fill x.verdict) records
 
   abbrev denials : ℕ
   denials = so_many_in from width k (λ (x : RecordData). is_denied x.verdict) records
 
-  in_span : (b : Bool) → the_row (capped_count (orders + cond (b && grants_order r) 1 0)) (capped_count (fills + cond (b && is_filled r.verdict) 1 0)) (capped_count (denials + cond (b && is_denied r.verdict) 1 0))
+  in_span : (b : Bool) → the_row (capped_count (orders + cond (b && grants_order r) 1 0)) (capped_count (fills + cond (b && is_fill r.verdict) 1 0)) (capped_count (denials + cond (b && is_denied r.verdict) 1 0))
       ≡ cond b (span_with r (span_so_far records from width k)) (span_so_far records from width k)
-  in_span true = λ i. the_row (one_more_is (grants_order r) orders i) (one_more_is (is_filled r.verdict) fills i) (one_more_is (is_denied r.verdict) denials i)
+  in_span true = λ i. the_row (one_more_is (grants_order r) orders i) (one_more_is (is_fill r.verdict) fills i) (one_more_is (is_denied r.verdict) denials i)
   in_span false = λ i. the_row (no_more orders i) (no_more fills i) (no_more denials i)
 
   one_further : (such : RecordData → Bool) → so_many_in from width k such (records ++ r ∷ []) ≡ so_many_in from width k such records + cond (is_in_span from width k r.moment && such r) 1 0
@@ -29,7 +29,7 @@ module _ (from width k : ℕ) (records : List RecordData) (r : RecordData) where
 
   span_next : span_noted from width r k (span_so_far records from width k) ≡ span_so_far (records ++ r ∷ []) from width k
   span_next =
-      sym ((λ i. the_row (capped_count (one_further grants_order i)) (capped_count (one_further (λ (x : RecordData). is_filled x.verdict) i)) (capped_count (one_further (λ (x : RecordData). is_denied x.verdict) i)))
+      sym ((λ i. the_row (capped_count (one_further grants_order i)) (capped_count (one_further (λ (x : RecordData). is_fill x.verdict) i)) (capped_count (one_further (λ (x : RecordData). is_denied x.verdict) i)))
       ∙ in_span (is_in_span from width k r.moment))
 
 -- of one more record
@@ -41,7 +41,7 @@ span_further from width k records i r d within is =
 
 -- no count comes near 64 bits
 pub span_fits : (from width k : ℕ) (records : List RecordData) → length records < 2 ^ 64 → span_so_far records from width k ≡ span_row records from width k
-span_fits from width k records few = λ i. the_row (one grants_order i) (one (λ (x : RecordData). is_filled x.verdict) i) (one (λ (x : RecordData). is_denied x.verdict) i)
+span_fits from width k records few = λ i. the_row (one grants_order i) (one (λ (x : RecordData). is_fill x.verdict) i) (one (λ (x : RecordData). is_denied x.verdict) i)
   where
     one : (such : RecordData → Bool) → capped_count (so_many_in from width k such records) ≡ so_many_in from width k such records
     one such =

@@ -1,8 +1,8 @@
 -- What each account asked for, and what became of its orders.
+use Rattle.gx_policy.specs.{People.trades_for, declared.policy.{Account.Account, PolicyData.PolicyData}, Lists.each_with_earlier}
+use Rattle.gx_history.specs.{Requests.{is_denied, asked_of, is_granted}, declared.«record».{Asked.Asked, RecordData.RecordData, Request.Request, Verdict.Verdict}, Book.rested_of, Executions.{Execution, executions}, Orders.{Order, order_numbered, orders}}
 use Rattle.std.specs.{Prelude.{ℕ, Bool, true, false, ◌&&◌, List, count_by, Option, Some, None, option_and_then}, Option.option_map_or, List.filter_map}
-use Rattle.gx_units.specs.{Names.same_account, declared.names.{AccountName.AccountName, UserName.UserName}}
-use Rattle.gx_policy.specs.{declared.policy.{Account.Account, PolicyData.PolicyData}, Lists.each_with_earlier, People.account_of}
-use Rattle.gx_history.specs.{declared.record.{Asked.Asked, RecordData.RecordData, Request.Request, Verdict.Verdict}, Book.rested_of, Executions.{Execution, executions}, Orders.{Order, order_numbered, orders}, Requests.{asked_of, is_granted}}
+use Rattle.gx_units.specs.{Names.same_account, declared.names.AccountName.AccountName}
 use Rattle.gx_activity.specs.declared.activity.{ActivityRow.ActivityRow, OrderRequests.OrderRequests}
 
 -- Enter Order
@@ -19,15 +19,6 @@ is_replace other = false
 abbrev pub is_cancel : Request → Bool
 is_cancel (Request.Cancel m) = true
 is_cancel other = false
-
--- the request was denied
-abbrev pub is_denied : Verdict → Bool
-is_denied (Verdict.Denied rule) = true
-is_denied other = false
-
--- the account that the user trades for is this one
-abbrev pub trades_for : PolicyData → AccountName → UserName → Bool
-trades_for policy account user = option_map_or (same_account account) (account_of policy user) false
 
 -- a user of the account asked for such a thing, and such a thing became of it
 abbrev pub is_asked : PolicyData → AccountName → (Verdict → Bool) → (Request → Bool) → RecordData → Bool

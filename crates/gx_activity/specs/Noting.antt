@@ -1,15 +1,11 @@
 -- What one more record changes in the rows of the accounts.
-use Rattle.std.specs.{Prelude.{◌≡◌, ℕ, ◌+◌, Bool, List, [], ◌++◌, map, fold, Option, option_to_list, unwrap_or, if◌then◌else◌}, Option.option_map_or, Map.lookup}
+use Rattle.gx_overview.specs.{Accounts.{one_more, capped_count}, declared.owners.{Owner.Owner, Owners.Owners}, Executed.KnowOrders}
+use Rattle.std.specs.{Prelude.{◌≡◌, ℕ, ◌+◌, List, [], ◌++◌, map, fold, Option, option_to_list, unwrap_or, if◌then◌else◌}, Option.option_map_or, Map.lookup}
 use Rattle.indexmap.specs.IndexMap.{insert_entry}
 use Rattle.gx_units.specs.{Names.same_account, declared.names.AccountName.AccountName}
 use Rattle.gx_policy.specs.{declared.policy.{Account.Account, PolicyData.PolicyData}, People.account_of}
 use Rattle.gx_history.specs.{declared.record.{Asked.Asked, RecordData.RecordData, Request.Request, Step.Step, Verdict.Verdict}, Orders.{Order, order_numbered, orders_added}, Requests.asked_of}
-use Rattle.gx_overview.specs.{declared.owners.{Owner.Owner, Owners.Owners}, Accounts.capped_count, Executed.KnowOrders}
 use Rattle.gx_activity.specs.{declared.{activity.{ActivityRow.ActivityRow, OrderRequests.OrderRequests}, deeds.Deed.Deed}, Activity.{activity_of, idle, is_cancel, is_enter, is_replace}}
-
--- with one more, where this is so
-abbrev pub one_more : Bool → ℕ → ℕ
-one_more is_so n = if is_so then capped_count (n + 1) else n
 
 -- with the request counted as what it is
 abbrev pub requests_with : Request → OrderRequests → OrderRequests

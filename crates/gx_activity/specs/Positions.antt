@@ -1,10 +1,10 @@
 -- What each account bought and sold in each stock.
 use Rattle.std.specs.Prelude.{Bool, true, false, ◌&&◌, List, find, map, unwrap_or}
-use Rattle.gx_units.specs.{Names.{same_account, same_stock}, declared.names.AccountName.AccountName}
+use Rattle.gx_units.specs.{Names.{same_account, same_stock}, declared.names.AccountName.AccountName, Money.capped_at_128_bits}
 use Rattle.gx_ouch.specs.declared.outbound.OrderTerms.{OrderTerms}
 use Rattle.gx_policy.specs.{declared.policy.PolicyData.PolicyData, Lists.once}
 use Rattle.gx_history.specs.{declared.record.{Fill.Fill, RecordData.RecordData}, Executions.{Execution, executions}, Figures.{done_of_chosen, on_side}}
-use Rattle.gx_overview.specs.{declared.executed.ExecutedTotals.ExecutedTotals, Accounts.capped_at_128_bits, Executed.{value_of_chosen, with_fill}}
+use Rattle.gx_overview.specs.{declared.executed.ExecutedTotals.ExecutedTotals, Executed.{value_of_chosen, with_fill}}
 use Rattle.gx_activity.specs.declared.positions.{Position.Position, PositionRow.PositionRow}
 
 -- the same account and the same stock

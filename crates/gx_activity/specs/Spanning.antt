@@ -1,9 +1,9 @@
 -- What one more record changes in the rows of the spans.
 use Rattle.std.specs.Prelude.{◌≡◌, ℕ, List, Some, slice_get, if◌then◌else◌}
-use Rattle.gx_history.specs.declared.record.RecordData.{RecordData}
+use Rattle.gx_history.specs.{declared.«record».RecordData.RecordData, Requests.{is_denied, is_fill}}
 use Rattle.gx_laws.specs.HistoryLaws.{grants_order}
-use Rattle.gx_overview.specs.Accounts.{capped_count}
-use Rattle.gx_activity.specs.{declared.spans.SpanRow.SpanRow, Activity.is_denied, Noting.one_more, Spans.{is_filled, is_in_span, span_row}}
+use Rattle.gx_overview.specs.Accounts.{capped_count, one_more}
+use Rattle.gx_activity.specs.{declared.spans.SpanRow.SpanRow, Spans.{is_in_span, span_row}}
 
 -- before any record
 abbrev pub no_records : SpanRow
@@ -13,7 +13,7 @@ no_records = record { orders = 0; fills = 0; denials = 0 }
 abbrev pub span_with : RecordData → SpanRow → SpanRow
 span_with r row = record {
   orders = one_more (grants_order r) row.orders;
-  fills = one_more (is_filled r.verdict) row.fills;
+  fills = one_more (is_fill r.verdict) row.fills;
   denials = one_more (is_denied r.verdict) row.denials;
 }
 

@@ -1,13 +1,8 @@
 -- What there was in spans of time.
-use Rattle.std.specs.Prelude.{ℕ, ◌+◌, ◌*◌, Bool, true, false, ◌&&◌, nat_le, nat_lt, List, count_by}
-use Rattle.gx_history.specs.declared.record.{RecordData.RecordData, Verdict.Verdict}
+use Rattle.gx_history.specs.{Requests.{is_fill, is_denied}, declared.«record».RecordData.RecordData}
+use Rattle.std.specs.Prelude.{ℕ, ◌+◌, ◌*◌, Bool, ◌&&◌, nat_le, nat_lt, List, count_by}
 use Rattle.gx_laws.specs.HistoryLaws.{grants_order}
-use Rattle.gx_activity.specs.{declared.spans.SpanRow.SpanRow, Activity.is_denied}
-
--- two orders traded
-abbrev pub is_filled : Verdict → Bool
-is_filled (Verdict.Filled f) = true
-is_filled other = false
+use Rattle.gx_activity.specs.{declared.spans.SpanRow.SpanRow}
 
 -- the moment lies in span k, where each is so wide, and the first begins here
 abbrev pub is_in_span : ℕ → ℕ → ℕ → ℕ → Bool
@@ -21,6 +16,6 @@ so_many_in from width k such records = count_by (λ (r : RecordData). is_in_span
 abbrev pub span_row : List RecordData → ℕ → ℕ → ℕ → SpanRow
 span_row records from width k = record {
   orders = so_many_in from width k grants_order records;
-  fills = so_many_in from width k (λ (r : RecordData). is_filled r.verdict) records;
+  fills = so_many_in from width k (λ (r : RecordData). is_fill r.verdict) records;
   denials = so_many_in from width k (λ (r : RecordData). is_denied r.verdict) records;
 }

@@ -7,9 +7,9 @@ pub fn script() -> &'static [u8] {
 // The day's state is asked for each second, and shown. What has not changed is left as it is: who has marked a text or stands
 // on a button stays there.
 
-const EACH = 1000; // how often the state is asked for, in milliseconds
-const OLD_AFTER = 3000; // without an answer for so long, what is shown is old
-const PATIENCE = 20000; // so long an answer is waited for: a browser may have to ask for the password meanwhile
+const POLL_MILLIS = 1000; // how often the state is asked for
+const STALE_AFTER_MILLIS = 3000; // without an answer for so long, what is shown is old
+const ANSWER_WAIT_MILLIS = 20000; // so long an answer is waited for: a browser may have to ask for the password meanwhile
 const WARNING = 0.75; // shares of a limit
 const NEAR = 0.9;
 const DASH = '\u2013';
@@ -335,7 +335,7 @@ const clock = (moment) => new Date(moment).toISOString().slice(11, 19);
 
 function showTrouble() {
   let text = trouble;
-  if (Date.now() - heardAt >= OLD_AFTER) {
+  if (Date.now() - heardAt >= STALE_AFTER_MILLIS) {
     text = 'No answer from the gate since ' + clock(heardAt) + ': what you see is old';
   }
   if (hasToLogIn) text = 'The gate asks for your name and password: you have to log in again. What you see is old.';
@@ -375,7 +375,7 @@ async function refresh() {
   isAsking = true;
   // without an answer the banner tells it after a while
   const none = () => null;
-  const answer = await fetch(STATE, { cache: 'no-store', signal: AbortSignal.timeout(PATIENCE) }).catch(none);
+  const answer = await fetch(STATE, { cache: 'no-store', signal: AbortSignal.timeout(ANSWER_WAIT_MILLIS) }).catch(none);
   try {
     if (answer) await take(answer);
   } catch (error) {
@@ -417,7 +417,7 @@ async function kill(account) {
       cache: 'no-store',
       headers: { 'Content-Type': 'application/x-www-form-urlencoded' },
       body: 'account=' + encodeURIComponent(account) + '&token=' + encodeURIComponent(state.token),
-      signal: AbortSignal.timeout(PATIENCE),
+      signal: AbortSignal.timeout(ANSWER_WAIT_MILLIS),
     });
     // it is sent on to the page where the kill was granted
     if (answer.type === 'opaqueredirect') tell('Kill ' + account + ': granted', false);
@@ -443,8 +443,8 @@ byId('again').href = location.origin + '/';
 document.addEventListener('visibilitychange', () => {
   if (!document.hidden) refresh();
 });
-setInterval(refresh, EACH);
-setInterval(showTrouble, EACH / 2);
+setInterval(refresh, POLL_MILLIS);
+setInterval(showTrouble, POLL_MILLIS / 2);
 refresh();
 "##
 }

@@ -1,4 +1,5 @@
 -- An audit, written piece by piece.
+use Rattle.gx_units.proofs.Lists_found.{append_regrouped}
 use Rattle.std.proofs.{Common.{◌≡◌, ℕ, ◌+◌, false, List, [], ◌∷◌, ◌++◌, Option, take, drop, refl, sym, ap, ◌∙◌, subst, append_assoc}, KnownBytes.{Appends-nil, Appends-trans}, Math.Seq.take-add, lemmas.List.take-append-drop}
 use Rattle.std.specs.Io.KnownBytes.{Appends}
 use Rattle.gx_devices.specs.Devices.{IsFront}
@@ -27,10 +28,6 @@ piece_written version a b c records piece done size upto is at so_far more =
     ∙ sym (all_joined version (take done records) (take size (drop done records))) ∙ ap (all_bytes version) (sym (take-add done size records)) ∙ ap (λ (n : ℕ). all_bytes version (take n records)) at in
     subst (Appends a c) both (Appends-trans a b c (all_bytes version (take done records)) (all_bytes version piece) so_far more)
 
--- bytes in four pieces
-regrouped : (a f r z : List ℕ) → a ++ ((f ++ r) ++ z) ≡ (a ++ f) ++ (r ++ z)
-regrouped a f r z = simp append_assoc
-
 -- a front of one more piece is written
 pub piece_cut : (version : AuditVersion) (a b c : Option (List ℕ)) (records piece : List RecordData) (done size : ℕ) → piece ≡ take size (drop done records) → Appends a b (all_bytes version (take done records))
     → IsFront b c (all_bytes version piece) → IsFront a c (all_bytes version records)
@@ -42,7 +39,7 @@ piece_cut version a b c records piece done size is so_far cut = record {
       ap (all_bytes version) (sym (take-append-drop done records))
       ∙ all_joined version (take done records) (drop done records)
       ∙ ap (λ (bytes : List ℕ). all_bytes version (take done records) ++ bytes) left_is
-      ∙ regrouped (all_bytes version (take done records)) cut.front cut.rest (all_bytes version (drop size (drop done records)));
+      ∙ append_regrouped (all_bytes version (take done records)) cut.front cut.rest (all_bytes version (drop size (drop done records)));
 }
   where
     left_is : all_bytes version (drop done records) ≡ (cut.front ++ cut.rest) ++ all_bytes version (drop size (drop done records))

@@ -1,6 +1,6 @@
 //! The check that bytes are the records of a legal day.
 
-ghost use Rattle.std.specs.Prelude.{◌≡◌, ◌≢◌, ◌+◌, ◌-◌, ◌<◌, ◌≤◌, ◌^◌, IsTrue, IsFalse, IfOk, IfErr, OnOk, Err, ◌++◌, [], length, take, drop, option_map, Some};
+ghost use Rattle.std.specs.Prelude.{◌≡◌, ◌≢◌, ◌+◌, ◌-◌, ◌<◌, ◌≤◌, IsTrue, IsFalse, IfOk, IfErr, OnOk, Err, ◌++◌, [], length, take, drop, option_map, Some};
 ghost use Rattle.gx_history.specs.Verdicts.{next, IsLegal};
 ghost use Rattle.gx_access_gate.specs.declared.outcome.StepFault.TheVariants as stepping;
 ghost use Rattle.gx_audit.specs.declared.fault.AuditFault.TheVariants as faults;

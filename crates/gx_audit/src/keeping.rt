@@ -1,6 +1,6 @@
 //! The audit of a run.
 
-ghost use Rattle.std.specs.{Prelude.{◌≡◌, ◌^◌, ◌*◌, ◌+◌, ◌<◌, ◌≤◌, ◌-◌, ◌++◌, length, OnErr, OnOk}, Io.KnownBytes.Appends};
+ghost use Rattle.std.specs.{Prelude.{◌≡◌, ◌^◌, ◌+◌, ◌<◌, ◌≤◌, ◌-◌, ◌++◌, length, OnErr, OnOk}, Io.KnownBytes.Appends};
 ghost use Rattle.arrayvec.specs.ArrayVec.{array_vec_len};
 ghost use Rattle.gx_audit_bytes.specs.{Audits.{all_bytes, whole_audit}, Headers.front_of, Records.record_bytes};
 ghost use Rattle.gx_devices.specs.Devices.{IsFront};

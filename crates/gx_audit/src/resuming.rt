@@ -1,6 +1,6 @@
 //! The day that a file holds.
 
-ghost use Rattle.std.specs.Prelude.{◌≡◌, ◌≢◌, ◌<◌, ◌≤◌, ◌^◌, [], length, IfErr, IfOk, IsTrue};
+ghost use Rattle.std.specs.Prelude.{◌≡◌, ◌≢◌, ◌<◌, ◌^◌, [], length, IfErr, IfOk, IsTrue};
 ghost use Rattle.gx_audit.specs.declared.fault.AuditFault.TheVariants as faults;
 ghost use Rattle.gx_history.specs.Verdicts.{IsLegal};
 ghost use Rattle.gx_audit.specs.{Replaying.{journal_size, IsReplayFault}, Resuming.{IsNewFile, Stands}};

@@ -2,7 +2,7 @@
 use Rattle.std.proofs.{Common.{◌≡◌, ℕ, ◌<◌, ◌^◌, true, nat_le, length, arith}, lemmas.Bool.{Decides.nat_tests, and_parts}}
 use Rattle.std.specs.Prelude.{IsTrue}
 use Rattle.gx_policy.specs.{declared.policy.PolicyData.PolicyData, Soundness.{is_sound, is_within_limits}}
-use Rattle.gx_audit_bytes.proofs.Record_read.{is_true}
+use Rattle.gx_units.proofs.Test_known.{is_true}
 
 limits_of : (policy : PolicyData) → IsTrue (is_sound policy) → is_within_limits policy ≡ true
 unfolding is_sound

@@ -1,5 +1,6 @@
 -- A message that is read of a payload is written as the payload.
-use Rattle.std.proofs.{Common.{◌≡◌, ℕ, ◌+◌, ◌<◌, ◌≤◌, ◌==◌, Bool, true, false, List, [], ◌∷◌, ◌++◌, length, take, drop, map, get_or, slice_index, inl, inr, refl, sym, ap, ◌∙◌, arith}, Math.Seq.take-add, lemmas.{Bool.{cases_lt, eqb-true, and_parts}, List.{take_all, length-take, length-drop, get_or-drop, get_or-take, get_or_past}, Nat.{be_bytes_2, be_bytes_4, be_bytes_8}}}
+use Rattle.gx_units.proofs.Lists_hold.{IsBytes}
+use Rattle.std.proofs.{Common.{◌≡◌, ℕ, ◌+◌, ◌≤◌, ◌==◌, Bool, true, false, List, [], ◌∷◌, ◌++◌, length, take, drop, map, get_or, slice_index, inl, inr, refl, sym, ap, ◌∙◌, arith}, Math.Seq.take-add, lemmas.{Bool.{cases_lt, eqb-true, and_parts}, List.{take_all, length-take, length-drop, get_or-drop, get_or-take, get_or_past}, Nat.{be_bytes_2, be_bytes_4, be_bytes_8}}}
 use Rattle.std.specs.{Prelude.{Option, Some, None, option_map, if◌then◌else◌}, Option.{option_or, unwrap_or}, Int.{w8, w16, w32, w64, to_be_bytes, from_be_bytes}}
 use Rattle.gx_ouch.specs.{Layout.{Field, Layout, IsWithoutGaps, bytes_at, field_bytes, is_of, laid_out, with_fields, offsets_from, end_from}, Writing.letter, Messages.{enter_order, replace_order, cancel_order}, Reading.{inbound_of, enter_of, replace_of, cancel_of}, declared.inbound.{Inbound.Inbound, EnterOrder.EnterOrder, ReplaceOrder.ReplaceOrder}, Contents.{enter_contents, replace_contents}}
 use Rattle.gx_desk.specs.{Messages.{kill, lift, set_limit, restrict, unrestrict, grant, revoke, close_day}, Reading.{command_of, limit_command_of}, declared.{Command.Command}}
@@ -8,9 +9,6 @@ use Rattle.gx_audit_bytes.specs.{Bodies.request_body}
 use Rattle.gx_ouch.proofs.{Requests_read.one_byte, Fields_placed.{same_head, same_tail}}
 
 -- ---- fields
-
-abbrev pub IsBytes : List ℕ → Type 0
-IsBytes bytes = (i : ℕ) → get_or bytes i 0 < 256
 
 pub bytes-drop : (n : ℕ) (bytes : List ℕ) → IsBytes bytes → IsBytes (drop n bytes)
 bytes-drop n bytes h i = rw get_or-drop (h (n + i))

@@ -1,13 +1,14 @@
 -- A record is written as the bytes that show it where its parts stand there.
+use Rattle.gx_units.proofs.{Lists_hold.IsBytes, Test_known.is_true}
 use Rattle.std.proofs.{Common.{◌≡◌, ℕ, ◌+◌, ◌-◌, ◌≤◌, ◌&&◌, ◌||◌, ◌==◌, Bool, true, false, List, [], ◌∷◌, ◌++◌, length, take, drop, map, get_or, slice_index, refl, sym, ap, ◌∙◌, arith}, lemmas.{Bool.{eqb-true, and_parts, and_from, eq-eqb}, List.{take-append-drop, drop_at, length-append}, Slice.Eq.bytes_eq-Decides, Option.same_Some}}
 use Rattle.std.specs.{Prelude.{Option, Some, None, option_map, option_and_then, replicate, codes, unwrap_or, if◌then◌else◌, bytes_eq, IsTrue}, List.find, Int.{w8, w16, w32, w64, to_be_bytes, from_be_bytes}}
 use Rattle.gx_ouch.proofs.{Fields_placed.{known_to_lie, same_head, same_tail}, Requests_read.one_byte}
 use Rattle.gx_ouch.specs.{Layout.{field, bytes_at, field_bytes, laid_out, with_fields}, Writing.letter}
 use Rattle.gx_desk.specs.{declared.{Action.Action, Tag.Tag}, Contents.command_layout}
 use Rattle.gx_policy.specs.{declared.rule_name.RuleName.RuleName, RuleNames.{rule_id, rules_before, rules_behind}}
-use Rattle.gx_history.specs.{Payloads.request_of, Requests.handed_moment, declared.record.{RecordData.RecordData, Request.Request, Step.Step, Asked.Asked, Verdict.Verdict, Fill.Fill}}
-use Rattle.gx_audit_bytes.specs.{declared.version.AuditVersion.AuditVersion, Versions.mark_of, Bodies.{yes_or_no, zero_padded, request_body, request_kind}, Records.{audit_record, record_contents, record_bytes, HasPlaces, number_place, handed_place, moment_place, line_place, user_place, kind_place, body_place, verdict_place, rule_place, order_place, maker_place, shares_place, price_place, line_shown, user_shown, kind_shown, body_shown, verdict_letter, rule_shown, order_shown, maker_shown, shares_shown, price_shown}, Reading.{part, login_in, unreadable_in, request_in, step_of_bytes, step_shown, rule_of_bytes, verdict_of_bytes, verdict_shown, content_in, content_with, record_of, IsRecordShown}, Written.{has_mark, body_size, is_free, is_answer, has_answers, is_request_written, is_step_written, has_no_rule, has_no_order, has_no_fill, is_verdict_written, has_parts}}
-use Rattle.gx_audit_bytes.proofs.{Record_read.is_true, Message_written.{IsBytes, bytes-take, bytes-drop, sized, one, two, four, eight, fields_back, laid_back, is_message, message_back}}
+use Rattle.gx_history.specs.{Payloads.request_of, Requests.{handed_moment, line_asked}, declared.«record».{RecordData.RecordData, Request.Request, Step.Step, Asked.Asked, Verdict.Verdict, Fill.Fill}}
+use Rattle.gx_audit_bytes.specs.{declared.version.AuditVersion.AuditVersion, Versions.mark_of, Bodies.{yes_or_no, zero_padded, request_body, request_kind}, Records.{audit_record, record_contents, record_bytes, HasPlaces, number_place, handed_place, moment_place, line_place, user_place, kind_place, body_place, verdict_place, rule_place, order_place, maker_place, shares_place, price_place, user_shown, kind_shown, body_shown, verdict_letter, rule_shown, order_shown, maker_shown, shares_shown, price_shown}, Reading.{part, login_in, unreadable_in, request_in, step_of_bytes, step_shown, rule_of_bytes, verdict_of_bytes, verdict_shown, content_in, content_with, record_of, IsRecordShown}, Written.{has_mark, body_size, is_free, is_answer, has_answers, is_request_written, is_step_written, has_no_rule, has_no_order, has_no_fill, is_verdict_written, has_parts}}
+use Rattle.gx_audit_bytes.proofs.{Message_written.{bytes-take, bytes-drop, sized, one, two, four, eight, fields_back, laid_back, is_message, message_back}}
 use Rattle.gx_policy.proofs.Name_whole.{take_whole}
 
 -- ---- tests
@@ -195,7 +196,7 @@ matching_inside false handed line user (Some q) moment e = absurd cc
 
 -- each part of the step stands at its place
 record StepStands (s : Step) (bytes : List ℕ) : Type 0 where
-  line : to_be_bytes w16 (line_shown s) ≡ bytes_at line_place bytes
+  line : to_be_bytes w16 (line_asked s) ≡ bytes_at line_place bytes
   user : user_shown s ≡ bytes_at user_place bytes
   kind : letter (kind_shown s) ≡ bytes_at kind_place bytes
   body : zero_padded 58 (body_shown s) ≡ bytes_at body_place bytes

@@ -1,15 +1,12 @@
 -- A record is read from its bytes as itself.
-use Rattle.std.proofs.{Common.{◌≡◌, ℕ, ◌<◌, ◌^◌, ◌&&◌, Bool, true, false, List, [], get_or, refl, sym, ap, ◌∙◌}, lemmas.{Nat.{from_be_bytes-to_be_bytes_2, from_be_bytes-to_be_bytes_4, from_be_bytes-to_be_bytes_8}, Slice.Eq.bytes_eq-Decides}}
+use Rattle.gx_units.proofs.Test_known.{is_true}
+use Rattle.std.proofs.{Common.{◌≡◌, ℕ, ◌<◌, ◌^◌, ◌&&◌, Bool, true, List, [], get_or, refl, sym, ap, ◌∙◌}, lemmas.{Nat.{from_be_bytes-to_be_bytes_2, from_be_bytes-to_be_bytes_4, from_be_bytes-to_be_bytes_8}, Slice.Eq.bytes_eq-Decides}}
 use Rattle.std.specs.{Prelude.{Option, Some, None, option_map, option_and_then, if◌then◌else◌, bytes_eq, IsTrue}, Int.{w8, w16, w32, w64, from_be_bytes}}
 use Rattle.gx_ouch.proofs.{Fields_placed.known_to_lie, Requests_read.one_byte}
 use Rattle.gx_ouch.specs.Layout.{LiesIn, field_bytes}
-use Rattle.gx_history.specs.{Requests.handed_moment, Showing.is_showable, declared.record.{RecordData.RecordData, Step.Step, Verdict.Verdict}}
-use Rattle.gx_audit_bytes.specs.{declared.version.AuditVersion.AuditVersion, Bodies.zero_padded, Records.{audit_record, record_contents, record_bytes, HasPlaces, line_shown, user_shown, kind_shown, body_shown, verdict_letter, rule_shown, order_shown, maker_shown, shares_shown, price_shown}, Reading.{step_of_bytes, verdict_of_bytes, step_shown, verdict_shown, content_in, record_of, is_record_of, NumbersFit, StepIsRead, VerdictIsRead, shows_rule, IsRecordShown}}
+use Rattle.gx_history.specs.{Requests.{handed_moment, line_asked}, Showing.is_showable, declared.«record».{RecordData.RecordData, Step.Step, Verdict.Verdict}}
+use Rattle.gx_audit_bytes.specs.{declared.version.AuditVersion.AuditVersion, Bodies.zero_padded, Records.{audit_record, record_contents, record_bytes, HasPlaces, user_shown, kind_shown, body_shown, verdict_letter, rule_shown, order_shown, maker_shown, shares_shown, price_shown}, Reading.{step_of_bytes, verdict_of_bytes, step_shown, verdict_shown, content_in, record_of, is_record_of, NumbersFit, StepIsRead, VerdictIsRead, shows_rule, IsRecordShown}}
 use Rattle.gx_audit_bytes.proofs.{Verdict_read.shown_names_rule}
-
-pub is_true : (b : Bool) → IsTrue b → b ≡ true
-is_true true h = refl
-is_true false h = cc
 
 -- what the parts of a record show
 abbrev step_of : List (List ℕ) → Option Step
@@ -39,10 +36,10 @@ shown_by_parts : (bytes : List ℕ) → content_in bytes ≡ content_of (field_b
 unfolding content_in step_shown verdict_shown
 shown_by_parts bytes = refl
 
-step_back : (version : AuditVersion) (r : RecordData) → handed_moment r.step < 2 ^ 64 → line_shown r.step < 2 ^ 16
-    → step_of (record_contents version r) ≡ step_of_bytes (kind_shown r.step) (handed_moment r.step) (line_shown r.step) (user_shown r.step) (zero_padded 58 (body_shown r.step))
+step_back : (version : AuditVersion) (r : RecordData) → handed_moment r.step < 2 ^ 64 → line_asked r.step < 2 ^ 16
+    → step_of (record_contents version r) ≡ step_of_bytes (kind_shown r.step) (handed_moment r.step) (line_asked r.step) (user_shown r.step) (zero_padded 58 (body_shown r.step))
 step_back version r handed line =
-    λ i. step_of_bytes (one_byte (kind_shown r.step) i) (from_be_bytes-to_be_bytes_8 (handed_moment r.step) handed i) (from_be_bytes-to_be_bytes_2 (line_shown r.step) line i) (user_shown r.step) (zero_padded 58 (body_shown r.step))
+    λ i. step_of_bytes (one_byte (kind_shown r.step) i) (from_be_bytes-to_be_bytes_8 (handed_moment r.step) handed i) (from_be_bytes-to_be_bytes_2 (line_asked r.step) line i) (user_shown r.step) (zero_padded 58 (body_shown r.step))
 
 verdict_back : (version : AuditVersion) (r : RecordData) → order_shown r.verdict < 2 ^ 64 → maker_shown r.verdict < 2 ^ 64 → shares_shown r.verdict < 2 ^ 32 → price_shown r.verdict < 2 ^ 32
     → verdict_of (record_contents version r) ≡ verdict_of_bytes (verdict_letter r.verdict) (rule_shown r.verdict) (order_shown r.verdict) (maker_shown r.verdict) (shares_shown r.verdict) (price_shown r.verdict)

@@ -2,9 +2,9 @@
 use Rattle.std.specs.{Prelude.{◌≡◌, ◌<◌, ◌^◌, ℕ, Bool, true, ◌==◌, ◌&&◌, List, ◌++◌, take, drop, Option, Some, None, option_map, option_and_then, unwrap_or, if◌then◌else◌, bytes_eq, IsTrue}, Int.{w8, w16, w32, w64, from_be_bytes}, List.find}
 use Rattle.gx_ouch.specs.{Layout.bytes_at, Messages.{enter_order, replace_order, cancel_order}}
 use Rattle.gx_desk.specs.Messages.{kill, lift, set_limit, restrict, unrestrict, grant, revoke, close_day}
-use Rattle.gx_history.specs.{declared.record.{Request.Request, Step.Step, Verdict.Verdict, RecordData.RecordData}, Payloads.request_of, Showing.{is_askable, is_showable, is_rule_shown}, Requests.handed_moment}
+use Rattle.gx_history.specs.{declared.«record».{Request.Request, Step.Step, Verdict.Verdict, RecordData.RecordData}, Payloads.request_of, Showing.{is_askable, is_showable, is_rule_shown}, Requests.{handed_moment, line_asked}}
 use Rattle.gx_policy.specs.{declared.rule_name.RuleName.RuleName, RuleNames.{rule_id, rules_before, rules_behind}}
-use Rattle.gx_audit_bytes.specs.{declared.version.AuditVersion.AuditVersion, Records.{number_place, handed_place, moment_place, line_place, user_place, kind_place, body_place, verdict_place, rule_place, order_place, maker_place, shares_place, price_place, record_bytes, HasPlaces, line_shown, user_shown, kind_shown, body_shown, verdict_letter, rule_shown, order_shown, maker_shown, shares_shown, price_shown}, Bodies.zero_padded}
+use Rattle.gx_audit_bytes.specs.{declared.version.AuditVersion.AuditVersion, Records.{number_place, handed_place, moment_place, line_place, user_place, kind_place, body_place, verdict_place, rule_place, order_place, maker_place, shares_place, price_place, record_bytes, HasPlaces, user_shown, kind_shown, body_shown, verdict_letter, rule_shown, order_shown, maker_shown, shares_shown, price_shown}, Bodies.zero_padded}
 
 -- the bytes from an offset on, so many of them
 abbrev pub part : ℕ → ℕ → List ℕ → List ℕ
@@ -112,7 +112,7 @@ pub record NumbersFit (r : RecordData) : Type 0 where
   pub number : r.number < 2 ^ 64
   pub moment : r.moment < 2 ^ 64
   pub handed : handed_moment r.step < 2 ^ 64
-  pub line : line_shown r.step < 2 ^ 16
+  pub line : line_asked r.step < 2 ^ 16
   pub order : order_shown r.verdict < 2 ^ 64
   pub maker : maker_shown r.verdict < 2 ^ 64
   pub shares : shares_shown r.verdict < 2 ^ 32
@@ -120,7 +120,7 @@ pub record NumbersFit (r : RecordData) : Type 0 where
 
 -- the step is read from its parts as itself
 abbrev pub StepIsRead : Step → Type 0
-StepIsRead s = step_of_bytes (kind_shown s) (handed_moment s) (line_shown s) (user_shown s) (zero_padded 58 (body_shown s)) ≡ Some s
+StepIsRead s = step_of_bytes (kind_shown s) (handed_moment s) (line_asked s) (user_shown s) (zero_padded 58 (body_shown s)) ≡ Some s
 
 -- the verdict is read from its parts as itself
 abbrev pub VerdictIsRead : Verdict → Type 0

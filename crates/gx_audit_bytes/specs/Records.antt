@@ -1,7 +1,7 @@
 -- The 128 bytes of a record: where each part stands, and how many bytes it has.
+use Rattle.gx_history.specs.{Requests.{line_asked, handed_moment}, declared.«record».{Step.Step, Verdict.Verdict, RecordData.RecordData}}
 use Rattle.std.specs.{Prelude.{ℕ, List, [], ◌∷◌, codes}, Int.{w16, w32, w64, to_be_bytes}}
 use Rattle.gx_ouch.specs.{Layout.{Field, HasSizes, Layout, field, laid_out}, Writing.letter}
-use Rattle.gx_history.specs.{declared.record.{Step.Step, Verdict.Verdict, RecordData.RecordData}, Requests.handed_moment}
 use Rattle.gx_policy.specs.RuleNames.{rule_id}
 use Rattle.gx_audit_bytes.specs.{declared.version.AuditVersion.AuditVersion, Versions.mark_of, Bodies.{request_kind, request_body, zero_padded}}
 
@@ -84,11 +84,6 @@ audit_record = record {
       [];
 }
 
--- a matching step has no line and no user
-abbrev pub line_shown : Step → ℕ
-line_shown (Step.Asked a) = a.line
-line_shown (Step.Matching handed) = 0
-
 abbrev pub user_shown : Step → List ℕ
 user_shown (Step.Asked a) = a.user.bytes
 user_shown (Step.Matching handed) = codes "      "
@@ -141,7 +136,7 @@ record_contents version r =
     to_be_bytes w64 r.number ∷
     to_be_bytes w64 (handed_moment r.step) ∷
     to_be_bytes w64 r.moment ∷
-    to_be_bytes w16 (line_shown r.step) ∷
+    to_be_bytes w16 (line_asked r.step) ∷
     user_shown r.step ∷
     letter (kind_shown r.step) ∷
     zero_padded 58 (body_shown r.step) ∷

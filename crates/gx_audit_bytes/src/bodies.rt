@@ -1,6 +1,6 @@
 //! What a record's body shows of a request.
 
-ghost use Rattle.std.specs.Prelude.{◌≡◌, ◌≤◌, Some, [], ◌∷◌, length};
+ghost use Rattle.std.specs.Prelude.{◌≡◌, ◌≤◌, Some, length};
 ghost use Rattle.gx_ouch.specs.{Layout.{laid_out, HasSizes}, Messages.{enter_order, replace_order, cancel_order}, Contents.{enter_contents, replace_contents, cancel_contents}};
 ghost use Rattle.gx_history.specs.Payloads.{request_of};
 ghost use Rattle.gx_history.specs.declared.record.Request.TheVariants as requests;

@@ -1,6 +1,6 @@
 //! The day of an audit.
 
-ghost use Rattle.std.specs.Prelude.{◌≡◌, ◌<◌, ◌≤◌, ◌^◌, length, take};
+ghost use Rattle.std.specs.Prelude.{◌≡◌, ◌<◌, ◌^◌, take};
 ghost use Rattle.gx_clock.specs.Offsets.{minutes_in};
 ghost use Rattle.gx_audit_bytes.specs.{Bodies.zero_padded, Days.{day_in, day_shown, offset_shown, sign_shown}};
 

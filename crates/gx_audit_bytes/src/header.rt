@@ -1,6 +1,6 @@
 //! The header of an audit of version 2 or 3.
 
-ghost use Rattle.std.specs.Prelude.{◌≡◌, ◌≤◌, ◌^◌, ◌<◌, ℕ, List, ◌++◌, length};
+ghost use Rattle.std.specs.Prelude.{◌≡◌, ℕ, List, ◌++◌, length};
 ghost use Rattle.gx_ouch.specs.Layout.{LiesIn, with_fields};
 ghost use Rattle.gx_history.specs.InForce.{lifters_asked};
 ghost use Rattle.gx_audit_bytes.specs.declared.version.AuditVersion.TheVariants as versions;

@@ -1,9 +1,9 @@
 //! A record, read from bytes.
 
-ghost use Rattle.std.specs.{Prelude.{◌≡◌, ◌≢◌, ◌≤◌, IsTrue, IsFalse, IfSome, length, Some, None, bytes_eq, option_map, ◌++◌}, Int.{w8, w16, w32, w64, from_be_bytes}, List.{find}};
+ghost use Rattle.std.specs.{Prelude.{◌≡◌, ◌≢◌, ◌≤◌, IsTrue, IsFalse, IfSome, length, Some, None, bytes_eq}, Int.{w8, w16, w32, w64, from_be_bytes}, List.find};
 ghost use Rattle.gx_units.specs.{Names.has_no_lower_case, Spelling.is_blank};
 ghost use Rattle.gx_history.specs.declared.record.Request.TheVariants as requests;
-ghost use Rattle.gx_history.specs.{Payloads.request_of, Showing.{is_showable, is_verdict_of, is_askable, answers, is_rule_shown, has_its_first}};
+ghost use Rattle.gx_history.specs.{Showing.{is_showable, is_verdict_of, is_askable, answers, is_rule_shown, has_its_first}};
 ghost use Rattle.gx_policy.specs.RuleNames.{rule_id};
 ghost use Rattle.gx_audit_bytes.specs.declared.version.AuditVersion.TheVariants as versions;
 ghost use Rattle.gx_audit_bytes.specs.{Records.record_bytes, Reading.{record_of, shows_rule, IsRecordShown, content_in, step_of_bytes, verdict_of_bytes, rule_of_bytes, request_in, login_in, unreadable_in, message_size, step_shown, verdict_shown}};

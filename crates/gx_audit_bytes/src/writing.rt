@@ -1,11 +1,10 @@
 //! A record, written as bytes.
 
-ghost use Rattle.std.specs.Prelude.{◌≡◌, ◌+◌, ◌≤◌, ◌++◌, ◌∷◌, Some, length, take, codes, IsTrue};
+ghost use Rattle.std.specs.Prelude.{◌≡◌, ◌+◌, ◌≤◌, ◌++◌, ◌∷◌, Some, length, IsTrue};
 ghost use Rattle.gx_ouch.specs.Layout.{LiesIn};
-ghost use Rattle.gx_policy.specs.RuleNames.{rule_id};
 ghost use Rattle.gx_history.specs.{Requests.handed_moment, Showing.is_showable};
 ghost use Rattle.gx_audit_bytes.specs.declared.version.AuditVersion.TheVariants as versions;
-ghost use Rattle.gx_audit_bytes.specs.{Bodies.zero_padded, Reading.{record_of, shows_rule, IsRecordShown, NumbersFit, StepIsRead, VerdictIsRead}, Records.{audit_record, record_contents, record_bytes, line_shown, user_shown, kind_shown, body_shown, verdict_letter, rule_shown, order_shown, maker_shown, shares_shown, price_shown, HasPlaces}, Versions.mark_of};
+ghost use Rattle.gx_audit_bytes.specs.{Bodies.zero_padded, Reading.{record_of, shows_rule, IsRecordShown, NumbersFit, StepIsRead, VerdictIsRead}, Records.{audit_record, record_contents, record_bytes, user_shown, kind_shown, body_shown, verdict_letter, rule_shown, order_shown, maker_shown, shares_shown, price_shown, HasPlaces}, Versions.mark_of};
 
 use crate::bodies::{request_body, request_kind};
 use crate::draft::{RECORD_SIZE, RecordDraft, zero_padded};
@@ -76,7 +75,7 @@ fn record_draft(version: AuditVersion, content: &RecordData) -> RecordDraft
     draft.put(&content.number.to_be_bytes());
     draft.put(&handed(&content.step).to_be_bytes());
     draft.put(&content.moment.to_be_bytes());
-    draft.put(&line(&content.step).to_be_bytes());
+    draft.put(&content.step.line().to_be_bytes());
     draft.put(&user(&content.step));
     draft.put(&[kind(&content.step)]);
     put_body(&mut draft, &content.step);
@@ -106,15 +105,6 @@ fn handed(step: &Step) -> u64
     match step {
         Step::Asked(asked) => asked.handed,
         Step::Matching(handed) => *handed,
-    }
-}
-
-fn line(step: &Step) -> u16
-    ensures { result ≡ line_shown step.now }
-{
-    match step {
-        Step::Asked(asked) => asked.line,
-        Step::Matching(_) => 0,
     }
 }
 

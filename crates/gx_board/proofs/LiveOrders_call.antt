@@ -9,11 +9,11 @@ use Rattle.gx_laws.proofs.{Names_differ.users_differ, LiveOrders_owned.live_orde
 use Rattle.gx_laws.specs.EffectLaws.{IsOfItsTrader}
 use Rattle.gx_slab.specs.Slabs.{of_account}
 use Rattle.gx_records.specs.State.{of_user}
-use Rattle.gx_board.specs.Accounts.{orders_of_trader, trades_for}
+use Rattle.gx_board.specs.Accounts.{orders_of_trader, is_trader_of}
 
 -- what the order adds to a user's, who trades for the account
 one_of : AccountName → LiveOrder → User → ℕ
-one_of account o u = cond (trades_for account u) (cond (same_user o.user u.name) 1 0) 0
+one_of account o u = cond (is_trader_of account u) (cond (same_user o.user u.name) 1 0) 0
 
 abbrev same_name : User → User → Bool
 same_name a b = same_user a.name b.name
@@ -21,7 +21,7 @@ same_name a b = same_user a.name b.name
 -- whoever has another name adds nothing
 other_adds_none : (account : AccountName) (o : LiveOrder) (v : User) → same_user o.user v.name ≡ false → one_of account o v ≡ 0
 unfolding one_of
-other_adds_none account o v other = ap (λ (b : Bool). cond {A = ℕ} (trades_for account v) (cond b 1 0) 0) other ∙ nothing_either_way (trades_for account v)
+other_adds_none account o v other = ap (λ (b : Bool). cond {A = ℕ} (is_trader_of account v) (cond b 1 0) 0) other ∙ nothing_either_way (is_trader_of account v)
 
 -- whose name none has adds to none
 none_adds : (account : AccountName) (o : LiveOrder) (u : User) (users : List User) → same_user u.name o.user ≡ true → list_any (same_name u) users ≡ false → sum_by (one_of account o) users ≡ 0
@@ -68,7 +68,7 @@ one_more account o os (u ∷ users) =
     let first = sum_by-cons (orders_of_trader (o ∷ os) account) u users in
     let second = sum_by-cons (one_of account o) u users in
     let third = sum_by-cons (orders_of_trader os account) u users in
-    let one = by (trades_for account u) (same_user o.user u.name) in
+    let one = by (is_trader_of account u) (same_user o.user u.name) in
     omega (arith, first, second, third, one, one_more account o os users)
   where
     by : (b his : Bool) → cond b (length (cond his (o ∷ of_user u.name os) (of_user u.name os))) 0 ≡ cond b (cond his 1 0) 0 + cond b (length (of_user u.name os)) 0
@@ -80,7 +80,7 @@ none_there : (account : AccountName) (users : List User) → sum_by (orders_of_t
 none_there account [] = refl
 none_there account (u ∷ users) =
     let first = sum_by-cons (orders_of_trader [] account) u users in
-    omega (arith, first, nothing_either_way (trades_for account u), none_there account users)
+    omega (arith, first, nothing_either_way (is_trader_of account u), none_there account users)
 
 -- the traders' orders are the account's
 traders_have_all : (policy : PolicyData) (account : AccountName) → are_distinct same_name policy.users ≡ true → (os : List LiveOrder) → AllByRecursion (IsOfItsTrader policy) os

@@ -1,11 +1,11 @@
 -- What a record's verdict and request say of it, by themselves.
-use Rattle.std.proofs.{Common.{◌≡◌, ℕ, Bool, true, false, ◌||◌, List, max, map, refl, sym, ap, ◌∙◌}, lemmas.Bool.or_parts}
-use Rattle.std.specs.Prelude.{Option, Some, None, option_and_then, option_map, slice_get}
+use Rattle.std.proofs.{Common.{◌≡◌, ℕ, Bool, true, false, ◌||◌, max, refl, sym, ap, ◌∙◌}, lemmas.Bool.or_parts}
+use Rattle.std.specs.Prelude.{Option, Some, None, option_and_then, option_map}
 use Rattle.circular_buffer.specs.Buffer.{Buffer}
 use Rattle.gx_history.specs.{declared.record.{Asked.Asked, RecordData.RecordData, Step.Step, Verdict.Verdict, VerdictKind.VerdictKind}, Requests.{asked_of, is_granted, kind_of}}
 use Rattle.gx_pass.specs.Views.{line_in}
-use Rattle.gx_overview.specs.Commands.{is_grant, is_officers}
-use Rattle.gx_board.specs.{declared.{counts.Counts.Counts, summary.Summary.Summary}, Counting.{counts_with, counted_by, denies, fills, grants, is_denial, is_meeting, line_asked_on, one_more, row_counted}, Summaries.{IsNoted, Notes, pushed_if}}
+use Rattle.gx_overview.specs.{Commands.{is_grant, is_officers}, Accounts.one_more}
+use Rattle.gx_board.specs.{declared.{counts.Counts.Counts, summary.Summary.Summary}, Counting.{counts_with, counted_by, denies, fills, is_denial, is_meeting, line_asked_on}, Summaries.{IsNoted, pushed_if}}
 use Rattle.gx_board.proofs.Denied_next.{none_counted}
 
 -- the verdict of a record, and its request

@@ -8,8 +8,8 @@ use Rattle.gx_policy.specs.declared.policy.PolicyData.{PolicyData}
 use Rattle.gx_history.specs.declared.record.RecordData.{RecordData}
 use Rattle.gx_pass.specs.Views.{highest_line}
 use Rattle.gx_pass.proofs.HighestLine_next.{highest_more}
-use Rattle.gx_overview.specs.{Accounts.capped_count, Commands.{granted_command, granted_commands}}
-use Rattle.gx_board.specs.{declared.{summary.Summary.Summary}, Counting.{commands, counts_with, counts_of, denied_row, denies, fills, grants, is_denied_by, one_more, row_counted, rule_names}, Summaries.{Counted, FollowsSummary, IsCounted, IsNoted, Notes, most_recent, pushed_if, recent_records}}
+use Rattle.gx_overview.specs.{Accounts.{capped_count, one_more}, Commands.{granted_command, granted_commands}}
+use Rattle.gx_board.specs.{declared.summary.Summary.Summary, Counting.{commands, counts_with, counts_of, denied_row, denies, fills, grants, is_denied_by, row_counted, rule_names}, Summaries.{Counted, FollowsSummary, IsCounted, IsNoted, Notes, most_recent, pushed_if, recent_records}}
 
 cap_more : (b : Bool) (n : ℕ) → capped_count (n + (if b then 1 else 0)) ≡ one_more b (capped_count n)
 cap_more true n = grind arith

@@ -13,12 +13,12 @@ abbrev pub live_orders : PolicyData → List RecordData → AccountName → ℕ
 live_orders policy records account = capped_count (length (of_account account (live policy records)))
 
 -- the user trades for the account
-abbrev pub trades_for : AccountName → User → Bool
-trades_for account u = option_map_or (same_account account) (account_of_role u.role) false
+abbrev pub is_trader_of : AccountName → User → Bool
+is_trader_of account u = option_map_or (same_account account) (account_of_role u.role) false
 
 -- how many of these live orders the user has, if he trades for the account
 abbrev pub orders_of_trader : List LiveOrder → AccountName → User → ℕ
-orders_of_trader live account u = if trades_for account u then length (of_user u.name live) else 0
+orders_of_trader live account u = if is_trader_of account u then length (of_user u.name live) else 0
 
 -- what stands of the account
 abbrev pub account_state : PolicyData → List RecordData → Account → AccountState

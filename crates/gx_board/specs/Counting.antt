@@ -1,33 +1,23 @@
 -- How many records there are, and what they say.
-use Rattle.std.specs.{Prelude.{ℕ, ◌+◌, Bool, true, false, ◌++◌, List, count_by, length, map, max, Option, Some, None, if◌then◌else◌}, Option.option_map_or}
+use Rattle.gx_overview.specs.{Accounts.{one_more, capped_count}, Commands.is_grant}
+use Rattle.gx_history.specs.{Requests.{is_fill, denied_by, asked_of, is_command, is_granted}, declared.«record».{Asked.Asked, RecordData.RecordData, VerdictKind.VerdictKind}}
+use Rattle.std.specs.{Prelude.{ℕ, ◌+◌, Bool, true, false, ◌++◌, List, count_by, length, map, max, Option, Some}, Option.option_map_or}
 use Rattle.gx_units.specs.{Names.same_rule, declared.names.RuleId.RuleId}
 use Rattle.gx_policy.specs.{RuleNames.rule_id, declared.{policy.{FileRule.FileRule, PolicyData.PolicyData}, rule_name.{RuleName.RuleName, TheConstants.BUILT_IN}}}
-use Rattle.gx_history.specs.{declared.record.{Asked.Asked, RecordData.RecordData, Verdict.Verdict, VerdictKind.VerdictKind}, Requests.{asked_of, is_command, is_granted}}
 use Rattle.gx_pass.specs.Views.{highest_line, line_in}
-use Rattle.gx_overview.specs.{Accounts.capped_count, Commands.is_grant}
 use Rattle.gx_board.specs.declared.{counts.Counts.Counts, denied.DeniedRow.DeniedRow}
 
 -- a request was granted
 abbrev pub grants : RecordData → Bool
 grants r = is_granted r.verdict
 
--- the rule that denied the request, if one did
-abbrev pub rule_of_denial : Verdict → Option RuleName
-rule_of_denial (Verdict.Denied rule) = Some rule
-rule_of_denial other = None
-
 -- a request was denied
 abbrev pub denies : RecordData → Bool
-denies r = option_map_or (λ (rule : RuleName). true) (rule_of_denial r.verdict) false
+denies r = option_map_or (λ (rule : RuleName). true) (denied_by r.verdict) false
 
 -- by the rule of this name
 abbrev pub is_denied_by : RuleId → RecordData → Bool
-is_denied_by name r = option_map_or (λ (rule : RuleName). same_rule name (rule_id rule)) (rule_of_denial r.verdict) false
-
--- two orders met
-abbrev pub is_fill : Verdict → Bool
-is_fill (Verdict.Filled f) = true
-is_fill other = false
+is_denied_by name r = option_map_or (λ (rule : RuleName). same_rule name (rule_id rule)) (denied_by r.verdict) false
 
 abbrev pub fills : RecordData → Bool
 fills r = is_fill r.verdict
@@ -45,10 +35,6 @@ counts_of records = record {
   fills = capped_count (count_by fills records);
   highest_line = highest_line records;
 }
-
--- one more, where the condition holds
-abbrev pub one_more : Bool → ℕ → ℕ
-one_more is n = if is then capped_count (n + 1) else n
 
 -- the numbers, once the record has come
 abbrev pub counts_with : RecordData → Counts → Counts

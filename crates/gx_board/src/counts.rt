@@ -1,8 +1,8 @@
 //! How many records there are, and what they say.
 
 ghost use Rattle.std.specs.Prelude.{◌≡◌, [], ◌||◌, option_copied};
-ghost use Rattle.gx_overview.specs.Commands.{is_officers};
-ghost use Rattle.gx_board.specs.Counting.{commands, counted_by, counts_of, denies, is_denial, is_meeting, line_asked_on, one_more};
+ghost use Rattle.gx_overview.specs.{Commands.is_officers, Accounts.one_more};
+ghost use Rattle.gx_board.specs.Counting.{commands, counted_by, counts_of, denies, is_denial, is_meeting, line_asked_on};
 
 use gx_history::record::{Asked, RecordData, Request, Step, Verdict, VerdictKind};
 use gx_overview::commands::{is_command, is_grant};

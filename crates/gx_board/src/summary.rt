@@ -1,6 +1,6 @@
 //! What is kept of a day's records, so that no view walks them.
 
-ghost use Rattle.std.specs.Prelude.{◌≡◌, ◌+◌, ◌<◌, ◌≤◌, [], drop, length, slice_get, take, IfOk, IsFalse, IsTrue, OnErr, OnOk};
+ghost use Rattle.std.specs.Prelude.{◌≡◌, ◌+◌, ◌<◌, [], length, slice_get, IfOk, IsFalse, IsTrue, OnErr, OnOk};
 ghost use Rattle.gx_board.specs.{Counting.counts_with, Summaries.{Counted, FollowsSummary, IsBehind, IsNoted, IsSummary, Notes, pushed_if, recent_records, Stays}};
 
 use crate::counts::{Counts, commands, denies, is_kept};

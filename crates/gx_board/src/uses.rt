@@ -1,8 +1,7 @@
 //! What is used of the limits of gross and net rules, by the accounts that are a viewer's.
 
 ghost use Rattle.std.specs.Prelude.{◌≡◌, ◌++◌, flat_map, filter, map, IfOk, OnOk};
-ghost use Rattle.gx_overview.specs.Rules.{gross_row, net_row};
-ghost use Rattle.gx_board.specs.Views.{gross_use, gross_uses, gross_uses_of, is_above_zero, is_gross_shown, is_net_used, is_used, net_use, net_uses, net_uses_by, net_uses_in, net_uses_of};
+ghost use Rattle.gx_board.specs.Views.{gross_use, gross_uses, gross_uses_of, is_gross_shown, is_net_used, is_used, net_use, net_uses, net_uses_in, net_uses_of};
 
 use crate::sight::is_shown;
 use gx_overview::rules::{GrossRow, NetRow, gross_rows, net_rows};

@@ -1,7 +1,7 @@
 //! What a viewer is shown of a day, at one moment.
 
 ghost use Rattle.std.specs.Prelude.{◌≡◌, filter, IfOk};
-ghost use Rattle.gx_board.specs.{Counting.{commands, denies}, Summaries.IsSummary, Sight.{is_record_shown, is_user_shown}, Views.{IsView, user_rows}};
+ghost use Rattle.gx_board.specs.{Counting.commands, Summaries.IsSummary, Sight.{is_record_shown, is_user_shown}, Views.{IsView, user_rows}};
 
 use crate::accounts::{AccountState, account_states};
 use crate::counts::Counts;

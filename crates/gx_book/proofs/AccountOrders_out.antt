@@ -9,7 +9,7 @@ use Rattle.gx_book.specs.{Resting.{RestingData, resting_of}, Account.{AreAllOf, 
 abbrev pub each_taken_out : List LiveOrder → List StockOrders → List StockOrders
 each_taken_out orders book = fold (λ (b : List StockOrders) (o : LiveOrder). taken_out o b) book orders
 
-abbrev made : Symbol → List RestingData → List RestingData → StockOrders
+abbrev pub made : Symbol → List RestingData → List RestingData → StockOrders
 made stock buys sells = record { stock = stock; buys = buys; sells = sells }
 
 -- a side without the orders that rest as one of these

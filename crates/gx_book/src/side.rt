@@ -1,8 +1,8 @@
 //! One side of a stock.
 
-ghost use Rattle.std.specs.{Prelude.{◌≡◌, ◌-◌, ◌+◌, [], IsTrue, OnOk, OnErr, slice_get, length, is_some, if◌then◌else◌}, Option.option_map_or, List.find};
+ghost use Rattle.std.specs.{Prelude.{◌≡◌, ◌-◌, ◌+◌, [], IsTrue, OnOk, OnErr, slice_get, length, is_some, if◌then◌else◌}, List.find};
 ghost use Rattle.gx_history.specs.{Book.is_buy, LiveOrders.shares_open};
-ghost use Rattle.gx_book.specs.{Resting.{RestingData, resting_of}, Queue.{IsLatest, is_same, left_with, taken_from_first, with_order, without_order}, Keys.{resting_of_kept, is_keyed, price_at}};
+ghost use Rattle.gx_book.specs.{Resting.{RestingData, resting_of}, Queue.{IsLatest, is_same, left_with, taken_from_first, with_order, without_order}, Keys.{is_keyed, price_at}};
 
 use crate::resting::{KeptOrder, Resting, is_buy};
 use gx_history::live_order::LiveOrder;

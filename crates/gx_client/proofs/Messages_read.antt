@@ -1,13 +1,10 @@
 -- A message that the gate writes is shown by its bytes.
-use Rattle.std.proofs.{Common.{◌≡◌, ℕ, ◌<◌, ◌^◌, Bool, true, false, List, [], ◌∷◌, ◌++◌, length, Option, Some, None, refl, sym, ap, subst, ◌∙◌, arith}, lemmas.{Bool.{eqb-true, and_parts}, Slice.Eq.bytes_eq-Decides, Nat.{from_be_bytes-to_be_bytes_4, from_be_bytes-to_be_bytes_8}}}
-use Rattle.std.specs.{Prelude.{option_map, option_and_then, IsTrue, IfSome, IfNone, bytes_eq, slice_index, ◌&&◌, ◌==◌, if◌then◌else◌}, Int.{w64, to_be_bytes}}
+use Rattle.gx_units.proofs.Test_known.{is_true}
+use Rattle.std.proofs.{Common.{◌≡◌, ℕ, ◌<◌, ◌^◌, Bool, true, false, List, [], ◌∷◌, ◌++◌, length, Option, Some, None, refl, sym, ap, subst, ◌∙◌}, lemmas.{Bool.{eqb-true, and_parts}, Slice.Eq.bytes_eq-Decides, Nat.{from_be_bytes-to_be_bytes_4, from_be_bytes-to_be_bytes_8}}}
+use Rattle.std.specs.{Prelude.{option_map, option_and_then, IfSome, IfNone, bytes_eq, slice_index, ◌&&◌, ◌==◌, if◌then◌else◌}, Int.{w64, to_be_bytes}}
 use Rattle.gx_ouch.proofs.{Fields_placed.{lies, outbound_known_to_lie}, Requests_read.one_byte}
-use Rattle.gx_ouch.specs.{Layout.{LiesIn, Layout, IsWithoutGaps, HasSizes, field_bytes, laid_out}, Letters.{event_letter, liquidity_letter, cancel_letter, reject_letter}, Messages.{system_event, accepted_layout, replaced_layout, canceled_layout, executed_layout, rejected_layout}, Reading.byte, Writing.{outbound_bytes, outbound_layout, outbound_contents, contents_behind, order_contents}, declared.{letters.{EventCode.EventCode, Liquidity.Liquidity, CancelReason.CancelReason, RejectReason.RejectReason}, outbound.{OrderTerms.OrderTerms, Outbound.Outbound, Accepted.Accepted, Replaced.Replaced, Canceled.Canceled, Executed.Executed, Rejected.Rejected}}}
+use Rattle.gx_ouch.specs.{Layout.{LiesIn, Layout, IsWithoutGaps, HasSizes, field_bytes, laid_out}, Letters.{event_letter, liquidity_letter, cancel_letter, reject_letter}, Messages.{system_event, accepted_layout, replaced_layout, canceled_layout, executed_layout, rejected_layout}, Writing.{outbound_bytes, outbound_layout, outbound_contents, contents_behind, order_contents}, declared.{letters.{EventCode.EventCode, Liquidity.Liquidity, CancelReason.CancelReason, RejectReason.RejectReason}, outbound.{OrderTerms.OrderTerms, Outbound.Outbound, Accepted.Accepted, Replaced.Replaced, Canceled.Canceled, Executed.Executed, Rejected.Rejected}}}
 use Rattle.gx_client.specs.{declared.reading.Stamped.Stamped, Letters.{event_in, liquidity_in, cancel_reason_in, reject_reason_in}, Messages.{IsOutbound, HasNone, ReadsBack, TermsFit}, Reading.{long, part, moment_shown, stamped_message, message_in, terms_of, executed_in, event_in_parts, accepted_in_parts, replaced_in_parts, canceled_in_parts, executed_in_parts, rejected_in_parts, outbound_shown}}
-
-is_true : (b : Bool) → IsTrue b → b ≡ true
-is_true true h = refl
-is_true false h = cc
 
 -- each letter stands for its code
 event_back : (code : EventCode) → event_in (event_letter code) ≡ Some code

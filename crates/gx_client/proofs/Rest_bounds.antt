@@ -1,12 +1,10 @@
 -- How much is left over.
+use Rattle.gx_units.proofs.Lists_hold.{IsBytes}
 use Rattle.std.proofs.{Common.{◌≡◌, ℕ, zero, suc, ◌+◌, ◌-◌, ◌*◌, ◌<◌, ◌≤◌, ◌⊎◌, inl, inr, Bool, true, false, cond, not, ◌==◌, nat_lt, List, [], ◌∷◌, length, take, drop, get_or, Option, Some, None, refl, ap, arith}, lemmas.{Bool.ltb-true, List.{nil_from_length, get_or-drop, length-drop}}}
 use Rattle.gx_soup.specs.{declared.packet.ServerPacket.ServerPacket, Standard.{login_accepted, login_rejected, longest_packet}}
 use Rattle.gx_units.specs.declared.names.LoginRejection.{LoginRejection}
 use Rattle.gx_client.specs.{declared.front.{ServerFault.ServerFault, ServerFront.{ServerFront, TheVariants.{Short, Faulty, Whole}}}, ServerPackets.{server_front, server_typed_front, server_whole_front, accepted_front, rejected_front, is_server_type, has_its_length, ServerSoup, server_packets_of}}
 use Rattle.gx_client.proofs.Packets_next.{packets_short, packets_faulty, packets_whole, packets_nil, front_takes}
-
-abbrev pub IsBytes : List ℕ → Type 0
-IsBytes bytes = (i : ℕ) → get_or bytes i 0 < 256
 
 told_short : (u l s : Bool) (x y : ServerFault) (w : ServerFront) → ¬ (w ≡ Short) → cond u (Faulty x) (cond l (Faulty y) (cond s Short w)) ≡ Short → s ≡ true
 told_short true l s x y w h e = cc

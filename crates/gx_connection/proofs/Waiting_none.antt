@@ -7,7 +7,7 @@ use Rattle.gx_history.specs.{declared.record.{Asked.Asked, RecordData.RecordData
 use Rattle.gx_laws.proofs.{Runs_legal.step_left, Runs_orderly.{IsOrderly, legal_is_orderly, orderly_next}, Matches_end.{match_is_orderly, settled_keeps, settled_ends}}
 use Rattle.gx_access_gate.specs.{Gates.GateData, Matches.{matching_of, settled_gate}, Asking.gate_after_step}
 use Rattle.gx_connection.specs.{declared.connection.Connection.Connection, Transcript.{Run, opened_at, nothing_written, on_event, run_of_login, run_of_matching, run_of_sending, run_of_pull, connection_after_tick, run_on_packet, run_of}}
-use Rattle.gx_session.specs.{declared.{session.Phase.{Phase, TheVariants.{On, Abandoned, Done}}}, Events.{is_over}, Happenings.Happening, Table.turn}
+use Rattle.gx_session.specs.{declared.{session.Phase.{Phase, TheVariants.{On, Abandoned, Done}}}, Events.is_over, Table.turn}
 use Rattle.gx_session.specs.Happenings as happens
 use Rattle.gx_connection.proofs.Connection_keeps.{all_keep, handled_by, match_keeps, pull_keeps, row_keeps, taken}
 

@@ -1,7 +1,5 @@
 //! How often somebody gives a wrong password.
 
-ghost use Rattle.std.specs.Prelude.{◌≤◌, length};
-
 use gx_units::UserName;
 use std::alloc::Global;
 use std::collections::BTreeMap;

@@ -1,12 +1,11 @@
 //! A request judged on what the gate keeps of its records.
 
-ghost use Rattle.std.specs.Prelude.{◌≡◌, ◌≤◌, ◌<◌, is_some, length, IsTrue, None, Some};
+ghost use Rattle.std.specs.Prelude.{◌≡◌, ◌<◌, is_some, length, IsTrue, None, Some};
 ghost use Rattle.gx_history.specs.declared.record.Step.TheVariants as steps;
-ghost use Rattle.gx_history.specs.{Asking.{changes, facts, fits_role, has_power, is_on_line, knows_user, lists_its_stock}, InForce.{is_killed, line_of}, Showing.{answers, is_askable, is_showable}, Verdicts.{facts_now, moment_of, next, verdict}};
+ghost use Rattle.gx_history.specs.{Asking.{facts, fits_role, has_power, is_on_line, knows_user, lists_its_stock}, InForce.{is_killed, line_of}, Showing.{answers, is_askable, is_showable}, Verdicts.{facts_now, moment_of, next, verdict}};
 ghost use Rattle.gx_policy.specs.People.{account_of, role_in};
-ghost use Rattle.gx_people.specs.Entitled.{holds_in_role};
 ghost use Rattle.gx_access_gate.specs.{Gates.left_by, Steps.{next_of, verdict_of}, Reports.stream_of};
-ghost use Rattle.gx_core.specs.Known.{accounts_held, change_asked, has_used, is_available_after, names_known, order_asked, power_held, role_asking, with_target_order};
+ghost use Rattle.gx_core.specs.Known.{has_used, is_available_after, order_asked, with_target_order};
 
 use crate::gate::Gate;
 use gx_access_gate::{AccessGate, Outcome};

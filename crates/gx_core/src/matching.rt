@@ -1,6 +1,6 @@
 //! What a matching step comes to, by what the gate keeps of its records.
 
-ghost use Rattle.std.specs.Prelude.{◌≡◌, ◌≤◌, ◌<◌, length, IsTrue, Some};
+ghost use Rattle.std.specs.Prelude.{◌≡◌, ◌<◌, length, IsTrue, Some};
 ghost use Rattle.gx_history.specs.Showing.{is_showable};
 ghost use Rattle.gx_access_gate.specs.{Gates.matched_by, Matches.{matching_of, next_match}};
 ghost use Rattle.gx_core.specs.Known.{first_of};

@@ -1,5 +1,5 @@
 -- Names as officers write them, and the types of commands.
-use Rattle.std.specs.{Prelude.{ℕ, Bool}, Str.str_eq_ignore_ascii_case}
+use Rattle.std.specs.{Prelude.{ℕ, Bool, List, codes}, Str.str_eq_ignore_ascii_case}
 use Rattle.gx_units.specs.declared.names.UserName.{UserName}
 use Rattle.gx_desk.specs.declared.{WrittenName.WrittenName, Action.Action}
 
@@ -17,3 +17,14 @@ command_type (Action.Unrestrict rule stock) = 78
 command_type (Action.Grant reader account) = 71
 command_type (Action.Revoke reader account) = 86
 command_type Action.CloseDay = 90
+
+-- the word of a command, in scripts, on lines and in the log
+abbrev pub command_word : Action → List ℕ
+command_word (Action.Kill account) = codes "kill"
+command_word (Action.Lift account) = codes "lift"
+command_word (Action.SetLimit rule limit) = codes "limit"
+command_word (Action.Restrict rule stock) = codes "restrict"
+command_word (Action.Unrestrict rule stock) = codes "unrestrict"
+command_word (Action.Grant reader account) = codes "grant"
+command_word (Action.Revoke reader account) = codes "revoke"
+command_word Action.CloseDay = codes "close"

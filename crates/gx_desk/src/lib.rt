@@ -1,6 +1,9 @@
 //! Commands of officers, their answers, and what readers are told.
 #![tactic(auto)]
 
+ghost use Rattle.std.specs.Prelude.{◌≡◌};
+ghost use Rattle.gx_desk.specs.Names.{command_word};
+
 mod laws;
 mod reading;
 mod writing;
@@ -42,6 +45,25 @@ pub enum Action {
     Revoke(WrittenName, AccountName),
     /// Close Day, `Z`: every live order ends, and no order is taken any more.
     CloseDay,
+}
+
+impl Action {
+    /// The word of the command, in scripts, on lines and in the log: `kill`, `lift`, `limit`, `restrict`,
+    /// `unrestrict`, `grant`, `revoke` or `close`.
+    pub fn word(&self) -> &'static [u8]
+        ensures { result.now ≡ command_word self.now }
+    {
+        match self {
+            Action::Kill(_) => b"kill",
+            Action::Lift(_) => b"lift",
+            Action::SetLimit(_, _) => b"limit",
+            Action::Restrict(_, _) => b"restrict",
+            Action::Unrestrict(_, _) => b"unrestrict",
+            Action::Grant(_, _) => b"grant",
+            Action::Revoke(_, _) => b"revoke",
+            Action::CloseDay => b"close",
+        }
+    }
 }
 
 /// A command of an officer.

@@ -1,7 +1,7 @@
 -- A run that is read in pieces: piece by piece, to its end, or to a fault.
 use Rattle.std.proofs.{Common.{◌≡◌, ℕ, ◌≤◌, ◌⊎◌, inl, inr, Bool, true, List, [], ◌∷◌, ◌++◌, length, take, Option, Some, None, IfSome, refl, sym, ap, ◌∙◌, subst, append_assoc, append-nil, arith}, KnownBytes.{Appends-nil, Appends-trans, Consumes-nil, Consumes-trans, Consumes-kept}}
 use Rattle.std.specs.{Prelude.fold, Io.KnownBytes.{Appends, Consumes, Keeps, IsAtEnd}}
-use Rattle.gx_devices.specs.{Devices.IsFront, Pieces.{Flow, Way, StopsIn, TakesPiece, IsBroken, IsCutShort, IsWhole, IsWholeOfAll}, Stopping.{AreFirst, Cause, Memory, Full, Writing, Reading, IsOfSending, IsRefused, Mark, MayEnd, trail}}
+use Rattle.gx_devices.specs.{Devices.IsFront, Pieces.{Flow, Way, StopsIn, TakesPiece, IsBroken, IsCutShort, IsWhole, IsWholeOfAll}, Stopping.{AreFirst, Cause, Memory, Writing, IsOfSending, IsRefused, Mark, MayEnd, trail}}
 use Rattle.gx_devices.proofs.Run_stopped.{Leads, Rises, first_behind, last_of, leads_then, stops_here, trail_leads, trail_stops}
 
 -- Where a run stops.

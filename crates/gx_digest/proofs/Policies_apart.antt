@@ -2,7 +2,7 @@
 use Rattle.gx_policy.specs.{declared.{kinds.KindName.KindName, policy.{PolicyData.PolicyData, Account.Account, Stock.Stock, User.User, Powers.Powers, Role.Role, Scope.Scope, Count.Count, FileRule.FileRule, RuleKind.RuleKind, Lifters.Lifters}}, Kinds.{kind_letter, kind_name}}
 use Rattle.gx_policy.proofs.KindLetters_apart.{same_kind}
 use Rattle.std.proofs.{Common.{◌≡◌, ℕ, ◌<◌, ◌^◌, ◌==◌, Bool, true, false, List, [], ◌∷◌, ◌++◌, length, map, take, drop, refl, sym, ap, ◌∙◌, append_assoc}, lemmas.{List.{take_at, drop_at, append-nil}, Nat.from_be_bytes-to_be_bytes_8}}
-use Rattle.std.specs.{Prelude.{codes, if◌then◌else◌}, List.AllByRecursion, Int.{w64, to_be_bytes, from_be_bytes}}
+use Rattle.std.specs.{Prelude.codes, List.AllByRecursion, Int.{w64, to_be_bytes, from_be_bytes}}
 use Rattle.gx_units.specs.declared.names.{AccountName.AccountName, Symbol.Symbol}
 use Rattle.gx_digest.specs.{PolicyText.{policy_text, items_text, list_text, number_text, account_name_text, symbol_text, account_text, stock_text, scope_text, power_text, powers_text, role_text, user_text, count_text, stocks_or_none, limit_or_zero, back_of, count_of, kind_text, rule_text, lifters_text}, PoliciesApart.{without_password, IsAccountNameSized, IsSymbolSized, IsAccountSized, IsStockSized, IsScopeSized, IsRoleSized, IsUserSized, IsKindSized, IsRuleSized, IsToldApart, HasNoPasswords}}
 

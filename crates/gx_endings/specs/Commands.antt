@@ -1,16 +1,11 @@
 -- What officers asked for, and what stood in front of it.
+use Rattle.gx_history.specs.{Requests.{denied_by, action_of, asked_of}, declared.«record».{Asked.Asked, RecordData.RecordData}, InForce.is_killed}
 use Rattle.std.specs.{Prelude.{ℕ, Bool, List, Option, Some, None, option_and_then, option_map}, List.filter_map}
 use Rattle.gx_units.specs.declared.names.UserName.{UserName}
 use Rattle.gx_desk.specs.declared.Action.{Action}
-use Rattle.gx_policy.specs.{declared.{policy.PolicyData.PolicyData, rule_name.RuleName.RuleName}, Lists.each_with_earlier}
-use Rattle.gx_history.specs.{declared.record.{Asked.Asked, RecordData.RecordData, Verdict.Verdict}, InForce.is_killed, Requests.{action_of, asked_of}}
+use Rattle.gx_policy.specs.{declared.policy.PolicyData.PolicyData, Lists.each_with_earlier}
 use Rattle.gx_records.specs.State.{limit_in_force}
 use Rattle.gx_endings.specs.declared.commands.CommandRow.{CommandRow}
-
--- the rule that denied it, if it was denied
-abbrev pub denied_by : Verdict → Option RuleName
-denied_by (Verdict.Denied rule) = Some rule
-denied_by other = None
 
 -- of a Set Limit, the limit of its rule that was in force after these records
 abbrev pub limit_before : PolicyData → List RecordData → Action → Option ℕ

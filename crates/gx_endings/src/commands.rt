@@ -1,7 +1,8 @@
 //! What officers asked for, and what stood in front of it.
 
 ghost use Rattle.std.specs.Prelude.{◌≡◌};
-ghost use Rattle.gx_endings.specs.Commands.{command_asked, command_by, command_row, denied_by, limit_before, was_killed};
+ghost use Rattle.gx_history.specs.Requests.{denied_by};
+ghost use Rattle.gx_endings.specs.Commands.{command_asked, command_by, command_row, limit_before, was_killed};
 
 use crate::lists::put_last;
 use gx_desk::Action;
@@ -37,16 +38,6 @@ pub struct CommandRow {
 pub struct Commands {
     /// A row for each command.
     pub list: Vec<CommandRow>,
-}
-
-/// The rule that denied the request, if it was denied.
-pub fn denied_by(verdict: &Verdict) -> Option<RuleName>
-    ensures { result ≡ denied_by verdict.now }
-{
-    match verdict {
-        Verdict::Denied(rule) => Some(*rule),
-        _ => None,
-    }
 }
 
 fn limit_before<G: ShowsState>(gate: &G, action: &Action) -> Option<u64>
@@ -85,7 +76,7 @@ fn command_row<G: ShowsState>(
         moment: next.moment,
         officer,
         action: *action,
-        denied_by: denied_by(&next.verdict),
+        denied_by: next.verdict.denied_by(),
         limit_before: limit_before(gate, action),
         was_killed: was_killed(gate, action),
     }

@@ -1,10 +1,10 @@
 -- Each event is one line.
 use Rattle.std.proofs.{Common.{◌≡◌, ℕ, zero, suc, ◌-◌, ◌/◌, ◌%◌, Bool, true, false, not, cond, List, [], ◌∷◌, ◌++◌, codes, decimal, length, replicate, refl, ◌∙◌, ap, sym, append_assoc, arith}, lemmas.{Bool.Decides.nat_tests, List.Folds.list_all-append}}
 use Rattle.std.specs.{Prelude.{◌==◌, ◌&&◌, ◌||◌, flat_map, Option, Some, None}, Fmt.{digits, digits_onto, digit_glyph}, List.list_all}
-use Rattle.gx_units.specs.Spelling.{without_right_spaces}
-use Rattle.gx_desk.specs.declared.Action.{Action}
-use Rattle.gx_text.specs.{Moments.{minute_text, moment_text, with_zeros}, Shown.{hex_digit, hex_pair, is_printed, is_visible, json_byte, shown_byte}, declared.{moments.Decimals.{TheVariants.{Six, Nine}, Decimals}, form.Form.TheVariants.{Text, Json}}}
-use Rattle.gx_events.specs.{declared.event.Event.Event, Words.{asked_text, done_text, event_text}, Fields.{command_word, event_fields, named_fields}, Laws.EventsAreLines, Lines.{event_line, record_field, record_text}}
+use Rattle.gx_units.specs.Spelling.{without_right_spaces, is_visible}
+use Rattle.gx_desk.specs.{declared.Action.Action, Names.command_word}
+use Rattle.gx_text.specs.{Moments.{minute_text, moment_text, with_zeros}, Shown.{hex_digit, hex_pair, is_printed, json_byte, shown_byte}, declared.{moments.Decimals.{TheVariants.{Six, Nine}, Decimals}, form.Form.TheVariants.{Text, Json}}}
+use Rattle.gx_events.specs.{declared.event.Event.Event, Words.{asked_text, done_text, event_text}, Fields.{event_fields, named_fields}, Laws.EventsAreLines, Lines.{event_line, record_field, record_text}}
 
 -- without a line's end
 abbrev inside : List ℕ → Bool

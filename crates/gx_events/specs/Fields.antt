@@ -1,6 +1,6 @@
 -- An event as the fields of a JSON object.
+use Rattle.gx_desk.specs.{Names.command_word, declared.Action.Action}
 use Rattle.std.specs.Prelude.{ℕ, List, [], ◌++◌, codes, decimal, Option, Some, None}
-use Rattle.gx_desk.specs.declared.Action.{Action}
 use Rattle.gx_policy.specs.RuleNames.{written_rule}
 use Rattle.gx_text.specs.{Moments.minute_text, Shown.json_name}
 use Rattle.gx_events.specs.declared.event.Event.{Event}
@@ -21,17 +21,6 @@ number_field word number = event_key word ++ decimal number
 -- the value of the event_key `event`
 abbrev pub event_field : List ℕ → List ℕ
 event_field word = codes ",\"event\":\"" ++ word ++ codes "\""
-
--- the words of commands
-abbrev pub command_word : Action → List ℕ
-command_word (Action.Kill account) = codes "kill"
-command_word (Action.Lift account) = codes "lift"
-command_word (Action.SetLimit rule limit) = codes "limit"
-command_word (Action.Restrict rule stock) = codes "restrict"
-command_word (Action.Unrestrict rule stock) = codes "unrestrict"
-command_word (Action.Grant reader account) = codes "grant"
-command_word (Action.Revoke reader account) = codes "revoke"
-command_word Action.CloseDay = codes "close"
 
 abbrev pub from_field : Option ℕ → List ℕ
 from_field None = []

@@ -1,9 +1,9 @@
 -- What the log knows of the records so far.
+use Rattle.gx_history.specs.{Requests.{is_denied, asked_of, granted_action, is_login}, declared.«record».{Asked.Asked, RecordData.RecordData}, InForce.rules_in_force, Verdicts.last_moment}
 use Rattle.gx_policy.specs.{Kinds.limit_of, declared.policy.{FileRule.FileRule, PolicyData.PolicyData}, Lists.{behind_last, where_true}}
-use Rattle.std.specs.{Prelude.{ℕ, ◌+◌, ◌/◌, ◌==◌, Bool, true, false, not, ◌&&◌, max, min, fold, if◌then◌else◌, List, map, find, length, filter, Option, Some, is_some, unwrap_or, option_and_then, option_map}, Option.option_map_or, List.filter_map}
+use Rattle.std.specs.{Prelude.{ℕ, ◌+◌, ◌/◌, ◌==◌, Bool, not, ◌&&◌, max, min, fold, if◌then◌else◌, List, map, find, length, filter, Option, Some, is_some, unwrap_or, option_and_then, option_map}, Option.option_map_or, List.filter_map}
 use Rattle.gx_units.specs.{Names.same_rule, declared.names.RuleId.RuleId}
 use Rattle.gx_desk.specs.declared.Action.{Action}
-use Rattle.gx_history.specs.{declared.record.{Asked.Asked, RecordData.RecordData, Verdict.Verdict}, InForce.rules_in_force, Requests.{asked_of, granted_action, is_login}, Verdicts.last_moment}
 use Rattle.gx_events.specs.declared.limits.RuleLimit.{RuleLimit}
 
 -- the minute behind midnight
@@ -13,11 +13,6 @@ minute_of moment = moment / 60000000000
 -- the records that stand last, all of them within this minute
 abbrev pub within : ℕ → List RecordData → List RecordData
 within minute records = unwrap_or (behind_last (λ (r : RecordData). not (minute_of r.moment == minute)) records) records
-
--- the request was denied
-abbrev pub is_denied : Verdict → Bool
-is_denied (Verdict.Denied rule) = true
-is_denied other = false
 
 -- the login that is asked for, if one is
 abbrev pub login_step : RecordData → Option Asked

@@ -1,15 +1,15 @@
 -- The log of a sample day, line by line.
-use Rattle.gx_policy.specs.declared.{kinds.{ExposureLimit.ExposureLimit, ListKind.ListKind}, policy.{PolicyData.PolicyData, Count.TheVariants.Each, Lifters.TheVariants.Two, RuleKind.RuleKind, Scope.Scope}, rule_name.RuleName.RuleName}
+use Rattle.gx_policy.specs.{declared.{kinds.{ExposureLimit.ExposureLimit, ListKind.ListKind}, policy.{PolicyData.PolicyData, Count.TheVariants.Each, Lifters.TheVariants.Two, RuleKind.RuleKind, Scope.Scope}, rule_name.RuleName.RuleName}, Samples.{alfa, bob, olga, test_stock}}
 use Rattle.std.specs.Prelude.{ℕ, ◌≡◌, true, List, [], ◌∷◌, ◌++◌, codes, take}
-use Rattle.gx_units.specs.declared.names.{AccountName.AccountName, RuleId.RuleId, Symbol.Symbol, UserName.UserName}
+use Rattle.gx_units.specs.declared.names.{RuleId.RuleId, UserName.UserName}
 use Rattle.gx_desk.specs.declared.Action.{Action}
 use Rattle.gx_history.specs.declared.record.{RecordData.RecordData, Request.Request, Step.Step, Verdict.Verdict}
 use Rattle.gx_text.specs.declared.form.Form.TheVariants.{Text, Json}
 use Rattle.gx_events.specs.Lines.{log_of}
 
 -- a policy with the rules GROSS, of 4,000,000 shares, and HALT
-abbrev pub sample : PolicyData
-sample = record {
+abbrev pub policy_of_two_rules : PolicyData
+policy_of_two_rules = record {
   session = record { bytes = codes "GATE01    " };
   lifters = Two;
   accounts = [];
@@ -21,23 +21,11 @@ sample = record {
       ∷ [];
 }
 
-abbrev pub alfa : AccountName
-alfa = record { bytes = codes "ALFA    " }
-
 abbrev pub gross : RuleId
 gross = record { bytes = codes "GROSS   " }
 
 abbrev pub halt : RuleId
 halt = record { bytes = codes "HALT    " }
-
-abbrev pub test_stock : Symbol
-test_stock = record { bytes = codes "TEST    " }
-
-abbrev pub olga : UserName
-olga = record { bytes = codes "OLGA  " }
-
-abbrev pub bob : UserName
-bob = record { bytes = codes "BOB   " }
 
 -- a name that is to do harm
 abbrev pub mallory : UserName
@@ -97,7 +85,7 @@ abbrev pub full : List RecordData
 full = shown_record 15099495 morning olga 65535 login Verdict.Granted ∷ []
 
 abbrev pub PeopleAreTold : Type 0
-PeopleAreTold = log_of Text sample people ≡
+PeopleAreTold = log_of Text policy_of_two_rules people ≡
     codes "10:29:43.698373 OLGA logged in on line 7, record 1\n"
     ++ codes "10:29:43.698373 login of M\",\\x5c\\x20A on line 8 denied by L1, record 2\n"
     ++ codes "10:29:43.698373 limit of GROSS set from 4000000 to 5000000 by OLGA, record 5\n"
@@ -107,7 +95,7 @@ PeopleAreTold = log_of Text sample people ≡
     ++ codes "24:00:01.000000 OLGA logged out on line 7, record 8\n"
 
 abbrev pub PeopleAreToldInJson : Type 0
-PeopleAreToldInJson = log_of Json sample people ≡
+PeopleAreToldInJson = log_of Json policy_of_two_rules people ≡
     codes "{\"at\":\"10:29:43.698373412\",\"event\":\"login\",\"user\":\"OLGA\",\"line\":7,\"record\":1}\n"
     ++ codes "{\"at\":\"10:29:43.698373412\",\"event\":\"login_denied\",\"user\":\"M\\\",\\\\ A\",\"line\":8,\"denied_by\":\"L1\",\"record\":2}\n"
     ++ codes "{\"at\":\"10:29:43.698373412\",\"event\":\"limit\",\"user\":\"OLGA\",\"rule\":\"GROSS\",\"from\":4000000,\"to\":5000000,\"record\":5}\n"
@@ -117,7 +105,7 @@ PeopleAreToldInJson = log_of Json sample people ≡
     ++ codes "{\"at\":\"24:00:01.000000000\",\"event\":\"logout\",\"user\":\"OLGA\",\"line\":7,\"record\":8}\n"
 
 abbrev pub CommandsAreTold : Type 0
-CommandsAreTold = log_of Text sample commands ≡
+CommandsAreTold = log_of Text policy_of_two_rules commands ≡
     codes "10:29:43.698373 ALFA killed by OLGA, record 1\n"
     ++ codes "10:29:43.698373 Kill of ALFA by BOB denied by Q2, record 2\n"
     ++ codes "10:29:43.698373 Set Limit of GROSS to 9 by BOB denied by Q3, record 3\n"
@@ -127,13 +115,13 @@ CommandsAreTold = log_of Text sample commands ≡
     ++ codes "10:29:43.698373 day closed by OLGA, record 8\n"
 
 abbrev pub CommandsAreToldInJson : Type 0
-CommandsAreToldInJson = log_of Json sample (take 3 commands) ≡
+CommandsAreToldInJson = log_of Json policy_of_two_rules (take 3 commands) ≡
     codes "{\"at\":\"10:29:43.698373412\",\"event\":\"kill\",\"user\":\"OLGA\",\"account\":\"ALFA\",\"record\":1}\n"
     ++ codes "{\"at\":\"10:29:43.698373412\",\"event\":\"kill_denied\",\"user\":\"BOB\",\"account\":\"ALFA\",\"denied_by\":\"Q2\",\"record\":2}\n"
     ++ codes "{\"at\":\"10:29:43.698373412\",\"event\":\"limit_denied\",\"user\":\"BOB\",\"rule\":\"GROSS\",\"to\":9,\"denied_by\":\"Q3\",\"record\":3}\n"
 
 abbrev pub FullDaysAreTold : Type 0
-FullDaysAreTold = log_of Text sample full ≡
+FullDaysAreTold = log_of Text policy_of_two_rules full ≡
     codes "10:29:43.698373 OLGA logged in on line 65535, record 15099495\n"
     ++ codes "10:29:43.698373 99 % of the day's lines are used, 0 are left, record 15099495\n"
     ++ codes "10:29:43.698373 90 % of the day's records are used, 1677721 are left, record 15099495\n"

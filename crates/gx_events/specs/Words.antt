@@ -57,8 +57,8 @@ asked_text Action.CloseDay = codes "Close Day"
 abbrev pub by_user : UserName → List ℕ
 by_user user = of_name (codes " by ") user.bytes
 
-abbrev pub denied_by : RuleName → List ℕ
-denied_by rule = of_name (codes " denied by ") (written_rule rule)
+abbrev pub denied_by_text : RuleName → List ℕ
+denied_by_text rule = of_name (codes " denied by ") (written_rule rule)
 
 -- so many hundredths are used, and so many are left
 abbrev pub used_text : ℕ → List ℕ → ℕ → List ℕ
@@ -71,9 +71,9 @@ minute_count words minute count = words ++ minute_text minute ++ codes ": " ++ d
 unfoldable pub event_text : Event → List ℕ
 event_text (Event.LoggedIn user line) = on_line user (codes " logged in on line ") line
 event_text (Event.LoggedOut user line) = on_line user (codes " logged out on line ") line
-event_text (Event.LoginDenied user line rule) = codes "login of " ++ on_line user (codes " on line ") line ++ denied_by rule
+event_text (Event.LoginDenied user line rule) = codes "login of " ++ on_line user (codes " on line ") line ++ denied_by_text rule
 event_text (Event.MoreDenied count minute) = minute_count (codes "more logins denied within the minute of ") minute count
 event_text (Event.Commanded user action earlier) = done_text action earlier ++ by_user user
-event_text (Event.CommandDenied user action rule) = asked_text action ++ by_user user ++ denied_by rule
+event_text (Event.CommandDenied user action rule) = asked_text action ++ by_user user ++ denied_by_text rule
 event_text (Event.RecordsUsed percent left) = used_text percent (codes " % of the day's records are used, ") left
 event_text (Event.LinesUsed percent left) = used_text percent (codes " % of the day's lines are used, ") left

@@ -1,8 +1,8 @@
 //! An event as the fields of a JSON object.
 
 ghost use Rattle.std.specs.Prelude.{◌≡◌, ◌++◌, codes, OnOk};
-ghost use Rattle.gx_events.specs.{Fields.{command_word, count_fields, event_field, event_fields, from_field, event_key, login_fields, minute_field, name_field, named_fields, number_field, used_fields}, declared.event.Event.TheVariants.{LoginDenied, MoreDenied, Commanded, CommandDenied}};
-ghost use Rattle.gx_desk.specs.declared.Action.TheVariants.{SetLimit};
+ghost use Rattle.gx_desk.specs.{Names.command_word, declared.Action.TheVariants.SetLimit};
+ghost use Rattle.gx_events.specs.{Fields.{count_fields, event_field, event_fields, from_field, event_key, login_fields, minute_field, name_field, named_fields, number_field, used_fields}, declared.event.Event.TheVariants.{LoginDenied, MoreDenied, Commanded, CommandDenied}};
 
 use crate::event::Event;
 use gx_desk::Action;
@@ -44,22 +44,6 @@ fn append_event_field(text: &mut Vec<u8>, word: &[u8]) -> Result<(), OutOfMemory
     append(text, b",\"event\":\"")?;
     append(text, word)?;
     append(text, b"\"")
-}
-
-/// The word of a command.
-fn command_word(action: &Action) -> &'static [u8]
-    ensures { result.now ≡ command_word action.now }
-{
-    match action {
-        Action::Kill(_) => b"kill",
-        Action::Lift(_) => b"lift",
-        Action::SetLimit(_, _) => b"limit",
-        Action::Restrict(_, _) => b"restrict",
-        Action::Unrestrict(_, _) => b"unrestrict",
-        Action::Grant(_, _) => b"grant",
-        Action::Revoke(_, _) => b"revoke",
-        Action::CloseDay => b"close",
-    }
 }
 
 fn append_from_field(text: &mut Vec<u8>, earlier: Option<u64>) -> Result<(), OutOfMemory>
@@ -181,7 +165,7 @@ fn append_commanded_fields(
     ensures { OnOk result (text.new.items
         ≡ text.old.items ++ event_fields (Commanded user.now action.now earlier)) }
 {
-    append_event_field(text, command_word(action))?;
+    append_event_field(text, action.word())?;
     append_name_field(text, b"user", &user.bytes)?;
     append_named_fields(text, action, earlier)
 }
@@ -192,7 +176,7 @@ fn append_denied_field(text: &mut Vec<u8>, action: &Action) -> Result<(), OutOfM
         ≡ text.old.items ++ event_field (command_word action.now ++ codes "_denied")) }
 {
     append(text, b",\"event\":\"")?;
-    append(text, command_word(action))?;
+    append(text, action.word())?;
     append(text, b"_denied\"")
 }
 

@@ -1,6 +1,5 @@
 //! The limits of the file's rules, as they are in force.
 
-ghost use Rattle.gx_policy.specs.Kinds.{limit_of};
 ghost use Rattle.std.specs.{Prelude.{◌≡◌, IfOk, find, map}, Option.option_map_or};
 ghost use Rattle.gx_units.specs.Names.{same_rule};
 ghost use Rattle.gx_history.specs.{Requests.granted_action};

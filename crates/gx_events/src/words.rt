@@ -1,7 +1,7 @@
 //! An event in words.
 
 ghost use Rattle.std.specs.Prelude.{◌≡◌, ◌++◌, decimal, OnOk};
-ghost use Rattle.gx_events.specs.{Words.{asked_text, words_between, by_user, denied_by, done_text, event_text, from_text, minute_count, of_both, of_name, on_line, to_number, used_text}, declared.event.Event.TheVariants.{LoginDenied, MoreDenied, Commanded, CommandDenied, RecordsUsed, LinesUsed}};
+ghost use Rattle.gx_events.specs.{Words.{asked_text, words_between, by_user, denied_by_text, done_text, event_text, from_text, minute_count, of_both, of_name, on_line, to_number, used_text}, declared.event.Event.TheVariants.{LoginDenied, MoreDenied, Commanded, CommandDenied, RecordsUsed, LinesUsed}};
 ghost use Rattle.gx_desk.specs.declared.Action.TheVariants.{SetLimit};
 
 use crate::event::Event;
@@ -183,7 +183,7 @@ fn append_by(text: &mut Vec<u8>, user: &UserName) -> Result<(), OutOfMemory>
 }
 
 fn append_denied_by(text: &mut Vec<u8>, rule: &RuleName) -> Result<(), OutOfMemory>
-    ensures { OnOk result (text.new.items ≡ text.old.items ++ denied_by rule.now) }
+    ensures { OnOk result (text.new.items ≡ text.old.items ++ denied_by_text rule.now) }
 {
     append_of_name(text, b" denied by ", rule.written())
 }

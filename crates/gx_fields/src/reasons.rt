@@ -2,7 +2,6 @@
 
 ghost use Rattle.std.specs.Prelude.{◌≡◌};
 ghost use Rattle.gx_history.specs.Reasons.{reject_reason};
-ghost use Rattle.gx_policy.specs.declared.rule_name.RuleName.TheVariants as names;
 ghost use Rattle.gx_fields.specs.Reasons.{built_in_words, reason_of, reason_words};
 
 use gx_ouch::RejectReason;

@@ -1,8 +1,7 @@
 //! The texts of cells.
 
 ghost use Rattle.std.specs.{Prelude.{◌≡◌, ◌++◌, [], OnOk, IfOk, decimal}, Option.option_map_or};
-ghost use Rattle.gx_text.specs.Shown.{shown_text, shown_name};
-ghost use Rattle.gx_fields.specs.Cells.{cell_text, kind_words, right_words, verdict_words};
+ghost use Rattle.gx_fields.specs.Cells.{cell_text, kind_words, verdict_words};
 
 use crate::cell::Cell;
 use crate::row::{RowKind, RowVerdict};

@@ -1,6 +1,6 @@
 //! Reading a file of which no more than so much is taken.
 
-ghost use Rattle.std.specs.{Prelude.{◌≡◌, ◌≢◌, ◌+◌, ◌-◌, ◌^◌, ◌<◌, ◌≤◌, ◌++◌, length, IfErr, IfOk, IfSome, OnErr, OnOk}, Io.KnownBytes.{Consumes, IsAtEnd}};
+ghost use Rattle.std.specs.{Prelude.{◌≡◌, ◌≢◌, ◌+◌, ◌-◌, ◌^◌, ◌<◌, ◌≤◌, ◌++◌, length, IfErr, IfOk, IfSome, OnOk}, Io.KnownBytes.{Consumes, IsAtEnd}};
 ghost use Rattle.gx_files.specs.declared.reading.ReadFault.TheVariants as faults;
 ghost use Rattle.gx_files.specs.Reading.{IsReaderBlamed, ReadsMore, TakesAtMost};
 

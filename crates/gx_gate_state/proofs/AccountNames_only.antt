@@ -3,8 +3,7 @@ use Rattle.std.proofs.{Common.{◌≡◌, ◌∙◌, ◌+◌, ℕ, zero, suc, Bo
 use Rattle.std.specs.List.{find, list_any, position_or_len}
 use Rattle.gx_units.specs.{Names.same_account, declared.names.AccountName.AccountName}
 use Rattle.gx_units.proofs.Names_equal.{account_is}
-use Rattle.gx_policy.specs.declared.policy.Account.{Account}
-use Rattle.gx_ledger.specs.Tables.{accounts_differ}
+use Rattle.gx_policy.specs.{declared.policy.Account.Account, Soundness.accounts_differ}
 
 abbrev has : AccountName → Account → Bool
 has name a = same_account a.name name

@@ -5,12 +5,12 @@ use Rattle.gx_units.specs.{Names.same_account, declared.names.AccountName.Accoun
 use Rattle.gx_units.proofs.Names_equal.{account_is}
 use Rattle.gx_ouch.specs.declared.letters.{CancelReason.CancelReason, Liquidity.Liquidity}
 use Rattle.gx_policy.specs.{declared.policy.{Account.Account, PolicyData.PolicyData, Role.Role, User.User}, People.{account_of, account_of_role, is_reader, role_in, user_in}, Soundness.is_sound}
-use Rattle.gx_history.specs.{declared.{«record».{Fill.Fill, RecordData.RecordData, Step.Step, Verdict.Verdict}, report.Message.Message, live_order.LiveOrder.LiveOrder, moves.Move.Move}, Book.is_buy, Executions.{Execution, sides}, InForce.is_entitled, Streams.{report_of, stream, to_user, canceled_of}, LiveOrders.shares_open, Live.{live, live_numbered}, Requests.asked_of, Verdicts.next, World.Does}
+use Rattle.gx_history.specs.{declared.{«record».{Fill.Fill, RecordData.RecordData, Step.Step, Verdict.Verdict}, report.Message.Message, live_order.LiveOrder.LiveOrder, moves.Move.Move}, Book.is_buy, Executions.{Execution, sides}, InForce.is_entitled, Streams.{report_of, stream, to_user, canceled_of}, LiveOrders.shares_open, Live.{live, live_numbered}, Requests.{asked_of, is_fill as makes_fill}, Verdicts.next, World.Does}
 use Rattle.gx_laws.proofs.{Masks_bits.same_mask, Names_differ.accounts_few, Orders_owned.IsHisAccounts, Accounts_known.accounts_are_known, Runs_orderly.legal_is_orderly, Fills_executed.{IsFill, both_sides, is_fill, maker_side, sides_are, taker_side}, NamedOrders_only.IsOfKnown, Moves_known.{expiry_does, fill_does, matches_at, may_do}}
 use Rattle.gx_book.specs.{Resting.resting_of, Books.{StockOrders, resting_in}, Changes.put_to_rest, Queue.IsLatest}
 use Rattle.gx_orders.specs.{Laws.{CanFill, ComesFirst}, Changes.orders_moved, LiveOrders.{OrdersData, first_waiting}}
 use Rattle.gx_matching.proofs.Resting_order.{first_is_latest}
-use Rattle.gx_streams.specs.{declared.fill.{FillSide.FillSide, FillRole.FillRole, ReportedFill.ReportedFill}, Fills.{liquidity_of, fill_side}, Kept.reserved_in, Laws.TellsOne, Sending.{AreSent, IsMadeBy, IsSide, is_fill as makes_fill}, Streams.{AllStreams, has_own_stream, with_fill}, Telling.shown_streams}
+use Rattle.gx_streams.specs.{declared.fill.{FillSide.FillSide, FillRole.FillRole, ReportedFill.ReportedFill}, Fills.{liquidity_of, fill_side}, Kept.reserved_in, Laws.TellsOne, Sending.{AreSent, IsMadeBy, IsSide}, Streams.{AllStreams, has_own_stream, with_fill}, Telling.shown_streams}
 use Rattle.gx_streams.proofs.{Fills_told.{sides_are_his, stays_by_fill}, Reports_told.stays_by_none}
 use Rattle.gx_people.specs.Entitled.{sees}
 use Rattle.gx_people.proofs.Grants_next as entitling

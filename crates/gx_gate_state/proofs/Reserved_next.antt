@@ -4,11 +4,11 @@ use Rattle.std.specs.Prelude.{Option, Some, None, is_some, ◌&&◌}
 use Rattle.gx_units.specs.{Names.same_user, declared.names.UserName.UserName}
 use Rattle.gx_units.proofs.{Names_equal.user_is, Lists_hold.{all_weaker, all_next}}
 use Rattle.gx_policy.specs.{declared.policy.{PolicyData.PolicyData, User.User}, People.{is_officer, is_reader, role_in, user_in}}
-use Rattle.gx_history.specs.{declared.{«record».{Asked.Asked, RecordData.RecordData, Step.Step, Verdict.Verdict}, report.Message.Message, live_order.LiveOrder.LiveOrder}, Requests.is_judged, Streams.{report_of, reports_of, stream}, Verdicts.{IsLegal, day_limit, next}, Live.live, Reserved.{may_notify_all_users, enough_reserved, is_never_refused, most_kills, orders_held, reserved_reports}}
+use Rattle.gx_history.specs.{declared.{«record».{Asked.Asked, RecordData.RecordData, Step.Step, Verdict.Verdict}, report.Message.Message, live_order.LiveOrder.LiveOrder}, Requests.{is_judged, is_fill}, Streams.{report_of, reports_of, stream}, Verdicts.{IsLegal, day_limit, next}, Live.live, Reserved.{may_notify_all_users, enough_reserved, is_never_refused, most_kills, orders_held, reserved_reports}}
 use Rattle.gx_laws.proofs.{Requests_judged.asked_is_judged, Streams_next.{legal_before, stream_next}, Positions_sound.live_are_few, ReservedPlaces_enough.{enough_is_more, kept_places_are_enough, matches_want_no_more, others_want_no_more, so_many_are_enough}}
 use Rattle.gx_orders.specs.LiveOrders.{OrdersData}
 use Rattle.gx_people.proofs.Users_laws.{officers_stay}
-use Rattle.gx_streams.specs.{Kept.{reserved_in, with_reserved}, Laws.TellsOne, Sending.{KnowsReaders, is_fill}, Streams.{AllStreams, has_own_stream, on_list_of}}
+use Rattle.gx_streams.specs.{Kept.{reserved_in, with_reserved}, Laws.TellsOne, Sending.KnowsReaders, Streams.{AllStreams, has_own_stream, on_list_of}}
 use Rattle.gx_streams.proofs.{UserLists_found.told_are, Copies_only.{copies_alone, none_sent, only_known, readers_are}, Places_kept.{others_keep, places_kept}}
 use Rattle.gx_gate_state.specs.{declared.state.GateState.GateState, State.{AreInForce, HasEnough, HasReserved, HaveReservedWithRecord, HaveEnough, HaveNoFewer, HaveReservedForRecord, HaveReservedReports, KnowTheSame, KnowsUsers, TakesAsked, count_of_user, enough_of}}
 use Rattle.gx_gate_state.proofs.Ledger_next.{legal_after}

@@ -3,8 +3,7 @@
 ghost use Rattle.std.specs.Prelude.{◌≡◌, option_and_then, option_map, position, IsTrue};
 ghost use Rattle.gx_units.specs.Names.{same_account};
 ghost use Rattle.gx_history.specs.{Asking.fits_firm, Orders.firm_of};
-ghost use Rattle.gx_policy.specs.People.{account_named};
-ghost use Rattle.gx_ledger.specs.Tables.{accounts_differ};
+ghost use Rattle.gx_policy.specs.{People.account_named, Soundness.accounts_differ};
 ghost use Rattle.gx_gate_state.specs.Matching.{place_of};
 
 use gx_history::record::Request;

@@ -1,5 +1,5 @@
 -- What rows stand for, part by part.
-use Rattle.std.proofs.{Common.{◌≡◌, ◌≢◌, ℕ, zero, suc, ◌+◌, ◌<◌, ◌≤◌, List, [], ◌∷◌, ◌++◌, get_or, length, take, drop, refl, ◌∙◌, sym, ap, subst, arith}, lemmas.{List.{length-append, length-map, map-append}, Option.same_Some}}
+use Rattle.std.proofs.{Common.{◌≡◌, ℕ, zero, suc, ◌+◌, ◌<◌, ◌≤◌, List, [], ◌∷◌, ◌++◌, get_or, length, take, drop, refl, ◌∙◌, sym, ap, subst, arith}, lemmas.{List.{length-append, length-map, map-append}, Option.same_Some}}
 use Rattle.std.specs.{Prelude.{Option, Some, None, IsTrue, slice_get}, Option.option_map_or}
 use Rattle.gx_units.proofs.Lists_found.{get_before}
 use Rattle.gx_policy.specs.declared.rule_name.RuleName.{RuleName}

@@ -12,6 +12,10 @@ shares_open o = o.total - o.done
 abbrev pub key : UserName → Token → UserToken
 key user token = record { user = user; token = token }
 
+-- the same user, and the same token
+abbrev pub same_user_token : UserToken → UserToken → Bool
+same_user_token a b = same_user a.user b.user && same_token a.token b.token
+
 -- the user and the token that the order was asked for under
 abbrev pub token_of : LiveOrder → UserToken
 token_of o = key o.user o.token

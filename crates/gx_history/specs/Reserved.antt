@@ -1,9 +1,9 @@
 -- The places that are reserved beforehand, so that each Kill and each Logout that may be granted can be recorded and told.
 use Rattle.std.specs.{Prelude.{ℕ, ◌+◌, Bool, true, false, ◌&&◌, not, is_some, length, List, Option, Some, if◌then◌else◌}, List.filter}
-use Rattle.gx_units.specs.{Names.same_user, declared.names.{AccountName.AccountName, UserName.UserName}}
+use Rattle.gx_units.specs.{declared.names.{AccountName.AccountName, UserName.UserName}}
 use Rattle.gx_desk.specs.declared.Action.{Action}
 use Rattle.gx_policy.specs.{declared.policy.{Account.Account, PolicyData.PolicyData, Role.Role, User.User}, People.{covers, is_officer, role_in}}
-use Rattle.gx_history.specs.{declared.{«record».{RecordData.RecordData, Request.Request, Verdict.Verdict}, live_order.LiveOrder.LiveOrder}, Live.live, InForce.{is_untouched, kill_in_force, line_of}, LiveOrders.is_of_user}
+use Rattle.gx_history.specs.{declared.{«record».{RecordData.RecordData, Request.Request, Verdict.Verdict}}, Live.live, InForce.{is_untouched, kill_in_force, line_of}, LiveOrders.is_of_user}
 
 -- how many orders of the user are live: a Kill may end each of them
 abbrev pub orders_held : PolicyData → List RecordData → UserName → ℕ

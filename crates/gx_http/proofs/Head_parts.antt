@@ -1,8 +1,8 @@
 -- What is known of a head by where its parts stand.
-use Rattle.std.proofs.{Common.{◌≡◌, ℕ, ◌≤◌, List, length, take, drop, map, refl, ap, sym, ◌∙◌, inl, subst, arith}, Math.Seq.take-length, lemmas.List.{length-map, length-take}}
-use Rattle.std.specs.Prelude.{All, Result, min}
+use Rattle.std.proofs.{Common.{◌≡◌, ℕ, ◌≤◌, List, length, take, drop, ap, sym, ◌∙◌, inl, subst, arith}, Math.Seq.take-length, lemmas.List.{length-map, length-take}}
+use Rattle.std.specs.Prelude.{All, Result}
 use Rattle.httparse.specs.{Grammar.{Field, RequestHead}, Spans.{AreFieldsAt, IsHeaderWithin, IsRequestAt, IsRequestOf, IsRequestWithin, header_bytes, name_and_value}, declared.spans.{HeaderSpan.HeaderSpan, RequestSpans.RequestSpans}}
-use Rattle.gx_http.specs.{declared.request.{Request.Request, RequestFault.RequestFault}, Requests.{parts_at, parts_of, BeginWith, IsBegun, IsReadAs, request_in, request_of}}
+use Rattle.gx_http.specs.{declared.request.{Request.Request, RequestFault.RequestFault}, Requests.{parts_at, parts_of, IsBegun, IsReadAs, request_in}}
 
 -- all its fields stand in front of the bytes
 pub all_within : (bytes : List ℕ) (fields : List HeaderSpan) (head : RequestSpans) → IsRequestWithin bytes fields head → head.headers ≡ length fields

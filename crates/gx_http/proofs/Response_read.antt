@@ -1,11 +1,10 @@
 -- A response is read back.
-use Rattle.std.proofs.{Common.{◌≡◌, ◌^◌, ◌<◌, ℕ, Bool, true, List, [], ◌∷◌, ◌++◌, length, map, refl, sym, ap, ◌∙◌}, lemmas.Fmt.decimal_is_IsNumeral}
-use Rattle.std.specs.{Prelude.{codes, decimal, if◌then◌else◌}, List.list_all, Option.option_to_list, Str.Parse.digits_value}
-use Rattle.httparse.specs.Spans.{name_and_value}
-use Rattle.http1.specs.{Fields.{Header, content_length, is_named, is_number, known_fields, values_named}, Head.response_head, Text.eq_ignore_case}
+use Rattle.std.proofs.{Common.{◌≡◌, ◌^◌, ◌<◌, ℕ, List, [], ◌∷◌, length, refl, ap, ◌∙◌}, lemmas.Fmt.decimal_is_IsNumeral}
+use Rattle.std.specs.{Prelude.{codes, decimal}, Option.option_to_list}
+use Rattle.http1.specs.{Fields.{Header, content_length, known_fields, values_named}, Head.response_head, Text.eq_ignore_case}
 use Rattle.http1.specs.declared.fields.ContentLength.TheVariants as Length
 use Rattle.http1.proofs.HeadRoundTrip.{response_reads_back}
-use Rattle.gx_http.specs.{declared.{response.{Content.Content, Status.Status}, routes.Method.Method}, Laws.{IsReadBack, ResponsesReadBack}, Responses.{code_of, fields_of, own_field, reason_of}}
+use Rattle.gx_http.specs.{declared.response.{Content.Content, Status.Status}, Laws.ResponsesReadBack, Responses.{code_of, fields_of, own_field, reason_of}}
 use Rattle.gx_http.proofs.Response_sent.{digits_are_number, is_sent}
 
 -- no field of a status's own is a length

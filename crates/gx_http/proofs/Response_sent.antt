@@ -1,5 +1,5 @@
 -- The fields of responses may be sent.
-use Rattle.std.proofs.{Common.{◌≡◌, ℕ, ◌^◌, ◌<◌, Bool, true, not, ◌&&◌, List, [], ◌∷◌, refl, sym, arith}, lemmas.{Bool.{and_from, lt-ltb, Decides.nat_tests}, Fmt.decimal_is_IsNumeral, List.{Elements.{All-head, All-weaker}, Sums.{AllPass-from_list_all, list_all-from_AllPass}}}}
+use Rattle.std.proofs.{Common.{◌≡◌, ℕ, ◌^◌, ◌<◌, true, not, ◌&&◌, List, [], ◌∷◌, refl, arith}, lemmas.{Bool.{and_from, lt-ltb, Decides.nat_tests}, Fmt.decimal_is_IsNumeral, List.{Elements.{All-head, All-weaker}, Sums.{AllPass-from_list_all, list_all-from_AllPass}}}}
 use Rattle.std.specs.{Prelude.{codes, decimal, reverse, None}, Char.{digit_value, is_ascii_digit}, List.list_all, Option.option_to_list, Str.Parse.AllDigits}
 use Rattle.httparse.specs.Grammar.{AllPass, is_ows, is_token_byte, is_value_byte}
 use Rattle.httparse.proofs.TrimLemmas.{AllPass-reverse}

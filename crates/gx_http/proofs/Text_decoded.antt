@@ -1,5 +1,5 @@
 -- What a slice that has room for all that a text may decode to says of it.
-use Rattle.std.proofs.Common.{◌≡◌, ℕ, ◌≤◌, List, length, take, Option, Some, None, Ok, Err, refl, ap, sym, ◌∙◌}
+use Rattle.std.proofs.Common.{◌≡◌, ℕ, ◌≤◌, List, length, take, Option, Some, None, Ok, refl, ap, ◌∙◌}
 use Rattle.std.specs.{Prelude.{Result, OnOk}, Result.result_ok}
 use Rattle.base64.specs.{declared.{decode.{DecodeError.DecodeError, DecodeSliceError.DecodeSliceError}, engine.general_purpose.GeneralPurpose.GeneralPurpose}, Decode.{decode_error, decode_outcome, decoded_bytes, decoded_estimate, or_error, IsWrittenOver}, GeneralPurpose.{decoded_of, decode_slice_of, decoded_bytes_of}}
 use Rattle.base64.proofs.Decoding.{conservative_ok, slice_result_room}

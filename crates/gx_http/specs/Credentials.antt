@@ -1,6 +1,6 @@
 -- The user and the password that the fields of a request name.
 use Rattle.std.specs.Prelude.{ℕ, ◌+◌, ◌==◌, ◌&&◌, Bool, List, length, take, drop, find, position, Option, Some, None, option_map, option_and_then, if◌then◌else◌, nat_le, nat_lt, codes}
-use Rattle.gx_units.specs.{Spelling.padded_to, declared.names.{Password.Password, UserName.UserName}}
+use Rattle.gx_units.specs.{Spelling.padded_to}
 use Rattle.http1.specs.{Fields.{Header, is_named}, Text.eq_ignore_case}
 use Rattle.base64.specs.{Engines.standard, GeneralPurpose.decoded_of}
 use Rattle.gx_http.specs.declared.credentials.Credentials.{Credentials}

@@ -1,7 +1,7 @@
 -- The form that asks for a kill.
 use Rattle.std.specs.Prelude.{ℕ, ◌&&◌, List, [], ◌∷◌, Option, None, option_map, option_and_then, if◌then◌else◌, bytes_eq, codes}
 use Rattle.form_urlencoded.specs.Form.{raw_pairs}
-use Rattle.gx_http.specs.{declared.forms.{KillForm.KillForm, PageToken.PageToken}, Credentials.padded_in}
+use Rattle.gx_http.specs.{declared.forms.KillForm.KillForm, Credentials.padded_in}
 
 -- of this account, with this token
 abbrev pub form_of : Option (List ℕ) → Option (List ℕ) → Option KillForm

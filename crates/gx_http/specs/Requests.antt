@@ -1,5 +1,5 @@
 -- Which request bytes are, or why they are none that is served.
-use Rattle.std.specs.Prelude.{◌≡◌, ◌⊎◌, ⊤, ℕ, ◌+◌, ◌<◌, ◌≤◌, Bool, not, ◌==◌, ◌&&◌, ◌||◌, List, length, map, take, Option, Some, None, Result, Ok, Err, if◌then◌else◌, nat_lt}
+use Rattle.std.specs.Prelude.{◌≡◌, ◌⊎◌, ℕ, ◌+◌, ◌<◌, ◌≤◌, Bool, ◌==◌, ◌&&◌, ◌||◌, List, length, map, take, Option, Some, None, Result, Ok, Err, if◌then◌else◌, nat_lt}
 use Rattle.httparse.specs.{Grammar.{RequestHead, print_request, ReadsRequest, HasNoRequest, MayBecomeRequest}, Spans.{RequestOverflows, header_bytes, name_and_value, span_bytes}, declared.spans.{HeaderSpan.HeaderSpan, RequestSpans.RequestSpans}}
 use Rattle.http1.specs.{Fields.{Header, known_fields}, Framing.{method_kind, request_framing}, declared.{fields.KnownFields.KnownFields, framing.{Framing.Framing, FramingError.FramingError}}}
 use Rattle.gx_http.specs.{declared.{credentials.Credentials.Credentials, forms.KillForm.KillForm, request.{RequestTarget.RequestTarget, Request.Request, RequestFault.RequestFault}, routes.Route.Route}, Credentials.credentials_in, Forms.kill_form, Routes.route_of, Words.◌>>=◌}

@@ -1,5 +1,5 @@
 -- What may be asked for, by its path and its method.
-use Rattle.std.specs.Prelude.{◌∷◌, ℕ, List, Option, Some, None, Result, Ok, Err, if◌then◌else◌, bytes_eq, codes}
+use Rattle.std.specs.Prelude.{ℕ, List, Option, Some, None, Result, Ok, Err, if◌then◌else◌, bytes_eq, codes}
 use Rattle.gx_http.specs.declared.{request.RequestFault.RequestFault, routes.{Method.Method, Route.Route}}
 
 -- the path of each

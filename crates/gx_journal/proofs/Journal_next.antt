@@ -1,4 +1,5 @@
 -- Records that are written piece by piece, behind those that were there at first.
+use Rattle.gx_units.proofs.Lists_found.{append_regrouped}
 use Rattle.std.proofs.{Common.{◌≡◌, ℕ, ◌+◌, ◌-◌, ◌≤◌, List, [], ◌∷◌, ◌++◌, Option, Some, None, length, take, drop, pred, max, min, refl, sym, ap, ◌∙◌, subst, append_assoc, arith}, KnownBytes.{Appends-nil, Appends-trans}, Math.Seq.take-add, lemmas.List.{drop_all, take-append-drop, take_min, take-append-le, drop-append-le, length-take, length-drop}}
 use Rattle.std.specs.Io.KnownBytes.{Appends}
 use mathlib.Core.List.{IsPrefix}
@@ -62,10 +63,6 @@ more_written version begun before after count done records next first met is gro
     appends_grown begun after (journal_bytes version (records_between count (done + length next) records))
     (more_appended version begun before after count done records next first met is (grown_appends begun before (journal_bytes version (records_between count done records)) grown) put)
 
--- bytes in four pieces
-regrouped : (a f r z : List ℕ) → a ++ ((f ++ r) ++ z) ≡ (a ++ f) ++ (r ++ z)
-regrouped a f r z = simp append_assoc
-
 -- what is left begins with the next records
 left_is : (version : AuditVersion) (records next : List RecordData) (done : ℕ) → next ≡ take (length next) (drop done records)
     → journal_bytes version (drop done records) ≡ journal_bytes version next ++ journal_bytes version (drop (length next) (drop done records))
@@ -88,7 +85,7 @@ cut_written version begun before after count done records next first met is grow
           ap (journal_bytes version) (added_rest count done records first met)
           ∙ all_joined version (records_between count done records) (drop done records)
           ∙ ap (λ (bytes : List ℕ). text ++ bytes) (left_is version records next done is ∙ ap (λ (bytes : List ℕ). bytes ++ others) cut.whole)
-          ∙ regrouped text cut.front cut.rest others;
+          ∙ append_regrouped text cut.front cut.rest others;
     }
 
 -- nothing more was put on the device

@@ -1,6 +1,6 @@
 -- What a journal keeps of a day.
 use Rattle.gx_devices.specs.{declared.fault.WriteFault.WriteFault, Devices.IsFront}
-use Rattle.std.specs.{Prelude.{◌≡◌, ℕ, ◌<◌, ◌≤◌, max, List, length, take, drop, [], Bool, Option, Some, None, IsTrue, IsFalse, is_some}, Io.KnownBytes.append_known}
+use Rattle.std.specs.{Prelude.{◌≡◌, ℕ, ◌≤◌, max, List, length, take, drop, [], Bool, Option, Some, None, IsTrue, IsFalse, is_some}, Io.KnownBytes.append_known}
 use Rattle.gx_history.specs.declared.record.RecordData.{RecordData}
 use Rattle.gx_audit_bytes.specs.{declared.version.AuditVersion.AuditVersion, Audits.all_bytes}
 use Rattle.gx_pass.specs.{declared.view.LineView.LineView, Views.line_view}

@@ -1,12 +1,11 @@
 //! A journal of a day.
 
-ghost use Rattle.std.specs.Prelude.{◌≡◌, ◌+◌, ◌<◌, ◌≤◌, ◌⊎◌, ◌^◌, drop, length, take, IfOk, IsFalse, IsTrue, None, Some};
+ghost use Rattle.std.specs.Prelude.{◌≡◌, ◌+◌, ◌<◌, ◌≤◌, ◌^◌, drop, length, take, IfOk, IsFalse, IsTrue, None, Some};
 ghost use mathlib.Core.List.{IsPrefix};
-ghost use Rattle.gx_devices.specs.Devices.{IsFront};
 ghost use Rattle.gx_policy.specs.Lists.{slice};
 ghost use Rattle.gx_pass.specs.Views.{with_told};
 ghost use Rattle.gx_door.specs.Acts.{IsLater};
-ghost use Rattle.gx_journal.specs.Journals.{records_between, is_broken, journal_bytes, known_length, IsGrown, IsJournalKept};
+ghost use Rattle.gx_journal.specs.Journals.{is_broken, known_length, IsJournalKept};
 
 use crate::name::JournalName;
 use crate::writer::JournalWriter;

@@ -1,8 +1,7 @@
 //! A device that records are put on.
 
 ghost use Rattle.gx_devices.specs.{Blaming.IsBlamed, Devices.IsFront};
-ghost use Rattle.std.specs.{Prelude.{◌≡◌, ◌+◌, ◌-◌, ◌^◌, ◌<◌, length, None, Some, is_none, IsSome, IsTrue, IsFalse, IfErr, OnErr, OnOk}, Io.KnownBytes.Appends};
-ghost use Rattle.gx_devices.specs.declared.fault.WriteFault.TheVariants as faults;
+ghost use Rattle.std.specs.{Prelude.{◌≡◌, ◌+◌, ◌-◌, ◌^◌, ◌<◌, length, None, Some, is_none, IsTrue, IsFalse, IfErr, OnErr, OnOk}, Io.KnownBytes.Appends};
 ghost use Rattle.gx_journal.specs.Journals.{is_broken, journal_bytes};
 
 use gx_audit_bytes::{AuditVersion, audit_bytes};

@@ -1,6 +1,6 @@
 -- Numbers, names and moments as members of a JSON object.
 use Rattle.std.specs.{Prelude.{ℕ, ℤ, Bool, List, ◌++◌, Option, Some, None, codes, decimal, if◌then◌else◌}, Fmt.signed_decimal}
-use Rattle.gx_text.specs.{Moments.moment_text, Shown.json_name, declared.moments.Decimals.Decimals}
+use Rattle.gx_text.specs.{Moments.moment_text, declared.moments.Decimals.Decimals}
 
 -- a member behind others
 abbrev pub member : List ℕ → List ℕ → List ℕ

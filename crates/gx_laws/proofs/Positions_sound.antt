@@ -1,5 +1,5 @@
 -- Live orders, executions and grants of a legal history are sound.
-use Rattle.std.proofs.{Common.{ℕ, ◌+◌, ◌*◌, ◌<◌, ◌≤◌, ◌^◌, List, [], ◌∷◌, length, arith}, Math.Path.subst}
+use Rattle.std.proofs.{Common.{ℕ, ◌+◌, ◌*◌, ◌<◌, ◌≤◌, ◌^◌, List, length, arith}, Math.Path.subst}
 use Rattle.std.specs.List.{AllByRecursion}
 use Rattle.gx_units.specs.Money.{value}
 use Rattle.gx_units.proofs.{Lists_hold.all_weaker, Lists_found.few_found}

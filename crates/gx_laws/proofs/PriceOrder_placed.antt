@@ -1,5 +1,5 @@
 -- Price-time order under filters.
-use Rattle.std.proofs.{Common.{◌≡◌, Bool, true, false, not, List, [], ◌∷◌, ◌++◌, refl, ◌∙◌, ap, cond}, lemmas.List.Elements.filter-append}
+use Rattle.std.proofs.{Common.{◌≡◌, Bool, true, false, not, List, ◌∷◌, ◌++◌, refl, ◌∙◌, ap, cond}, lemmas.List.Elements.filter-append}
 use Rattle.std.specs.List.{filter}
 use Rattle.gx_units.proofs.Lists_found.{filter_swap}
 use Rattle.gx_policy.specs.Lists.{inserted_behind}

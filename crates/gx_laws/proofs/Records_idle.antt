@@ -1,5 +1,5 @@
 -- A record that makes, sizes and fills no order and puts none to rest, and one that ends none.
-use Rattle.std.proofs.{Common.{◌≡◌, false, List, [], ◌∷◌, ◌∙◌}, lemmas.Bool.and_left}
+use Rattle.std.proofs.{Common.{◌≡◌, false, List, []}, lemmas.Bool.and_left}
 use Rattle.std.specs.Prelude.{None}
 use Rattle.gx_units.specs.declared.names.{AccountName.AccountName, UserName.UserName}
 use Rattle.gx_policy.specs.{declared.policy.PolicyData.PolicyData, People.{role_in, is_reader}}

@@ -5,8 +5,8 @@ use Rattle.indexmap.specs.{IndexMap.insert_entry, IndexSet.insert_key}
 use Rattle.gx_laws.proofs.Entries_table.{none_before}
 use Rattle.gx_units.specs.{Names.{same_account, same_stock}, declared.names.{AccountName.AccountName, Symbol.Symbol}}
 use Rattle.gx_units.proofs.{Names_equal.stock_is, Test_known.{left_false, right_false}}
-use Rattle.gx_policy.specs.declared.policy.{Account.Account, Stock.Stock}
-use Rattle.gx_ledger.specs.{Accounts.account_names, Keeping.prices_with, declared.sides.StockSums.StockSums, Tables.{accounts_differ, stock_names_differ}}
+use Rattle.gx_policy.specs.{declared.policy.{Account.Account, Stock.Stock}, Soundness.{accounts_differ, stocks_differ}}
+use Rattle.gx_ledger.specs.{Accounts.account_names, Keeping.prices_with, declared.sides.StockSums.StockSums}
 
 module _ {K V : Type 0} (eq : K → K → Bool) (is : (a b : K) → eq a b ≡ true → a ≡ b) (n : K) (change : V → V) where
   -- the value of the key, changed
@@ -79,7 +79,7 @@ module _ {V : Type 0} (value : Stock → V) where
   map_last (b ∷ before) s = ap (λ l. (b.name, value b) ∷ l) (map_last before s)
 
   -- the next of the stocks goes last
-  pub next_value : (stocks : List Stock) (es : List (Symbol × V)) (i : ℕ) (s d : Stock) → stock_names_differ stocks ≡ true → i < length stocks → es ≡ valued (take i stocks)
+  pub next_value : (stocks : List Stock) (es : List (Symbol × V)) (i : ℕ) (s d : Stock) → stocks_differ stocks ≡ true → i < length stocks → es ≡ valued (take i stocks)
       → s ≡ get_or stocks i d → insert_entry same_stock es s.name (value s) ≡ valued (take (i + 1) stocks)
   next_value stocks es i s d differ within so_far is =
       let same : Stock → Stock → Bool = λ (a b : Stock). same_stock a.name b.name in

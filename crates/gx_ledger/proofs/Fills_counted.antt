@@ -1,7 +1,7 @@
 -- What counts, and which prices are last, once a fill was made.
 use Rattle.std.proofs.{Common.{◌≡◌, ℕ, ◌+◌, ◌-◌, ◌<◌, ◌≤◌, ◌^◌, Bool, true, false, cond, ◌&&◌, List, [], ◌∷◌, ◌++◌, map, refl, sym, ap, ◌∙◌, arith, true≢false}, Math.Path.subst, lemmas.{List.append-nil, Option.same_Some}}
 use Rattle.std.specs.{Prelude.{None, ◌==◌, is_some, unwrap_or}, List.{AllByRecursion, cons_option, filter_map, last_or}}
-use Rattle.gx_units.specs.{Money.value, Names.same_stock, declared.names.{AccountName.AccountName, Symbol.Symbol}}
+use Rattle.gx_units.specs.{Money.{value, capped_at_128_bits}, Names.same_stock, declared.names.{AccountName.AccountName, Symbol.Symbol}}
 use Rattle.gx_units.proofs.{Names_equal.stock_is, Lists_hold.{all_both, found_is}}
 use Rattle.gx_ouch.specs.declared.outbound.OrderTerms.{OrderTerms}
 use Rattle.gx_history.specs.{declared.{facts.StockSide.StockSide, live_order.LiveOrder.LiveOrder, «record».Fill.Fill}, Executions.Execution, Figures.{Positions, done_of_chosen, done_shares, done_value, live_shares, live_value, of_accounts, on_side, reference, side_done, side_live}, Turns.becomes}
@@ -9,7 +9,7 @@ use Rattle.gx_policy.specs.{declared.policy.{PolicyData.PolicyData, Stock.Stock}
 use Rattle.gx_laws.proofs.{Figures_next.reference_more, Fills_executed.both_sides, Sums_turn.{IsOpenSum, done_shares_filled, done_value_filled, filled_by, is_chosen, shares_of, sides_are, value_of}}
 use Rattle.gx_history.specs.Turns as turns
 use Rattle.gx_laws.specs.{Changing.{executed_by, positions_with}, Sound.{AreSound, IsListed, MayFillHeld, SumsFit, anyone}}
-use Rattle.gx_ledger.specs.{declared.sums.Sums.Sums, Keeping.{LedgerData, is_filled, data_after, prices_with, with_price}, Running.capped_at_128_bits, StandsFor.{AreFilled, Fills, IsMadeIn, StandsFor, Total, enters_of, moments_of, prices_of, total_of}}
+use Rattle.gx_ledger.specs.{declared.sums.Sums.Sums, Keeping.{LedgerData, is_filled, data_after, prices_with, with_price}, StandsFor.{AreFilled, Fills, IsMadeIn, StandsFor, Total, enters_of, moments_of, prices_of, total_of}}
 use Rattle.gx_ledger.proofs.{Ledger_next.tallies_same, Tallies_changed.{Totals, changed_total, changes_side, kept_follows, totals_after}, Totals_changed.{done_fit, done_value_fit, less, more, on_its_own_side}}
 
 -- what counts after both sides

@@ -4,15 +4,15 @@ use Rattle.std.specs.{Prelude.{Option, Some, None, is_some}, Option.option_map_o
 use Rattle.circular_buffer.specs.Buffer.{buffer}
 use Rattle.gx_units.specs.{Names.{same_account, same_stock}, declared.names.AccountName.AccountName}
 use Rattle.gx_units.proofs.Test_known.{left_false, right_false}
-use Rattle.gx_policy.specs.{declared.policy.{Account.Account, Count.Count, FileRule.FileRule, PolicyData.PolicyData, Scope.Scope, Stock.Stock}, Lists.are_distinct, People.{covers, stock_named}, Soundness.is_sound}
+use Rattle.gx_policy.specs.{declared.policy.{Account.Account, Count.Count, FileRule.FileRule, PolicyData.PolicyData, Scope.Scope, Stock.Stock}, Lists.are_distinct, People.{covers, stock_named}, Soundness.{is_sound, accounts_differ, stocks_differ}}
 use Rattle.gx_history.specs.{declared.facts.StockSide.StockSide, Figures.{of_accounts, on_side, reference}}
 use Rattle.gx_laws.proofs.{Names_differ.accounts_differ as accounts_apart, Figures_next.{done_none, done_value_none, reference_none}, Sums_turn.{none_of, shares_of, value_of}}
 use Rattle.gx_laws.specs.Changing.{no_positions}
-use Rattle.gx_ledger.specs.{declared.{figure_kind.FigureKind.FigureKind, group.Group.Group}, Accounts.account_names, Keeping.reference_prices, Running.first_sides, StandsFor.{StandsFor, group_of, members_of, prices_of, ring, shares_among, side_sums_of, sides_of, tally_of, total_of, value_among}, Tables.{accounts_differ, stock_names_differ}, Tallies.{asks_of, count_of, new_group, new_groups, new_tally, seats_for, tells_reference}}
+use Rattle.gx_ledger.specs.{declared.{figure_kind.FigureKind.FigureKind, group.Group.Group}, Accounts.account_names, Keeping.reference_prices, Running.first_sides, StandsFor.{StandsFor, group_of, members_of, prices_of, ring, shares_among, side_sums_of, sides_of, tally_of, total_of, value_among}, Tallies.{asks_of, count_of, new_group, new_groups, new_tally, seats_for, tells_reference}}
 use Rattle.gx_ledger.proofs.Grants_counted.{none_left}
 
 -- no two stocks of the policy have one name
-pub sound_stocks : (policy : PolicyData) → is_sound policy ≡ true → stock_names_differ policy.stocks ≡ true
+pub sound_stocks : (policy : PolicyData) → is_sound policy ≡ true → stocks_differ policy.stocks ≡ true
 unfolding is_sound
 sound_stocks policy h =
     let of_names = (and_parts _ _ (and_parts _ _ (and_parts _ _ (and_parts _ _ (and_parts _ _ (and_parts _ _ h).0).0).0).0).0).1 in
@@ -40,16 +40,16 @@ later_found x stocks (y ∷ ys) none all = (
   later_found x stocks ys (right_false (same_stock x.name y.name) (list_any (λ (y : Stock). same_stock x.name y.name) ys) none) all.1,
 )
 
-all_found : (stocks : List Stock) → stock_names_differ stocks ≡ true → AllByRecursion (IsFoundIn stocks) stocks
+all_found : (stocks : List Stock) → stocks_differ stocks ≡ true → AllByRecursion (IsFoundIn stocks) stocks
 all_found [] h = tt
 all_found (x ∷ stocks) h = (
   ap (λ b. cond b (Some x) (find (λ (t : Stock). same_stock t.name x.name) stocks)) (nat_list_eq_equiv.refl x.name.bytes),
   later_found x stocks stocks (not-true _ (and_parts _ _ h).0)
-      (all_found stocks (and_parts (not (list_any (λ (y : Stock). same_stock x.name y.name) stocks)) (stock_names_differ stocks) h).1),
+      (all_found stocks (and_parts (not (list_any (λ (y : Stock). same_stock x.name y.name) stocks)) (stocks_differ stocks) h).1),
 )
 
 -- each stock's first price is the file's
-first_prices : (policy : PolicyData) → stock_names_differ policy.stocks ≡ true → reference_prices policy.stocks ≡ prices_of policy no_positions
+first_prices : (policy : PolicyData) → stocks_differ policy.stocks ≡ true → reference_prices policy.stocks ≡ prices_of policy no_positions
 first_prices policy h = each policy.stocks (all_found policy.stocks h)
   where
     each : (stocks : List Stock) → AllByRecursion (IsFoundIn policy.stocks) stocks → reference_prices stocks ≡ map (λ (s : Stock). (s.name, reference policy [] s.name)) stocks

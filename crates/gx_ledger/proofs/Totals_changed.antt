@@ -1,13 +1,13 @@
 -- What counts of any accounts, once live orders, fills or grants changed.
 use Rattle.std.proofs.{Common.{◌≡◌, ℕ, ◌+◌, ◌-◌, ◌<◌, ◌≤◌, ◌^◌, Bool, true, false, cond, ◌&&◌, not, List, [], ◌∷◌, ◌++◌, map, refl, sym, ap, ◌∙◌, arith}, lemmas.List.{append-nil, map-append, Elements.filter-append}}
 use Rattle.std.specs.{Prelude.{Option, Some, None, is_none, is_some, nat_eq}, List.{IsDistinct, filter, filter_map}}
-use Rattle.gx_units.specs.{Money.value, Names.same_stock, declared.names.{AccountName.AccountName, Symbol.Symbol, Token.Token}}
+use Rattle.gx_units.specs.{Money.{value, capped_at_128_bits}, Names.same_stock, declared.names.{AccountName.AccountName, Symbol.Symbol, Token.Token}}
 use Rattle.gx_history.specs.{declared.{facts.StockSide.StockSide, live_order.LiveOrder.LiveOrder}, Executions.Execution, Book.is_on, Figures.{Positions, done_of_chosen, done_shares, done_value, live_shares, live_value, of_accounts, on_side, open_of_chosen, open_value, side_done, side_live}, LiveOrders.shares_open, Orders.Order, Turns.{Turn, becomes, new_in}}
 use Rattle.gx_ouch.specs.declared.outbound.OrderTerms.{OrderTerms}
 use Rattle.gx_history.specs.Turns as turns
 use Rattle.gx_laws.proofs.{World_next.all_stay, Sums_turn.{IsOpenSum, Loses, added, done_are, done_value_are, is_chosen, left_by, lost_by, open_of, shares_of, stays_by, sum_where, value_of}}
 use Rattle.gx_laws.specs.{Changing.{executed_by, positions_with}, Sound.{SumsFit, anyone, numbers_of}}
-use Rattle.gx_ledger.specs.{Changes.Change, declared.sums.Sums.Sums, Keeping.{comes, leaves}, Running.{capped_at_128_bits, entered_as}, StandsFor.{IsAccepted, Total, entered_of, enters_of, moments_of, total_of}}
+use Rattle.gx_ledger.specs.{Changes.Change, declared.sums.Sums.Sums, Keeping.{comes, leaves}, Running.entered_as, StandsFor.{IsAccepted, Total, entered_of, enters_of, moments_of, total_of}}
 use Rattle.gx_ledger.proofs.Tallies_changed.{changed_total, changes_side, totals_after}
 
 -- a sum over some is at most that over all

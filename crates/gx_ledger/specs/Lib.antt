@@ -5,7 +5,6 @@ pub mod Accounts
 pub mod Tallies
 pub mod Counts
 pub mod Keeping
-pub mod Tables
 pub mod FiguresAsked
 pub mod StandsFor
 pub mod Standing

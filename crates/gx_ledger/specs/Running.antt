@@ -1,14 +1,10 @@
 -- Running figures, and what each change makes of them.
+use Rattle.gx_units.specs.{Money.{capped_at_128_bits, value}, Names.same_stock, declared.names.Symbol.Symbol}
 use Rattle.std.specs.{Option.option_map_or, Prelude.{ℕ, ◌+◌, ◌-◌, ◌^◌, ℤ, pos, ◌-ℤ◌, Bool, true, false, ◌&&◌, ◌==◌, min, nat_lt, nat_le, List, [], ◌∷◌, ◌++◌, map, unwrap_or, count_by, slice_get, Option, Some, None, if◌then◌else◌}, List.suffix_len, Map.lookup}
 use Rattle.circular_buffer.specs.Buffer.{Buffer, buffer, keep_last, last_item}
-use Rattle.gx_units.specs.{Money.value, Names.same_stock, declared.names.Symbol.Symbol}
 use Rattle.gx_history.specs.{declared.{live_order.LiveOrder.LiveOrder, «record».Request.Request}, Book.is_buy, LiveOrders.shares_open}
 use Rattle.gx_policy.specs.declared.policy.Stock.{Stock}
 use Rattle.gx_ledger.specs.{Changes.Change, declared.{group.{RepeatKey.RepeatKey, Group.Group}, change.ChangeKind.ChangeKind, sides.StockSums.StockSums, sums.Sums.Sums}}
-
--- the number, or the greatest of 128 bits where it is past that
-abbrev pub capped_at_128_bits : ℕ → ℕ
-capped_at_128_bits n = min n (2 ^ 128 - 1)
 
 -- with so much more open
 abbrev pub with_live : ℕ → Sums → Sums

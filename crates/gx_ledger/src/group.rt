@@ -1,7 +1,8 @@
 //! The running figures of accounts that count together.
 
-ghost use Rattle.std.specs.{Prelude.{◌≡◌, nat_le, IfOk, IsTrue}, Option.option_map_or};
-ghost use Rattle.gx_ledger.specs.{Running.{changed_group, entered_as, noted_enters, noted_moments}, Tables.stock_names_differ, Tallies.new_group};
+ghost use Rattle.std.specs.{Prelude.{◌≡◌, IfOk, IsTrue}};
+ghost use Rattle.gx_policy.specs.Soundness.{stocks_differ};
+ghost use Rattle.gx_ledger.specs.{Running.{changed_group, entered_as, noted_enters, noted_moments}, Tallies.new_group};
 
 use crate::change::{Change, ChangeKind};
 use crate::enters::Enters;
@@ -91,7 +92,7 @@ impl Group {
     ///
     /// `OutOfMemory` where memory was refused.
     pub fn new(alloc: Global, asks: FigureKind, stocks: &[Stock]) -> Result<Group, OutOfMemory>
-        requires { IsTrue (stock_names_differ stocks.now) }
+        requires { IsTrue (stocks_differ stocks.now) }
         ensures { IfOk result (λ group. group ≡ new_group asks stocks.now) }
     {
         match asks {

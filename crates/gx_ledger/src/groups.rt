@@ -1,7 +1,8 @@
 //! The groups of accounts that count together for a rule.
 
 ghost use Rattle.std.specs.Prelude.{◌≡◌, ◌∷◌, [], map, option_copied, slice_get, unwrap_or, None, IfOk, IsTrue};
-ghost use Rattle.gx_ledger.specs.{Accounts.{account_names, account_place}, Running.changed_group, Tables.stock_names_differ, Tallies.{changed_at, new_group, new_groups, place_in, seat_for, seats_for}};
+ghost use Rattle.gx_policy.specs.Soundness.{stocks_differ};
+ghost use Rattle.gx_ledger.specs.{Accounts.account_names, Running.changed_group, Tallies.{changed_at, new_group, new_groups, place_in, seat_for, seats_for}};
 
 use crate::change::Change;
 use crate::figure_kind::FigureKind;
@@ -43,7 +44,7 @@ impl Groups {
         accounts: &[Account],
         stocks: &[Stock],
     ) -> Result<Groups, OutOfMemory>
-        requires { IsTrue (stock_names_differ stocks.now) }
+        requires { IsTrue (stocks_differ stocks.now) }
         ensures { IfOk result (λ groups. groups
             ≡ map (λ a. new_group asks stocks.now) accounts.now) }
     {
@@ -55,7 +56,7 @@ impl Groups {
     }
 
     fn together(alloc: Global, asks: FigureKind, stocks: &[Stock]) -> Result<Groups, OutOfMemory>
-        requires { IsTrue (stock_names_differ stocks.now) }
+        requires { IsTrue (stocks_differ stocks.now) }
         ensures { IfOk result (λ groups. groups ≡ new_group asks stocks.now ∷ []) }
     {
         let mut items = Vec::new(alloc);
@@ -75,7 +76,7 @@ impl Groups {
         accounts: &[Account],
         stocks: &[Stock],
     ) -> Result<Groups, OutOfMemory>
-        requires { IsTrue (stock_names_differ stocks.now) }
+        requires { IsTrue (stocks_differ stocks.now) }
         ensures { IfOk result
             (λ groups. groups ≡ new_groups count asks accounts.now stocks.now) }
     {

@@ -1,7 +1,8 @@
 //! Running sums over each side of a stock.
 
 ghost use Rattle.std.specs.Prelude.{◌≡◌, IfOk, IsTrue};
-ghost use Rattle.gx_ledger.specs.{Running.{changed_sides, first_sides, net_of, noted_sides, on_its_side, sides_at}, Tables.stock_names_differ};
+ghost use Rattle.gx_policy.specs.Soundness.{stocks_differ};
+ghost use Rattle.gx_ledger.specs.{Running.{changed_sides, first_sides, net_of, noted_sides, on_its_side, sides_at}};
 
 use crate::change::Change;
 use crate::sums::Sums;
@@ -95,7 +96,7 @@ impl Sides {
     ///
     /// `OutOfMemory` where memory was refused.
     pub fn of(alloc: Global, stocks: &[Stock]) -> Result<Sides, OutOfMemory>
-        requires { IsTrue (stock_names_differ stocks.now) }
+        requires { IsTrue (stocks_differ stocks.now) }
         ensures { IfOk result (λ sides. sides ≡ first_sides stocks.now) }
     {
         let mut sums = IndexMap::new(alloc);

@@ -1,7 +1,8 @@
 //! The tables of a ledger.
 
 ghost use Rattle.std.specs.Prelude.{◌≡◌, map, None, Some, IfOk, IsTrue};
-ghost use Rattle.gx_ledger.specs.{Counts.{noted_in, tally_with}, Accounts.account_names, Keeping.{tallies_after, prices_with, reference_prices}, Tables.{accounts_differ, stock_names_differ}, Tallies.{changed_at, new_tally}};
+ghost use Rattle.gx_policy.specs.Soundness.{accounts_differ, stocks_differ};
+ghost use Rattle.gx_ledger.specs.{Counts.{noted_in, tally_with}, Accounts.account_names, Keeping.{tallies_after, prices_with, reference_prices}, Tallies.{changed_at, new_tally}};
 
 use crate::change::Change;
 use crate::tally::Tally;
@@ -74,7 +75,7 @@ pub fn names_of(alloc: Global, accounts: &[Account]) -> Result<IndexSet<AccountN
 ///
 /// `OutOfMemory` where memory was refused.
 pub fn first_prices(alloc: Global, stocks: &[Stock]) -> Result<IndexMap<Symbol, u32>, OutOfMemory>
-    requires { IsTrue (stock_names_differ stocks.now) }
+    requires { IsTrue (stocks_differ stocks.now) }
     ensures { IfOk result (λ prices. prices.entries ≡ reference_prices stocks.now) }
 {
     let mut prices = IndexMap::new(alloc);
@@ -97,7 +98,7 @@ pub fn first_tallies(
     stocks: &[Stock],
 ) -> Result<Vec<Tally>, OutOfMemory>
     requires named { names.now.keys ≡ account_names accounts.now }
-    requires differ { IsTrue (stock_names_differ stocks.now) }
+    requires differ { IsTrue (stocks_differ stocks.now) }
     ensures { IfOk result
         (λ tallies. tallies.items ≡ map (new_tally accounts.now stocks.now) rules.now) }
 {

@@ -1,9 +1,10 @@
 //! What one rule of the file counts.
 
-ghost use Rattle.std.specs.{Prelude.{◌≡◌, nat_le, option_and_then, option_copied, pos, IfOk, IsTrue}, Option.option_map_or};
+ghost use Rattle.std.specs.{Prelude.{◌≡◌, nat_le, option_copied, IfOk, IsTrue}, Option.option_map_or};
 ghost use Rattle.gx_history.specs.Figures.{gross_shares_in, gross_value_in, net_shares_in};
 ghost use Rattle.gx_ledger.specs.declared.group.Group.TheVariants as groups;
-ghost use Rattle.gx_ledger.specs.{Counts.{counts, group_place, tally_inside, tally_with}, Accounts.account_names, Running.count_alike, Tables.stock_names_differ, Tallies.{figures_of_group, group_asked, group_in, net_sums_in, new_tally, seat_of, tally_after, tally_figures, tells_reference}, Standing.{gross_in_group, group_with, net_in_group, tally_gross, tally_net}};
+ghost use Rattle.gx_policy.specs.Soundness.{stocks_differ};
+ghost use Rattle.gx_ledger.specs.{Counts.{counts, group_place, tally_inside, tally_with}, Accounts.account_names, Running.count_alike, Tallies.{figures_of_group, group_asked, group_in, net_sums_in, new_tally, seat_of, tally_after, tally_figures, tells_reference}, Standing.{gross_in_group, group_with, net_in_group, tally_gross, tally_net}};
 
 use crate::change::Change;
 use crate::enters::Enters;
@@ -132,7 +133,7 @@ impl Tally {
         stocks: &[Stock],
     ) -> Result<Tally, OutOfMemory>
         requires named { names.now.keys ≡ account_names accounts.now }
-        requires differ { IsTrue (stock_names_differ stocks.now) }
+        requires differ { IsTrue (stocks_differ stocks.now) }
         ensures { IfOk result (λ tally. tally ≡ new_tally accounts.now stocks.now rule.now) }
     {
         let asks = FigureKind::of(&rule.kind);

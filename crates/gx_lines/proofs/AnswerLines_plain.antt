@@ -1,9 +1,9 @@
 -- Whatever names and numbers an answer shows, its line is one line.
 use Rattle.std.proofs.Common.{◌≡◌, ℕ, ◌^◌, ◌<◌, Bool, true, false, List, [], ◌∷◌, ◌++◌, refl}
 use Rattle.std.specs.Prelude.{◌==◌, codes, None, unwrap_or}
-use Rattle.gx_desk.specs.{declared.{Action.Action, Answer.Answer, AnswerCode.AnswerCode}, Messages.{kill, lift, set_limit, restrict, unrestrict, grant, revoke, close_day}, Writing.answer_code}
+use Rattle.gx_desk.specs.{declared.{Action.Action, Answer.Answer, AnswerCode.AnswerCode}, Messages.{kill, lift, set_limit, restrict, unrestrict, grant, revoke, close_day}, Writing.answer_code, Names.command_word}
 use Rattle.gx_text.specs.{Laws.{JsonIsPrinted, ShownIsVisible}, Shown.{shown_text, shown_name}, declared.form.Form.TheVariants.{Text, Json}}
-use Rattle.gx_lines.specs.{NameLaws.IsBytes, AnswerLines.{done_text, partly_text, capitals_hint, unknown_text, power_word, powerless_text, foreign_text, unchanged_text, record_text, denied_text, answered_text, command_word, account_field, stock_field, rule_field, reader_field, named_fields, answer_fields, type_word, type_text, type_field, earlier_text, earlier_fields}, LineLaws.{IsActionInRange, IsAnswerInRange, AnswersAreOneLine, EarlierAnswersAreOneLine}}
+use Rattle.gx_lines.specs.{NameLaws.IsBytes, AnswerLines.{done_text, partly_text, capitals_hint, unknown_text, power_word, powerless_text, foreign_text, unchanged_text, record_text, denied_text, answered_text, account_field, stock_field, rule_field, reader_field, named_fields, answer_fields, type_word, type_text, type_field, earlier_text, earlier_fields}, LineLaws.{IsActionInRange, IsAnswerInRange, AnswersAreOneLine, EarlierAnswersAreOneLine}}
 use Rattle.gx_lines.proofs.Text_plain.{are_plain, joined, numbered, moment_plain, IsPlain, ◌&◌, plain, chosen, or_plain, or_bytes, one_byte, decimal_field, shown_plain, named, text_field_plain, name_field_plain, word_field, json_is_line}
 
 hint_plain : (in_capitals : Bool) → are_plain (capitals_hint in_capitals) ≡ true

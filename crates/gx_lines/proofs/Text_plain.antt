@@ -1,8 +1,8 @@
 -- What is printed: spaces and visible characters.
 use Rattle.std.proofs.{Common.{◌≡◌, ℕ, zero, suc, ◌+◌, ◌-◌, ◌/◌, ◌%◌, ◌^◌, ◌<◌, Bool, true, false, cond, List, [], ◌∷◌, ◌++◌, length, replicate, refl, ◌∙◌, arith, decimal}, lemmas.{Bool.{and_parts, and_from, Decides.nat_tests}, Fmt.decimal_by_steps, List.Folds.list_all-append}}
 use Rattle.std.specs.{Prelude.{◌==◌, nat_lt, codes, Option, Some, None, unwrap_or}, List.list_all}
-use Rattle.gx_units.specs.Spelling.{without_right_spaces}
-use Rattle.gx_text.specs.{Laws.{JsonIsPrinted, ShownIsVisible}, Moments.{minute_text, moment_text, with_zeros}, Shown.{is_printed, is_visible, json_string, shown_text, shown_name}, declared.moments.Decimals.TheVariants.Nine}
+use Rattle.gx_units.specs.Spelling.{without_right_spaces, is_visible}
+use Rattle.gx_text.specs.{Laws.{JsonIsPrinted, ShownIsVisible}, Moments.{minute_text, moment_text, with_zeros}, Shown.{is_printed, json_string, shown_text, shown_name}, declared.moments.Decimals.TheVariants.Nine}
 use Rattle.gx_lines.specs.{Showing.{price_decimals_text, price_text, key_text, text_field, name_field, json_number_field, json_front, json_line}, NameLaws.IsBytes, LineLaws.IsOneLine}
 use Rattle.gx_lines.proofs.Names_visible.{kept, names_are_visible}
 use Rattle.gx_text.proofs.Shown_visible.{visible_printed}

@@ -1,7 +1,7 @@
 -- The line that an officer is shown of an answer to a command of his.
+use Rattle.gx_desk.specs.{Names.command_word, declared.{Action.Action, Answer.Answer, AnswerCode.AnswerCode}, Messages.{kill, lift, set_limit, restrict, unrestrict, grant, revoke, close_day}, Writing.answer_code}
 use Rattle.std.specs.Prelude.{ℕ, Bool, ◌&&◌, ◌==◌, if◌then◌else◌, List, [], ◌∷◌, ◌++◌, codes, decimal, Option, Some, None, unwrap_or}
 use Rattle.gx_units.specs.Names.{has_no_lower_case}
-use Rattle.gx_desk.specs.{declared.{Action.Action, Answer.Answer, AnswerCode.AnswerCode}, Messages.{kill, lift, set_limit, restrict, unrestrict, grant, revoke, close_day}, Writing.answer_code}
 use Rattle.gx_script_text.specs.Printing.{line_end}
 use Rattle.gx_text.specs.{declared.{form.Form.{Form, TheVariants.{Text, Json}}, moments.Decimals.TheVariants.Nine}, Moments.moment_text, Shown.{shown_text, shown_name}}
 use Rattle.gx_lines.specs.Showing.{text_field, name_field, json_number_field, json_line}
@@ -118,17 +118,6 @@ answered_text moment action number AnswerCode.UnknownName = denied_text action A
 answered_text moment action number AnswerCode.NoPower = denied_text action AnswerCode.NoPower
 answered_text moment action number AnswerCode.NotHisAccount = denied_text action AnswerCode.NotHisAccount
 answered_text moment action number AnswerCode.NoChange = denied_text action AnswerCode.NoChange
-
--- the word of a command
-abbrev pub command_word : Action → List ℕ
-command_word (Action.Kill account) = codes "kill"
-command_word (Action.Lift account) = codes "lift"
-command_word (Action.SetLimit rule limit) = codes "limit"
-command_word (Action.Restrict rule stock) = codes "restrict"
-command_word (Action.Unrestrict rule stock) = codes "unrestrict"
-command_word (Action.Grant reader account) = codes "grant"
-command_word (Action.Revoke reader account) = codes "revoke"
-command_word Action.CloseDay = codes "close"
 
 -- the names of a command, each a field of a JSON line
 abbrev pub account_field : List ℕ → List ℕ

@@ -1,6 +1,7 @@
 -- What is so of every name that is shown.
 use Rattle.std.specs.{Prelude.{ℕ, List, IsTrue}, List.list_all}
-use Rattle.gx_text.specs.{Laws.are_bytes, Shown.{is_printed, is_visible, shown_name, json_name}}
+use Rattle.gx_units.specs.Spelling.{is_visible}
+use Rattle.gx_text.specs.{Laws.are_bytes, Shown.{is_printed, shown_name, json_name}}
 
 -- bytes, as a field has them
 abbrev pub IsBytes : List ℕ → Type 0

@@ -3,7 +3,7 @@
 ghost use Rattle.std.specs.Prelude.{◌≡◌, ◌++◌, ◌&&◌, IfOk, OnOk, codes, decimal};
 ghost use Rattle.gx_units.specs.Names.{has_no_lower_case};
 ghost use Rattle.gx_text.specs.{Shown.shown_name, declared.form.Form.TheVariants.{Text, Json}};
-ghost use Rattle.gx_lines.specs.AnswerLines.{done_text, partly_text, capitals_hint, unknown_text, power_word, powerless_text, foreign_text, unchanged_text, record_text, reason_text, denied_text, answered_text, command_word, named_fields, answer_fields, answer_line};
+ghost use Rattle.gx_lines.specs.AnswerLines.{done_text, partly_text, capitals_hint, unknown_text, power_word, powerless_text, foreign_text, unchanged_text, record_text, reason_text, denied_text, answered_text, named_fields, answer_fields, answer_line};
 
 use crate::json::{append_front, append_name_field, append_number_field, append_text_field};
 use crate::showing::LINE_ROOM;
@@ -384,22 +384,6 @@ fn append_answered(
     }
 }
 
-/// The word of a command.
-fn command_word(asked: &Action) -> &'static [u8]
-    ensures { result.now ≡ command_word asked.now }
-{
-    match asked {
-        Action::Kill(_) => b"kill",
-        Action::Lift(_) => b"lift",
-        Action::SetLimit(_, _) => b"limit",
-        Action::Restrict(_, _) => b"restrict",
-        Action::Unrestrict(_, _) => b"unrestrict",
-        Action::Grant(_, _) => b"grant",
-        Action::Revoke(_, _) => b"revoke",
-        Action::CloseDay => b"close",
-    }
-}
-
 /// Puts what a command names at the end of a JSON line.
 #[tactic(auto, unfolding(crate::specs::AnswerLines::named_fields))]
 fn append_named_fields(line: &mut Vec<u8>, asked: &Action) -> Result<(), OutOfMemory>
@@ -435,7 +419,7 @@ fn append_answer_fields(
     ensures { OnOk result (line.new.items
         ≡ line.old.items ++ answer_fields asked.now answer.now) }
 {
-    append_text_field(line, b"command", command_word(asked))?;
+    append_text_field(line, b"command", asked.word())?;
     append_named_fields(line, asked)?;
     append_text_field(line, b"code", &answer.code.code())?;
     append_name_field(line, b"tag", &answer.tag.bytes)?;

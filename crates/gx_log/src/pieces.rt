@@ -1,6 +1,6 @@
 //! Long texts, told in pieces of whole lines.
 
-ghost use Rattle.std.specs.Prelude.{◌≡◌, ◌≤◌, ◌<◌, length};
+ghost use Rattle.std.specs.Prelude.{◌≤◌, ◌<◌, length};
 
 /// A piece has so many bytes at most.
 const MOST: usize = 4_096;

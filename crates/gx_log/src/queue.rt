@@ -1,7 +1,6 @@
 //! The text that waits to be written.
 
 ghost use Rattle.std.specs.Prelude.{◌≡◌, ◌+◌, ◌<◌, ◌≤◌, ◌++◌, [], length, IsFalse, IsTrue};
-ghost use Rattle.arrayvec.specs.ArrayVec.{array_vec_len};
 ghost use Rattle.gx_log.specs.Queues.{one_more_line, log_room};
 
 use arrayvec::ArrayVec;

@@ -1,7 +1,6 @@
 //! Who writes what is told.
 
-ghost use Rattle.std.specs.{Prelude.{◌≡◌, ◌<◌, ◌^◌, ◌-◌, OnErr, OnOk}, Io.KnownBytes.Appends};
-ghost use Rattle.gx_devices.specs.Devices.{IsFront};
+ghost use Rattle.std.specs.{Prelude.{◌<◌, ◌^◌, ◌-◌, OnOk}, Io.KnownBytes.Appends};
 ghost use Rattle.gx_log.specs.Queues.{left_out_line, queue_text};
 
 use crate::log::Log;

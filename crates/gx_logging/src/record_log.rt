@@ -2,9 +2,7 @@
 
 ghost use Rattle.std.specs.Prelude.{◌≡◌, ◌+◌, ◌<◌, ◌≤◌, ◌^◌, [], drop, length, take, IfNone, IfOk, IfSome, IsTrue, OnErr, OnOk, OnSome};
 ghost use mathlib.Core.List.{IsPrefix};
-ghost use Rattle.gx_policy.specs.Lists.{slice};
 ghost use Rattle.gx_pass.specs.Views.{with_told};
-ghost use Rattle.gx_door.specs.Acts.{IsLater};
 ghost use Rattle.gx_events.specs.{Known.known_of, Lines.{closing_line, lines_behind}};
 
 use gx_door::Door;

@@ -6,10 +6,8 @@ use Rattle.gx_units.proofs.Names_equal.{stock_is}
 use Rattle.gx_policy.specs.{declared.policy.{PolicyData.PolicyData, Stock.Stock}, People.stock_named}
 use Rattle.gx_history.specs.{declared.record.RecordData.RecordData, Book.{is_buy, is_on}, Live.side}
 use Rattle.gx_book.specs.{Resting.RestingData, Books.{StockOrders, empty_book, on_each_side, with_one_side, resting_in, orders_on_side, with_side}}
+use Rattle.gx_book.proofs.AccountOrders_out.{made}
 use Rattle.gx_matching.specs.BookInForce.{book_in_force, rested_in, stock_in_force}
-
-abbrev made : Symbol → List RestingData → List RestingData → StockOrders
-made stock buys sells = record { stock = stock; buys = buys; sells = sells }
 
 all_stocks : (f g : Stock → StockOrders) (on : StockOrders → StockOrders) → ((s : Stock) → f s ≡ on (g s)) → (ss : List Stock) → map f ss ≡ map on (map g ss)
 all_stocks f g on same [] = refl

@@ -1,6 +1,6 @@
 -- Each side of a book in force has the better price first, and no book is crossed.
 use Rattle.std.proofs.{Common.{◌≡◌, ◌<◌, Bool, true, false, not, List, [], ◌∷◌, refl, ◌∙◌, ap, sym, map}, lemmas.Bool.{leb-false, and_parts, and_from}}
-use Rattle.std.specs.{Prelude.nat_le, List.{AllByRecursion, filter, filter_map, list_all}}
+use Rattle.std.specs.{Prelude.nat_le, List.{AllByRecursion, list_all}}
 use Rattle.gx_units.specs.{Names.same_stock, declared.names.Symbol.Symbol}
 use Rattle.gx_units.proofs.Lists_hold.{all_weaker, all_mapped, all_and}
 use Rattle.gx_policy.specs.{declared.policy.{PolicyData.PolicyData, Stock.Stock}, Lists.IsInOrder}

@@ -1,8 +1,6 @@
 //! The log of a day, kept while its records are made again.
 
 ghost use Rattle.std.specs.Prelude.{◌≡◌, ◌-◌, [], drop, IfOk, length};
-ghost use Rattle.gx_events.specs.Known.{known_of};
-ghost use Rattle.gx_policy.specs.declared.policy.PolicyData.{PolicyData};
 ghost use Rattle.gx_monitor.specs.Logs.{IsLogOf};
 
 use gx_events::EventLog;

@@ -1,7 +1,7 @@
 //! A warning as the fields of a JSON object.
 
 ghost use Rattle.std.specs.Prelude.{◌≡◌, ◌++◌, codes, decimal, OnOk, Some};
-ghost use Rattle.gx_json.specs.Parts.{member, number_or_null};
+ghost use Rattle.gx_json.specs.Parts.{member};
 ghost use Rattle.gx_events.specs.Fields.{event_field};
 ghost use Rattle.gx_monitor.specs.Fields.{account_field, name_or_null, share_fields, side_fields, side_word, used_members, warning_fields};
 

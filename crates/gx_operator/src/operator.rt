@@ -1,7 +1,6 @@
 //! A run of the client: what it asks, what it waits for, and what it shows.
 
-ghost use Rattle.std.specs.{Prelude.{◌≡◌, ◌∷◌, ◌++◌, ◌+◌, [], ℕ, List, Bool, min, option_map, IfOk, OnOk, OnErr, true, false}, List.list_any};
-ghost use Rattle.gx_soup.specs.Login.{greatest};
+ghost use Rattle.std.specs.{Prelude.{◌≡◌, ◌∷◌, ◌++◌, ◌+◌, [], List, option_map, IfOk, OnOk, OnErr, true, false}, List.list_any};
 ghost use Rattle.gx_history.specs.declared.report.Message.{Message};
 ghost use Rattle.gx_terminal.specs.Statuses.{status_of};
 ghost use Rattle.gx_operator.specs.{Asking.{Carries, request_wished, next_serial, first_of, kills_of}, Hearing.{answers_request, answered_by, still_waiting, own_answer, shown_line}};

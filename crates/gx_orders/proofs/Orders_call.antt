@@ -3,9 +3,9 @@ use Rattle.std.proofs.{Common.{◌≡◌, ℕ, ◌<◌, ◌≤◌, Bool, true, f
 use Rattle.std.specs.{Prelude.{Option, Some, None}, List.{last_or, AllByRecursion}, Map.{keys_of, lookup}}
 use Rattle.indexmap.specs.IndexMap as index
 use Rattle.gx_units.specs.declared.names.{Token.Token, UserName.UserName}
-use Rattle.gx_history.specs.{declared.live_order.{LiveOrder.LiveOrder, UserToken.UserToken}, LiveOrders.{is_under, key, token_of}, Live.live_under}
+use Rattle.gx_history.specs.{declared.live_order.{LiveOrder.LiveOrder, UserToken.UserToken}, LiveOrders.{is_under, key, token_of, same_user_token}, Live.live_under}
 use Rattle.gx_slab.specs.Slabs as slabs
-use Rattle.gx_orders.specs.{LiveOrders.{OrdersData, IsOpen, NumbersRise, at_rest, with_order_changed, is_used, open_ones, live_numbered, with_total_and_done, resized_at, same_user_token, without_number}, Tables.{AreTied, orders_shown}}
+use Rattle.gx_orders.specs.{LiveOrders.{OrdersData, IsOpen, NumbersRise, at_rest, with_order_changed, is_used, open_ones, live_numbered, with_total_and_done, resized_at, without_number}, Tables.{AreTied, orders_shown}}
 use Rattle.gx_orders.proofs.{Orders_changed.{IsBelow, all_changed, changed_alike, changed_nowhere, found_has_number, none_shut, shut}, Tables_tied.{tied_entered, tied_resized}, Tokens_table.{nothing_under, under_found, token_last, unused}}
 
 -- the order of the user under the token, where one was entered under it, is live and is under it

@@ -3,8 +3,8 @@ use Rattle.std.proofs.{Common.{◌≡◌, ℕ, ◌<◌, Bool, true, false, cond,
 use Rattle.std.specs.{Prelude.{◌&&◌, ◌||◌, is_some}, List.{filter, list_any, AllByRecursion}, Map.{keys_of, lookup}}
 use Rattle.gx_units.proofs.Lists_hold.{all_weaker, all_next, filtered}
 use Rattle.gx_policy.specs.Lists.{are_distinct}
-use Rattle.gx_history.specs.{declared.live_order.{LiveOrder.LiveOrder, UserToken.UserToken}, LiveOrders.token_of}
-use Rattle.gx_orders.specs.{LiveOrders.{AreOrdersSound, IsOpen, NumbersRise, at_rest, with_order_changed, is_open, is_same_live_token, is_used, open_ones, with_total_and_done, resized_at, same_user_token}, Tables.{AreTied, IsIndexed, orders_shown}}
+use Rattle.gx_history.specs.{declared.live_order.{LiveOrder.LiveOrder, UserToken.UserToken}, LiveOrders.{token_of, same_user_token}}
+use Rattle.gx_orders.specs.{LiveOrders.{AreOrdersSound, IsOpen, NumbersRise, at_rest, with_order_changed, is_open, is_same_live_token, is_used, open_ones, with_total_and_done, resized_at}, Tables.{AreTied, IsIndexed, orders_shown}}
 use Rattle.gx_orders.proofs.{Tokens_table.{key_is, used_found, still_found, added_found, unused, key_is_itself}, Orders_changed.{IsBelow, all_changed, rise_changed, rise_chosen, rise_next}}
 
 still_indexed : (tokens more : List (UserToken × ℕ)) (live : List LiveOrder) → AllByRecursion (IsIndexed tokens) live → AllByRecursion (IsIndexed (tokens ++ more)) live

@@ -4,8 +4,8 @@ use Rattle.std.specs.{Prelude.{Option, Some, None, ◌&&◌, is_some}, List.{fil
 use Rattle.indexmap.specs.IndexMap.{insert_entry}
 use Rattle.gx_units.specs.{Names.{same_user, same_token}, declared.names.{Token.Token, UserName.UserName}}
 use Rattle.gx_units.proofs.{Names_equal.{user_is, token_is, user_is_itself, token_is_itself}, Lists_hold.all_weaker}
-use Rattle.gx_history.specs.{declared.live_order.{LiveOrder.LiveOrder, UserToken.UserToken}, LiveOrders.{is_under, key, token_of}, Live.live_under}
-use Rattle.gx_orders.specs.{LiveOrders.{NumbersRise, has_number, is_used, same_user_token}, Tables.IsIndexed}
+use Rattle.gx_history.specs.{declared.live_order.{LiveOrder.LiveOrder, UserToken.UserToken}, LiveOrders.{is_under, key, token_of, same_user_token}, Live.live_under}
+use Rattle.gx_orders.specs.{LiveOrders.{NumbersRise, has_number, is_used}, Tables.IsIndexed}
 use Rattle.gx_orders.proofs.Orders_changed.{IsAbove, behind}
 
 -- the same user and token are the same key

@@ -3,8 +3,8 @@ use Rattle.std.proofs.{Common.{◌≡◌, Bool, true, false, cond, List, [], ◌
 use Rattle.std.specs.{Prelude.{Option, Some, None, ◌&&◌, ◌||◌, option_map, option_to_list, slice_get}, Option.option_map_or, List.{filter, find, filter_map, cons_option, list_any}}
 use Rattle.gx_units.specs.{Names.{same_user, same_token}, declared.names.{Token.Token, UserName.UserName}}
 use Rattle.gx_policy.specs.declared.policy.PolicyData.{PolicyData}
-use Rattle.gx_history.specs.{declared.{«record».{Asked.Asked, RecordData.RecordData}, live_order.UserToken.UserToken}, Orders.{asks_under, is_token_used, record_uses, uses_token}, Requests.{asked_of, new_token}, LiveOrders.key}
-use Rattle.gx_orders.specs.{LiveOrders.{is_used, same_user_token}, InForce.{orders_in_force, token_asked, token_used_by, used_tokens}}
+use Rattle.gx_history.specs.{declared.{«record».{Asked.Asked, RecordData.RecordData}, live_order.UserToken.UserToken}, Orders.{asks_under, is_token_used, record_uses, uses_token}, Requests.{asked_of, new_token}, LiveOrders.{key, same_user_token}}
+use Rattle.gx_orders.specs.{LiveOrders.is_used, InForce.{orders_in_force, token_asked, token_used_by, used_tokens}}
 use Rattle.gx_units.proofs.{Test_known.{or_false, and_false}, Names_equal.{same_user_flip, same_token_flip}, Lists_found.one_found}
 
 -- the first that passes is the first of those that pass

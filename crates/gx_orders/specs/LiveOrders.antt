@@ -1,7 +1,7 @@
 -- The live orders, and what becomes of them.
-use Rattle.std.specs.{Prelude.{IsTrue, ℕ, ◌+◌, ◌<◌, ◌≤◌, Bool, ◌&&◌, not, List, [], ◌∷◌, map, if◌then◌else◌}, List.{filter, list_any, AllByRecursion}}
-use Rattle.gx_units.specs.{Names.{same_user, same_token}, declared.names.{Token.Token, UserName.UserName}}
-use Rattle.gx_history.specs.{LiveOrders.{key, token_of}, declared.live_order.{LiveOrder.LiveOrder, UserToken.UserToken}}
+use Rattle.gx_history.specs.{LiveOrders.{same_user_token, key, token_of}, declared.live_order.{LiveOrder.LiveOrder, UserToken.UserToken}}
+use Rattle.std.specs.{Prelude.{IsTrue, ℕ, ◌+◌, ◌<◌, ◌≤◌, Bool, not, List, [], ◌∷◌, map, if◌then◌else◌}, List.{filter, list_any, AllByRecursion}}
+use Rattle.gx_units.specs.{declared.names.{Token.Token, UserName.UserName}}
 use Rattle.gx_policy.specs.Lists.{are_distinct}
 pub use Rattle.gx_slab.specs.Slabs.{at_rest, is_open, has_number, live_numbered, first_waiting, open_ones, of_account, of_others}
 
@@ -9,10 +9,6 @@ pub use Rattle.gx_slab.specs.Slabs.{at_rest, is_open, has_number, live_numbered,
 pub record OrdersData : Type 0 where
   pub live : List LiveOrder
   pub used : List UserToken
-
--- the same user, and the same token
-abbrev pub same_user_token : UserToken → UserToken → Bool
-same_user_token a b = same_user a.user b.user && same_token a.token b.token
 
 -- the token is one of those that are used
 abbrev pub is_used : List UserToken → UserName → Token → Bool

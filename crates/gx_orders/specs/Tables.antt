@@ -1,9 +1,9 @@
 -- How the tables of the live orders hang together.
 use Rattle.std.specs.{Prelude.{◌≡◌, ℕ, ◌+◌, ◌-◌, ◌<◌, ◌≤◌, Bool, not, ◌&&◌, List, [], ◌∷◌, ◌++◌, length, Some, is_some, unwrap_or, if◌then◌else◌}, List.{filter, AllByRecursion}, Map.{keys_of, lookup}}
 use Rattle.gx_units.specs.{Names.{same_account, same_user}, declared.names.{AccountName.AccountName, UserName.UserName}}
-use Rattle.gx_history.specs.{declared.live_order.{LiveOrder.LiveOrder, UserToken.UserToken}, LiveOrders.{token_of, is_of_user}}
+use Rattle.gx_history.specs.{declared.live_order.{LiveOrder.LiveOrder, UserToken.UserToken}, LiveOrders.{token_of, is_of_user, same_user_token}}
 use Rattle.gx_slab.specs.Slabs.{numbered_of, order_of}
-use Rattle.gx_orders.specs.LiveOrders.{OrdersData, NumbersRise, IsOpen, has_number, of_account, same_user_token}
+use Rattle.gx_orders.specs.LiveOrders.{OrdersData, NumbersRise, IsOpen, has_number, of_account}
 
 -- what the tables stand for
 abbrev pub orders_shown : List LiveOrder → List (UserToken × ℕ) → OrdersData

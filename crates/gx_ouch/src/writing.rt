@@ -1,6 +1,6 @@
 //! Messages to a trader, written as bytes.
 
-ghost use Rattle.std.specs.Prelude.{◌≡◌, ◌+◌, ◌≤◌, length, take, drop, map};
+ghost use Rattle.std.specs.Prelude.{◌≡◌, ◌≤◌, length, take, drop, map};
 ghost use Rattle.gx_ouch.specs.declared.outbound.Outbound.TheVariants as outbounds;
 ghost use Rattle.gx_ouch.specs.{Layout.{HasSizes, LiesIn, with_fields}, Messages.{order_fields, accepted_layout, replaced_layout, canceled_layout, executed_layout, rejected_layout}, Writing.{order_contents, contents_behind, outbound_contents, outbound_layout, outbound_bytes}};
 

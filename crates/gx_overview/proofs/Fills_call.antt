@@ -1,13 +1,13 @@
 -- What a pass over the records notes of fills.
 use Rattle.std.proofs.{Common.{◌≡◌, ℕ, ◌+◌, ◌<◌, Bool, true, false, not, cond, ◌&&◌, List, [], ◌∷◌, ◌++◌, map, length, take, drop, get_or, arith, refl, ap, sym, subst, ◌∙◌, append_assoc, sum_by}, lemmas.{List.{Elements.filter-append, Sums.{fold-append, sum_by-append}, append-nil, length-map, take_more}, Simd.map-map}}
 use Rattle.std.specs.{Prelude.fold, List.filter}
-use Rattle.gx_units.specs.{Money.value, Names.same_account, declared.names.AccountName.AccountName}
+use Rattle.gx_units.specs.{Money.{value, capped_at_128_bits}, Names.same_account, declared.names.AccountName.AccountName}
 use Rattle.gx_units.proofs.Lists_found.{map_same}
 use Rattle.gx_ouch.specs.declared.outbound.OrderTerms.{OrderTerms}
 use Rattle.gx_policy.specs.declared.policy.{Account.Account, PolicyData.PolicyData}
 use Rattle.gx_history.specs.{declared.«record».RecordData.RecordData, Book.is_buy, Executions.{Execution, executions, sides_in}, Figures.done_of_chosen, Orders.orders}
 use Rattle.gx_laws.proofs.Orders_next.{executions_next, executions_none, orders_next, orders_none}
-use Rattle.gx_overview.specs.{declared.{executed.{ExecutedTotals.ExecutedTotals, ExecutedRow.ExecutedRow}, owners.Owners.Owners}, Accounts.{capped_at_128_bits, is_account_side}, Executed.{KnowOrders, NoteRecord, executed_of_account, executed_row, no_executions, owner_of, row_filled, rows_after, side_filled, value_of_chosen}}
+use Rattle.gx_overview.specs.{declared.{executed.{ExecutedTotals.ExecutedTotals, ExecutedRow.ExecutedRow}, owners.Owners.Owners}, Accounts.is_account_side, Executed.{KnowOrders, NoteRecord, executed_of_account, executed_row, no_executions, owner_of, row_filled, rows_after, side_filled, value_of_chosen}}
 use Rattle.gx_overview.proofs.{LiveOrders_call.sum_capped, Pass_next.{each_folded, written_back}}
 
 -- before any record
@@ -68,7 +68,7 @@ value_next made e chosen =
     by true = omega arith
     by false = refl
 
-abbrev the_sums : ℕ → ℕ → ExecutedTotals
+abbrev pub the_sums : ℕ → ℕ → ExecutedTotals
 the_sums shares worth = record { shares = shares; value = worth }
 
 abbrev the_row : AccountName → ExecutedTotals → ExecutedTotals → ExecutedRow

@@ -1,12 +1,12 @@
 -- What a pass over the live orders counts.
 use Rattle.std.proofs.{Common.{◌≡◌, ℕ, ◌+◌, arith, Bool, true, false, not, cond, ◌&&◌, List, [], ◌∷◌, ◌++◌, map, length, refl, ap, sym, ◌∙◌, append_assoc, sum_by}, lemmas.List.{append-nil, length-append, Elements.filter-append, Sums.sum_by-append}}
 use Rattle.std.specs.{Prelude.{Option, Some, fold, unwrap_or}, Map.lookup, List.filter}
-use Rattle.gx_units.specs.{Names.same_account, declared.names.AccountName.AccountName}
+use Rattle.gx_units.specs.{Names.same_account, declared.names.AccountName.AccountName, Money.capped_at_128_bits}
 use Rattle.gx_units.proofs.{Names_equal.account_is, Lists_found.map_same}
 use Rattle.gx_ouch.specs.declared.outbound.OrderTerms.{OrderTerms}
 use Rattle.gx_policy.specs.declared.policy.{Account.Account, PolicyData.PolicyData}
 use Rattle.gx_history.specs.{declared.{live_order.LiveOrder.LiveOrder, «record».RecordData.RecordData}, Book.is_buy, Figures.open_of_chosen, Live.live, LiveOrders.shares_open}
-use Rattle.gx_overview.specs.{declared.accounts.{LiveSums.LiveSums}, Accounts.{account_row, capped_at_128_bits, capped_count, entries_with, is_account_side, live_sums, no_orders, row_of, sums_in, with_order}}
+use Rattle.gx_overview.specs.{declared.accounts.LiveSums.LiveSums, Accounts.{account_row, capped_count, entries_with, is_account_side, live_sums, no_orders, row_of, sums_in, with_order}}
 use Rattle.gx_overview.proofs.Accounts_next.{inserted}
 
 -- one more that passes, or does not

@@ -1,6 +1,6 @@
 -- What is known once one more order is noted.
 use Rattle.std.proofs.{Common.{◌≡◌, Bool, true, false, cond, ◌&&◌, ◌==◌, List, [], ◌∷◌, ◌++◌, refl, ap, sym, subst, ◌∙◌, true≢false}, lemmas.{Bool.and_parts, Option.same_Some}}
-use Rattle.std.specs.{Prelude.{Option, Some, None, Result, Ok, Err, OnOk, find, option_map, is_some, nat_eq}, Option.{option_map_or, option_or}, List.{filter, last_or}, Map.lookup}
+use Rattle.std.specs.{Prelude.{Option, Some, None, find, option_map, is_some, nat_eq}, Option.{option_map_or, option_or}, List.{filter, last_or}, Map.lookup}
 use Rattle.gx_units.specs.{Names.{same_token, same_user}, declared.names.{AccountName.AccountName, UserName.UserName}}
 use Rattle.gx_units.proofs.Names_equal.{user_is}
 use Rattle.gx_ouch.specs.declared.inbound.{EnterOrder.EnterOrder, ReplaceOrder.ReplaceOrder}

@@ -1,7 +1,7 @@
 -- What stands of each account.
+use Rattle.gx_units.specs.{Money.capped_at_128_bits, Names.same_account, declared.names.AccountName.AccountName}
 use Rattle.std.specs.{Prelude.{ℕ, ◌+◌, ◌-◌, ◌^◌, Bool, true, false, ◌&&◌, min, List, Option, Some, None, nat_lt, length, unwrap_or, if◌then◌else◌}, List.filter, Map.lookup}
 use Rattle.indexmap.specs.IndexMap.{insert_entry}
-use Rattle.gx_units.specs.{Names.same_account, declared.names.AccountName.AccountName}
 use Rattle.gx_ouch.specs.declared.outbound.OrderTerms.{OrderTerms}
 use Rattle.gx_policy.specs.declared.policy.{Account.Account, PolicyData.PolicyData}
 use Rattle.gx_history.specs.{declared.{live_order.LiveOrder.LiveOrder, «record».RecordData.RecordData}, Book.{is_buy, is_on}, Figures.open_of_chosen, InForce.is_killed, Live.live, LiveOrders.shares_open}
@@ -11,8 +11,9 @@ use Rattle.gx_overview.specs.{declared.{accounts.{AccountRow.AccountRow, KillSta
 abbrev pub capped_count : ℕ → ℕ
 capped_count n = min n (2 ^ 64 - 1)
 
-abbrev pub capped_at_128_bits : ℕ → ℕ
-capped_at_128_bits n = min n (2 ^ 128 - 1)
+-- one more, where this is so
+abbrev pub one_more : Bool → ℕ → ℕ
+one_more is_so n = if is_so then capped_count (n + 1) else n
 
 -- an order of the account, on this side
 abbrev pub is_account_side : AccountName → Bool → AccountName → OrderTerms → Bool

@@ -1,10 +1,10 @@
 -- What each account has executed, by side, and whose orders there were.
 use Rattle.std.specs.{Prelude.{◌≡◌, ℕ, ◌+◌, Bool, true, false, ◌&&◌, List, ◌++◌, fold, map, Option, option_map, sum_by, nat_eq, if◌then◌else◌}, List.filter, Option.option_map_or, Map.lookup}
-use Rattle.gx_units.specs.{Money.value, Names.{same_account, same_token, same_user}, declared.names.{AccountName.AccountName, Token.Token, UserName.UserName}}
+use Rattle.gx_units.specs.{Money.{value, capped_at_128_bits}, Names.{same_account, same_token, same_user}, declared.names.{AccountName.AccountName, Token.Token, UserName.UserName}}
 use Rattle.gx_ouch.specs.declared.outbound.OrderTerms.{OrderTerms}
 use Rattle.gx_policy.specs.declared.policy.{Account.Account, PolicyData.PolicyData}
 use Rattle.gx_history.specs.{declared.{live_order.UserToken.UserToken, «record».{Fill.Fill, RecordData.RecordData}}, Book.is_buy, Executions.{Execution, executions, sides_in}, Figures.done_of_chosen, Orders.{Order, order_numbered, order_under, orders_added}}
-use Rattle.gx_overview.specs.{declared.{executed.{ExecutedTotals.ExecutedTotals, ExecutedRow.ExecutedRow}, owners.{Owner.Owner, Owners.Owners}}, Accounts.{capped_at_128_bits, is_account_side}}
+use Rattle.gx_overview.specs.{declared.{executed.{ExecutedTotals.ExecutedTotals, ExecutedRow.ExecutedRow}, owners.{Owner.Owner, Owners.Owners}}, Accounts.is_account_side}
 
 -- the value, at the prices of the fills, that orders which are chosen executed
 abbrev pub value_of_chosen : List Execution → (AccountName → OrderTerms → Bool) → ℕ

@@ -1,6 +1,5 @@
 //! What stands of the policy's rules: limits, what is used of them, and lists of stocks.
 
-ghost use Rattle.gx_policy.specs.Kinds.{limit_of};
 ghost use Rattle.std.specs.Prelude.{◌≡◌, map, IfOk};
 ghost use Rattle.gx_overview.specs.{Commands.granted_commands, Rules.{gross_row, left_of, limit_row, listing_row, net_left_of, net_row, room_of}};
 

@@ -5,7 +5,7 @@ ghost use Rattle.gx_status.specs.Viewers.{page_text};
 ghost use Rattle.gx_http.specs.Responses.{response_bytes};
 ghost use Rattle.gx_http.specs.declared.response.Content.TheVariants as contents;
 ghost use Rattle.gx_http.specs.declared.response.Status.TheVariants as statuses;
-ghost use Rattle.gx_page.specs.Responses.{figures_told, IsGiven, IsResponse, notice_bytes, viewer_told};
+ghost use Rattle.gx_page.specs.Responses.{figures_told, IsResponse, notice_bytes, viewer_told};
 
 use crate::notice::Notice;
 use crate::reply::PageReply;

@@ -1,6 +1,6 @@
 //! What comes on a connection, and what goes out on it.
 
-ghost use Rattle.std.specs.Prelude.{◌≡◌, ◌≤◌, length, IsTrue};
+ghost use Rattle.std.specs.Prelude.{◌≡◌, ◌≤◌, length};
 ghost use Rattle.gx_http.specs.Requests.{IsReadAs};
 ghost use Rattle.gx_page.specs.Visits.{IsHeard, IsSentOn};
 ghost use Rattle.gx_page.specs.declared.visit.Sent.TheVariants as outcomes;

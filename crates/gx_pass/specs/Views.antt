@@ -1,8 +1,8 @@
 -- What seats know, and what splits and joins make of it.
+use Rattle.gx_history.specs.{Requests.line_asked, declared.«record».{RecordData.RecordData, Step.Step, Verdict.Verdict}, Logins.blank_session}
 use Rattle.std.specs.{Prelude.{ℕ, ◌+◌, ◌==◌, List, [], ◌∷◌, cond, fold, length, map, max}, List.filter}
 use Rattle.atomic_table.specs.Seated.{TableId}
 use Rattle.gx_policy.specs.declared.policy.{PolicyData.PolicyData, Lifters.TheVariants.One}
-use Rattle.gx_history.specs.{declared.record.{RecordData.RecordData, Step.Step, Verdict.Verdict}, Logins.blank_session}
 use Rattle.gx_pass.specs.declared.view.{KeeperView.KeeperView, LineView.LineView, View.{View, TheVariants.{Keeping, Meeting, Holding, Consumed}}}
 
 -- the name of no table
@@ -16,11 +16,6 @@ no_policy = record { session = blank_session; lifters = One; accounts = []; stoc
 -- the record of nothing
 abbrev pub no_record : RecordData
 no_record = record { number = 0; moment = 0; step = Step.Matching 0; verdict = Verdict.Granted }
-
--- the line of a step, 0 where it is nobody's
-abbrev pub line_asked : Step → ℕ
-line_asked (Step.Asked a) = a.line
-line_asked (Step.Matching handed) = 0
 
 -- the line of a record's step
 abbrev pub line_in : RecordData → ℕ

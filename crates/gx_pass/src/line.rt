@@ -3,7 +3,7 @@
 ghost use Rattle.std.specs.Prelude.{◌≡◌};
 ghost use Rattle.gx_pass.specs.Views.{line_in};
 
-use gx_history::record::{RecordData, Step};
+use gx_history::record::RecordData;
 
 /// The last line that there is.
 pub const LAST_LINE: u16 = u16::MAX;
@@ -12,8 +12,5 @@ pub const LAST_LINE: u16 = u16::MAX;
 pub fn line_in(noted: &RecordData) -> u16
     ensures { result ≡ line_in noted.now }
 {
-    match noted.step {
-        Step::Asked(asked) => asked.line,
-        Step::Matching(_) => 0,
-    }
+    noted.step.line()
 }

@@ -11,7 +11,7 @@ use Rattle.gx_records.specs.State.{limit_in_force}
 use Rattle.gx_peaks.specs.Touching.{set_by, sets_limit}
 
 -- the limit of the rule of this name among these
-abbrev limit_among : List FileRule → RuleId → Option ℕ
+abbrev pub limit_among : List FileRule → RuleId → Option ℕ
 limit_among rules name = option_and_then (λ (rule : FileRule). limit_of rule.kind) (rule_in rules name)
 
 -- before all records the file's limits are in force

@@ -1,6 +1,5 @@
 //! The limits of the policy's file.
 
-ghost use Rattle.gx_policy.specs.Kinds.{limit_of};
 ghost use Rattle.std.specs.Prelude.{◌≡◌, []};
 ghost use Rattle.gx_records.specs.State.{limit_in_force};
 

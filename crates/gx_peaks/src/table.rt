@@ -1,10 +1,9 @@
 //! The peaks that are kept, and how they are brought up to one more record.
 
-ghost use Rattle.std.specs.{Prelude.{◌≡◌, List, OnOk}, Map.keys_of};
+ghost use Rattle.std.specs.{Prelude.{◌≡◌, OnOk}, Map.keys_of};
 ghost use Rattle.indexmap.specs.IndexMap.{IsEmpty};
 ghost use Rattle.gx_history.specs.Live.{live, live_numbered};
-ghost use Rattle.gx_policy.specs.declared.policy.PolicyData.{PolicyData};
-ghost use Rattle.gx_peaks.specs.{Noting.{peak_under, AdvancesTo, AreTheirs, IsNoted, IsOfAccount, IsOfOrder, IsOfPlace, IsOfRule, IsOfSeller, IsOfSetting, IsUnder}, Raising.reading_of, Touching.set_in};
+ghost use Rattle.gx_peaks.specs.{Noting.{peak_under, AdvancesTo, AreTheirs, IsNoted, IsOfAccount, IsOfOrder, IsOfPlace, IsOfRule, IsOfSeller, IsOfSetting, IsUnder}, Raising.reading_of};
 
 use crate::counting::counts;
 use crate::figure::Figure;

@@ -1,7 +1,5 @@
 //! How the peaks are kept while the records of a day are made again.
 
-ghost use Rattle.std.specs.Prelude.{◌≡◌};
-
 use crate::peaks::Peaks;
 use crate::touched::{gains_of, set_in};
 use gx_history::record::RecordData;

@@ -1,9 +1,9 @@
 -- Names without lower case are told apart by what is written in either case.
 use Rattle.std.proofs.{Common.{◌≡◌, ℕ, ◌+◌, Bool, true, false, ◌&&◌, ◌||◌, cond, not, nat_lt, List, [], ◌∷◌, refl, ap, sym, ◌∙◌, arith}, lemmas.{Bool.{Decides.nat_tests, and_parts, and_from}, Slice.Eq.bytes_eq-Decides}}
 use Rattle.std.specs.{Char.{to_ascii_uppercase, to_ascii_lowercase}, List.{list_all, AllByRecursion}, Str.{str_to_ascii_uppercase, str_to_ascii_lowercase}}
-use Rattle.gx_units.specs.{Names.{is_lower_case, has_no_lower_case}, Spelling.{is_space, is_blank}, declared.names.UserName.UserName}
+use Rattle.gx_units.specs.{Names.{is_lower_case, has_no_lower_case}, Spelling.{is_space, is_blank, is_visible}, declared.names.UserName.UserName}
 use Rattle.gx_desk.specs.{Names.is_written, declared.WrittenName.WrittenName}
-use Rattle.gx_policy.specs.{declared.policy.{PolicyData.PolicyData, User.User}, Soundness.{is_sound, is_user_sound, is_padded, is_folded, is_visible}}
+use Rattle.gx_policy.specs.{declared.policy.{PolicyData.PolicyData, User.User}, Soundness.{is_sound, is_user_sound, is_padded, is_folded}}
 
 back_by : (low high : Bool) (c : ℕ) → nat_lt c 65 ≡ low → nat_lt c 91 ≡ high → not (is_lower_case c) ≡ true → to_ascii_uppercase (cond low c (cond high (c + 32) c)) ≡ c
 back_by true high c l h upper = grind (arith, nat_tests)

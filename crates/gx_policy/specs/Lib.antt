@@ -3,3 +3,4 @@ pub mod RuleNames
 pub mod People
 pub mod Soundness
 pub mod Kinds
+pub mod Samples

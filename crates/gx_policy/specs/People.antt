@@ -1,5 +1,5 @@
 -- What the policy says of users, accounts and stocks.
-use Rattle.std.specs.{Prelude.{Bool, true, false, List, Option, Some, None, option_and_then, option_map}, List.{find, list_any, list_all}}
+use Rattle.std.specs.{Prelude.{Bool, true, false, List, Option, Some, None, option_and_then, option_map}, List.{find, list_any, list_all}, Option.option_map_or}
 use Rattle.gx_units.specs.{Names.{same_account, same_stock, same_user, same_rule}, declared.names.{AccountName.AccountName, UserName.UserName, Symbol.Symbol, RuleId.RuleId}}
 use Rattle.gx_policy.specs.declared.policy.{PolicyData.PolicyData, Account.Account, Stock.Stock, User.User, Role.Role, Scope.Scope, FileRule.FileRule}
 
@@ -46,6 +46,10 @@ account_of_role other = None
 -- the account that a trader trades for
 abbrev pub account_of : PolicyData → UserName → Option AccountName
 account_of policy name = option_and_then account_of_role (role_in policy.users name)
+
+-- the user trades for this account
+abbrev pub trades_for : PolicyData → AccountName → UserName → Bool
+trades_for policy account user = option_map_or (same_account account) (account_of policy user) false
 
 -- the account is among these
 abbrev pub names_account : List AccountName → AccountName → Bool

@@ -1,7 +1,7 @@
 -- What each policy keeps: limits, ranges, spelling, names that differ and are known.
+use Rattle.gx_units.specs.{Spelling.{is_visible, is_blank}, Names.{same_account, same_stock, same_user, same_rule, is_lower_case}, declared.names.{AccountName.AccountName, Symbol.Symbol}}
 use Rattle.gx_policy.specs.{declared.{policy.{PolicyData.PolicyData, Account.Account, Stock.Stock, User.User, Role.Role, Scope.Scope, FileRule.FileRule, RuleKind.RuleKind}}, Lists.are_distinct, People.{account_named, stock_named}, RuleNames.is_built_in}
 use Rattle.std.specs.{Prelude.{ℕ, Bool, true, ◌&&◌, ◌||◌, not, ◌==◌, nat_le, is_some, length, List, [], ◌∷◌}, List.list_all}
-use Rattle.gx_units.specs.{Spelling.is_blank, Names.{same_account, same_stock, same_user, same_rule, is_lower_case}, declared.names.{AccountName.AccountName, Symbol.Symbol}}
 
 -- between the two, both included
 abbrev pub is_among : ℕ → ℕ → ℕ → Bool
@@ -10,10 +10,6 @@ is_among least most n = nat_le least n && nat_le n most
 -- a letter of A to Z, a digit or an underscore
 abbrev pub is_name_letter : ℕ → Bool
 is_name_letter byte = is_among 65 90 byte || is_among 48 57 byte || byte == 95
-
--- a byte of ! to ~
-abbrev pub is_visible : ℕ → Bool
-is_visible byte = is_among 33 126 byte
 
 -- such a byte, but no letter in lower case
 abbrev pub is_folded : ℕ → Bool
@@ -82,13 +78,27 @@ is_within_limits policy =
     nat_le (length policy.accounts) 64 && nat_le (length policy.stocks) 1024
     && nat_le (length policy.users) 256 && nat_le (length policy.rules) 128
 
+-- no two accounts have one name
+abbrev pub accounts_differ : List Account → Bool
+accounts_differ accounts = are_distinct (λ (a b : Account). same_account a.name b.name) accounts
+
+-- no two stocks have one name
+abbrev pub stocks_differ : List Stock → Bool
+stocks_differ stocks = are_distinct (λ (a b : Stock). same_stock a.name b.name) stocks
+
+-- no two users have one name
+abbrev pub users_differ : List User → Bool
+users_differ users = are_distinct (λ (a b : User). same_user a.name b.name) users
+
+-- no two rules have one name
+abbrev pub rules_differ : List FileRule → Bool
+rules_differ rules = are_distinct (λ (a b : FileRule). same_rule a.name b.name) rules
+
 -- no two accounts, stocks, users or rules have one name
 abbrev pub names_differ : PolicyData → Bool
 names_differ policy =
-    are_distinct (λ (a b : Account). same_account a.name b.name) policy.accounts
-    && are_distinct (λ (a b : Stock). same_stock a.name b.name) policy.stocks
-    && are_distinct (λ (a b : User). same_user a.name b.name) policy.users
-    && are_distinct (λ (a b : FileRule). same_rule a.name b.name) policy.rules
+    accounts_differ policy.accounts && stocks_differ policy.stocks
+    && users_differ policy.users && rules_differ policy.rules
 
 -- the policy is one that a policy file can say
 unfoldable pub is_sound : PolicyData → Bool

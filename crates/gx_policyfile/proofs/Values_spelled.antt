@@ -2,9 +2,9 @@
 use Rattle.std.proofs.{Common.{◌≡◌, ℕ, ℤ, pos, negsuc, zero, suc, ◌-◌, Bool, true, false, not, ◌&&◌, ◌||◌, nat_eq, List, [], ◌∷◌, ◌++◌, length, replicate, Ok, refl, sym, ap, ◌∙◌, inl, inr, subst, arith}, lemmas.{Bool.{cases_Bool, and_parts, false≢true, eqb-true, Decides.nat_tests}, List.{map-append, length-map, Folds.list_all-map}}}
 use Rattle.std.specs.{Option.ok_or, List.list_all, Char.to_ascii_uppercase, Str.str_to_ascii_uppercase}
 use Rattle.toml.specs.Data.{Data, Members, as_str, as_integer}
-use Rattle.gx_units.specs.Spelling.{is_blank, padded_to}
+use Rattle.gx_units.specs.Spelling.{is_blank, padded_to, is_visible}
 use Rattle.gx_units.proofs.Lists_hold.{all_imply}
-use Rattle.gx_policy.specs.Soundness.{is_among, is_padded, is_spelled, is_visible, is_folded}
+use Rattle.gx_policy.specs.Soundness.{is_among, is_padded, is_spelled, is_folded}
 use Rattle.gx_policyvalues.specs.{declared.fault.{FaultKind.TheVariants.BadValue, Letters.{Letters, TheVariants.Visible}}, Field.{is_letter, value_at, whole, number, number_at, text, checked_text, field, field_at}}
 use Rattle.gx_policyfile.proofs.Step_parts.{bind_ok, passed, by_ok, and_both}
 

@@ -4,6 +4,5 @@ pub mod Version
 pub mod Users
 pub mod Rules
 pub mod Policies
-pub mod Sample
 pub mod Reads
 pub mod Migrating

@@ -3,7 +3,7 @@
 ghost use Rattle.std.specs.Prelude.{◌≡◌, Ok, IfOk, IfErr};
 ghost use Rattle.gx_policyvalues.specs.declared.fault.FaultKind.TheVariants.{OutOfMemory};
 ghost use Rattle.gx_policyfile.specs.Policies.{means};
-ghost use Rattle.gx_policyfile.specs.Sample as specs;
+ghost use Rattle.gx_policy.specs.Samples as specs;
 
 use crate::reading::read_policy;
 use gx_policy::Policy;

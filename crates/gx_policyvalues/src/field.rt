@@ -2,7 +2,7 @@
 
 ghost use Rattle.std.specs.{Prelude.{◌≡◌, ◌≤◌, false, IfOk, IfSome, length, map, option_map, ok_or, bytes_eq, string_bytes}, List.{list_all, list_any}};
 ghost use Rattle.std.specs.BTreeMap as tree;
-ghost use Rattle.toml.specs.{Data.get_member, View.{view, table_view}};
+ghost use Rattle.toml.specs.{View.{view, table_view}};
 ghost use Rattle.gx_policyvalues.specs.{declared.fault.FaultKind.TheVariants.{UnknownKey, BadValue}, Field.{Gives, is_memory, is_letter, seen_result, value_at, number, number_at, text, field, field_at, has_only, only_keys, word_in, choice, choice_at, word_at}};
 
 use crate::fault::{Allowed, Cause, FaultKind, Letters, PolicyFault};

@@ -1,6 +1,6 @@
 //! The files that the arguments name: told apart, and read within their limits.
 
-ghost use Rattle.std.specs.Prelude.{◌-◌, ◌^◌, ◌<◌};
+ghost use Rattle.std.specs.Prelude.{◌-◌, ◌<◌};
 
 use crate::ending::Failure;
 use gx_devices::CallCounter;

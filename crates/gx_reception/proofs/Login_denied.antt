@@ -1,14 +1,14 @@
 -- The login of somebody who has no user's password.
 use Rattle.std.proofs.{Common.{◌≡◌, ℕ, ◌+◌, Bool, true, false, List, [], ◌∷◌, ◌++◌, length, length-append, Option, Some, None, if◌then◌else◌, refl, sym, ap, subst, ◌∙◌}, lemmas.Bool.and_parts}
-use Rattle.std.specs.{Prelude.{◌&&◌, is_some, option_map}, Option.option_map_or}
+use Rattle.std.specs.{Prelude.◌&&◌}
 use Rattle.gx_units.specs.{declared.names.{LoginRejection.LoginRejection, Password.Password, SessionName.SessionName, UserName.UserName}, Spelling.{folded_password, folded_session, folded_user}}
 use Rattle.gx_policy.specs.{declared.{policy.PolicyData.PolicyData, rule_name.RuleName.RuleName}, RuleNames.rules_before}
-use Rattle.gx_history.specs.{declared.record.{Asked.Asked, Login.Login, RecordData.RecordData, Request.Request, Step.Step, Verdict.Verdict}, Asking.facts, Logins.{password_is, session_is}, Rules.{first_forbidding, written_order}, Verdicts.{IsLegal, next, step_verdict, verdict}}
+use Rattle.gx_history.specs.{declared.record.{Asked.Asked, Login.Login, RecordData.RecordData, Request.Request, Verdict.Verdict}, Asking.facts, Logins.{password_is, session_is}, Rules.{first_forbidding, written_order}, Verdicts.{IsLegal, next, step_verdict, verdict}}
 use Rattle.gx_laws.proofs.Streams_next.{legal_before}
 use Rattle.gx_access_gate.specs.{declared.outcome.{LoginAnswer.LoginAnswer, Outcome.Outcome}, Gates.left_by, Logins.login_answered}
 use Rattle.gx_pass.specs.{declared.view.LineView.LineView, Views.mine}
-use Rattle.gx_door.specs.{Acts.{AddsOwn, IsLater, login_on, LogsIn}, Callers.caller_of, declared.caller.Caller.Caller}
-use Rattle.gx_reception.specs.Denials.{are_denied, is_denied, is_denied_by_password}
+use Rattle.gx_door.specs.{Acts.{IsLater, login_on, LogsIn}, Callers.caller_of, declared.caller.Caller.Caller}
+use Rattle.gx_reception.specs.Denials.{are_denied, is_denied_login, is_denied_by_password}
 
 IsStranger : Caller → Type 0
 IsStranger Caller.Trader = ⊥
@@ -54,9 +54,9 @@ stranger_is_denied {policy} was is user given session wanted moment answer l lat
     ∙ ap (λ b. verdict policy last.earlier (asked user b named wanted was.line moment)) wrong
     ∙ denied_first policy last.earlier was.line (folded_user user) named wanted moment
 
-all_denied : (records : List RecordData) (r : RecordData) → are_denied records ≡ true → is_denied r ≡ true → are_denied (records ++ r ∷ []) ≡ true
+all_denied : (records : List RecordData) (r : RecordData) → are_denied records ≡ true → is_denied_login r ≡ true → are_denied (records ++ r ∷ []) ≡ true
 all_denied [] r before last = ap (λ b. b && true) last
-all_denied (x ∷ records) r before last = let each = and_parts (is_denied x) (are_denied records) before in
+all_denied (x ∷ records) r before last = let each = and_parts (is_denied_login x) (are_denied records) before in
     ap (λ b. b && are_denied (records ++ r ∷ [])) each.0 ∙ all_denied records r each.1 last
 
 -- one more login of a stranger on the line

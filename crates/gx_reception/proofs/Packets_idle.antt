@@ -1,9 +1,9 @@
 -- Packets that leave a session as it is before a login.
-use Rattle.std.proofs.{Common.{◌≡◌, ◌≢◌, ◌<◌, ◌≤◌, ℕ, ◌+◌, drop, length, slice_index_or, inl, inr, ◌⊎◌, Bool, true, false, List, [], ◌∷◌, ◌++◌, Option, Some, None, if◌then◌else◌, refl, sym, ap, subst, ◌∙◌, arith}, KnownBytes.{Consumes-nil, Consumes-trans}, lemmas.List.drop_more, Math.ListN.drop_of_length-le}
+use Rattle.std.proofs.{Common.{◌≡◌, ◌≢◌, ◌<◌, ◌≤◌, ℕ, ◌+◌, drop, length, slice_index_or, inl, inr, ◌⊎◌, true, false, List, [], ◌∷◌, ◌++◌, Option, Some, None, if◌then◌else◌, refl, sym, ap, subst, ◌∙◌, arith}, KnownBytes.{Consumes-nil, Consumes-trans}, lemmas.List.drop_more, Math.ListN.drop_of_length-le}
 use Rattle.std.specs.Io.KnownBytes.{Consumes, IsAtEnd}
 use Rattle.gx_devices.specs.Devices.{one_more}
 use Rattle.gx_soup.specs.{declared.packet.{LoginRequest.LoginRequest, ClientPacket.ClientPacket, SoupFault.SoupFault}, Feeding.{Gives, Held, HasRead}, Packets.packets_of}
-use Rattle.gx_reception.specs.{declared.opening.Knock.Knock, Arrivals.{ComesTo, IsKnock, Knocks}, Openings.{from_first, is_idle, IsBrokenAtFirst, IsIdle, IsOther}}
+use Rattle.gx_reception.specs.{declared.opening.Knock.Knock, Arrivals.{ComesTo, IsKnock, Knocks}, Openings.{from_first, is_idle, IsIdle, IsOther}}
 
 -- the first of these is another one
 pub first_here : (packets behind : List ClientPacket) (p : ClientPacket) → packets ≡ p ∷ behind → is_idle p ≡ false → packets ≡ from_first packets

@@ -1,5 +1,5 @@
 -- What a connection's first packets come to.
-use Rattle.std.specs.{Prelude.{◌≡◌, ◌<◌, ℕ, ◌⊎◌, List, [], Option, None}, Io.KnownBytes.{Consumes, IsAtEnd}}
+use Rattle.std.specs.{Prelude.{◌≡◌, ◌<◌, ℕ, ◌⊎◌, List, [], Option}, Io.KnownBytes.{Consumes, IsAtEnd}}
 use Rattle.gx_devices.specs.Devices.{one_more}
 use Rattle.gx_soup.specs.{declared.packet.{ClientPacket.ClientPacket, SoupFault.SoupFault}, Feeding.Held, Packets.packets_of}
 use Rattle.gx_reception.specs.{declared.opening.Knock.Knock, Openings.{from_first, IsBrokenAtFirst, IsIdle, IsOpening, IsOther}}

@@ -18,9 +18,9 @@ is_denied_by_password (Verdict.Denied rule) = is_password_rule rule
 is_denied_by_password other = false
 
 -- a login that was denied, since no user has this password
-abbrev pub is_denied : RecordData → Bool
-is_denied r = is_login_step r.step && is_denied_by_password r.verdict
+abbrev pub is_denied_login : RecordData → Bool
+is_denied_login r = is_login_step r.step && is_denied_by_password r.verdict
 
 -- all of these are
 abbrev pub are_denied : List RecordData → Bool
-are_denied records = list_all is_denied records
+are_denied records = list_all is_denied_login records

@@ -12,20 +12,6 @@ fn cell_of(bytes: &[u8]) -> Cell {
     Cell::Name(name_of(bytes))
 }
 
-/// The word of a command.
-fn word_of(action: &Action) -> Name {
-    name_of(match action {
-        Action::Kill(_) => b"kill",
-        Action::Lift(_) => b"lift",
-        Action::SetLimit(_, _) => b"limit",
-        Action::Restrict(_, _) => b"restrict",
-        Action::Unrestrict(_, _) => b"unrestrict",
-        Action::Grant(_, _) => b"grant",
-        Action::Revoke(_, _) => b"revoke",
-        Action::CloseDay => b"close",
-    })
-}
-
 /// What a command is of, an account, a rule or a reader, and about which stock or account.
 fn names_of(action: &Action) -> [Cell; 2] {
     match action {
@@ -114,7 +100,7 @@ fn command_cells(policy: &Policy, row: &CommandRow, ended: Option<&Ending>) -> [
         Cell::Count(row.number),
         Cell::Moment(row.moment),
         cell_of(&row.officer.bytes),
-        Cell::Name(word_of(&row.action)),
+        Cell::Name(name_of(row.action.word())),
         of,
         about,
         before,

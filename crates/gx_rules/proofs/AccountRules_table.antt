@@ -4,9 +4,9 @@ use Rattle.std.specs.{Prelude.{Option, Some, None, find, option_map, option_and_
 use Rattle.indexmap.specs.IndexMap.{insert_entry, set_value_at}
 use Rattle.gx_units.specs.{Names.same_account, declared.names.{AccountName.AccountName, RuleId.RuleId}}
 use Rattle.gx_history.specs.{declared.{facts.{Facts.Facts, ProposedOrder.ProposedOrder, RuleFigures.RuleFigures}, «record».Request.Request}, Rules.{rules_with_figures, figured_from, first_file_rule, kind_forbids, of_proposed, proposed_order, rule_forbids}}
-use Rattle.gx_policy.specs.{declared.{policy.{Account.Account, FileRule.FileRule}, rule_name.RuleName.{RuleName, TheVariants.File}}, People.covers}
+use Rattle.gx_policy.specs.{declared.{policy.{Account.Account, FileRule.FileRule}, rule_name.RuleName.{TheVariants.File, RuleName}}, People.covers, Soundness.accounts_differ}
 use Rattle.gx_laws.proofs.Entries_table.{none_before}
-use Rattle.gx_rules.specs.{declared.book_rule.BookRule.BookRule, Books.{book_kind, rule_named, rules_of_entries}, Places.{accounts_differ, places_covering, covering_from, forbids_at, named_at, places_of}}
+use Rattle.gx_rules.specs.{declared.book_rule.BookRule.BookRule, Books.{book_kind, rule_named, rules_of_entries}, Places.{places_covering, covering_from, forbids_at, named_at, places_of}}
 use Rattle.gx_units.proofs.{Test_known.{and_false, left_false, right_false}, Names_equal.account_is}
 
 -- the place of one more rule

@@ -4,10 +4,10 @@ use Rattle.std.specs.List.{list_any, AllByRecursion}
 use Rattle.indexmap.specs.{IndexMap.insert_entry, IndexSet.{insert_key, remove_key}}
 use Rattle.gx_units.specs.{Names.{same_rule, same_stock}, declared.names.{RuleId.RuleId, Symbol.Symbol}}
 use Rattle.gx_units.proofs.Test_known.{left_false, right_false}
-use Rattle.gx_policy.specs.{declared.policy.FileRule.FileRule, Lists.are_distinct}
+use Rattle.gx_policy.specs.{declared.policy.FileRule.FileRule, Lists.are_distinct, Soundness.rules_differ}
 use Rattle.gx_history.specs.InForce.{with_stock, lists_stock, without_stock}
 use Rattle.gx_laws.proofs.Entries_table.{none_before}
-use Rattle.gx_rules.specs.{declared.book_rule.BookRule.BookRule, Books.{rule_names_differ, rule_named, rules_of_entries}}
+use Rattle.gx_rules.specs.{declared.book_rule.BookRule.BookRule, Books.{rule_named, rules_of_entries}}
 
 same_stock_symm : (a b : Symbol) → same_stock a b ≡ same_stock b a
 same_stock_symm a b = nat_list_eq_equiv.symm a.bytes b.bytes
@@ -63,7 +63,7 @@ kept_last (e ∷ es) name rule none =
 
 -- the next of the rules goes last
 pub next_rule : (rules : List FileRule) (es : List (RuleId × BookRule)) (i : ℕ) (r d : FileRule) (rule : BookRule)
-    → rule_names_differ rules ≡ true → i < length rules → rules_of_entries es ≡ take i rules → rule_named r.name rule ≡ r → r ≡ get_or rules i d
+    → rules_differ rules ≡ true → i < length rules → rules_of_entries es ≡ take i rules → rule_named r.name rule ≡ r → r ≡ get_or rules i d
     → rules_of_entries (insert_entry same_rule es r.name rule) ≡ take (i + 1) rules
 next_rule rules es i r d rule differ within so_far is at =
     let same : FileRule → FileRule → Bool = λ (a b : FileRule). same_rule a.name b.name in

@@ -1,10 +1,10 @@
 -- What a policy's soundness says of its rules.
-use Rattle.gx_policy.specs.{Kinds.stocks_of, declared.policy.{FileRule.FileRule, PolicyData.PolicyData, RuleKind.RuleKind}, Lists.are_distinct, Soundness.{is_kind_sound, is_rule_sound, is_sound}}
+use Rattle.gx_policy.specs.{Kinds.stocks_of, declared.policy.{FileRule.FileRule, PolicyData.PolicyData, RuleKind.RuleKind}, Lists.are_distinct, Soundness.{is_kind_sound, is_rule_sound, is_sound, rules_differ}}
 use Rattle.std.proofs.{Common.{◌≡◌, ℕ, ◌≤◌, true, List, length, refl, ap, ◌∙◌, arith}, lemmas.{Bool.{Decides.nat_tests, and_parts}, List.length-map}}
 use Rattle.std.specs.{Prelude.nat_le, List.list_all, Option.option_map_or}
 use Rattle.gx_units.specs.{Names.same_stock, declared.names.RuleId.RuleId}
 use Rattle.gx_units.proofs.Lists_hold.{all_imply}
-use Rattle.gx_rules.specs.{declared.book_rule.BookRule.BookRule, Books.{lists_once, rule_names_differ, rule_named, rules_of_entries}}
+use Rattle.gx_rules.specs.{declared.book_rule.BookRule.BookRule, Books.{lists_once, rule_named, rules_of_entries}}
 
 kind_once : (policy : PolicyData) (kind : RuleKind) → is_kind_sound policy kind ≡ true → option_map_or (are_distinct same_stock) (stocks_of kind) true ≡ true
 kind_once policy (RuleKind.Listed kind stocks) h = (and_parts _ _ h).1
@@ -40,7 +40,7 @@ unfolding is_sound
 sound_lists policy h = all_imply (is_rule_sound policy) lists_once policy.rules (rule_once policy) (and_parts _ _ h).1
 
 -- no two rules of the policy have one name
-pub sound_names : (policy : PolicyData) → is_sound policy ≡ true → rule_names_differ policy.rules ≡ true
+pub sound_names : (policy : PolicyData) → is_sound policy ≡ true → rules_differ policy.rules ≡ true
 unfolding is_sound
 sound_names policy h =
     let of_names = (and_parts _ _ (and_parts _ _ (and_parts _ _ (and_parts _ _ (and_parts _ _ (and_parts _ _ h).0).0).0).0).0).1 in

@@ -1,8 +1,8 @@
 -- The rules of the file that an account is under, by their places.
 use Rattle.std.specs.{Prelude.{◌≡◌, ◌≤◌, ℕ, suc, Bool, false, List, [], ◌∷◌, map, length, slice_get, Option, option_map, if◌then◌else◌}, Option.option_map_or, Map.{keys_of, values_of}}
-use Rattle.gx_units.specs.{Names.same_account, declared.names.{AccountName.AccountName, RuleId.RuleId}}
+use Rattle.gx_units.specs.{declared.names.{AccountName.AccountName, RuleId.RuleId}}
 use Rattle.gx_history.specs.{declared.facts.{ProposedOrder.ProposedOrder, RuleFigures.RuleFigures}, Rules.kind_forbids}
-use Rattle.gx_policy.specs.{declared.{policy.{Account.Account, FileRule.FileRule}, rule_name.RuleName.{RuleName, TheVariants.File}}, Lists.are_distinct, People.covers}
+use Rattle.gx_policy.specs.{declared.{policy.{Account.Account, FileRule.FileRule}, rule_name.RuleName.{RuleName, TheVariants.File}}, People.covers}
 use Rattle.gx_rules.specs.{declared.book_rule.BookRule.BookRule, Books.{book_kind, rules_of_entries}}
 
 -- the places, from this one on, of the rules whose scope has the account
@@ -14,10 +14,6 @@ covering_from account place (rule ∷ rules) =
 -- the places of the rules that the account is under
 abbrev pub places_covering : List FileRule → AccountName → List ℕ
 places_covering rules account = covering_from account 0 rules
-
--- no two accounts have one name
-abbrev pub accounts_differ : List Account → Bool
-accounts_differ accounts = are_distinct (λ (a b : Account). same_account a.name b.name) accounts
 
 -- each account with the places of the rules that it is under
 abbrev pub places_of : List FileRule → List Account → List (AccountName × List ℕ)

@@ -1,9 +1,9 @@
 //! A rule as the book keeps it.
 
 ghost use Rattle.gx_policy.specs.{Kinds.{limit_of, stocks_of, with_limit, with_stocks}, Lists.are_distinct};
-ghost use Rattle.std.specs.{Prelude.{◌≡◌, [], false, is_some, unwrap_or, IsTrue, IfOk, OnOk, OnErr}, Option.option_map_or, List.list_any};
+ghost use Rattle.std.specs.{Prelude.{◌≡◌, [], false, is_some, IsTrue, IfOk, OnOk, OnErr}, Option.option_map_or};
 ghost use Rattle.gx_units.specs.Names.{same_stock};
-ghost use Rattle.gx_history.specs.{Asking.has_stock, InForce.{with_stock, lists_stock, without_stock}, Rules.{kind_forbids, rule_forbids}};
+ghost use Rattle.gx_history.specs.{InForce.{with_stock, lists_stock, without_stock}, Rules.{kind_forbids, rule_forbids}};
 ghost use Rattle.gx_rules.specs.Books.{book_kind, lists_once, rule_named};
 
 use crate::file_rule::{is_for_scope, is_gross_above, is_net_above, is_outside_collar, new_open};

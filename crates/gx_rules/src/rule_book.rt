@@ -3,8 +3,8 @@
 ghost use Rattle.std.specs.{Prelude.{◌≡◌, ◌≤◌, ◌+◌, find, length, option_and_then, option_copied, IsTrue, IsFalse, is_some, IfOk, OnOk, OnErr, IfSome, IfNone}, List.{list_all, list_any}, Map.lookup};
 ghost use Rattle.gx_units.specs.Names.{same_account};
 ghost use Rattle.gx_history.specs.{Asking.knows_stocks, Rules.{applies, rules_with_figures, figured_from, first_forbidding, first_file_rule, written_order, IsFirstForbidding}};
-ghost use Rattle.gx_policy.specs.People.{rule_in};
-ghost use Rattle.gx_rules.specs.{Books.{lists_once, rule_names_differ, rules_of_entries}, Places.{forbids_at, named_at, AreTied}, Settings.{covers_in, limit_in, lists_in, with_stock_restricted, with_stock_unrestricted, with_limit_of}};
+ghost use Rattle.gx_policy.specs.{People.rule_in, Soundness.rules_differ};
+ghost use Rattle.gx_rules.specs.{Books.{lists_once, rules_of_entries}, Places.{forbids_at, named_at, AreTied}, Settings.{covers_in, limit_in, lists_in, with_stock_restricted, with_stock_unrestricted, with_limit_of}};
 
 use crate::book_rule::BookRule;
 use crate::order::{first_before, first_behind};
@@ -44,7 +44,7 @@ impl Model for RuleBook {
 
 /// The rules, each under its name.
 fn kept_rules(alloc: Global, rules: &[FileRule]) -> Result<IndexMap<RuleId, BookRule>, OutOfMemory>
-    requires names_differ { IsTrue (rule_names_differ rules.now) }
+    requires names_differ { IsTrue (rules_differ rules.now) }
     requires stocks_differ { IsTrue (list_all lists_once rules.now) }
     ensures { IfOk result (λ r. rules_of_entries r.entries ≡ rules.now) }
 {

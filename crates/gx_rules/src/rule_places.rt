@@ -1,7 +1,8 @@
 //! Which rules each account is under.
 
 ghost use Rattle.std.specs.Prelude.{◌≡◌, ◌∷◌, ◌++◌, [], IfOk, OnOk, IsTrue, if◌then◌else◌};
-ghost use Rattle.gx_rules.specs.Places.{accounts_differ, places_covering, places_of};
+ghost use Rattle.gx_policy.specs.Soundness.{accounts_differ};
+ghost use Rattle.gx_rules.specs.Places.{places_covering, places_of};
 
 use gx_policy::{Account, FileRule};
 use gx_units::{AccountName, OutOfMemory};

@@ -1,6 +1,6 @@
 //! The file of a run's audit: opened before the run, and put in its place behind it.
 
-ghost use Rattle.std.specs.Prelude.{◌-◌, ◌^◌, ◌<◌};
+ghost use Rattle.std.specs.Prelude.{◌-◌, ◌<◌};
 
 use gx_audit::write_audit;
 use gx_audit_bytes::AuditVersion;

@@ -1,6 +1,6 @@
 //! What a line of a script does.
 
-ghost use Rattle.std.specs.Prelude.{◌≡◌, ◌+◌, ◌^◌, ◌<◌, ◌⊎◌, ◌++◌, [], length, Some, IsTrue, IsFalse, IfOk, IfErr, OnOk, OnErr};
+ghost use Rattle.std.specs.Prelude.{◌≡◌, ◌+◌, ◌<◌, ◌⊎◌, ◌++◌, [], Some, IsTrue, IsFalse, IfOk, IfErr, OnOk, OnErr};
 ghost use Rattle.gx_access_gate.specs.Matches.{matches_left};
 ghost use Rattle.gx_history.specs.{Showing.{has_its_first, is_askable}, Streams.stream};
 ghost use Rattle.gx_script_text.specs.{Printing.report_lines, declared.line.ScriptLine.TheVariants.Stream, ScriptLines.{IsAskable, IsAskableLine}};

@@ -2,8 +2,7 @@
 use Rattle.std.proofs.{Common.{◌≡◌, ◌≢◌, ℕ, suc, zero, ◌+◌, ◌-◌, ◌%◌, ◌^◌, ◌≤◌, ◌<◌, Bool, true, false, not, ◌&&◌, ◌||◌, cond, List, [], ◌∷◌, ◌++◌, length, take, slice_get, slice_index_or, replicate, map, leb, ltb, eqb, bit_or, w8, subst, refl, sym, ap, ◌∙◌, arith}, lemmas.{Bool.{and_from, eqb-true, le-ltb, lt-ltb}, List.{length-map, length-take, take-replicate}, Simd.{bitmask_splat, first_set_mask_l, mask_l-mod, map-map, tops_compared, zip2_of_maps, zip2_splat, zip2_splat_left}}}
 use Rattle.std.specs.{List.{prefix_len, range_with_len, list_all}, Prelude.{IfSome, IsFalse}, Simd.Lanes.{mask_l, sel_l, top, zip2}}
 use lib.Count.{count_trailing_zeros}
-use Rattle.gx_units.specs.Spelling.{is_space, padded_to}
-use Rattle.gx_script_text.specs.Words.{is_visible_byte}
+use Rattle.gx_units.specs.Spelling.{is_space, padded_to, is_visible}
 
 either : (a b : Bool) → top 7 (bit_or (cond a 255 0) (cond b 255 0)) ≡ (a || b)
 either true true = refl
@@ -18,7 +17,7 @@ hidden_is byte = grind arith
 -- which bytes are not visible
 pub hidden_mask : (bytes : List ℕ) → length bytes ≡ 16
     → mask_l (map (top 7) (zip2 bit_or (zip2 (λ a b. cond (ltb a b) 255 0) bytes (replicate 16 33)) (zip2 (λ a b. cond (ltb a b) 255 0) (replicate 16 126) bytes))) % 2 ^ 64
-    ≡ mask_l (map (λ byte. not (is_visible_byte byte)) bytes)
+    ≡ mask_l (map (λ byte. not (is_visible byte)) bytes)
 hidden_mask bytes long =
     let less = λ (a b : ℕ). cond (ltb a b) 255 0 in
     ap (λ l. mask_l (map (top 7) l) % 2 ^ 64) (zip2_of_maps bit_or (λ x. less x 33) (λ x. less 126 x) bytes (zip2_splat less bytes 16 33 long) (zip2_splat_left less 126 16 bytes long))
@@ -79,53 +78,53 @@ spaced_from end bytes long within =
 
 -- how many visible bytes a text begins with
 abbrev seen : List ℕ → ℕ
-seen text = prefix_len (λ byte. not (not (is_visible_byte byte))) text
+seen text = prefix_len (λ byte. not (not (is_visible byte))) text
 
-seen_more : (byte : ℕ) (bytes : List ℕ) → is_visible_byte byte ≡ true → seen (byte ∷ bytes) ≡ suc (seen bytes)
+seen_more : (byte : ℕ) (bytes : List ℕ) → is_visible byte ≡ true → seen (byte ∷ bytes) ≡ suc (seen bytes)
 seen_more byte bytes is = ap (λ t. cond (not (not t)) (1 + seen bytes) 0) is ∙ omega arith
 
-seen_none : (byte : ℕ) (bytes : List ℕ) → is_visible_byte byte ≡ false → seen (byte ∷ bytes) ≡ 0
+seen_none : (byte : ℕ) (bytes : List ℕ) → is_visible byte ≡ false → seen (byte ∷ bytes) ≡ 0
 seen_none byte bytes is = ap (λ t. cond (not (not t)) (1 + seen bytes) 0) is
 
 -- the bytes in front of the first that is not visible are visible
-pub front_visible : (count width : ℕ) (text : List ℕ) → count ≤ seen (take width text) → list_all is_visible_byte (take count text) ≡ true
+pub front_visible : (count width : ℕ) (text : List ℕ) → count ≤ seen (take width text) → list_all is_visible (take count text) ≡ true
 front_visible zero width [] within = refl
 front_visible zero width (b ∷ bs) within = refl
 front_visible (suc count) width [] within = refl
 front_visible (suc count) zero (b ∷ bs) within = absurd (omega (arith, within))
-front_visible (suc count) (suc width) (b ∷ bs) within = at (front_visible count width bs) (is_visible_byte b) refl
+front_visible (suc count) (suc width) (b ∷ bs) within = at (front_visible count width bs) (is_visible b) refl
   where
-    at : (count ≤ seen (take width bs) → list_all is_visible_byte (take count bs) ≡ true) → (test : Bool) → is_visible_byte b ≡ test → (is_visible_byte b && list_all is_visible_byte (take count bs)) ≡ true
-    at behind true is = and_from (is_visible_byte b) (list_all is_visible_byte (take count bs)) is (behind (omega (arith, within, seen_more b (take width bs) is)))
+    at : (count ≤ seen (take width bs) → list_all is_visible (take count bs) ≡ true) → (test : Bool) → is_visible b ≡ test → (is_visible b && list_all is_visible (take count bs)) ≡ true
+    at behind true is = and_from (is_visible b) (list_all is_visible (take count bs)) is (behind (omega (arith, within, seen_more b (take width bs) is)))
     at behind false is = absurd (omega (arith, within, seen_none b (take width bs) is))
 
 -- and the byte behind them is not
-stops : (width : ℕ) (text : List ℕ) → seen (take width text) < width → width ≤ length text → is_visible_byte (slice_index_or text (seen (take width text)) 0) ≡ false
+stops : (width : ℕ) (text : List ℕ) → seen (take width text) < width → width ≤ length text → is_visible (slice_index_or text (seen (take width text)) 0) ≡ false
 stops zero text within room = absurd (omega (arith, within))
 stops (suc width) [] within room = absurd (omega (arith, room))
-stops (suc width) (b ∷ bs) within room = at (stops width bs) (is_visible_byte b) refl
+stops (suc width) (b ∷ bs) within room = at (stops width bs) (is_visible b) refl
   where
-    at : (seen (take width bs) < width → width ≤ length bs → is_visible_byte (slice_index_or bs (seen (take width bs)) 0) ≡ false) → (test : Bool) → is_visible_byte b ≡ test
-        → is_visible_byte (slice_index_or (b ∷ bs) (seen (b ∷ take width bs)) 0) ≡ false
+    at : (seen (take width bs) < width → width ≤ length bs → is_visible (slice_index_or bs (seen (take width bs)) 0) ≡ false) → (test : Bool) → is_visible b ≡ test
+        → is_visible (slice_index_or (b ∷ bs) (seen (b ∷ take width bs)) 0) ≡ false
     at behind true is =
-        ap (λ k. is_visible_byte (slice_index_or (b ∷ bs) k 0)) (seen_more b (take width bs) is)
+        ap (λ k. is_visible (slice_index_or (b ∷ bs) k 0)) (seen_more b (take width bs) is)
         ∙ behind (omega (arith, within, seen_more b (take width bs) is)) (omega (arith, room))
-    at behind false is = ap (λ k. is_visible_byte (slice_index_or (b ∷ bs) k 0)) (seen_none b (take width bs) is) ∙ is
+    at behind false is = ap (λ k. is_visible (slice_index_or (b ∷ bs) k 0)) (seen_none b (take width bs) is) ∙ is
 
-ends_if : (P : Type 0) (end : ℕ) (text : List ℕ) → (P → end < length text → is_visible_byte (slice_index_or text end 0) ≡ false)
-    → IfSome (slice_get text end) (λ byte. P → IsFalse (is_visible_byte byte))
+ends_if : (P : Type 0) (end : ℕ) (text : List ℕ) → (P → end < length text → is_visible (slice_index_or text end 0) ≡ false)
+    → IfSome (slice_get text end) (λ byte. P → IsFalse (is_visible byte))
 ends_if P end [] hidden = tt
 ends_if P zero (b ∷ bs) hidden = λ p. hidden p (omega arith)
 ends_if P (suc e) (b ∷ bs) hidden = ends_if P e bs (λ p within. hidden p (omega (arith, within)))
 
 -- a byte behind them that a name has room for is not visible
 pub front_ends : (n count end : ℕ) (text : List ℕ) → n ≤ 16 → 16 ≤ length text → count ≡ seen (take 16 text)
-    → (end < n → end ≡ count) → IfSome (slice_get text end) (λ byte. end < n → IsFalse (is_visible_byte byte))
+    → (end < n → end ≡ count) → IfSome (slice_get text end) (λ byte. end < n → IsFalse (is_visible byte))
 front_ends n count end text few long counted is =
     ends_if (end < n) end text
     (λ below within.
     let same : end ≡ seen (take 16 text) = is below ∙ counted in
-    ap (λ k. is_visible_byte (slice_index_or text k 0)) same ∙ stops 16 text (omega (arith, same, below, few)) long)
+    ap (λ k. is_visible (slice_index_or text k 0)) same ∙ stops 16 text (omega (arith, same, below, few)) long)
 
 take_padded : (n m : ℕ) (word : List ℕ) → length word ≤ n → n ≤ length word + m → take n (word ++ replicate m 32) ≡ padded_to n word
 take_padded n m [] fits within =

@@ -1,7 +1,8 @@
 -- Words that are cut and read at once.
 use Rattle.std.proofs.{Common.{◌≡◌, ◌≢◌, ◌&&◌, Some, length, take, slice_index_or, ap, ℕ, ◌^◌, ◌<◌, ◌≤◌, Bool, true, false, not, List, [], ◌∷◌, refl, arith, eqb}, lemmas.Bool.{and_parts, and_from, leb-true, eqb-true}, Math.Nat.pow-le-pow_right}
 use Rattle.std.specs.{List.list_all, Char.is_ascii_digit}
-use Rattle.gx_script_text.specs.Words.{byte_of, has_no_space, is_visible_byte}
+use Rattle.gx_units.specs.Spelling.{is_visible}
+use Rattle.gx_script_text.specs.Words.{byte_of, has_no_space}
 
 apart : (n low : ℕ) → n < low → (m : ℕ) → low ≤ m → not (eqb m n) ≡ true
 apart n low below m within = at (eqb m n) refl
@@ -22,8 +23,8 @@ pub digits_clear : (text : List ℕ) → list_all is_ascii_digit text ≡ true �
 digits_clear = clear_by is_ascii_digit 48 (omega arith) (λ byte h. leb-true 48 byte (and_parts _ _ h).0)
 
 -- nor are visible bytes
-pub visible_clear : (text : List ℕ) → list_all is_visible_byte text ≡ true → has_no_space text ≡ true
-visible_clear = clear_by is_visible_byte 33 (omega arith) (λ byte h. leb-true 33 byte (and_parts _ _ h).0)
+pub visible_clear : (text : List ℕ) → list_all is_visible text ≡ true → has_no_space text ≡ true
+visible_clear = clear_by is_visible 33 (omega arith) (λ byte h. leb-true 33 byte (and_parts _ _ h).0)
 
 -- a number of fewer than 19 digits is below 10 ^ 18
 pub few_digits : (digits number : ℕ) → number < 10 ^ digits → digits < 19 → number < 10 ^ 18

@@ -1,8 +1,7 @@
 //! Sixteen bytes of a line at once.
 
 ghost use Rattle.std.specs.{Prelude.{◌≡◌, ◌≤◌, not, map, length, take, replicate, ◌++◌, ◌-◌}, List.prefix_len, Simd.Lanes.mask_l};
-ghost use Rattle.gx_units.specs.Spelling.{is_space};
-ghost use Rattle.gx_script_text.specs.Words.{is_visible_byte};
+ghost use Rattle.gx_units.specs.Spelling.{is_space, is_visible};
 
 use std::simd::prelude::*;
 
@@ -39,7 +38,7 @@ pub(crate) fn before_space(bytes: u8x16) -> u32
 #[inline(always)]
 fn hidden(bytes: u8x16) -> u64
     requires { length bytes ≡ 16 }
-    ensures { result ≡ mask_l (map (λ byte. not (is_visible_byte byte)) bytes) }
+    ensures { result ≡ mask_l (map (λ byte. not (is_visible byte)) bytes) }
 {
     let low = bytes.simd_lt(u8x16::splat(b'!'));
     let high = bytes.simd_gt(u8x16::splat(b'~'));
@@ -50,7 +49,7 @@ fn hidden(bytes: u8x16) -> u64
 #[inline(always)]
 pub(crate) fn before_hidden(bytes: u8x16) -> u32
     requires { length bytes ≡ 16 }
-    ensures { result ≡ prefix_len (λ byte. not (not (is_visible_byte byte))) bytes }
+    ensures { result ≡ prefix_len (λ byte. not (not (is_visible byte))) bytes }
 {
     let hidden = hidden(bytes);
     if hidden == 0 {

@@ -2,7 +2,7 @@
 
 ghost use Rattle.std.specs.{Prelude.{Some, None, codes, ◌≡◌, ◌≢◌, ◌≤◌, ◌∷◌, [], length, bytes_eq, ◌&&◌, IsTrue, IfOk, OnOk, IfSome, MatchResult, option_map}, Result.result_ok};
 ghost use Rattle.gx_history.specs.{Payloads.request_of, Showing.has_its_first};
-ghost use Rattle.gx_script_text.specs.{Words.{Puts, Takes, first, words_of, alone, padded_name, user_of, number_of_bits, byte_of, bytes_of, itself}, ScriptLines.{login_form, plain_order, enter_form, replace_form, cancel_form, account_form, limit_form, stock_form, reader_form, close_form, command_form, raw_form, step_form, user_line, last_line, timed_line, stream_line, line_of_words, without_cr, is_too_long, is_skipped, script_line, IsAskable, IsAskableLine}};
+ghost use Rattle.gx_script_text.specs.{Words.{Puts, Takes, first, words_of, padded_name, user_of, number_of_bits, byte_of, bytes_of}, ScriptLines.{login_form, enter_form, replace_form, cancel_form, account_form, limit_form, stock_form, reader_form, close_form, command_form, raw_form, step_form, user_line, last_line, timed_line, stream_line, line_of_words, without_cr, is_too_long, is_skipped, script_line, IsAskable, IsAskableLine}};
 
 use crate::words::Words;
 use crate::wrong::{ExpectedWord, Wrong};

@@ -2,11 +2,12 @@
 
 ghost use Rattle.std.specs.{Prelude.{◌≡◌, ◌≤◌, ◌<◌, length, take, IfSome, IsFalse, IsTrue, ◌∷◌, [], slice_get, MatchOption}, List.list_all, Char.is_ascii_digit};
 ghost use Rattle.gx_soup.specs.Login.{spelled_number};
-ghost use Rattle.gx_units.specs.Spelling.{is_space, padded_to};
-ghost use Rattle.gx_script_text.specs.Words.{Fills, Finds, words_of, is_done, has_no_space, is_visible_byte, is_number, padded_name, number_of_bits, byte_of};
+ghost use Rattle.gx_units.specs.Spelling.{is_space, padded_to, is_visible};
+ghost use Rattle.gx_script_text.specs.Words.{Fills, Finds, words_of, is_done, has_no_space, is_number, padded_name, number_of_bits, byte_of};
 
 use crate::lanes::{WIDTH, before_hidden, before_space, first_bytes, with_spaces_from};
 use gx_soup::spelled_value;
+use gx_units::is_visible;
 use std::marker::Model;
 
 /// The words that are left of a line of at most 1,024 bytes. Contracts see them as a list.
@@ -208,10 +209,10 @@ fn end_by_bytes(text: &[u8]) -> usize
 fn fill_front<const N: usize>(field: &mut [u8; N], text: &[u8]) -> usize
     ensures within { result ≤ length text.now }
     ensures fits { result ≤ N }
-    ensures visible { IsTrue (list_all is_visible_byte (take result text.now)) }
+    ensures visible { IsTrue (list_all is_visible (take result text.now)) }
     ensures front { field.new ≡ padded_to N (take result text.now) }
     ensures ends { IfSome (slice_get text.now result)
-        (λ byte. result < N → IsFalse (is_visible_byte byte)) }
+        (λ byte. result < N → IsFalse (is_visible byte)) }
 {
     if N <= WIDTH && text.len() >= WIDTH {
         return fill_at_once(field, text);
@@ -226,10 +227,10 @@ fn fill_at_once<const N: usize>(field: &mut [u8; N], text: &[u8]) -> usize
     requires wide { 16 ≤ length text.now }
     ensures within { result ≤ length text.now }
     ensures fits { result ≤ N }
-    ensures visible { IsTrue (list_all is_visible_byte (take result text.now)) }
+    ensures visible { IsTrue (list_all is_visible (take result text.now)) }
     ensures front { field.new ≡ padded_to N (take result text.now) }
     ensures ends { IfSome (slice_get text.now result)
-        (λ byte. result < N → IsFalse (is_visible_byte byte)) }
+        (λ byte. result < N → IsFalse (is_visible byte)) }
 {
     let bytes = first_bytes(text);
     let end = (before_hidden(bytes) as usize).min(N);
@@ -243,10 +244,10 @@ fn fill_at_once<const N: usize>(field: &mut [u8; N], text: &[u8]) -> usize
 fn fill_by_bytes<const N: usize>(field: &mut [u8; N], text: &[u8]) -> usize
     ensures within { result ≤ length text.now }
     ensures fits { result ≤ N }
-    ensures visible { IsTrue (list_all is_visible_byte (take result text.now)) }
+    ensures visible { IsTrue (list_all is_visible (take result text.now)) }
     ensures front { field.new ≡ padded_to N (take result text.now) }
     ensures ends { IfSome (slice_get text.now result)
-        (λ byte. result < N → IsFalse (is_visible_byte byte)) }
+        (λ byte. result < N → IsFalse (is_visible byte)) }
 {
     let (front, end) = visible_front(text);
     *field = front;
@@ -258,10 +259,10 @@ fn fill_by_bytes<const N: usize>(field: &mut [u8; N], text: &[u8]) -> usize
 fn visible_front<const N: usize>(text: &[u8]) -> ([u8; N], usize)
     ensures within { result.1 ≤ length text.now }
     ensures fits { result.1 ≤ N }
-    ensures visible { IsTrue (list_all is_visible_byte (take result.1 text.now)) }
+    ensures visible { IsTrue (list_all is_visible (take result.1 text.now)) }
     ensures front { result.0 ≡ padded_to N (take result.1 text.now) }
     ensures ends { IfSome (slice_get text.now result.1)
-        (λ byte. result.1 < N → IsFalse (is_visible_byte byte)) }
+        (λ byte. result.1 < N → IsFalse (is_visible byte)) }
 {
     let mut front = [b' '; N];
     let most = text.len().min(N);
@@ -277,7 +278,7 @@ fn visible_front<const N: usize>(text: &[u8]) -> ([u8; N], usize)
 /// The name of these visible bytes, which fill its field, if there are any.
 #[inline(always)]
 fn named<const N: usize>(word: &[u8], field: [u8; N]) -> Option<[u8; N]>
-    requires visible { IsTrue (list_all is_visible_byte word.now) }
+    requires visible { IsTrue (list_all is_visible word.now) }
     requires fits { length word.now ≤ N }
     requires filled { field ≡ padded_to N word.now }
     ensures { result ≡ padded_name N word.now }
@@ -286,12 +287,6 @@ fn named<const N: usize>(word: &[u8], field: [u8; N]) -> Option<[u8; N]>
         return None;
     }
     Some(field)
-}
-
-fn is_visible(byte: u8) -> bool
-    ensures { result ≡ is_visible_byte byte }
-{
-    byte >= b'!' && byte <= b'~'
 }
 
 /// Puts a word into the field as a name, filled up with spaces. Answers whether it is one.

@@ -49,20 +49,6 @@ fn add_cancel(line: &mut Vec<u8>, order: &CancelOrder) -> Result<(), OutOfMemory
     add_number(line, u64::from(order.shares))
 }
 
-/// The word of a command.
-fn word_of(action: &Action) -> &'static [u8] {
-    match action {
-        Action::Kill(_) => b"kill",
-        Action::Lift(_) => b"lift",
-        Action::SetLimit(_, _) => b"limit",
-        Action::Restrict(_, _) => b"restrict",
-        Action::Unrestrict(_, _) => b"unrestrict",
-        Action::Grant(_, _) => b"grant",
-        Action::Revoke(_, _) => b"revoke",
-        Action::CloseDay => b"close",
-    }
-}
-
 /// What a command names behind its tag.
 fn add_named(line: &mut Vec<u8>, action: &Action) -> Result<(), OutOfMemory> {
     match action {
@@ -84,7 +70,7 @@ fn add_named(line: &mut Vec<u8>, action: &Action) -> Result<(), OutOfMemory> {
 }
 
 fn add_command(line: &mut Vec<u8>, command: &Command) -> Result<(), OutOfMemory> {
-    add(line, word_of(&command.action))?;
+    add(line, command.action.word())?;
     add_name(line, &command.tag.bytes)?;
     add_named(line, &command.action)
 }

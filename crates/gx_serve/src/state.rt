@@ -1,7 +1,6 @@
 //! What the two threads of a connection share under its lock.
 
 ghost use Rattle.std.specs.Prelude.{◌≡◌, IsFalse, IsTrue, is_some, true, IfErr, IfOk, OnOk};
-ghost use Rattle.gx_history.specs.declared.record.Request.TheVariants as requests;
 ghost use Rattle.gx_history.specs.Showing.{has_its_first};
 ghost use Rattle.gx_control.specs.PullCursors.{pull_cursor};
 ghost use Rattle.gx_session.specs.{Events.{is_over, CanAsk}, Happenings.happening_of, Outboxes.{empty, left_after}, Table.{turn, new_session}};

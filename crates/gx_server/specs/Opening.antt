@@ -1,8 +1,8 @@
 -- On which policy a gate opens, and what is told of a policy file.
 use Rattle.std.specs.Prelude.{◌≡◌, ℕ, List, Option, Some, None, Result, Ok, Err}
-use Rattle.gx_policy.specs.declared.policy.PolicyData.{PolicyData}
+use Rattle.gx_policy.specs.{declared.policy.PolicyData.PolicyData, Samples.sample}
 use Rattle.gx_policyvalues.specs.declared.fault.FaultKind.{FaultKind}
-use Rattle.gx_policyfile.specs.{Policies.means, Sample.sample}
+use Rattle.gx_policyfile.specs.Policies.{means}
 use Rattle.gx_connection.specs.declared.fault.PipeFault.{PipeFault}
 use Rattle.gx_server.specs.{declared.program_fault.ProgramFault.{ProgramFault, TheVariants.{Pipe, Policy}}, Policies.policy_line}
 

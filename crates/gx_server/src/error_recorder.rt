@@ -1,6 +1,6 @@
 //! Devices that note why they fail.
 
-ghost use Rattle.std.specs.{Prelude.{◌≡◌, ◌<◌, length, None, Some, IfErr, IfOk, OnOk}, Io.{ReadsAtMost, WritesAtMost, KnownBytes.{ReadConsumes, WriteAppends, Keeps}}};
+ghost use Rattle.std.specs.{Prelude.{◌≡◌, ◌<◌, None, Some, IfErr, IfOk, OnOk}, Io.{ReadsAtMost, WritesAtMost, KnownBytes.{ReadConsumes, WriteAppends, Keeps}}};
 
 use std::io;
 use std::io::{ErrorKind, Read, Write};

@@ -1,6 +1,6 @@
 //! Laws of the session table: what was meant, in other words.
 
-ghost use Rattle.std.specs.{Prelude.{◌≡◌, ℕ, ◌≤◌, List, count_by, IsTrue}, List.list_all};
+ghost use Rattle.std.specs.{Prelude.{ℕ, ◌≤◌, List, count_by, IsTrue}, List.list_all};
 ghost use Rattle.gx_session.specs.{Happenings.Happening, Table.{SessionData, turn, new_session}, Events.{Timed, replies, is_over, is_last, is_parting, is_wordless, is_no_answer, is_acceptance, asks_login, asks_logout}};
 
 /// After a logout or a close the session is over. Nothing is sent then, and at most one thing is asked: the logout

@@ -1,7 +1,7 @@
 //! Sending reports, and packets of the session's own.
 
 ghost use Rattle.gx_devices.specs.{Blaming.IsBlamed, Devices.IsFront};
-ghost use Rattle.std.specs.{Prelude.{◌≡◌, ◌-◌, ◌^◌, ◌<◌, [], ◌++◌, IfOk, IfErr, OnOk, OnErr}, Io.KnownBytes.Appends};
+ghost use Rattle.std.specs.{Prelude.{◌≡◌, ◌-◌, ◌^◌, ◌<◌, [], ◌++◌, IfErr, OnOk, OnErr}, Io.KnownBytes.Appends};
 ghost use Rattle.gx_session.specs.{Sending.{control_bytes, report_packet, reports_text}};
 
 use crate::event::{Control, Sign};

@@ -1,5 +1,5 @@
 -- Matching steps, one behind the other: none of their records is a pass's own.
-use Rattle.std.proofs.{Common.{◌≡◌, ℕ, ◌+◌, ◌<◌, ◌≤◌, map, List, [], ◌∷◌, ◌++◌, length, Option, Some, refl, sym, ◌∙◌, ap, subst, arith, append-nil, append_assoc, length-append}, lemmas.List.{map-append, Elements.filter-append}}
+use Rattle.std.proofs.{Common.{◌≡◌, ℕ, ◌+◌, ◌<◌, map, List, [], ◌∷◌, ◌++◌, length, Some, refl, sym, ◌∙◌, ap, subst, arith, append-nil, append_assoc, length-append}, lemmas.List.{map-append, Elements.filter-append}}
 use Rattle.std.specs.Prelude.{◌==◌}
 use mathlib.Core.List.{IsPrefix}
 use Rattle.gx_history.specs.declared.record.RecordData.{RecordData}

@@ -1,9 +1,5 @@
 //! Where passes to a gate are issued.
 
-ghost use Rattle.std.specs.Prelude.{◌≡◌, ◌+◌, [], IfOk, OnErr, OnOk};
-ghost use Rattle.gx_history.specs.Verdicts.{IsLegal};
-ghost use Rattle.gx_pass.specs.Views.{mine};
-
 use crate::counted_pass::CountedPass;
 use crate::permit::Permits;
 use crate::shared::SharedGate;

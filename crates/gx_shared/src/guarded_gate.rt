@@ -9,7 +9,7 @@ ghost use Rattle.gx_access_gate.specs.{Gates.{left_by, matched_by}, Matches.matc
 ghost use Rattle.gx_pass.specs.declared.pass.PassFault.TheVariants as pass_faults;
 ghost use Rattle.gx_pass.specs.Views.{highest_line, mine, of_line};
 ghost use Rattle.gx_door.specs.declared.fault.PullFault.TheVariants as pull_faults;
-ghost use Rattle.gx_door.specs.{Acts.{asked_on, gate_at, gate_met, login_on, AddsOwn, EndsWith, IsLater, IsPulled, IsToldFull, LogsIn, MayBeRefused}, Callers.caller_of, Matching.{EndsSo, MatchesBehind, Turns}};
+ghost use Rattle.gx_door.specs.{Acts.{asked_on, gate_at, login_on, AddsOwn, EndsWith, IsLater, IsPulled, IsToldFull, LogsIn, MayBeRefused}, Callers.caller_of, Matching.{EndsSo, MatchesBehind, Turns}};
 ghost use Rattle.gx_board.specs.{Summaries.IsBehind, Views.IsView};
 ghost use Rattle.gx_shared.specs.Permits.{all_parts};
 

@@ -1,6 +1,6 @@
 //! What a journal lacks of a day that has ended.
 
-ghost use Rattle.std.specs.{Prelude.{◌≡◌, ◌+◌, ◌<◌, ◌≤◌, ◌^◌, drop, length, take, None, IsTrue, IsFalse}, Io.KnownBytes.Appends};
+ghost use Rattle.std.specs.{Prelude.{◌≡◌, ◌+◌, ◌<◌, ◌≤◌, drop, length, take, None, IsTrue, IsFalse}, Io.KnownBytes.Appends};
 ghost use Rattle.gx_journal.specs.Journals.{is_broken, journal_bytes};
 
 use gx_access_gate::AccessGate;

@@ -1,17 +1,10 @@
 //! The gate under one lock.
 
-ghost use Rattle.std.specs.Prelude.{◌≡◌, ◌≢◌, ◌↔◌, ◌+◌, ◌≤◌, [], length, IsTrue, IfErr, IfNone, IfOk, IfSome, OnErr, OnOk, Some, None, is_some};
+ghost use Rattle.std.specs.Prelude.{◌≡◌, ◌+◌, [], length, IfErr, IfOk, OnErr, OnOk, Some};
 ghost use mathlib.Core.List.{IsPrefix};
-ghost use Rattle.gx_units.specs.Spelling.{folded_user};
-ghost use Rattle.gx_history.specs.declared.record.Request.TheVariants as requests;
-ghost use Rattle.gx_history.specs.{InForce.line_of, Showing.has_its_first, Verdicts.IsLegal};
-ghost use Rattle.gx_policy.specs.Lists.{slice};
-ghost use Rattle.gx_access_gate.specs.{Gates.{left_by, matched_by}, Matches.matching_of};
+ghost use Rattle.gx_history.specs.{InForce.line_of, Verdicts.IsLegal};
 ghost use Rattle.gx_pass.specs.declared.pass.PassFault.TheVariants as pass_faults;
 ghost use Rattle.gx_pass.specs.Views.{highest_line, mine, of_line};
-ghost use Rattle.gx_door.specs.declared.fault.PullFault.TheVariants as pull_faults;
-ghost use Rattle.gx_door.specs.{Acts.{asked_on, gate_met, login_on, AddsOwn, EndsWith, IsLater, IsPulled, IsToldFull, LogsIn, MayBeRefused}, Callers.caller_of};
-ghost use Rattle.gx_board.specs.{Summaries.IsBehind, Views.IsView};
 ghost use Rattle.gx_shared.specs.Permits.{all_parts};
 
 use crate::counted_pass::CountedPass;

@@ -1,7 +1,6 @@
 //! Steps of a gate whose history a keeper has: each is one call of the gate, and its record is noted.
 
 ghost use Rattle.std.specs.Prelude.{◌≡◌, ◌≢◌, ◌↔◌, ◌+◌, ◌<◌, length, IsTrue, IfErr, IfNone, IfOk, IfSome, OnErr, OnOk, Some, None, is_some};
-ghost use Rattle.gx_units.specs.Spelling.{folded_user};
 ghost use Rattle.gx_history.specs.{InForce.line_of, Showing.{has_its_first, is_askable}, Verdicts.IsLegal};
 ghost use Rattle.gx_access_gate.specs.{Matches.{matching_of, with_match}, Gates.left_by, Steps.{next_of, with_record}};
 ghost use Rattle.gx_pass.specs.{Rules.Has, Views.{line_view, keeper_view, without_line}};

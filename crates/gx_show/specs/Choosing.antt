@@ -1,9 +1,9 @@
 -- Which records of a day are shown.
+use Rattle.gx_policy.specs.{People.{trades_for, covers, rule_in}, declared.policy.{FileRule.FileRule, PolicyData.PolicyData}, Lists.{each_with_earlier, where_true}, RuleNames.rule_id}
+use Rattle.gx_history.specs.{Requests.{is_denied, action_of, asked_of, named_token}, declared.«record».{Asked.Asked, RecordData.RecordData, Request.Request, Verdict.Verdict}}
 use Rattle.std.specs.{Prelude.{ℕ, Bool, true, false, ◌&&◌, ◌||◌, ◌==◌, nat_le, not, List, Option, option_and_then}, List.filter_map, Option.option_map_or}
 use Rattle.gx_units.specs.{declared.names.{AccountName.AccountName, RuleId.RuleId, Symbol.Symbol, UserName.UserName}, Names.{same_account, same_rule, same_stock, same_user}}
 use Rattle.gx_desk.specs.declared.Action.{Action}
-use Rattle.gx_policy.specs.{declared.policy.{FileRule.FileRule, PolicyData.PolicyData}, Lists.{each_with_earlier, where_true}, People.{account_of, covers, rule_in}, RuleNames.rule_id}
-use Rattle.gx_history.specs.{declared.record.{Asked.Asked, RecordData.RecordData, Request.Request, Verdict.Verdict}, Requests.{action_of, asked_of, named_token}}
 use Rattle.gx_show.specs.{declared.{choice.{Choice.Choice, OrderLife.OrderLife}, known_order.KnownOrder.KnownOrder}, Known.{has_known_number, known_orders, order_made, known_numbered, known_order_under}}
 
 -- there is an order, and it passes the test
@@ -32,10 +32,6 @@ is_asked test r = option_map_or test (asked_of r.step) false
 -- the request is a command that passes the test
 abbrev pub is_commanded : (Action → Bool) → Request → Bool
 is_commanded test request = option_map_or test (action_of request) false
-
--- the user trades for the account
-abbrev pub trades_for : PolicyData → AccountName → UserName → Bool
-trades_for policy account user = option_map_or (λ own. same_account own account) (account_of policy user) false
 
 -- the policy's rule of this name is for orders of the account
 abbrev pub rule_covers : PolicyData → AccountName → RuleId → Bool
@@ -94,11 +90,6 @@ denies_by rule other = false
 -- a denial by the rule, or a command on it
 abbrev pub concerns_rule : RecordData → RuleId → Bool
 concerns_rule r rule = denies_by rule r.verdict || is_asked (λ (a : Asked). is_commanded (is_on_rule rule) a.request) r
-
--- the request was denied
-abbrev pub is_denied : Verdict → Bool
-is_denied (Verdict.Denied rule) = true
-is_denied other = false
 
 -- the record speaks of the order, or is the Kill or Close Day that it ended by
 abbrev pub concerns_order : PolicyData → List KnownOrder → RecordData → OrderLife → Bool

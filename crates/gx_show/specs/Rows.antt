@@ -1,9 +1,8 @@
 -- The cells that a record is shown by.
-use Rattle.std.specs.Prelude.{List, Option, Some, None, option_and_then}
+use Rattle.std.specs.Prelude.{List, Option, option_and_then}
 use Rattle.gx_units.specs.declared.names.AccountName.{AccountName}
-use Rattle.gx_policy.specs.{declared.{policy.PolicyData.PolicyData, rule_name.RuleName.RuleName}, People.account_of}
-use Rattle.gx_history.specs.{declared.record.{Asked.Asked, RecordData.RecordData, Verdict.Verdict}, Reasons.reject_reason, Requests.asked_of}
-use Rattle.gx_endings.specs.Commands.{denied_by}
+use Rattle.gx_policy.specs.{declared.policy.PolicyData.PolicyData, People.account_of}
+use Rattle.gx_history.specs.{declared.«record».{Asked.Asked, RecordData.RecordData}, Reasons.reject_reason, Requests.{asked_of, denied_by}}
 use Rattle.gx_fields.specs.{declared.cell.{Beside.Beside, Cell.Cell, EndedOrders.EndedOrders}, Cells.cells_of, Reasons.reason_of, Rows.row_of}
 
 -- the account of the trader who asked

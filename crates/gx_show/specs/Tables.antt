@@ -1,13 +1,9 @@
 -- How orders are found in tables.
-use Rattle.std.specs.{Prelude.{◌≡◌, ℕ, ◌&&◌, List, nat_eq, Bool, Some, if◌then◌else◌}, Option.option_or, Map.lookup}
-use Rattle.gx_units.specs.{declared.names.{Token.Token, UserName.UserName}, Names.{same_user, same_token}}
-use Rattle.gx_history.specs.{declared.live_order.UserToken.UserToken, LiveOrders.key}
+use Rattle.gx_history.specs.{LiveOrders.{same_user_token, key}, declared.live_order.UserToken.UserToken}
+use Rattle.std.specs.{Prelude.{◌≡◌, ℕ, List, nat_eq, Some, if◌then◌else◌}, Option.option_or, Map.lookup}
+use Rattle.gx_units.specs.{declared.names.{Token.Token, UserName.UserName}}
 use Rattle.gx_show.specs.{declared.known_order.KnownOrder.KnownOrder, Known.{has_known_number, is_known_under, known_numbered, known_order_under}}
 use Rattle.gx_policy.specs.Lists.{where_true}
-
--- two tokens of users are the same
-abbrev pub same_user_token : UserToken → UserToken → Bool
-same_user_token a b = same_user a.user b.user && same_token a.token b.token
 
 -- each order that is looked for is found, by its number and by its token
 pub record AreFound (known : List KnownOrder) (by_number : List (ℕ × KnownOrder)) (by_token : List (UserToken × KnownOrder)) : Type 0 where

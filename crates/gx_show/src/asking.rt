@@ -1,6 +1,6 @@
 //! What is asked for by names, as texts.
 
-ghost use Rattle.std.specs.Prelude.{◌≡◌, IfOk, IfErr, OnErr, Some, None, option_copied, option_map};
+ghost use Rattle.std.specs.Prelude.{◌≡◌, IfOk, IfErr, Some, None, option_copied};
 ghost use Rattle.gx_show.specs.declared.asking.UnknownName.TheVariants as unknown;
 ghost use Rattle.gx_show.specs.{Naming.{account_in, rule_known, stock_in, user_known}, Asking.{IsNamed, IsUnknown}};
 

@@ -1,7 +1,8 @@
 //! The records of a day that are asked for.
 
 ghost use Rattle.std.specs.Prelude.{◌≡◌, IfOk, OnOk, [], ◌∷◌, ◌++◌, option_to_list, if◌then◌else◌};
-ghost use Rattle.gx_show.specs.{Known.order_made, Choosing.{records_chosen, concerns_account, concerns_order, concerns_rule, concerns_stock, concerns_user, denies_by, is_asked_for, is_in_span, is_in_stock, is_of_account, is_wanted, trades_for}};
+ghost use Rattle.gx_policy.specs.People.{trades_for};
+ghost use Rattle.gx_show.specs.{Known.order_made, Choosing.{records_chosen, concerns_account, concerns_order, concerns_rule, concerns_stock, concerns_user, denies_by, is_asked_for, is_in_span, is_in_stock, is_of_account, is_wanted}};
 
 use crate::choice::{Choice, OrderLife};
 use crate::commands::{action_of, acts_on, is_on_rule, lists};

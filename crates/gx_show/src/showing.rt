@@ -6,7 +6,6 @@ use crate::style::{ShownForm, Style};
 use crate::table::{record_csv, record_json};
 use gx_audit_bytes::{RECORD_SIZE, message_shown, write_record};
 use gx_devices::{CallCounter, WriteFault, write_flushing, write_whole};
-use gx_endings::commands::denied_by;
 use gx_endings::endings::Ending;
 use gx_fields::{EndedOrders, csv_names, reason_of, reject_of};
 use gx_history::record::{Asked, Login, Record, RecordData, Request, Step, Unreadable, Verdict};
@@ -219,7 +218,7 @@ fn append_words(
     style: &Style,
     verdict: &Verdict,
 ) -> Result<(), OutOfMemory> {
-    match denied_by(verdict) {
+    match verdict.denied_by() {
         Some(rule) if style.has_words => append_reason(text, policy, rule),
         _ => Ok(()),
     }

@@ -6,7 +6,6 @@ ghost use Rattle.gx_fields.specs.Cells.{cell_text};
 ghost use Rattle.gx_show.specs.Rows.{account_asked, beside_of, shown_cells};
 
 use crate::making::asked_in;
-use gx_endings::commands::denied_by;
 use gx_fields::{
     Beside, CELLS, Cell, EndedOrders, cells_of, csv_line, json_line, reason_of, reject_of, row_of,
 };
@@ -27,7 +26,7 @@ fn beside_of(policy: &Policy, shown: &RecordData, ended: Option<EndedOrders>) ->
     ensures { result ≡ beside_of policy.now shown.now ended }
 {
     let account = account_asked(policy, shown);
-    match denied_by(&shown.verdict) {
+    match shown.verdict.denied_by() {
         Some(rule) => Beside {
             account,
             reason: reason_of(policy, rule),

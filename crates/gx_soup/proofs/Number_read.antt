@@ -4,12 +4,13 @@ use Rattle.std.specs.{Int.IsInRange, List.list_all, Char.is_ascii_digit}
 use Rattle.gx_units.specs.Spelling.{is_space, is_blank, without_left_spaces, without_right_spaces, trimmed_text}
 use Rattle.gx_soup.specs.{Login.{greatest, with_digit, spelled_number, number_of}, Writing.number_field}
 
-abbrev AreDigits : List ℕ → Type 0
+-- the digits of a number
+abbrev pub AreDigits : List ℕ → Type 0
 AreDigits [] = Unit {0}
 AreDigits (c ∷ cs) = IsInRange 48 57 c × AreDigits cs
 
-own : IsNumeralModel AreDigits spelled_number
-own = numerals_by_fold _ (search rules) (fold with_digit) (search rules)
+pub numerals : IsNumeralModel AreDigits spelled_number
+numerals = numerals_by_fold _ (search rules) (fold with_digit) (search rules)
 
 digit_is : (c : ℕ) → IsInRange 48 57 c → is_ascii_digit c ≡ true
 digit_is c h = grind (arith, nat_tests, h)
@@ -48,5 +49,5 @@ number_read_as field ds n t d e h =
 
 pub number_read : (n : ℕ) → n < 2 ^ 64 → number_of (number_field n) ≡ Some n
 number_read n h =
-    let d : AreDigits (decimal n) = own.from (decimal n) (decimal_is_IsNumeral n h).0.1 in
-    number_read_as (number_field n) (decimal n) n (trimmed_is (20 - length (decimal n)) (decimal n) d) d (digits_value-decimal own n h) h
+    let d : AreDigits (decimal n) = numerals.from (decimal n) (decimal_is_IsNumeral n h).0.1 in
+    number_read_as (number_field n) (decimal n) n (trimmed_is (20 - length (decimal n)) (decimal n) d) d (digits_value-decimal numerals n h) h

@@ -1,10 +1,8 @@
 -- How much is left over.
+use Rattle.gx_units.proofs.Lists_hold.{IsBytes}
 use Rattle.std.proofs.{Common.{◌≡◌, ℕ, zero, suc, ◌+◌, ◌-◌, ◌*◌, ◌<◌, ◌≤◌, ◌⊎◌, inl, inr, Bool, true, false, cond, not, ◌&&◌, ◌==◌, nat_lt, List, [], ◌∷◌, length, take, drop, get_or, Option, Some, None, refl, ap, arith}, lemmas.{Bool.ltb-true, List.{nil_from_length, get_or-drop, length-drop}}}
 use Rattle.gx_soup.specs.{declared.{packet.{ClientPacket.ClientPacket, SoupFault.SoupFault}}, Standard.{login_request, login_length, longest_packet}, Packets.{Front, Short, Faulty, Whole, front, typed_front, whole_front, login_front, is_client_type, Soup, packets_of}}
 use Rattle.gx_soup.proofs.Packets_next.{packets_short, packets_faulty, packets_whole, packets_nil, front_takes}
-
-abbrev pub IsBytes : List ℕ → Type 0
-IsBytes bytes = (i : ℕ) → get_or bytes i 0 < 256
 
 told_short : (u l s : Bool) (x y : SoupFault) (w : Front) → ¬ (w ≡ Short) → cond u (Faulty x) (cond l (Faulty y) (cond s Short w)) ≡ Short → s ≡ true
 told_short true l s x y w h e = cc

@@ -11,8 +11,8 @@ unfoldable pub family : List ℕ → List ℕ → List ℕ → List ℕ
 family name help kind = codes "# HELP " ++ name ++ codes " " ++ help ++ codes "\n# TYPE " ++ name ++ codes " " ++ kind ++ codes "\n"
 
 -- a sample without labels
-unfoldable pub sample : List ℕ → ℕ → List ℕ
-sample name value = name ++ codes " " ++ decimal value ++ codes "\n"
+unfoldable pub sample_line : List ℕ → ℕ → List ℕ
+sample_line name value = name ++ codes " " ++ decimal value ++ codes "\n"
 
 -- of an account, of a rule or of a bucket
 abbrev pub sample_of : List ℕ → List ℕ → List ℕ → ℕ → List ℕ
@@ -42,7 +42,7 @@ killed_sample row = sample_of (codes "boskurige_account_killed") (codes "account
 
 -- a figure of one sample
 abbrev pub figure : List ℕ → List ℕ → List ℕ → ℕ → List ℕ
-figure name help kind value = family name help kind ++ sample name value
+figure name help kind value = family name help kind ++ sample_line name value
 
 -- what the records say in numbers
 unfoldable pub records_figure : Counts → List ℕ
@@ -206,7 +206,7 @@ unfoldable pub answers_sum : ℕ → List ℕ
 answers_sum nanoseconds = seconds_sample (codes "boskurige_answer_seconds_sum") nanoseconds
 
 unfoldable pub answers_count : ℕ → List ℕ
-answers_count all = sample (codes "boskurige_answer_seconds_count") all
+answers_count all = sample_line (codes "boskurige_answer_seconds_count") all
 
 abbrev pub answers_figure : AnswerCounts → List ℕ
 answers_figure a = answers_family ++ bucket_samples 0 0 a.by_bucket ++ answers_sum a.nanoseconds ++ answers_count (sum a.by_bucket)

@@ -1,7 +1,7 @@
 -- Each row of a view as a JSON object.
+use Rattle.gx_desk.specs.{Names.command_word, declared.Action.Action}
 use Rattle.std.specs.Prelude.{ℕ, List, ◌++◌, codes, decimal}
 use Rattle.gx_text.specs.Shown.{json_name}
-use Rattle.gx_desk.specs.declared.Action.{Action}
 use Rattle.gx_policy.specs.{RuleNames.rule_id, declared.{kinds.{ExposureLimit.ExposureLimit, KindName.KindName, OrderLimit.OrderLimit}}}
 use Rattle.gx_history.specs.declared.record.{RecordData.RecordData, Request.Request, Step.Step, Verdict.Verdict}
 use Rattle.gx_overview.specs.declared.rules.LimitRow.{LimitRow}
@@ -49,17 +49,6 @@ net_json seen =
 abbrev pub denied_json : DeniedRow → List ℕ
 denied_json row = first_member (codes "rule") (json_name row.rule.bytes) ++ member (codes "count") (decimal row.count) ++ codes "}"
 
--- what was asked for, in a word
-abbrev pub action_word : Action → List ℕ
-action_word (Action.Kill account) = codes "kill"
-action_word (Action.Lift account) = codes "lift"
-action_word (Action.SetLimit rule limit) = codes "limit"
-action_word (Action.Restrict rule stock) = codes "restrict"
-action_word (Action.Unrestrict rule stock) = codes "unrestrict"
-action_word (Action.Grant reader account) = codes "grant"
-action_word (Action.Revoke reader account) = codes "revoke"
-action_word Action.CloseDay = codes "close"
-
 abbrev pub request_word : Request → List ℕ
 request_word (Request.Login m) = codes "login"
 request_word Request.Logout = codes "logout"
@@ -67,7 +56,7 @@ request_word (Request.Unreadable m) = codes "unreadable"
 request_word (Request.Enter m) = codes "enter"
 request_word (Request.Replace m) = codes "replace"
 request_word (Request.Cancel m) = codes "cancel"
-request_word (Request.Command c) = action_word c.action
+request_word (Request.Command c) = command_word c.action
 
 -- the account, the rule or the stock that it names first
 abbrev pub named_by_action : Action → List ℕ
@@ -86,9 +75,9 @@ named_by (Request.Command c) = named_by_action c.action
 named_by other = codes ""
 
 -- the rule that denied it, or null
-abbrev pub denied_by : Verdict → List ℕ
-denied_by (Verdict.Denied rule) = json_name (rule_id rule).bytes
-denied_by other = codes "null"
+abbrev pub denied_by_json : Verdict → List ℕ
+denied_by_json (Verdict.Denied rule) = json_name (rule_id rule).bytes
+denied_by_json other = codes "null"
 
 -- who asked for what
 abbrev pub asked_json : Step → List ℕ
@@ -99,7 +88,7 @@ unfoldable pub first_members : ℕ → ℕ → List ℕ
 first_members number moment = first_member (codes "record") (decimal number) ++ member (codes "at") (time_text moment)
 
 unfoldable pub last_member : Verdict → List ℕ
-last_member verdict = member (codes "denied_by") (denied_by verdict) ++ codes "}"
+last_member verdict = member (codes "denied_by") (denied_by_json verdict) ++ codes "}"
 
 -- a record of a request, with the rule that denied it
 abbrev pub record_json : RecordData → List ℕ

@@ -1,6 +1,6 @@
 //! Rows as a JSON array.
 
-ghost use Rattle.std.specs.Prelude.{◌≡◌, ◌++◌, ◌∷◌, codes, flat_map, OnOk};
+ghost use Rattle.std.specs.Prelude.{◌≡◌, ◌++◌, codes, flat_map, OnOk};
 ghost use Rattle.gx_status.specs.Listings.{array_text, rows_text};
 
 use gx_text::append;

@@ -1,7 +1,7 @@
 //! A view as a Prometheus server reads it: the text format, version 0.0.4.
 
 ghost use Rattle.std.specs.Prelude.{◌≡◌, ◌++◌, flat_map, OnOk};
-ghost use Rattle.gx_status.specs.Metrics.{denied_family, denied_figure, denied_sample, family, figure, fills_figure, granted_figure, killed_family, killed_figure, killed_sample, left_family, left_figure, left_sample, lines_left_figure, live_family, live_figure, live_sample, records_figure, records_left_figure, sample, sample_of, sample_under, used_family, used_figure, used_sample, view_figures};
+ghost use Rattle.gx_status.specs.Metrics.{denied_family, denied_figure, denied_sample, family, figure, fills_figure, granted_figure, killed_family, killed_figure, killed_sample, left_family, left_figure, left_sample, lines_left_figure, live_family, live_figure, live_sample, records_figure, records_left_figure, sample_line, sample_of, sample_under, used_family, used_figure, used_sample, view_figures};
 
 use crate::limits::{append_all_limits, append_all_net};
 use gx_board::{AccountState, BoardView, Counts, DeniedRow, GrossUse};
@@ -33,13 +33,13 @@ pub(crate) fn append_family(
 }
 
 /// A sample without labels whose value may be larger.
-#[tactic(auto, unfolding(crate::specs::Metrics::sample))]
+#[tactic(auto, unfolding(crate::specs::Metrics::sample_line))]
 pub(crate) fn append_large_sample(
     text: &mut Vec<u8>,
     name: &[u8],
     value: u128,
 ) -> Result<(), OutOfMemory>
-    ensures { OnOk result (text.new.items ≡ text.old.items ++ sample name.now value) }
+    ensures { OnOk result (text.new.items ≡ text.old.items ++ sample_line name.now value) }
 {
     let mut digits = Buffer::new();
     append(text, name)?;
@@ -50,7 +50,7 @@ pub(crate) fn append_large_sample(
 
 /// A sample without labels.
 fn append_sample(text: &mut Vec<u8>, name: &[u8], value: u64) -> Result<(), OutOfMemory>
-    ensures { OnOk result (text.new.items ≡ text.old.items ++ sample name.now value) }
+    ensures { OnOk result (text.new.items ≡ text.old.items ++ sample_line name.now value) }
 {
     append_large_sample(text, name, u128::from(value))
 }

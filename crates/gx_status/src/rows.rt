@@ -3,7 +3,7 @@
 ghost use Rattle.std.specs.Prelude.{◌≡◌, ◌++◌, OnOk};
 ghost use Rattle.gx_history.specs.declared.record.Step.TheVariants as steps;
 ghost use Rattle.gx_json.specs.Rows.{user_json};
-ghost use Rattle.gx_status.specs.Rows.{account_json, action_word, asked_json, denied_by, denied_json, first_members, gross_json, last_member, limit_json, named_by, named_by_action, net_json, record_json, request_word, unit_text};
+ghost use Rattle.gx_status.specs.Rows.{account_json, asked_json, denied_by_json, denied_json, first_members, gross_json, last_member, limit_json, named_by, named_by_action, net_json, record_json, request_word, unit_text};
 
 use crate::listing::Row;
 use gx_board::{AccountState, DeniedRow, GrossUse, NetUse};
@@ -105,21 +105,6 @@ impl Row for UserRow {
     }
 }
 
-fn action_word(action: &Action) -> &'static [u8]
-    ensures { result.now ≡ action_word action.now }
-{
-    match action {
-        Action::Kill(_) => b"kill",
-        Action::Lift(_) => b"lift",
-        Action::SetLimit(_, _) => b"limit",
-        Action::Restrict(_, _) => b"restrict",
-        Action::Unrestrict(_, _) => b"unrestrict",
-        Action::Grant(_, _) => b"grant",
-        Action::Revoke(_, _) => b"revoke",
-        Action::CloseDay => b"close",
-    }
-}
-
 /// What was asked for, in a word.
 fn request_word(request: &Request) -> &'static [u8]
     ensures { result.now ≡ request_word request.now }
@@ -131,7 +116,7 @@ fn request_word(request: &Request) -> &'static [u8]
         Request::Enter(_) => b"enter",
         Request::Replace(_) => b"replace",
         Request::Cancel(_) => b"cancel",
-        Request::Command(command) => action_word(&command.action),
+        Request::Command(command) => command.action.word(),
     }
 }
 
@@ -163,7 +148,7 @@ fn named_by(request: &Request) -> &[u8]
 
 /// The rule that denied the request, or `null`.
 fn append_denied_by(text: &mut Vec<u8>, verdict: &Verdict) -> Result<(), OutOfMemory>
-    ensures { OnOk result (text.new.items ≡ text.old.items ++ denied_by verdict.now) }
+    ensures { OnOk result (text.new.items ≡ text.old.items ++ denied_by_json verdict.now) }
 {
     match verdict {
         Verdict::Denied(rule) => append_json_name(text, &rule.id().bytes),

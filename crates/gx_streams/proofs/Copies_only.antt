@@ -5,9 +5,8 @@ use Rattle.gx_units.specs.{Names.same_user, declared.names.UserName.UserName}
 use Rattle.gx_units.proofs.{Names_equal.user_is, Lists_hold.{all_weaker, all_both, all_mapped}}
 use Rattle.gx_ouch.specs.declared.{letters.{CancelReason.CancelReason, EventCode.EventCode, Liquidity.Liquidity}, outbound.Outbound.Outbound}
 use Rattle.gx_desk.specs.declared.Action.{Action}
-use Rattle.gx_history.specs.{declared.{facts.{Facts.Facts, RuleFigures.RuleFigures}, «record».{Asked.Asked, Fill.Fill, RecordData.RecordData, Request.Request, Step.Step, Verdict.Verdict}, report.{Message.Message, Report.Report}, live_order.LiveOrder.LiveOrder}, Asking.{facts, fits_role}, Executions.{Execution, done, executions, side_of, sides}, Live.{has_come, live, live_numbered, open_now, open_order}, Book.rest_numbers, LiveOrders.shares_open, InForce.is_entitled, Orders.{Order, ends_account, is_dead, order_numbered, orders, total}, Requests.is_login, Rules.{BuiltIn, OfFile, applies, first_forbidding, name_of, written_order}, Streams.{command_answer, canceled_of, copies, copies_of, copy_of, day_end, ended_of, executed_message, expired_of, granted_code, report_of, reports_of, reports_of_denial, reports_of_execution, reports_of_grant, reports_of_verdict, stream, to_user}, Verdicts.{Follows, IsLegal, facts_now, next, rules_now, verdict_by}}
+use Rattle.gx_history.specs.{declared.{facts.{Facts.Facts, RuleFigures.RuleFigures}, «record».{Asked.Asked, Fill.Fill, RecordData.RecordData, Request.Request, Step.Step, Verdict.Verdict}, report.{Message.Message, Report.Report}, live_order.LiveOrder.LiveOrder}, Asking.{facts, fits_role}, Executions.{Execution, done, executions, side_of, sides}, Live.{has_come, live, live_numbered, open_now, open_order}, Book.rest_numbers, LiveOrders.shares_open, InForce.is_entitled, Orders.{Order, ends_account, is_dead, order_numbered, orders, total}, Requests.{is_login, is_fill}, Rules.{BuiltIn, OfFile, applies, first_forbidding, name_of, written_order}, Streams.{command_answer, canceled_of, copies, copies_of, copy_of, day_end, ended_of, executed_message, expired_of, granted_code, report_of, reports_of, reports_of_denial, reports_of_execution, reports_of_grant, reports_of_verdict, stream, to_user}, Verdicts.{Follows, IsLegal, facts_now, next, rules_now, verdict_by}}
 use Rattle.gx_policy.specs.{declared.{policy.{FileRule.FileRule, PolicyData.PolicyData, Role.Role, User.User}, rule_name.RuleName.RuleName}, People.{account_of, account_of_role, is_officer, is_reader, is_trader, role_in, user_in}, RuleNames.{rules_before, rules_behind}}
-use Rattle.gx_streams.specs.Sending.{is_fill}
 use Rattle.gx_laws.proofs.{Requests_judged.{legal_keeps, verdict_left}, Streams_next.{copies_next, copies_none, stream_next, stream_none}, Orders_owned.{IsHisAccounts, orders_are_their_users}, Records_idle.others_not}
 
 -- the user neither trades nor gives commands

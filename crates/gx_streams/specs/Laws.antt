@@ -3,8 +3,8 @@ use Rattle.std.specs.{Prelude.{◌≡◌, ◌-◌, ◌<◌, ◌≤◌, ℕ, max,
 use Rattle.gx_units.specs.{Names.same_user, declared.names.UserName.UserName}
 use Rattle.gx_desk.specs.declared.Action.{Action}
 use Rattle.gx_policy.specs.{declared.policy.PolicyData.PolicyData, Lists.slice, People.{is_reader, role_in, user_in}}
-use Rattle.gx_history.specs.{declared.{«record».RecordData.RecordData, report.{Message.Message, Report.Report}, live_order.LiveOrder.LiveOrder}, Live.live, Orders.ends_account, Streams.{copies, ended_of, report_of, reports_of, stream, to_user}, Verdicts.IsLegal}
-use Rattle.gx_streams.specs.{Kept.{ReservedList, reserved_in, with_reserved_last, with_last, with_reserved}, Recorded.{IsRecorded, house_of}, declared.fill.ReportedFill.ReportedFill, Sending.{AreSent, IsMadeBy, KnowsReaders, is_fill}, Streams.{AllStreams, empty_streams, has_own_stream, on_list_of, reports_in, fill_reports, with_fill}, Telling.{each_with_more, end_messages, report_to, reports_to, shown_streams, reports_after, with_reports_to, with_all_reports, with_report}}
+use Rattle.gx_history.specs.{declared.{«record».RecordData.RecordData, report.{Message.Message, Report.Report}, live_order.LiveOrder.LiveOrder}, Live.live, Orders.ends_account, Streams.{copies, ended_of, report_of, reports_of, stream, to_user}, Verdicts.IsLegal, Requests.is_fill}
+use Rattle.gx_streams.specs.{Kept.{ReservedList, reserved_in, with_reserved_last, with_last, with_reserved}, Recorded.{IsRecorded, house_of}, declared.fill.ReportedFill.ReportedFill, Sending.{AreSent, IsMadeBy, KnowsReaders}, Streams.{AllStreams, empty_streams, has_own_stream, on_list_of, reports_in, fill_reports, with_fill}, Telling.{each_with_more, end_messages, report_to, reports_to, shown_streams, reports_after, with_reports_to, with_all_reports, with_report}}
 
 -- the record owes messages to one user alone
 abbrev pub OwesTo : PolicyData → List RecordData → RecordData → UserName → List Message → Type 0

@@ -1,5 +1,5 @@
 -- Whose fills each reader gets, and the fill that a record makes as it is told.
-use Rattle.std.specs.{Prelude.{◌≡◌, ℕ, Bool, true, false, IsFalse, List, [], ◌∷◌, Option, Some, None, is_some, option_map, if◌then◌else◌}, List.slice_get}
+use Rattle.std.specs.{Prelude.{◌≡◌, ℕ, IsFalse, List, [], ◌∷◌, Option, Some, None, is_some, option_map, if◌then◌else◌}, List.slice_get}
 use Rattle.gx_units.specs.declared.names.UserName.{UserName}
 use Rattle.gx_policy.specs.{declared.policy.{Account.Account, PolicyData.PolicyData}, People.{is_reader, role_in}}
 use Rattle.gx_history.specs.{declared.record.{Fill.Fill, RecordData.RecordData, Verdict.Verdict}, Executions.{Execution, sides}, InForce.is_entitled, Masks.mask_by, Streams.executed_message}
@@ -17,11 +17,6 @@ AreSent policy history streams = (user : UserName) → mask_of streams user ≡ 
 -- the readers are the policy's
 abbrev pub KnowsReaders : PolicyData → AllStreams → Type 0
 KnowsReaders policy streams = (user : UserName) → is_some (mask_of streams user) ≡ is_reader (role_in policy.users user)
-
--- the record makes a fill
-abbrev pub is_fill : Verdict → Bool
-is_fill (Verdict.Filled f) = true
-is_fill other = false
 
 -- a party's side of the told fill is this side of the record's, for an order of one who is no reader
 pub record IsSide (policy : PolicyData) (r : RecordData) (e : Execution) (f : ReportedFill) (party : FillRole) : Type 0 where

@@ -1,6 +1,6 @@
 //! One reader's spans.
 
-ghost use Rattle.std.specs.Prelude.{◌≡◌, ◌<◌, ◌+◌, ◌^◌, [], OnOk, OnErr};
+ghost use Rattle.std.specs.Prelude.{◌≡◌, ◌<◌, ◌+◌, ◌^◌, OnOk, OnErr};
 ghost use Rattle.gx_streams.specs.Spans.{with_copies_counted, entitled_from, no_spans};
 
 use crate::fill::ReportedFill;

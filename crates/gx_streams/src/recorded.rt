@@ -1,7 +1,7 @@
 //! Reports that the records tell.
 
 ghost use Rattle.std.specs.Prelude.{◌≡◌};
-ghost use Rattle.gx_streams.specs.Recorded.{accepted_at, accepted_from, enter_asked};
+ghost use Rattle.gx_streams.specs.Recorded.{accepted_at, accepted_from};
 
 use gx_history::record::{Asked, Request};
 use gx_history::records::Records;

@@ -1,6 +1,6 @@
 //! The streams of all users.
 
-ghost use Rattle.std.specs.{Prelude.{◌≡◌, ◌<◌, ◌^◌, ◌≤◌, [], ◌∷◌, ◌++◌, is_some, length, map, option_map, IsTrue, IfOk, IsOk, OnOk, OnErr}, List.{AllByRecursion, find}};
+ghost use Rattle.std.specs.{Prelude.{◌≡◌, ◌<◌, ◌^◌, ◌≤◌, [], is_some, length, option_map, IsTrue, IfOk, IsOk, OnOk, OnErr}, List.{AllByRecursion, find}};
 ghost use Rattle.gx_policy.specs.Lists.{slice};
 ghost use Rattle.gx_streams.specs.{Kept.{reserved_in, with_reserved_last, with_last, with_reserved}, Recorded.IsRecorded, Spans.{copies_in, is_named, AreNumbered}, Streams.{empty_streams, with_reader_entitled, has_own_stream, on_list_of, reports_in, with_fill}};
 

@@ -1,6 +1,6 @@
 //! Reports that are asked for, among those that pass by.
 
-ghost use Rattle.std.specs.Prelude.{◌≡◌, [], ◌∷◌, ◌&&◌, ◌==◌, nat_le, length, OnOk};
+ghost use Rattle.std.specs.Prelude.{◌≡◌, [], ◌∷◌, ◌&&◌, ◌==◌, length, OnOk};
 ghost use Rattle.gx_streams.specs.{Fills.{fill_copies, copies_of_all, fill_copy}, Spans.{copies_in, next_of, AreNumbered}, Windows.{taken_after, is_full, window}};
 
 use crate::fill::{FillRole, ReportedFill};

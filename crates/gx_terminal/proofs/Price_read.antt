@@ -1,19 +1,12 @@
 -- A price that is typed as it is shown is the same price.
-use Rattle.std.proofs.{Common.{◌≡◌, ℕ, zero, suc, ◌+◌, ◌*◌, ◌-◌, ◌/◌, ◌%◌, ◌^◌, ◌<◌, ◌≤◌, Bool, true, false, not, cond, ◌&&◌, List, [], ◌∷◌, ◌++◌, length, drop, replicate, fold, Some, None, refl, ap, ◌∙◌, arith, rules, decimal, nat_le, nat_lt, length-append, append_assoc}, lemmas.{Bool.{Decides.nat_tests, eqb-true, lt-ltb, le-leb}, List.length-replicate, Str.Parse.{IsNumeralModel, numerals_by_fold}, Fmt.{digits_value-decimal, decimal_is_IsNumeral, decimal_nonempty, length-decimal-le}}, Math.Seq.{take-append_seam, drop-append-add}}
+use Rattle.std.proofs.{Common.{◌≡◌, ℕ, zero, suc, ◌+◌, ◌*◌, ◌-◌, ◌/◌, ◌%◌, ◌^◌, ◌<◌, ◌≤◌, Bool, true, false, not, cond, ◌&&◌, List, [], ◌∷◌, ◌++◌, length, drop, replicate, Some, None, refl, ap, ◌∙◌, arith, rules, decimal, nat_le, nat_lt, length-append, append_assoc}, lemmas.{Bool.{Decides.nat_tests, eqb-true, lt-ltb, le-leb}, List.length-replicate, Fmt.{digits_value-decimal, decimal_is_IsNumeral, decimal_nonempty, length-decimal-le}}, Math.Seq.{take-append_seam, drop-append-add}}
 use Rattle.std.specs.{Int.IsInRange, Prelude.{◌==◌, position, option_map}, List.{list_all, position_or_len}, Char.is_ascii_digit}
-use Rattle.gx_soup.specs.Login.{with_digit, spelled_number}
+use Rattle.gx_soup.specs.Login.{spelled_number}
 use Rattle.gx_script_text.specs.Words.{is_empty, number_of_bits}
 use Rattle.gx_lines.specs.Showing.{price_decimals_text, price_text}
 use Rattle.gx_text.specs.Moments.{with_zeros}
 use Rattle.gx_terminal.specs.{Prices.{is_point, in_32_bits, decimals_of, pointed_price, price_at, price_of}, PriceLaws.PricesAreReadBack}
-use Rattle.gx_soup.proofs.Number_read.{digits_are}
-
-abbrev AreDigits : List ℕ → Type 0
-AreDigits [] = Unit {0}
-AreDigits (c ∷ cs) = IsInRange 48 57 c × AreDigits cs
-
-own : IsNumeralModel AreDigits spelled_number
-own = numerals_by_fold _ (search rules) (fold with_digit) (search rules)
+use Rattle.gx_soup.proofs.Number_read.{AreDigits, digits_are, numerals}
 
 -- what is known of the digits of a number
 record Spells (ds : List ℕ) (n : ℕ) : Type 0 where
@@ -23,8 +16,8 @@ record Spells (ds : List ℕ) (n : ℕ) : Type 0 where
 
 spells_decimal : (n : ℕ) → n < 2 ^ 64 → Spells (decimal n) n
 spells_decimal n h = record {
-  digits = own.from (decimal n) (decimal_is_IsNumeral n h).0.1;
-  value = digits_value-decimal own n h;
+  digits = numerals.from (decimal n) (decimal_is_IsNumeral n h).0.1;
+  value = digits_value-decimal numerals n h;
   some = decimal_nonempty n h;
 }
 

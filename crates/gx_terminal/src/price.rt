@@ -1,6 +1,6 @@
 //! Prices as a person writes them.
 
-ghost use Rattle.std.specs.Prelude.{◌≡◌, ◌*◌, ◌+◌, ◌-◌, ◌^◌, ◌<◌, length, nat_le, position, if◌then◌else◌, Some, None, IfSome};
+ghost use Rattle.std.specs.Prelude.{◌≡◌, ◌*◌, ◌+◌, ◌-◌, ◌^◌, ◌<◌, nat_le, position, if◌then◌else◌, Some, None, IfSome};
 ghost use Rattle.gx_terminal.specs.Prices.{is_point, in_32_bits, decimals_of, whole_price, pointed_price, price_of};
 
 use crate::words::number32;

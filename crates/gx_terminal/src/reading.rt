@@ -103,7 +103,7 @@ fn killed(word: &[u8]) -> Option<Wish>
 }
 
 #[tactic(auto, unfolding(crate::specs::Wishes::kill_wish))]
-fn kill_form(words: &mut LineWords) -> Result<Wish, WrongWord>
+fn kill_wish(words: &mut LineWords) -> Result<Wish, WrongWord>
     ensures { result ≡ kill_wish words.old }
 {
     let word = take_word(words, ExpectedInput::AccountOrAll)?;
@@ -112,7 +112,7 @@ fn kill_form(words: &mut LineWords) -> Result<Wish, WrongWord>
 }
 
 #[tactic(auto, unfolding(crate::specs::Wishes::lift_wish))]
-fn lift_form(words: &mut LineWords) -> Result<Wish, WrongWord>
+fn lift_wish(words: &mut LineWords) -> Result<Wish, WrongWord>
     ensures { result ≡ lift_wish words.old }
 {
     let bytes = take_name(words, ExpectedInput::Account)?;
@@ -120,7 +120,7 @@ fn lift_form(words: &mut LineWords) -> Result<Wish, WrongWord>
 }
 
 #[tactic(auto, unfolding(crate::specs::Wishes::limit_wish))]
-fn limit_form(words: &mut LineWords) -> Result<Wish, WrongWord>
+fn limit_wish(words: &mut LineWords) -> Result<Wish, WrongWord>
     ensures { result ≡ limit_wish words.old }
 {
     let bytes = take_name(words, ExpectedInput::Rule)?;
@@ -130,7 +130,7 @@ fn limit_form(words: &mut LineWords) -> Result<Wish, WrongWord>
 
 /// A rule and a stock.
 #[tactic(auto, unfolding(crate::specs::Wishes::stock_wish))]
-fn stock_form(words: &mut LineWords) -> Result<(RuleId, Symbol), WrongWord>
+fn stock_wish(words: &mut LineWords) -> Result<(RuleId, Symbol), WrongWord>
     ensures { result ≡ stock_wish words.old }
 {
     let rule = take_name(words, ExpectedInput::Rule)?;
@@ -140,7 +140,7 @@ fn stock_form(words: &mut LineWords) -> Result<(RuleId, Symbol), WrongWord>
 
 /// A reader and an account.
 #[tactic(auto, unfolding(crate::specs::Wishes::reader_wish))]
-fn reader_form(words: &mut LineWords) -> Result<(WrittenName, AccountName), WrongWord>
+fn reader_wish(words: &mut LineWords) -> Result<(WrittenName, AccountName), WrongWord>
     ensures { result ≡ reader_wish words.old }
 {
     let reader = take_name(words, ExpectedInput::Reader)?;
@@ -164,7 +164,7 @@ fn closing(word: &[u8]) -> Option<Wish>
 }
 
 #[tactic(auto, unfolding(crate::specs::Wishes::close_wish))]
-fn close_form(words: &mut LineWords) -> Result<Wish, WrongWord>
+fn close_wish(words: &mut LineWords) -> Result<Wish, WrongWord>
     ensures { result ≡ close_wish words.old }
 {
     let word = take_word(words, ExpectedInput::Yes)?;
@@ -174,36 +174,36 @@ fn close_form(words: &mut LineWords) -> Result<Wish, WrongWord>
 
 /// The command that the word names, of the words behind it.
 #[tactic(auto, unfolding(crate::specs::Wishes::command_wish))]
-fn command_form(form: &[u8], words: &mut LineWords) -> Result<Wish, WrongWord>
+fn command_wish(form: &[u8], words: &mut LineWords) -> Result<Wish, WrongWord>
     ensures { result ≡ command_wish form.now words.old }
 {
     if is(form, b"kill") {
-        return kill_form(words);
+        return kill_wish(words);
     }
     if is(form, b"lift") {
-        return lift_form(words);
+        return lift_wish(words);
     }
     if is(form, b"limit") {
-        return limit_form(words);
+        return limit_wish(words);
     }
     if is(form, b"restrict") {
-        let (rule, stock) = stock_form(words)?;
+        let (rule, stock) = stock_wish(words)?;
         return Ok(Wish::Ask(Action::Restrict(rule, stock)));
     }
     if is(form, b"unrestrict") {
-        let (rule, stock) = stock_form(words)?;
+        let (rule, stock) = stock_wish(words)?;
         return Ok(Wish::Ask(Action::Unrestrict(rule, stock)));
     }
     if is(form, b"grant") {
-        let (reader, account) = reader_form(words)?;
+        let (reader, account) = reader_wish(words)?;
         return Ok(Wish::Ask(Action::Grant(reader, account)));
     }
     if is(form, b"revoke") {
-        let (reader, account) = reader_form(words)?;
+        let (reader, account) = reader_wish(words)?;
         return Ok(Wish::Ask(Action::Revoke(reader, account)));
     }
     if is(form, b"close") {
-        return close_form(words);
+        return close_wish(words);
     }
     Err(WrongWord {
         word: words.taken(),
@@ -234,7 +234,7 @@ fn take_lifetime(words: &mut LineWords) -> Result<Lifetime, WrongWord>
 }
 
 #[tactic(auto, unfolding(crate::specs::Wishes::enter_wish))]
-fn enter_form(side: Side, words: &mut LineWords) -> Result<Wish, WrongWord>
+fn enter_wish(side: Side, words: &mut LineWords) -> Result<Wish, WrongWord>
     ensures { result ≡ enter_wish side words.old }
 {
     let shares = take_number32(words, ExpectedInput::Shares)?;
@@ -252,7 +252,7 @@ fn enter_form(side: Side, words: &mut LineWords) -> Result<Wish, WrongWord>
 }
 
 #[tactic(auto, unfolding(crate::specs::Wishes::replace_wish))]
-fn replace_form(words: &mut LineWords) -> Result<Wish, WrongWord>
+fn replace_wish(words: &mut LineWords) -> Result<Wish, WrongWord>
     ensures { result ≡ replace_wish words.old }
 {
     let token = take_name(words, ExpectedInput::Token)?;
@@ -279,7 +279,7 @@ fn take_size(words: &mut LineWords) -> Result<u32, WrongWord>
 }
 
 #[tactic(auto, unfolding(crate::specs::Wishes::cancel_wish))]
-fn cancel_form(words: &mut LineWords) -> Result<Wish, WrongWord>
+fn cancel_wish(words: &mut LineWords) -> Result<Wish, WrongWord>
     ensures { result ≡ cancel_wish words.old }
 {
     let bytes = take_name(words, ExpectedInput::Token)?;
@@ -297,18 +297,18 @@ fn order_form(form: &[u8], words: &mut LineWords) -> Result<Wish, WrongWord>
     ensures { result ≡ order_form form.now words.old }
 {
     if is(form, b"buy") {
-        return enter_form(Side::Buy, words);
+        return enter_wish(Side::Buy, words);
     }
     if is(form, b"sell") {
-        return enter_form(Side::Sell, words);
+        return enter_wish(Side::Sell, words);
     }
     if is(form, b"replace") {
-        return replace_form(words);
+        return replace_wish(words);
     }
     if is(form, b"cancel") {
-        return cancel_form(words);
+        return cancel_wish(words);
     }
-    command_form(form, words)
+    command_wish(form, words)
 }
 
 /// What the word names, of the words behind it.

@@ -1,12 +1,12 @@
 //! The words of a line, and what a word can stand for.
 
 ghost use Rattle.std.specs.{Prelude.{◌≡◌, ◌+◌, ◌≤◌, ◌^◌, length, ◌∷◌, [], IsFalse, slice_index, position, MatchOption}, List.list_all, Char.is_ascii_digit};
-ghost use Rattle.gx_units.specs.Spelling.{is_space};
-ghost use Rattle.gx_script_text.specs.Words.{is_visible_byte, is_name, is_number, padded_name, number_of_bits};
+ghost use Rattle.gx_units.specs.Spelling.{is_space, is_visible};
+ghost use Rattle.gx_script_text.specs.Words.{is_name, is_number, padded_name, number_of_bits};
 ghost use Rattle.gx_terminal.specs.Cursor.{words_between, left_of};
 
 use gx_soup::spelled_value;
-use gx_units::padded;
+use gx_units::{is_visible, padded};
 use std::marker::Model;
 
 /// The words that are left of a line. Contracts see how many were taken, and the list of those that are left.
@@ -108,9 +108,9 @@ fn is_name(word: &[u8]) -> bool
 }
 
 fn are_visible(text: &[u8]) -> bool
-    ensures { result ≡ list_all is_visible_byte text.now }
+    ensures { result ≡ list_all is_visible text.now }
 {
-    text.iter().all(|byte| *byte >= b'!' && *byte <= b'~')
+    text.iter().all(|byte| is_visible(*byte))
 }
 
 fn is_number(word: &[u8]) -> bool

@@ -1,7 +1,8 @@
 -- Only characters that are seen are shown.
 use Rattle.std.proofs.{Common.{◌≡◌, ℕ, ◌/◌, ◌%◌, ◌<◌, Bool, true, false, not, cond, List, [], ◌∷◌, ◌++◌, codes, refl, ◌∙◌, ap, arith}, lemmas.{Bool.{Decides.nat_tests, and_parts}, List.Folds.list_all-append}}
 use Rattle.std.specs.{Prelude.{◌==◌, ◌&&◌, ◌||◌, nat_lt, flat_map}, List.list_all}
-use Rattle.gx_text.specs.{Laws.{JsonIsPrinted, ShownIsVisible, are_bytes}, Shown.{hex_digit, hex_pair, is_printed, is_visible, json_byte, shown_byte}}
+use Rattle.gx_units.specs.Spelling.{is_visible}
+use Rattle.gx_text.specs.{Laws.{JsonIsPrinted, ShownIsVisible, are_bytes}, Shown.{hex_digit, hex_pair, is_printed, json_byte, shown_byte}}
 
 hex_visible : (digit : ℕ) → digit < 16 → is_visible (hex_digit digit) ≡ true
 hex_visible digit small = grind (arith, nat_tests)

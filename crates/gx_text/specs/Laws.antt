@@ -1,6 +1,7 @@
 -- What the definitions say of all bytes that a peer may choose.
 use Rattle.std.specs.{Prelude.{ℕ, ◌≡◌, ◌==◌, nat_lt, Bool, true, false, IsTrue, List, [], ◌∷◌, ◌++◌, drop, Option, Some, None, if◌then◌else◌}, List.list_all}
-use Rattle.gx_text.specs.Shown.{is_printed, is_visible, json_string, shown_text}
+use Rattle.gx_units.specs.Spelling.{is_visible}
+use Rattle.gx_text.specs.Shown.{is_printed, json_string, shown_text}
 
 abbrev pub are_bytes : List ℕ → Bool
 are_bytes bytes = list_all (λ byte. nat_lt byte 256) bytes

@@ -1,10 +1,6 @@
 -- Bytes that a peer chose, shown in a text and in JSON.
-use Rattle.std.specs.Prelude.{ℕ, ◌+◌, ◌/◌, ◌%◌, Bool, not, ◌&&◌, ◌||◌, ◌==◌, nat_le, nat_lt, if◌then◌else◌, List, [], ◌∷◌, ◌++◌, codes, flat_map}
-use Rattle.gx_units.specs.Spelling.{without_right_spaces}
-
--- a character that is seen: one of `!` to `~`
-abbrev pub is_visible : ℕ → Bool
-is_visible byte = nat_le 33 byte && nat_le byte 126
+use Rattle.gx_units.specs.Spelling.{is_visible, without_right_spaces}
+use Rattle.std.specs.Prelude.{ℕ, ◌+◌, ◌/◌, ◌%◌, Bool, not, ◌&&◌, ◌||◌, ◌==◌, nat_lt, if◌then◌else◌, List, [], ◌∷◌, ◌++◌, codes, flat_map}
 
 -- a character that is seen, or a space
 abbrev pub is_printed : ℕ → Bool

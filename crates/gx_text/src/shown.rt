@@ -1,17 +1,10 @@
 //! Bytes that a peer chose, shown in a text and in JSON.
 
 ghost use Rattle.std.specs.Prelude.{◌≡◌, ◌<◌, ◌++◌, flat_map, OnOk};
-ghost use Rattle.gx_text.specs.Shown.{is_printed, is_visible, hex_digit, hex_pair, shown_byte, shown_text, json_byte, json_string, shown_name, json_name};
+ghost use Rattle.gx_text.specs.Shown.{is_printed, hex_digit, hex_pair, shown_byte, shown_text, json_byte, json_string, shown_name, json_name};
 
 use crate::appending::append;
-use gx_units::{OutOfMemory, unpadded};
-
-/// Whether the byte is a character that is seen: one of `!` to `~`.
-fn is_visible(byte: u8) -> bool
-    ensures { result ≡ is_visible byte }
-{
-    byte >= b'!' && byte <= b'~'
-}
+use gx_units::{OutOfMemory, is_visible, unpadded};
 
 /// Whether the byte is a character that is seen, or a space.
 fn is_printed(byte: u8) -> bool

@@ -1,12 +1,12 @@
 -- What is kept answers as the records of a legal day do.
-use Rattle.std.proofs.{Common.{◌≡◌, Bool, true, false, List, [], ◌∷◌, ◌++◌, map, refl, ◌∙◌, sym, ap, cond, ℕ}, lemmas.Bool.{not-false, and_parts}}
-use Rattle.std.specs.Prelude.{Option, Some, None, option_and_then, unwrap_or, is_some, find}
+use Rattle.std.proofs.{Common.{◌≡◌, Bool, true, false, List, [], ◌∷◌, ◌++◌, map, refl, ◌∙◌, sym, ap, cond}}
+use Rattle.std.specs.Prelude.{Option, Some, None, option_and_then, is_some, find}
 use Rattle.gx_units.specs.{Names.{same_account, same_user}, declared.names.{AccountName.AccountName, UserName.UserName}}
 use Rattle.gx_units.proofs.Names_equal.{account_is, user_is}
 use Rattle.gx_desk.specs.declared.{Action.Action, Command.Command}
-use Rattle.gx_policy.specs.{declared.{policy.{Account.Account, PolicyData.PolicyData, User.User}, rule_name.RuleName.TheVariants.{L1, Q1}}, Lists.where_true, People.{account_named, user_in}}
-use Rattle.gx_history.specs.{declared.«record».{Asked.Asked, Login.Login, RecordData.RecordData, Request.Request, Step.Step, Verdict.Verdict}, Asking.{facts, knows_names, knows_user, of_command}, InForce.{is_closed, kill_after, kill_in_force, kill_or_lift_of, line_by, line_of}, Requests.{action_of, granted_of}, Rules.forbids, Verdicts.{Follows, IsLegal, facts_now, last_moment, next}}
-use Rattle.gx_laws.proofs.{Requests_judged.{legal_keeps, is_no_bar}, Kills_next.{kill_in_force_next, kill_in_force_none}, InForce_next.{line_of_next, line_of_none}, Orders_listed.was_granted, Lines_known.{command_is_known, unknown_on_no_line}}
+use Rattle.gx_policy.specs.{declared.{policy.{Account.Account, PolicyData.PolicyData, User.User}}, Lists.where_true, People.{account_named, user_in}}
+use Rattle.gx_history.specs.{declared.«record».{Asked.Asked, Login.Login, RecordData.RecordData, Request.Request, Step.Step, Verdict.Verdict}, Asking.knows_names, InForce.{is_closed, kill_after, kill_in_force, kill_or_lift_of, line_of}, Requests.{action_of, granted_of}, Verdicts.{Follows, IsLegal, last_moment, next}}
+use Rattle.gx_laws.proofs.{Requests_judged.legal_keeps, Kills_next.{kill_in_force_next, kill_in_force_none}, Orders_listed.was_granted, Lines_known.{command_is_known, unknown_on_no_line}}
 use Rattle.gx_trading_status.specs.{StatusData.{AccountKill, UserLine, kill_in, line_in}, InForce.{status_in_force, kill_now, line_now}}
 
 -- an account that is not known is not killed

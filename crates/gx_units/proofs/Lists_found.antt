@@ -1,5 +1,5 @@
 -- What is found in a list: by a test, by a function, and by its place.
-use Rattle.std.proofs.{Common.{◌≡◌, ◌≢◌, ℕ, zero, suc, ◌+◌, ◌<◌, ◌≤◌, Bool, true, false, cond, List, [], ◌∷◌, ◌++◌, get_or, length, map, take, refl, ◌∙◌, sym, ap, arith, take_all, length-take}, lemmas.Option.same_Some}
+use Rattle.std.proofs.{Common.{◌≡◌, ◌≢◌, ℕ, zero, suc, ◌+◌, ◌<◌, ◌≤◌, Bool, true, false, cond, List, [], ◌∷◌, ◌++◌, length, map, take, refl, ◌∙◌, sym, ap, arith, append_assoc, take_all, length-take}, lemmas.Option.same_Some}
 use Rattle.std.specs.{Prelude.{Option, Some, None, find, option_to_list, slice_get, ◌||◌}, List.{cons_option, filter, filter_map, list_any}}
 
 pub one_found : {Y : Type 0} (found : Option Y) → cons_option found [] ≡ option_to_list found
@@ -87,3 +87,7 @@ one_more_taken (y ∷ xs) (suc place) x found = ap (λ n. take n (y ∷ xs)) (on
 -- fewer than were asked for are all
 pub all_taken : {X : Type 0} (xs : List X) (most : ℕ) → length (take most xs) < most → take most xs ≡ xs
 all_taken xs most h = take_all most xs (omega (arith, h, length-take most xs))
+
+-- four pieces, grouped in another way
+pub append_regrouped : {X : Type 0} (a f r z : List X) → a ++ ((f ++ r) ++ z) ≡ (a ++ f) ++ (r ++ z)
+append_regrouped a f r z = simp append_assoc

@@ -1,6 +1,6 @@
 -- What holds of each element, by recursion on the list as definitions say it: std's lemmas, over the same by places, and a few more.
-use Rattle.std.proofs.{Common.{◌≡◌, Bool, true, false, cond, List, [], ◌∷◌, ◌++◌, map, refl, subst}, lemmas.{List.{Elements.{All-append, All-filter, All-from_recursion, All-map, All-push, All-weaker, filter_passes, recursion_from_All}, Sums.{AllPass-from_list_all, list_all-from_AllPass}}, Option.same_Some}}
-use Rattle.std.specs.{Prelude.{Option, Some, None, find, ◌||◌}, List.{AllByRecursion, cons_option, filter, filter_map, list_all, list_any, slice_index_or}}
+use Rattle.std.proofs.{Common.{◌≡◌, ℕ, ◌<◌, get_or, Bool, true, false, cond, List, [], ◌∷◌, ◌++◌, map, refl, subst}, lemmas.{List.{Elements.{All-append, All-filter, All-from_recursion, All-map, All-push, All-weaker, filter_passes, recursion_from_All}, Sums.{AllPass-from_list_all, list_all-from_AllPass}}, Option.same_Some}}
+use Rattle.std.specs.{Prelude.{Option, Some, None, find}, List.{AllByRecursion, cons_option, filter, filter_map, list_all, list_any, slice_index_or}}
 use Rattle.gx_units.proofs.Test_known.{left_false, right_false}
 
 pub every : {X : Type 0} (P : X → Type 0) → ((x : X) → P x) → (xs : List X) → AllByRecursion P xs
@@ -62,3 +62,7 @@ none_pass p (x ∷ xs) h = (left_false (p x) (list_any p xs) h, none_pass p xs (
 
 pub all_imply : {X : Type 0} (p q : X → Bool) (xs : List X) → ((x : X) → p x ≡ true → q x ≡ true) → list_all p xs ≡ true → list_all q xs ≡ true
 all_imply p q xs step h = list_all-from_AllPass q xs (λ k d within. step _ (AllPass-from_list_all p xs h k d within))
+
+-- each is a byte
+abbrev pub IsBytes : List ℕ → Type 0
+IsBytes bytes = (i : ℕ) → get_or bytes i 0 < 256

@@ -1,5 +1,10 @@
 -- What a test is beside one whose answer is known.
 use Rattle.std.proofs.Common.{◌≡◌, ℕ, Bool, true, false, cond, refl, ◌&&◌, ◌||◌}
+use Rattle.std.specs.Prelude.{IsTrue}
+
+pub is_true : (b : Bool) → IsTrue b → b ≡ true
+is_true true h = refl
+is_true false h = cc
 
 pub and_true : (b : Bool) → (b && true) ≡ b
 and_true true = refl

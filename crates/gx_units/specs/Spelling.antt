@@ -1,9 +1,13 @@
 -- How fixed fields spell names: spaces fill them up, and some are compared in one case of letters.
-use Rattle.std.specs.{Prelude.{ℕ, Bool, ◌==◌, ◌-◌, List, [], ◌∷◌, ◌++◌, length, replicate, if◌then◌else◌}, List.list_all, Str.str_to_ascii_uppercase}
+use Rattle.std.specs.{Prelude.{ℕ, Bool, ◌&&◌, nat_le, ◌==◌, ◌-◌, List, [], ◌∷◌, ◌++◌, length, replicate, if◌then◌else◌}, List.list_all, Str.str_to_ascii_uppercase}
 use Rattle.gx_units.specs.declared.names.{UserName.UserName, Password.Password, SessionName.SessionName}
 
 abbrev pub is_space : ℕ → Bool
 is_space byte = byte == 32
+
+-- a character that is seen: one of `!` to `~`
+abbrev pub is_visible : ℕ → Bool
+is_visible byte = nat_le 33 byte && nat_le byte 126
 
 -- nothing but spaces
 abbrev pub is_blank : List ℕ → Bool

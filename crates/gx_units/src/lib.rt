@@ -11,4 +11,4 @@ pub use names::{
     AccountName, Firm, LoginRejection, OutOfMemory, Password, RuleId, SessionName, Symbol, Token,
     UserName,
 };
-pub use spelling::{padded, trimmed, unpadded};
+pub use spelling::{is_visible, padded, trimmed, unpadded};

@@ -1,7 +1,15 @@
 //! How a name fills its field.
 
 ghost use Rattle.std.specs.Prelude.{◌≡◌, ◌≤◌, length, Some, None, nat_le, if◌then◌else◌};
-ghost use Rattle.gx_units.specs.Spelling.{is_blank, padded_to, trimmed_text, without_left_spaces, without_right_spaces};
+ghost use Rattle.gx_units.specs.Spelling.{is_visible, padded_to, trimmed_text, without_left_spaces, without_right_spaces};
+
+/// Whether the byte is a character that is seen: one of `!` to `~`.
+#[inline]
+pub fn is_visible(byte: u8) -> bool
+    ensures { result ≡ is_visible byte }
+{
+    byte >= b'!' && byte <= b'~'
+}
 
 /// The text with spaces behind it, or None where the field is too short for it.
 pub fn padded<const N: usize>(text: &[u8]) -> Option<[u8; N]>

@@ -8,10 +8,7 @@ use Rattle.gx_history.specs.{declared.record.RecordData.RecordData, InForce.{cha
 use Rattle.gx_laws.proofs.InForce_next.{rules_in_force_next}
 use Rattle.gx_records.specs.State.{limit_in_force}
 use Rattle.gx_peaks.specs.Touching.{set_by, sets_limit}
-use Rattle.gx_peaks.proofs.Limit_kept.{limit_is_kept}
-
-abbrev limit_among : List FileRule → RuleId → Option ℕ
-limit_among rules name = option_and_then (λ (rule : FileRule). limit_of rule.kind) (rule_in rules name)
+use Rattle.gx_peaks.proofs.Limit_kept.{limit_among, limit_is_kept}
 
 none_by_kind : (limit : ℕ) (kind : RuleKind) → limit_of kind ≡ None → limit_of (with_limit limit kind) ≡ None
 none_by_kind limit (RuleKind.Listed kind stocks) h = h

@@ -1,7 +1,5 @@
 //! How the warnings are kept while the records of a day are made again.
 
-ghost use Rattle.std.specs.Prelude.{◌≡◌};
-
 use crate::warnings::Warnings;
 use gx_history::record::RecordData;
 use gx_peaks::touched::gains_of;

@@ -4,7 +4,7 @@ use Rattle.std.specs.Prelude.{Option, Some, None, count_by, option_and_then}
 use Rattle.gx_units.specs.declared.names.{AccountName.AccountName, RuleId.RuleId}
 use Rattle.gx_units.proofs.{Names_equal.{account_is, rule_is, account_is_itself}, Lists_found.map_same}
 use Rattle.gx_policy.specs.{declared.{policy.PolicyData.PolicyData, rule_name.RuleName.RuleName}, Lists.once, People.account_of, RuleNames.rule_id}
-use Rattle.gx_endings.specs.Commands.{denied_by}
+use Rattle.gx_history.specs.Requests.{denied_by}
 use Rattle.gx_overview.specs.Accounts.{capped_count}
 use Rattle.gx_activity.proofs.{Counts_next.one_more_is, Counts_bounds.fits, Table_next.table_from}
 use Rattle.gx_whatif.specs.{contracts.heading.HeadingPartialEq.TheImpl.{eq-value}, declared.{change.VerdictChange.VerdictChange, heading.{Heading.Heading, HeadingRow.HeadingRow}}, Counting.{counted_each, heading_uncounted, heading_once_more, heading_count, heading_table}, Headings.{all_headings, denied_no_more, denied_now, heading_row, heading_rows, headings, heading_of_account, same_heading}}

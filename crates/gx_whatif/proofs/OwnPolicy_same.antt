@@ -4,7 +4,7 @@ use Rattle.std.specs.{Prelude.{Option, Some, None, option_map, option_to_list, u
 use Rattle.gx_policy.specs.{declared.policy.PolicyData.PolicyData, RuleNames.rule_id}
 use Rattle.gx_history.specs.{declared.{live_order.LiveOrder.LiveOrder, «record».{RecordData.RecordData, Verdict.Verdict}}, Live.waiting, Verdicts.{Follows, after_step, next}}
 use Rattle.gx_laws.proofs.{Requests_judged.legal_keeps, Orders_numbered.next_number, Runs_legal.idle_where_none_waits, Matches_end.settled_idle}
-use Rattle.gx_whatif.specs.{declared.change.VerdictChange.VerdictChange, Redone.{Redone, redone_with, is_at_rest, is_none, settled_where, redone_under, with_more}, Differing.{change_of, change_where, verdict_changes, in_day, is_as_told, same_verdict, source_of, verdict_behind}, Laws.{NothingDiffersUnderItsOwn}}
+use Rattle.gx_whatif.specs.{declared.change.VerdictChange.VerdictChange, Redone.{Redone, redone_with, is_at_rest, is_none, settled_where, redone_under, with_more}, Differing.{change_of, change_where, verdict_changes, in_day, same_verdict, source_of, verdict_behind}, Laws.NothingDiffersUnderItsOwn}
 use Rattle.gx_whatif.proofs.OtherDay_next.{changes_next, under_next}
 
 -- each number is that of its own record

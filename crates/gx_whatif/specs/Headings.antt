@@ -2,7 +2,7 @@
 use Rattle.std.specs.{Prelude.{Bool, true, false, List, [], ◌∷◌, ◌++◌, count_by, map, Option, Some, None, option_and_then}, List.flat_map}
 use Rattle.gx_units.specs.{Names.{same_account, same_rule}, declared.names.AccountName.AccountName}
 use Rattle.gx_policy.specs.{declared.{policy.PolicyData.PolicyData, rule_name.RuleName.RuleName}, Lists.once, People.account_of, RuleNames.rule_id}
-use Rattle.gx_endings.specs.Commands.{denied_by}
+use Rattle.gx_history.specs.Requests.{denied_by}
 use Rattle.gx_whatif.specs.declared.{change.VerdictChange.VerdictChange, heading.{Heading.Heading, HeadingRow.HeadingRow}}
 
 -- the same sort of heading, of the same rule or account

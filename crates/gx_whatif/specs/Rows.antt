@@ -1,8 +1,8 @@
 -- Days on the sample policy under others, worked by hand.
 use Rattle.std.specs.Prelude.{◌≡◌, ℕ, List, [], ◌∷◌, codes, map, Option, Some, None}
-use Rattle.gx_policy.specs.declared.policy.PolicyData.{PolicyData}
+use Rattle.gx_policy.specs.{declared.policy.PolicyData.PolicyData, Samples.{alice, bob, with_rules, sample}}
 use Rattle.gx_history.specs.{declared.record.{Step.Step, Verdict.Verdict}, Verdicts.run}
-use Rattle.gx_worked_examples.specs.Sample.{alice, bob, sample, with_rules, login, buys, sells, matches, granted, denied_by, filled}
+use Rattle.gx_worked_examples.specs.Sample.{login, buys, sells, matches, granted, denied_by_rule, filled}
 use Rattle.gx_whatif.specs.{declared.change.VerdictChange.VerdictChange, Differing.verdict_changes}
 
 -- a change by its number, and the two verdicts
@@ -37,7 +37,7 @@ a_rule_comes_steps =
 -- a rule that comes denies her order, and its matching steps find none waiting
 abbrev pub ARuleComes : Type 0
 ARuleComes = changes_of ruleless sample a_rule_comes_steps
-    ≡ change_row 5 granted (Some (denied_by (codes "GROSS"))) ∷ change_row 6 (filled 5 3 100 10000) None ∷ change_row 7 (Verdict.Rested 5) None ∷ []
+    ≡ change_row 5 granted (Some (denied_by_rule (codes "GROSS"))) ∷ change_row 6 (filled 5 3 100 10000) None ∷ change_row 7 (Verdict.Rested 5) None ∷ []
 
 -- GROSS denies what ALICE buys, and BOB's sell finds nobody
 abbrev pub a_rule_goes_steps : List Step
@@ -53,4 +53,4 @@ a_rule_goes_steps =
 -- day
 abbrev pub ARuleGoes : Type 0
 ARuleGoes = changes_of sample ruleless a_rule_goes_steps
-    ≡ change_row 3 (denied_by (codes "GROSS")) (Some granted) ∷ change_row 5 (Verdict.Rested 4) (Some (filled 4 3 100 10000)) ∷ []
+    ≡ change_row 3 (denied_by_rule (codes "GROSS")) (Some granted) ∷ change_row 5 (Verdict.Rested 4) (Some (filled 4 3 100 10000)) ∷ []

@@ -1,7 +1,7 @@
 //! How many changes come under each heading.
 
 ghost use Rattle.std.specs.{Map.lookup, Prelude.{◌≡◌, IfOk, OnOk, map, option_and_then, unwrap_or}};
-ghost use Rattle.gx_endings.specs.Commands.{denied_by};
+ghost use Rattle.gx_history.specs.Requests.{denied_by};
 ghost use Rattle.gx_whatif.specs.{Counting.{counted_each, heading_counted, heading_uncounted, heading_once_more, heading_table}, Headings.{all_headings, denied_no_more, denied_now, heading_rows, headings, heading_of_account, same_heading}};
 ghost use Rattle.gx_policy.specs.People.{account_of_role, role_in};
 
@@ -46,22 +46,12 @@ impl HeadingRow {
     }
 }
 
-/// The rule that denied, if one did.
-fn denied_by(verdict: &Verdict) -> Option<RuleName>
-    ensures { result ≡ denied_by verdict.now }
-{
-    match verdict {
-        Verdict::Denied(rule) => Some(*rule),
-        _ => None,
-    }
-}
-
 /// The rule that denies under the other policy, if one does.
 fn denier(told: &Option<Verdict>) -> Option<RuleName>
     ensures { result ≡ option_and_then denied_by told.now }
 {
     match told {
-        Some(verdict) => denied_by(verdict),
+        Some(verdict) => verdict.denied_by(),
         None => None,
     }
 }
@@ -146,7 +136,7 @@ fn count_change(
         ≡ counted_each table.old.entries (headings policy.now change.now)) }
 {
     count_denied_now(table, denier(&change.told))?;
-    count_denied_no_more(table, denied_by(&change.recorded))?;
+    count_denied_no_more(table, change.recorded.denied_by())?;
     count(table, of_account(account_of(people, change.user)))
 }
 

@@ -1,9 +1,9 @@
 -- Runs on the sample policy with commands of officers.
 use Rattle.std.specs.Prelude.{◌≡◌, List, [], ◌∷◌, codes}
 use Rattle.gx_desk.specs.declared.Action.{Action}
-use Rattle.gx_policy.specs.declared.rule_name.RuleName.{RuleName}
+use Rattle.gx_policy.specs.{declared.rule_name.RuleName.RuleName, Samples.{alfa, beta, alice, bob, olga, otto, rita, test_stock, sample}}
 use Rattle.gx_history.specs.{declared.record.{Step.Step, Verdict.Verdict}, Verdicts.run}
-use Rattle.gx_worked_examples.specs.Sample.{alfa, beta, alice, bob, olga, otto, rita, written_rita, test_stock, rule, sample, login, logs_out, buys, sells, commands, matches, verdicts_of, granted, denied, denied_by, filled}
+use Rattle.gx_worked_examples.specs.Sample.{written_rita, rule, login, logs_out, buys, sells, commands, matches, verdicts_of, granted, denied, denied_by_rule, filled}
 
 -- a killed account's sweep ends between two fills
 abbrev pub a_kill_ends_a_sweep_steps : List Step
@@ -79,7 +79,7 @@ a_set_limit_is_in_force_steps =
 -- what comes of these steps
 abbrev pub ASetLimitIsInForce : Type 0
 ASetLimitIsInForce = verdicts_of (run sample a_set_limit_is_in_force_steps)
-    ≡ granted ∷ granted ∷ granted ∷ denied_by (codes "SIZE") ∷ denied RuleName.Q1 ∷ granted ∷ granted ∷ []
+    ≡ granted ∷ granted ∷ granted ∷ denied_by_rule (codes "SIZE") ∷ denied RuleName.Q1 ∷ granted ∷ granted ∷ []
 
 -- commands that name nothing or change nothing, and the end of the day
 abbrev pub useless_commands_are_denied_steps : List Step

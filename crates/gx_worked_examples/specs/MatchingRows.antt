@@ -1,7 +1,8 @@
 -- Runs on the sample policy in which orders meet.
 use Rattle.std.specs.Prelude.{◌≡◌, List, [], ◌∷◌, codes}
 use Rattle.gx_history.specs.{declared.record.{Step.Step, Verdict.Verdict}, Settling.settled_records, Verdicts.run}
-use Rattle.gx_worked_examples.specs.Sample.{alice, bob, sample, login, enter, buys, sells, cancels, matches, verdicts_of, granted, filled}
+use Rattle.gx_policy.specs.Samples.{alice, bob, sample}
+use Rattle.gx_worked_examples.specs.Sample.{login, enter, buys, sells, cancels, matches, verdicts_of, granted, filled}
 
 -- matching goes on until no order waits
 abbrev pub settling_takes_all_that_wait_steps : List Step

@@ -1,8 +1,8 @@
 -- Runs on the sample policy with orders of traders.
 use Rattle.std.specs.Prelude.{◌≡◌, true, false, List, [], ◌∷◌, codes}
 use Rattle.gx_history.specs.{declared.record.{Request.Request, Step.Step, Verdict.Verdict}, Verdicts.run}
-use Rattle.gx_policy.specs.declared.rule_name.RuleName.{RuleName}
-use Rattle.gx_worked_examples.specs.Sample.{alice, bob, olga, sample, login, login_with, logs_out, sends_nonsense, enter, buys, sells, replaces, cancels, matches, verdicts_of, granted, denied, denied_by, filled}
+use Rattle.gx_policy.specs.{declared.rule_name.RuleName.RuleName, Samples.{alice, bob, olga, sample}}
+use Rattle.gx_worked_examples.specs.Sample.{login, login_with, logs_out, sends_nonsense, enter, buys, sells, replaces, cancels, matches, verdicts_of, granted, denied, denied_by_rule, filled}
 
 -- a token serves once
 abbrev pub a_used_token_is_denied_steps : List Step
@@ -90,8 +90,8 @@ sizes_and_prices_are_checked_steps =
 -- what comes of these steps
 abbrev pub SizesAndPricesAreChecked : Type 0
 SizesAndPricesAreChecked = verdicts_of (run sample sizes_and_prices_are_checked_steps)
-    ≡ granted ∷ denied_by (codes "SIZE") ∷ denied_by (codes "SIZE") ∷ denied RuleName.P5 ∷ denied RuleName.P5 ∷
-    denied_by (codes "GROSS") ∷ denied RuleName.P6 ∷ denied RuleName.P6 ∷ denied RuleName.P6 ∷ denied RuleName.P6 ∷
+    ≡ granted ∷ denied_by_rule (codes "SIZE") ∷ denied_by_rule (codes "SIZE") ∷ denied RuleName.P5 ∷ denied RuleName.P5 ∷
+    denied_by_rule (codes "GROSS") ∷ denied RuleName.P6 ∷ denied RuleName.P6 ∷ denied RuleName.P6 ∷ denied RuleName.P6 ∷
     denied RuleName.G1 ∷ []
 
 -- an immediate order that meets nothing ends

@@ -3,8 +3,8 @@ use Rattle.std.specs.{Prelude.{◌≡◌, ℕ, List, [], ◌∷◌, ◌++◌, co
 use Rattle.gx_desk.specs.{declared.DropCopy.DropCopy, Writing.drop_copy_bytes}
 use Rattle.gx_ouch.specs.declared.{letters.{Liquidity.Liquidity, CancelReason.CancelReason, EventCode.EventCode, RejectReason.RejectReason}, outbound.{OrderTerms.OrderTerms, Outbound.Outbound}}
 use Rattle.gx_history.specs.{declared.{«record».Step.Step, report.{Message.Message, Report.Report}}, Showing.is_showable, Streams.stream, Verdicts.run}
-use Rattle.gx_policy.specs.Soundness.{is_sound}
-use Rattle.gx_worked_examples.specs.{Sample.{sample, alfa, alice, token, test_stock}, OrderRows.{cancels_lower_the_size_steps, a_replace_loses_its_place_steps, immediate_orders_expire_steps}, CommandRows.{a_kill_ends_a_sweep_steps, a_lift_lets_trade_again_steps, a_kill_stands_until_the_lift_steps, useless_commands_are_denied_steps}, MatchingRows.a_cut_order_keeps_its_place_steps, RuleRows.value_above_the_limit_steps}
+use Rattle.gx_policy.specs.{Soundness.is_sound, Samples.{alfa, alice, test_stock, sample}}
+use Rattle.gx_worked_examples.specs.{Sample.token, OrderRows.{cancels_lower_the_size_steps, a_replace_loses_its_place_steps, immediate_orders_expire_steps}, CommandRows.{a_kill_ends_a_sweep_steps, a_lift_lets_trade_again_steps, a_kill_stands_until_the_lift_steps, useless_commands_are_denied_steps}, MatchingRows.a_cut_order_keeps_its_place_steps, RuleRows.value_above_the_limit_steps}
 
 -- what ALICE is told of a run under the sample policy
 abbrev pub told_alice : List Step → List Report

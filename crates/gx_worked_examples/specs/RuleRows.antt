@@ -1,8 +1,8 @@
 -- Runs under rules of the file.
-use Rattle.gx_policy.specs.declared.{kinds.{ExposureLimit.ExposureLimit, ListKind.ListKind, OrderLimit.OrderLimit}, policy.{Count.Count, RuleKind.RuleKind}}
+use Rattle.gx_policy.specs.{declared.{kinds.{ExposureLimit.ExposureLimit, ListKind.ListKind, OrderLimit.OrderLimit}, policy.{Count.Count, RuleKind.RuleKind}}, Samples.{alice, bob, test_stock, rule_size, rule_gross, with_rules, sample}}
 use Rattle.std.specs.Prelude.{◌≡◌, true, List, [], ◌∷◌, codes}
 use Rattle.gx_history.specs.{declared.record.{Request.Request, Step.Step, Verdict.Verdict}, Verdicts.run}
-use Rattle.gx_worked_examples.specs.Sample.{alice, bob, test_stock, rule_size, rule_gross, file_rule, sample, with_rules, with_last, asks, login, buys, sells, replaces, cancels, matches, verdicts_of, granted, denied_by, filled}
+use Rattle.gx_worked_examples.specs.Sample.{file_rule, with_last, asks, login, buys, sells, replaces, cancels, matches, verdicts_of, granted, denied_by_rule, filled}
 
 -- a value above the limit
 abbrev pub value_above_the_limit_steps : List Step
@@ -15,7 +15,7 @@ value_above_the_limit_steps =
 -- what comes of these steps
 abbrev pub ValueAboveTheLimit : Type 0
 ValueAboveTheLimit = verdicts_of (run sample value_above_the_limit_steps)
-    ≡ granted ∷ granted ∷ denied_by (codes "GROSS") ∷ []
+    ≡ granted ∷ granted ∷ denied_by_rule (codes "GROSS") ∷ []
 
 -- the first rule of the file that forbids is named
 abbrev pub the_file_order_decides_steps : List Step
@@ -27,7 +27,7 @@ the_file_order_decides_steps =
 -- what comes of these steps
 abbrev pub TheFileOrderDecides : Type 0
 TheFileOrderDecides = verdicts_of (run (with_last (file_rule (codes "BLACK") (RuleKind.Listed ListKind.Restricted (test_stock ∷ [])))) the_file_order_decides_steps)
-    ≡ granted ∷ denied_by (codes "GROSS") ∷ []
+    ≡ granted ∷ denied_by_rule (codes "GROSS") ∷ []
 
 -- the same rules in another order
 abbrev pub the_file_order_turned_steps : List Step
@@ -39,7 +39,7 @@ the_file_order_turned_steps =
 -- what comes of these steps
 abbrev pub TheFileOrderTurned : Type 0
 TheFileOrderTurned = verdicts_of (run (with_rules (rule_size ∷ (file_rule (codes "BLACK") (RuleKind.Listed ListKind.Restricted (test_stock ∷ []))) ∷ rule_gross ∷ [])) the_file_order_turned_steps)
-    ≡ granted ∷ denied_by (codes "BLACK") ∷ []
+    ≡ granted ∷ denied_by_rule (codes "BLACK") ∷ []
 
 -- a collar about the last price
 abbrev pub a_collar_follows_the_last_fill_steps : List Step
@@ -62,8 +62,8 @@ a_collar_follows_the_last_fill_steps =
 -- what comes of these steps
 abbrev pub ACollarFollowsTheLastFill : Type 0
 ACollarFollowsTheLastFill = verdicts_of (run (with_last (file_rule (codes "BAND") (RuleKind.Order OrderLimit.Collar 500))) a_collar_follows_the_last_fill_steps)
-    ≡ granted ∷ granted ∷ granted ∷ denied_by (codes "BAND") ∷ granted ∷ granted ∷ Verdict.Rested 6 ∷ granted ∷
-    filled 8 6 1 101000 ∷ granted ∷ denied_by (codes "BAND") ∷ []
+    ≡ granted ∷ granted ∷ granted ∷ denied_by_rule (codes "BAND") ∷ granted ∷ granted ∷ Verdict.Rested 6 ∷ granted ∷
+    filled 8 6 1 101000 ∷ granted ∷ denied_by_rule (codes "BAND") ∷ []
 
 -- shares of all accounts together
 abbrev pub shares_count_together_steps : List Step
@@ -79,7 +79,7 @@ shares_count_together_steps =
 -- what comes of these steps
 abbrev pub SharesCountTogether : Type 0
 SharesCountTogether = verdicts_of (run (with_last (file_rule (codes "POOL") (RuleKind.Exposure ExposureLimit.GrossShares 100 Count.Together))) shares_count_together_steps)
-    ≡ granted ∷ granted ∷ granted ∷ denied_by (codes "POOL") ∷ granted ∷ granted ∷ []
+    ≡ granted ∷ granted ∷ granted ∷ denied_by_rule (codes "POOL") ∷ granted ∷ granted ∷ []
 
 -- incoming orders count as live
 abbrev pub incoming_orders_count_steps : List Step
@@ -100,7 +100,7 @@ incoming_orders_count_steps =
 abbrev pub IncomingOrdersCount : Type 0
 IncomingOrdersCount = verdicts_of (run sample incoming_orders_count_steps)
     ≡ granted ∷ granted ∷ granted ∷ Verdict.Rested 3 ∷ granted ∷ granted ∷ filled 5 3 100 100000 ∷
-    denied_by (codes "GROSS") ∷ granted ∷ []
+    denied_by_rule (codes "GROSS") ∷ granted ∷ []
 
 -- a position stays within the limit on each side
 abbrev pub a_position_is_net_steps : List Step
@@ -123,8 +123,8 @@ a_position_is_net_steps =
 -- what comes of these steps
 abbrev pub APositionIsNet : Type 0
 APositionIsNet = verdicts_of (run (with_last (file_rule (codes "NET") (RuleKind.Exposure ExposureLimit.NetShares 100 Count.Each))) a_position_is_net_steps)
-    ≡ granted ∷ granted ∷ granted ∷ denied_by (codes "NET") ∷ granted ∷ granted ∷ Verdict.Rested 3 ∷ Verdict.Rested 5 ∷
-    filled 6 3 100 10 ∷ granted ∷ denied_by (codes "NET") ∷ denied_by (codes "NET") ∷ []
+    ≡ granted ∷ granted ∷ granted ∷ denied_by_rule (codes "NET") ∷ granted ∷ granted ∷ Verdict.Rested 3 ∷ Verdict.Rested 5 ∷
+    filled 6 3 100 10 ∷ granted ∷ denied_by_rule (codes "NET") ∷ denied_by_rule (codes "NET") ∷ []
 
 -- equal orders among the last two
 abbrev pub equal_orders_are_counted_steps : List Step
@@ -140,7 +140,7 @@ equal_orders_are_counted_steps =
 -- what comes of these steps
 abbrev pub EqualOrdersAreCounted : Type 0
 EqualOrdersAreCounted = verdicts_of (run (with_last (file_rule (codes "TWIN") (RuleKind.Repeat (record { limit = 1; span = 2 }) Count.Each))) equal_orders_are_counted_steps)
-    ≡ granted ∷ granted ∷ denied_by (codes "TWIN") ∷ granted ∷ granted ∷ granted ∷ []
+    ≡ granted ∷ granted ∷ denied_by_rule (codes "TWIN") ∷ granted ∷ granted ∷ granted ∷ []
 
 -- so many orders in a window, by the moments of the records
 abbrev pub windows_go_by_the_moments_steps : List Step
@@ -154,7 +154,7 @@ windows_go_by_the_moments_steps =
 -- what comes of these steps
 abbrev pub WindowsGoByTheMoments : Type 0
 WindowsGoByTheMoments = verdicts_of (run (with_last (file_rule (codes "PACE") (RuleKind.Rate (record { limit = 1; window = 10 }) Count.Each))) windows_go_by_the_moments_steps)
-    ≡ granted ∷ granted ∷ denied_by (codes "PACE") ∷ granted ∷ []
+    ≡ granted ∷ granted ∷ denied_by_rule (codes "PACE") ∷ granted ∷ []
 
 -- a restricted stock before the size
 abbrev pub a_restricted_stock_comes_first_steps : List Step
@@ -166,7 +166,7 @@ a_restricted_stock_comes_first_steps =
 -- what comes of these steps
 abbrev pub ARestrictedStockComesFirst : Type 0
 ARestrictedStockComesFirst = verdicts_of (run (with_rules (file_rule (codes "BLACK") (RuleKind.Listed ListKind.Restricted (test_stock ∷ [])) ∷ rule_size ∷ [])) a_restricted_stock_comes_first_steps)
-    ≡ granted ∷ denied_by (codes "BLACK") ∷ []
+    ≡ granted ∷ denied_by_rule (codes "BLACK") ∷ []
 
 -- and behind it
 abbrev pub a_restricted_stock_comes_last_steps : List Step
@@ -178,7 +178,7 @@ a_restricted_stock_comes_last_steps =
 -- what comes of these steps
 abbrev pub ARestrictedStockComesLast : Type 0
 ARestrictedStockComesLast = verdicts_of (run (with_rules (rule_size ∷ file_rule (codes "BLACK") (RuleKind.Listed ListKind.Restricted (test_stock ∷ [])) ∷ [])) a_restricted_stock_comes_last_steps)
-    ≡ granted ∷ denied_by (codes "SIZE") ∷ []
+    ≡ granted ∷ denied_by_rule (codes "SIZE") ∷ []
 
 -- a value above that of one order
 abbrev pub an_order_may_be_too_big_steps : List Step
@@ -191,4 +191,4 @@ an_order_may_be_too_big_steps =
 -- what comes of these steps
 abbrev pub AnOrderMayBeTooBig : Type 0
 AnOrderMayBeTooBig = verdicts_of (run (with_last (file_rule (codes "BIG") (RuleKind.Order OrderLimit.Value 1000000))) an_order_may_be_too_big_steps)
-    ≡ granted ∷ granted ∷ denied_by (codes "BIG") ∷ []
+    ≡ granted ∷ granted ∷ denied_by_rule (codes "BIG") ∷ []

@@ -8,7 +8,7 @@ ghost use Rattle.gx_door.specs.declared.fault.PullFault.TheVariants as pull_faul
 ghost use Rattle.gx_door.specs.Acts.{IsLater, history_met};
 ghost use Rattle.gx_session.specs.{Events.is_over, Outboxes.left_after, Table.turn};
 ghost use Rattle.gx_session.specs.Happenings as happens;
-ghost use Rattle.gx_serve.specs.{Marks.{mark_sent, cursor_sent}, States.{HasMetMore, WasTold}, Seeking.{due_of, cursor_after, IsQuiet, Seeks, WasGreeted, WasPulled, WasSought, WasWatched}, Speech.{is_ending, Begins, IsDue, AreReportsShown}, Tellings.sent_of};
+ghost use Rattle.gx_serve.specs.{Marks.{mark_sent, cursor_sent}, States.{HasMetMore, WasTold}, Seeking.{due_of, cursor_after, IsQuiet, Seeks, WasGreeted, WasPulled, WasSought, WasWatched}, Speech.{is_ending, Begins, AreReportsShown}, Tellings.sent_of};
 
 use crate::state::{ConnectionState, ShutdownNoted};
 use gx_access_gate::{LoginAnswer, Pulled, StepFault};

@@ -1,4 +1,4 @@
-use Rattle.std.proofs.{Common.{[], ◌∷◌, ◌++◌}, lemmas.Result.{on_err_weaker, on_ok_weaker}}
+use Rattle.std.proofs.{lemmas.Result.{on_err_weaker, on_ok_weaker}}
 use Rattle.gx_gate_state.proofs.{Ledger_next.legal_after, Reserved_next.known_told, Room_bounds.{places_behind, places_still}}
 use Rattle.gx_gate_state.specs.State.{AreInForce}
 use Rattle.gx_gate_state.proofs.apply.apply_record.Goals as goal

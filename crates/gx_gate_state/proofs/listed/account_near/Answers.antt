@@ -1,7 +1,6 @@
 use Rattle.std.proofs.{Common.{length, find, refl, sym, ap, ◌∙◌}, lemmas.{Bool.ltb-true, Option.slice_get_read}}
 use Rattle.gx_units.specs.Names.{same_account}
-use Rattle.gx_policy.specs.declared.policy.Account.{Account}
-use Rattle.gx_ledger.specs.Tables.{accounts_differ}
+use Rattle.gx_policy.specs.{declared.policy.Account.Account, Soundness.accounts_differ}
 use Rattle.gx_laws.proofs.Names_differ.{accounts_differ as accounts_apart}
 use Rattle.gx_gate_state.proofs.AccountNames_only.{found_near}
 use Rattle.gx_gate_state.proofs.listed.account_near.Goals as goal

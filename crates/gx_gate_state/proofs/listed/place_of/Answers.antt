@@ -1,5 +1,5 @@
 use Rattle.std.proofs.Common.{ap, ◌∙◌}
-use Rattle.gx_ledger.specs.Tables.{accounts_differ}
+use Rattle.gx_policy.specs.Soundness.{accounts_differ}
 use Rattle.gx_laws.proofs.Names_differ.{accounts_differ as accounts_apart}
 use Rattle.gx_gate_state.proofs.listed.place_of.Goals as goal
 

@@ -1,4 +1,4 @@
-use Rattle.std.proofs.Common.{◌≡◌, ◌∙◌, ap, sym, true, false, Some, List, ℕ}
+use Rattle.std.proofs.Common.{◌∙◌, ap, sym, true, false, Some, List, ℕ}
 use Rattle.http1.specs.Text.{eq_ignore_case}
 use Rattle.gx_http.proofs.FieldSearch_next.{found_here, found_later}
 use Rattle.gx_http.proofs.credentials.value_named.Goals as goal

@@ -1,4 +1,4 @@
-use Rattle.std.proofs.Common.{rules, ◌≡◌, ◌∙◌, ◌+◌, ℕ, ap, fold, map, max, take, nat_cmp, arith}
+use Rattle.std.proofs.Common.{rules, ◌≡◌, ◌∙◌, ℕ, ap, max, nat_cmp}
 use Rattle.std.specs.Ordering.{ord_max}
 use Rattle.gx_pass.specs.Views.{line_in}
 use Rattle.gx_overview.proofs.Pass_next.{most_of_one_more}

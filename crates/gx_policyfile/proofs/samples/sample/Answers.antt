@@ -1,6 +1,6 @@
 use Rattle.std.proofs.Common.{ap, ◌∙◌}
 use Rattle.gx_policyfile.specs.Policies.{means}
-use Rattle.gx_policyfile.specs.Sample as specs
+use Rattle.gx_policy.specs.Samples as specs
 use Rattle.gx_policyfile.proofs.{Sample_computed.sample_is_read, Policy_answered.{read_value, read_memory}}
 use Rattle.gx_policyfile.proofs.samples.sample.Goals as goal
 

@@ -1,7 +1,7 @@
-use Rattle.std.proofs.Common.{◌≡◌, ◌≤◌, [], ℕ, List, ◌++◌, length, drop, subst, sym, ap, ◌∙◌}
+use Rattle.std.proofs.Common.{◌≡◌, ◌≤◌, ℕ, List, length, drop, subst, sym, ap, ◌∙◌}
 use Rattle.gx_soup.specs.declared.packet.ClientPacket.{ClientPacket}
 use Rattle.gx_reception.specs.Openings.{from_first}
-use Rattle.gx_reception.proofs.Packets_idle.{comes_broken, comes_knocking, none_first, stays_idle}
+use Rattle.gx_reception.proofs.Packets_idle.{comes_broken, none_first, stays_idle}
 use Rattle.gx_reception.proofs.arriving.take_piece.Goals as goal
 
 pub returns-in-Some-clause-comes : goal.returns-in-Some-clause-comes

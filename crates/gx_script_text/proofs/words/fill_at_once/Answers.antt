@@ -1,12 +1,12 @@
 use Rattle.std.proofs.Common.{◌∙◌, ◌++◌, ◌-◌, not, take, replicate, ap, arith}
 use Rattle.std.specs.List.{prefix_len}
-use Rattle.gx_script_text.specs.Words.{is_visible_byte}
+use Rattle.gx_units.specs.Spelling.{is_visible}
 use Rattle.gx_script_text.proofs.SixteenBytes_masks.{front_ends, front_field, front_visible}
 use Rattle.gx_script_text.proofs.words.fill_at_once.Goals as goal
 
 pub returns-clause-visible : goal.returns-clause-visible
 returns-clause-visible g c =
-    let counted = c.before_hidden.ensures ∙ ap (prefix_len (λ byte. not (not (is_visible_byte byte)))) c.first_bytes-bytes.ensures in
+    let counted = c.before_hidden.ensures ∙ ap (prefix_len (λ byte. not (not (is_visible byte)))) c.first_bytes-bytes.ensures in
     front_visible c.min-end.result 16 c.args.text.now (omega (arith, counted, c.min-end.ensures))
 
 pub returns-clause-front : goal.returns-clause-front
@@ -18,5 +18,5 @@ returns-clause-front g c =
 pub returns-clause-ends : goal.returns-clause-ends
 returns-clause-ends g c =
     front_ends g.row.N c.before_hidden.result c.min-end.result c.args.text.now c.requires.room c.requires.wide
-    (c.before_hidden.ensures ∙ ap (prefix_len (λ byte. not (not (is_visible_byte byte)))) c.first_bytes-bytes.ensures)
+    (c.before_hidden.ensures ∙ ap (prefix_len (λ byte. not (not (is_visible byte)))) c.first_bytes-bytes.ensures)
     (λ below. omega (arith, below, c.min-end.ensures))

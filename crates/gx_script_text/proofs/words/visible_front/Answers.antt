@@ -1,7 +1,6 @@
 use Rattle.std.proofs.{Common.{◌≡◌, ◌<◌, IsTrue, length, take, slice_set, replicate, refl, sym, ap, ◌∙◌, subst, arith}, lemmas.List.length-take}
 use Rattle.std.specs.List.{list_all}
-use Rattle.gx_units.specs.Spelling.{padded_to}
-use Rattle.gx_script_text.specs.Words.{is_visible_byte}
+use Rattle.gx_units.specs.Spelling.{padded_to, is_visible}
 use Rattle.gx_script_text.proofs.Name_next.{ends_here, ends_past, front_item, put_next, visible_more}
 use Rattle.gx_script_text.proofs.words.visible_front.Goals as goal
 
@@ -18,7 +17,7 @@ pub returns-then-not-is_visible-clause-ends : goal.returns-then-not-is_visible-c
 returns-then-not-is_visible-clause-ends g c =
     let within : c.loop-end.end < length c.args.text.now = omega (arith, c.loop-end-test.true, c.min-most.ensures, length-take c.min-most.result c.args.text.now) in
     ends_here (c.loop-end.end < g.row.N) c.loop-end.end c.args.text.now within
-    (ap is_visible_byte (sym (front_item c.min-most.result c.loop-end.end c.args.text.now c.loop-end-test.true)) ∙ sym c.is_visible.ensures ∙ c.if-not-is_visible.true)
+    (ap is_visible (sym (front_item c.min-most.result c.loop-end.end c.args.text.now c.loop-end-test.true)) ∙ sym c.is_visible.ensures ∙ c.if-not-is_visible.true)
 
 pub loop-end-preserved : goal.loop-end-preserved
 loop-end-preserved g c =
@@ -26,7 +25,7 @@ loop-end-preserved g c =
     let room : c.loop-end.end < g.row.N = omega (arith, c.loop-end-test.true, c.min-most.ensures, length-take c.min-most.result c.args.text.now) in
     let item = front_item c.min-most.result c.loop-end.end c.args.text.now c.loop-end-test.true in
     record {
-      visible = visible_more c.loop-end.end c.args.text.now within (ap is_visible_byte (sym item) ∙ sym c.is_visible.ensures ∙ c.if-not-is_visible.false) c.loop-end.invariant.visible;
+      visible = visible_more c.loop-end.end c.args.text.now within (ap is_visible (sym item) ∙ sym c.is_visible.ensures ∙ c.if-not-is_visible.false) c.loop-end.invariant.visible;
       front =
           (λ i. slice_set (c.loop-end.invariant.front i) c.loop-end.end (item i))
           ∙ put_next g.row.N c.loop-end.end c.args.text.now within room;
@@ -35,7 +34,7 @@ loop-end-preserved g c =
 pub returns-clause-visible : goal.returns-clause-visible
 returns-clause-visible g c =
     let all : c.loop-end.end ≡ c.min-most.result = omega (arith, c.loop-end-test.false, c.loop-end.auto.end-end, c.min-most.ensures, length-take c.min-most.result c.args.text.now) in
-    subst (λ k. IsTrue (list_all is_visible_byte (take k c.args.text.now))) all c.loop-end.invariant.visible
+    subst (λ k. IsTrue (list_all is_visible (take k c.args.text.now))) all c.loop-end.invariant.visible
 
 pub returns-clause-front : goal.returns-clause-front
 returns-clause-front g c =

@@ -1,8 +1,8 @@
 use Rattle.std.proofs.Common.{◌≡◌, ◌∙◌, ap, sym, subst, map}
-use Rattle.gx_policy.specs.declared.policy.PolicyData.{PolicyData}
+use Rattle.gx_policy.specs.{declared.policy.PolicyData.PolicyData, Soundness.{accounts_differ, stocks_differ}}
 use Rattle.gx_laws.proofs.Names_differ.{accounts_differ as accounts_apart}
 use Rattle.gx_laws.specs.Changing.{no_positions}
-use Rattle.gx_ledger.specs.{Counts.places_counting, Accounts.account_names, Keeping.{LedgerData, reference_prices}, StandsFor.StandsFor, Tables.{accounts_differ, stock_names_differ}, Tallies.new_tally, contracts.ledger.Ledger.the_view}
+use Rattle.gx_ledger.specs.{Counts.places_counting, Accounts.account_names, Keeping.{LedgerData, reference_prices}, StandsFor.StandsFor, Tallies.new_tally, contracts.ledger.Ledger.the_view}
 use Rattle.gx_ledger.proofs.Ledger_first.{opened_stands, sound_stocks}
 use Rattle.gx_ledger.proofs.ledger.Ledger.new.Goals as goal
 
@@ -12,11 +12,11 @@ names_of-requires c = ap accounts_differ c.accounts.ensures ∙ accounts_apart c
 pub first_tallies-requires : goal.first_tallies-requires
 first_tallies-requires c = record {
   named = c.in_ok-accounts.ensures ∙ ap account_names (c.accounts.ensures ∙ sym c.accounts-3.ensures);
-  differ = ap stock_names_differ c.stocks.ensures ∙ sound_stocks c.args.policy.now c.rules-rules.ensures.sound;
+  differ = ap stocks_differ c.stocks.ensures ∙ sound_stocks c.args.policy.now c.rules-rules.ensures.sound;
 }
 
 pub first_prices-requires : goal.first_prices-requires
-first_prices-requires c = ap stock_names_differ c.stocks-2.ensures ∙ sound_stocks c.args.policy.now c.rules-rules.ensures.sound
+first_prices-requires c = ap stocks_differ c.stocks-2.ensures ∙ sound_stocks c.args.policy.now c.rules-rules.ensures.sound
 
 pub returns : goal.returns
 returns c =

@@ -1,7 +1,7 @@
 use Rattle.std.proofs.Common.{◌≡◌, length, take, drop, subst, sym}
 use Rattle.gx_door.specs.Acts.{history_met}
 use Rattle.gx_logging.proofs.Lines_next.{gives}
-use Rattle.gx_logging.specs.Logging.{IsLogging, LoggingData}
+use Rattle.gx_logging.specs.Logging.{LoggingData}
 use Rattle.gx_logging.proofs.record_log.RecordLog.pass_over.Goals as goal
 
 pub invariant_of-self : goal.invariant_of-self

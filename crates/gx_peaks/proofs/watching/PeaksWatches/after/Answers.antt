@@ -3,7 +3,6 @@ use Rattle.std.specs.Prelude.{Option}
 use Rattle.gx_units.specs.declared.names.RuleId.{RuleId}
 use Rattle.gx_units.proofs.Results_hold.{ok_then}
 use Rattle.gx_policy.specs.Soundness.{is_sound}
-use Rattle.gx_records.specs.Watching.{earlier_of}
 use Rattle.gx_peaks.specs.Noting.{AdvancesTo, IsOfSetting}
 use Rattle.gx_peaks.proofs.Peaks_next.{all_held}
 use Rattle.gx_peaks.proofs.watching.PeaksWatches.after.Goals as goal

@@ -1,12 +1,13 @@
 use Rattle.std.proofs.Common.{◌∙◌, ap, sym}
 use Rattle.std.specs.List.{list_all}
 use Rattle.gx_laws.proofs.Names_differ.{accounts_differ as accounts_apart}
-use Rattle.gx_rules.specs.{Books.{lists_once, rule_names_differ, rules_of_entries}, Places.accounts_differ}
+use Rattle.gx_policy.specs.Soundness.{accounts_differ, rules_differ}
+use Rattle.gx_rules.specs.{Books.{lists_once, rules_of_entries}}
 use Rattle.gx_rules.proofs.{AccountRules_table.table_made, Rules_sound.{few_entries, sound_lists, sound_names}}
 use Rattle.gx_rules.proofs.rule_book.RuleBook.new.Goals as goal
 
 pub kept_rules-requires-clause-names_differ : goal.kept_rules-requires-clause-names_differ
-kept_rules-requires-clause-names_differ c = ap rule_names_differ c.rules.ensures.same ∙ sound_names c.args.policy.now c.rules.ensures.sound
+kept_rules-requires-clause-names_differ c = ap rules_differ c.rules.ensures.same ∙ sound_names c.args.policy.now c.rules.ensures.sound
 
 pub kept_rules-requires-clause-stocks_differ : goal.kept_rules-requires-clause-stocks_differ
 kept_rules-requires-clause-stocks_differ c = ap (list_all lists_once) c.rules.ensures.same ∙ sound_lists c.args.policy.now c.rules.ensures.sound

@@ -1,7 +1,6 @@
 use Rattle.std.proofs.Common.{◌∙◌, ap, sym}
 use Rattle.gx_units.proofs.Results_hold.{ok_then}
 use Rattle.gx_policy.specs.Soundness.{is_sound}
-use Rattle.gx_records.specs.Watching.{earlier_of}
 use Rattle.gx_warnings.specs.Noting.{with_figure_warnings}
 use Rattle.gx_warnings.proofs.Warnings_next.{all_carried}
 use Rattle.gx_warnings.proofs.watching.WarningsWatches.after.Goals as goal

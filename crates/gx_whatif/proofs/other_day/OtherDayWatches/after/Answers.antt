@@ -1,4 +1,3 @@
-use Rattle.gx_records.specs.Watching.{earlier_of}
 use Rattle.gx_whatif.proofs.Watcher_next.{followed_filled, followed_full, followed_on}
 use Rattle.gx_whatif.proofs.other_day.OtherDayWatches.after.Goals as goal
 use Rattle.gx_units.proofs.Results_hold.{on_ok}
