@@ -84,6 +84,7 @@ audit_record = record {
       [];
 }
 
+-- who asked: spaces, where nobody did
 abbrev pub user_shown : Step → List ℕ
 user_shown (Step.Asked a) = a.user.bytes
 user_shown (Step.Matching handed) = codes "      "

@@ -7,7 +7,7 @@ use Rattle.gx_policy.specs.declared.policy.{Account.Account, PolicyData.PolicyDa
 use Rattle.gx_history.specs.{declared.{live_order.LiveOrder.LiveOrder, «record».RecordData.RecordData}, Book.{is_buy, is_on}, Figures.open_of_chosen, InForce.is_killed, Live.live, LiveOrders.shares_open}
 use Rattle.gx_overview.specs.{declared.{accounts.{AccountRow.AccountRow, KillState.KillState, LiveSums.LiveSums}, commands.{GrantedCommand.GrantedCommand, Subject.Subject}}, Commands.{last_about, last_of}}
 
--- the number, or the greatest of 64 or of 128 bits where it is past that, which no day comes near
+-- the number, or the greatest of 64 bits where it is past that, which no day comes near
 abbrev pub capped_count : ℕ → ℕ
 capped_count n = min n (2 ^ 64 - 1)
 

@@ -49,6 +49,7 @@ net_json seen =
 abbrev pub denied_json : DeniedRow → List ℕ
 denied_json row = first_member (codes "rule") (json_name row.rule.bytes) ++ member (codes "count") (decimal row.count) ++ codes "}"
 
+-- what was asked for, in a word
 abbrev pub request_word : Request → List ℕ
 request_word (Request.Login m) = codes "login"
 request_word Request.Logout = codes "logout"
