@@ -1,6 +1,6 @@
 #!/usr/bin/env python3
-"""Tries wrong bodies: each is a bug in one function, and the function's contract has to refuse it. By hand; not every
-one has been tried yet.
+"""Tries wrong bodies: each is a bug in one function, and the function's contract has to refuse it. By hand, of the crates
+that a change touches.
 
 A file NAME.edit beside this one is one bug. It has the form of a must-fail edit of the toolchain, with four more lines:
 
@@ -22,6 +22,7 @@ crate and nothing else, and the text is put back. A line is told of each:
 A bug that is refused only in a function that calls it, or in another file of proofs, is not seen here. Run as
 
   tests/wrong-bodies/try.py [NAME..]          these, or all; a minute or two each, once the crates have been checked
+  tests/wrong-bodies/try.py --changed BASE    those of the crates that changed since this commit
   tests/wrong-bodies/try.py --list            tells what there is, and which does not fit the code any more; tries nothing
   tests/wrong-bodies/try.py --copy FOLDER     in this copy of the tree, which is left as it was; none is made
 
@@ -130,6 +131,12 @@ def tried(bug: Bug, tree: Path) -> tuple[str, list[str]]:
         file.write_text(text)
 
 
+def changed_crates(base: str) -> set[str]:
+    """The crates that changed since this commit."""
+    run = subprocess.run([TOP / "tools" / "changed", base, "--direct"], stdout=subprocess.PIPE, text=True, check=True)
+    return set(run.stdout.split())
+
+
 def told_of(bugs: list[Bug]) -> int:
     """Tells what there is, and which does not fit the code any more. Answers the status."""
     status = 0
@@ -147,6 +154,7 @@ def main() -> int:
     """Tries them. Answers the status."""
     parser = argparse.ArgumentParser(description=__doc__, formatter_class=argparse.RawDescriptionHelpFormatter)
     parser.add_argument("names", nargs="*", help="wrong bodies by name (all)")
+    parser.add_argument("--changed", metavar="BASE", help="those of the crates that changed since this commit")
     parser.add_argument("--list", action="store_true", help="tells what there is")
     parser.add_argument("--copy", help="a copy of the tree to try them in")
     asked = parser.parse_args()
@@ -155,6 +163,9 @@ def main() -> int:
     if unknown:
         sys.exit(f"no such wrong body: {', '.join(unknown)}")
     bugs = [every[name] for name in asked.names or every]
+    if asked.changed:
+        touched = changed_crates(asked.changed)
+        bugs = [bug for bug in bugs if bug.told["crate"] in touched]
     if asked.list:
         return told_of(bugs)
     if not shutil.which("rt"):
