@@ -3,23 +3,13 @@
 //! All of it is over any gate `G`, and `main` alone names the [`Gate`](gx_core::Gate) of `gx_core`:
 //!
 //! - `checking`, `showing`, `standing`, `reporting`, `comparing`, `following`: the commands that read an audit or a journal,
-//!   each on a gate of its own that makes the steps of its records again, with `telling`, what is told of its faults;
-//! - `serving`: the command `serve`, with `entrance`, where connections come in, over `page`, `limits` and `announcing`;
-//!   `beginning` and `going_on`, a day that begins and one that a journal holds; `runtime`, what a server needs.
+//!   each on a gate of its own that makes the steps of its records again, with `telling`, what is told of its faults.
 #![tactic(auto)]
 
-mod announcing;
-mod beginning;
 mod checking;
 mod comparing;
-mod entrance;
 mod following;
-mod going_on;
-mod limits;
-mod page;
 mod reporting;
-mod runtime;
-mod serving;
 mod showing;
 mod standing;
 mod telling;
@@ -35,9 +25,8 @@ use gx_program::{
 };
 use gx_records::{ShowsRecords, ShowsState};
 use gx_runs::{Input, run_files};
+use gx_serve_command::{ServerRuntime, serve_told};
 use reporting::report;
-use runtime::ServerRuntime;
-use serving::serve_told;
 use showing::show;
 use standing::state;
 use std::net::{Net, TcpListener, TcpStream};

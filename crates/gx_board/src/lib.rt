@@ -9,6 +9,7 @@
 //! - `counts`, `denied`: how many records there are, and what they say;
 //! - `summary`: what is kept of the records, so that no view walks the day;
 //! - `sight`: which accounts are a viewer's, and what concerns them;
+//! - `observing`: a summary as an [`Observer`](gx_lookout::Observer) of a gate that threads share;
 //! - `uses`: what is used of the limits of gross and net rules;
 //! - `laws`: that no row of a view names another's account, and that no denial and no command in it concerns one;
 //! - `view`: what a viewer is shown, each figure an equation with its definition.
@@ -18,6 +19,7 @@ mod accounts;
 mod counts;
 mod denied;
 mod laws;
+mod observing;
 mod sight;
 mod summary;
 mod uses;

@@ -1,7 +1,7 @@
 //! What is kept of a day's records, so that no view walks them.
 
 ghost use Rattle.std.specs.Prelude.{◌≡◌, ◌+◌, ◌<◌, [], length, slice_get, IfOk, IsFalse, IsTrue, OnErr, OnOk};
-ghost use Rattle.gx_board.specs.{Counting.counts_with, Summaries.{Counted, FollowsSummary, IsBehind, IsNoted, IsSummary, Notes, pushed_if, recent_records, Stays}};
+ghost use Rattle.gx_board.specs.{Counting.counts_with, Summaries.{Counted, FollowsSummary, IsNoted, IsSummary, IsSummaryBehind, Notes, pushed_if, recent_records, Stays}};
 
 use crate::counts::{Counts, commands, denies, is_kept};
 use crate::denied::{DeniedRow, first_rows, note};
@@ -55,8 +55,10 @@ impl Summary {
     /// # Errors
     ///
     /// `OutOfMemory` where memory was refused.
+    #[tactic(auto, using(crate::proofs::Summary_call::begins))]
     pub fn new(alloc: Global, policy: &Policy) -> Result<Summary, OutOfMemory>
         ensures none { IfOk result (IsSummary policy.now []) }
+        ensures behind { IfOk result (IsSummaryBehind policy.now []) }
     {
         let denied = first_rows(alloc, policy)?;
         let last_denied = ring(alloc)?;
@@ -135,8 +137,10 @@ impl Summary {
         gate: &G,
         most: usize,
     ) -> Result<bool, OutOfMemory>
-        requires behind { IsBehind (G.state gate.now).policy (G.state gate.now).records self.old }
-        ensures behind { IsBehind (G.state gate.now).policy (G.state gate.now).records self.new }
+        requires behind { IsSummaryBehind
+            (G.state gate.now).policy (G.state gate.now).records self.old }
+        ensures behind { IsSummaryBehind
+            (G.state gate.now).policy (G.state gate.now).records self.new }
         ensures all { IfOk result (λ all. IsTrue all
             → IsSummary (G.state gate.now).policy (G.state gate.now).records self.new) }
         ensures further { IfOk result (λ all. IsFalse all

@@ -3,7 +3,7 @@
 //! - `accepting`: connections are taken, and each has a place;
 //! - `visiting`: a connection from its beginning to its end;
 //! - `serving`: the threads of a server;
-//! - `paging`: the risk desk's page beside it;
+//! - `companion`: what is served beside it;
 //! - `announcing`: what commands ended, as the log tells it;
 //! - `telling`: the log of the day's records, as they are made;
 //! - `ending`, `fault`: how a server ended.
@@ -13,15 +13,15 @@
 
 mod accepting;
 mod announcing;
+mod companion;
 mod dated;
 mod ending;
 mod fault;
-mod paging;
 mod serving;
 mod telling;
 mod visiting;
 
+pub use companion::Companion;
 pub use ending::{Ending, Unserved};
 pub use fault::ServeFault;
-pub use paging::PagePort;
 pub use serving::{DayLog, serve_door};

@@ -5,10 +5,10 @@ ghost use Rattle.gx_events.specs.Known.{known_of};
 ghost use Rattle.gx_listen.specs.Endings.{IsHalted};
 
 use crate::accepting::{accept, acquire_slot};
+use crate::companion::{Aside, Companion, accompany};
 use crate::dated::Dated;
 use crate::ending::{Ending, Halt, Unserved};
 use crate::fault::ServeFault;
-use crate::paging::{Aside, PagePort, open_page};
 use crate::telling::{Telling, tell_records};
 use crate::visiting::{Hall, serve_stream, tell_gone};
 use gx_control::{ConnectionSlot, Mishap, Peer, ServerControl, ShutdownFlag};
@@ -88,11 +88,12 @@ fn look_after<R: Wait + Clock>(rt: &R, control: &ServerControl) {
 }
 
 /// Looks after newcomers until their door is closed, and tells each second what went wrong.
-fn watch_newcomers<R: Wait + Clock>(rt: &R, alloc: Global, control: &ServerControl) {
+fn watch_newcomers<D, A, R: Wait + Clock>(hall: &Hall<'_, D, A, R>) {
+    let (rt, control) = (hall.rt, hall.control);
     for turn in 0..u64::MAX {
         look_after(rt, control);
         if turn % LOOKS_UNTIL_TOLD == 0 || control.newcomers.is_closed() {
-            control.tell_mishaps(rt, alloc);
+            control.tell_mishaps(rt, hall.alloc);
         }
         if control.newcomers.is_closed() {
             return;
@@ -102,15 +103,24 @@ fn watch_newcomers<R: Wait + Clock>(rt: &R, alloc: Global, control: &ServerContr
 }
 
 /// Keeps what is done until the wakeup for that is closed, and tells at once where it can't be kept.
-fn keep_all<D: Door, R: Wait + Clock>(rt: &R, alloc: Global, door: &D, control: &ServerControl) {
-    if !keep_on(rt, door, control) {
-        control.tell(
-            rt,
-            alloc,
+fn keep_all<D: Door, A, R: Wait + Clock>(hall: &Hall<'_, D, A, R>) {
+    if !keep_on(hall.rt, hall.door, hall.control) {
+        hall.control.tell(
+            hall.rt,
+            hall.alloc,
             "journal",
             "gate: the journal can't be written: the server ends",
         );
     }
+}
+
+/// Makes matching steps until the wakeup for that is closed. Gives the pass back.
+fn match_all<T: Drop, D: Door<Pass = T>, A, R: Wait + Clock>(
+    hall: &Hall<'_, D, A, R>,
+    pass: T,
+) -> T {
+    let rt = &Dated::new(hall.rt, hall.alloc, hall.control);
+    match_on(rt, hall.door, hall.control, pass)
 }
 
 /// There was no thread or no memory for the connection of this number: it is hung up on, and so is the one who came first
@@ -155,31 +165,6 @@ fn take_guests<
     })
 }
 
-/// Takes connections at the door: how this ended.
-fn take_connections<
-    T: Drop + Send,
-    D: Door<Pass = T> + Sync,
-    A: Admits<D> + Sync,
-    R: Threads + Wait + Clock + Sync,
->(
-    rt: &R,
-    alloc: Global,
-    door: &D,
-    reception: &A,
-    control: &ServerControl,
-    listener: TcpListener,
-    connections: u64,
-) -> Ending {
-    let hall = Hall {
-        rt,
-        alloc,
-        door,
-        reception,
-        control,
-    };
-    take_guests(&hall, listener, connections)
-}
-
 /// The log of a day's records, and how many of them an earlier run has told.
 #[derive(Drop)]
 pub struct DayLog {
@@ -206,8 +191,8 @@ fn open_log<D: Door, I: Issuer<D>, R: Wait>(
     }
 }
 
-/// Takes connections at the door, beside who tells of the records, if a log is asked for: how this ended; `OutOfMemory`
-/// where no thread could be made for him.
+/// Takes connections, beside who tells of the records, if a log is asked for: how this ended; `OutOfMemory` where no thread
+/// could be made for him.
 fn take_told<
     'x,
     T: Drop + Send,
@@ -215,31 +200,32 @@ fn take_told<
     A: Admits<D> + Sync,
     R: Threads + Wait + Clock + Sync,
 >(
-    rt: &'x R,
-    alloc: Global,
-    door: &'x D,
-    reception: &A,
-    control: &'x ServerControl,
+    hall: &'x Hall<'x, D, A, R>,
     telling: Option<Telling<D>>,
     listener: TcpListener,
     connections: u64,
 ) -> Result<Ending, Unserved> {
     let Some(telling) = telling else {
-        return Ok(take_connections(rt, alloc, door, reception, control, listener, connections));
+        return Ok(take_guests(hall, listener, connections));
     };
-    thread::scope(thread::scope_env(), rt, |scope| {
-        let Ok(_telling) = (&*scope).spawn(move || tell_records(rt, alloc, door, control, telling))
-        else {
+    thread::scope(thread::scope_env(), hall.rt, |scope| {
+        let Ok(_telling) = (&*scope).spawn(move || tell_records(
+            hall.rt,
+            hall.alloc,
+            hall.door,
+            hall.control,
+            telling,
+        )) else {
             return Err(Unserved::of_fault(ServeFault::OutOfMemory));
         };
-        let taken = take_connections(rt, alloc, door, reception, control, listener, connections);
-        control.newcomers.close();
+        let taken = take_guests(hall, listener, connections);
+        hall.control.newcomers.close();
         Ok(taken)
     })
 }
 
-/// Takes connections at the door, beside who looks after newcomers and who keeps what is done: how this ended;
-/// `OutOfMemory` where no thread could be made for one of these, or for who tells of the records.
+/// Takes connections, beside who looks after newcomers and who keeps what is done: how this ended; `OutOfMemory` where no
+/// thread could be made for one of these, or for who tells of the records.
 fn take_watched<
     'x,
     T: Drop + Send,
@@ -247,35 +233,22 @@ fn take_watched<
     A: Admits<D> + Sync,
     R: Threads + Wait + Clock + Sync,
 >(
-    rt: &'x R,
-    alloc: Global,
-    door: &'x D,
-    reception: &A,
-    control: &'x ServerControl,
+    hall: &'x Hall<'x, D, A, R>,
     telling: Option<Telling<D>>,
     listener: TcpListener,
     connections: u64,
 ) -> Result<Ending, Unserved> {
-    thread::scope(thread::scope_env(), rt, |scope| {
-        let Ok(_watching) = (&*scope).spawn(move || watch_newcomers(rt, alloc, control)) else {
+    thread::scope(thread::scope_env(), hall.rt, |scope| {
+        let Ok(_watching) = (&*scope).spawn(move || watch_newcomers(hall)) else {
             return Err(Unserved::of_fault(ServeFault::OutOfMemory));
         };
-        let Ok(_keeping) = (&*scope).spawn(move || keep_all(rt, alloc, door, control)) else {
-            control.newcomers.close();
+        let Ok(_keeping) = (&*scope).spawn(move || keep_all(hall)) else {
+            hall.control.newcomers.close();
             return Err(Unserved::of_fault(ServeFault::OutOfMemory));
         };
-        let taken = take_told(
-            rt,
-            alloc,
-            door,
-            reception,
-            control,
-            telling,
-            listener,
-            connections,
-        );
-        control.newcomers.close();
-        control.keeper.close(rt);
+        let taken = take_told(hall, telling, listener, connections);
+        hall.control.newcomers.close();
+        hall.control.keeper.close(hall.rt);
         taken
     })
 }
@@ -289,37 +262,19 @@ fn run<
     A: Admits<D> + Sync,
     R: Threads + Wait + Clock + Sync,
 >(
-    rt: &'x R,
-    alloc: Global,
-    door: &'x D,
-    reception: &A,
-    control: &'x ServerControl,
+    hall: &'x Hall<'x, D, A, R>,
     pass: T,
     telling: Option<Telling<D>>,
     listener: TcpListener,
     connections: u64,
 ) -> Result<(T, Ending), Unserved> {
-    thread::scope(thread::scope_env(), rt, |scope| {
-        let Ok(matcher) = (&*scope).spawn(move || match_on(
-            &Dated::new(rt, alloc, control),
-            door,
-            control,
-            pass,
-        )) else {
+    thread::scope(thread::scope_env(), hall.rt, |scope| {
+        let Ok(matcher) = (&*scope).spawn(move || match_all(hall, pass)) else {
             return Err(Unserved::of_fault(ServeFault::OutOfMemory));
         };
-        let taken = take_watched(
-            rt,
-            alloc,
-            door,
-            reception,
-            control,
-            telling,
-            listener,
-            connections,
-        );
-        control.matcher.close(rt);
-        let pass = matcher.join(rt);
+        let taken = take_watched(hall, telling, listener, connections);
+        hall.control.matcher.close(hall.rt);
+        let pass = matcher.join(hall.rt);
         match taken {
             Ok(ending) => Ok((pass, ending)),
             Err(unserved) => Err(unserved),
@@ -327,9 +282,9 @@ fn run<
     })
 }
 
-/// Runs the matcher and the connections, beside the risk desk's page, if it is to be served. Gives the matcher's pass, and how
-/// the server ended; `OutOfMemory` where no thread could be made for one of these, or for one of those beside them.
-fn run_paged<
+/// Runs the matcher and the connections, beside the companion, if there is one. Gives the matcher's pass, and how the server
+/// ended; `OutOfMemory` where no thread could be made for one of these, or for one of those beside them.
+fn run_accompanied<
     'x,
     T: Drop + Send,
     D: Door<Pass = T> + Sync,
@@ -337,46 +292,27 @@ fn run_paged<
     P: Aside + Drop + Send,
     R: Threads + Wait + Clock + Sync,
 >(
-    rt: &'x R,
-    alloc: Global,
-    door: &'x D,
-    reception: &A,
-    control: &'x ServerControl,
+    hall: &'x Hall<'x, D, A, R>,
     closing: &'x ShutdownFlag,
     pass: T,
     telling: Option<Telling<D>>,
-    paging: Option<P>,
+    companion: Option<P>,
     listener: TcpListener,
     connections: u64,
 ) -> Result<(T, Ending), Unserved> {
-    let Some(paging) = paging else {
-        return run(
-            rt,
-            alloc,
-            door,
-            reception,
-            control,
-            pass,
-            telling,
-            listener,
-            connections,
-        );
+    let Some(companion) = companion else {
+        return run(hall, pass, telling, listener, connections);
     };
-    thread::scope(thread::scope_env(), rt, |scope| {
-        let Ok(_paging) = (&*scope).spawn(move || paging.go_on(rt, alloc, control, closing)) else {
+    thread::scope(thread::scope_env(), hall.rt, |scope| {
+        let Ok(_companion) = (&*scope).spawn(move || companion.go_on(
+            hall.rt,
+            hall.alloc,
+            hall.control,
+            closing,
+        )) else {
             return Err(Unserved::of_fault(ServeFault::OutOfMemory));
         };
-        let ran = run(
-            rt,
-            alloc,
-            door,
-            reception,
-            control,
-            pass,
-            telling,
-            listener,
-            connections,
-        );
+        let ran = run(hall, pass, telling, listener, connections);
         closing.request();
         ran
     })
@@ -386,8 +322,8 @@ fn run_paged<
 /// until so many were served, or the server was asked to end. All threads have ended then.
 ///
 /// A connection has a line from its login on, if its user has the right password. The log of the records, if one is asked
-/// for, is told in the server's. The risk desk's page, if it has a port, is served beside it, of this gate and by this policy: it
-/// has two lines of the day.
+/// for, is told in the server's. The companion, if there is one, is served beside it, of this gate and by this policy: it has a
+/// line of the day.
 ///
 /// Gives back a pass, and how the server ended.
 ///
@@ -400,6 +336,7 @@ pub fn serve_door<
     L: Lookout<Pass = T> + Sync,
     D: Door<Pass = T> + Sync,
     I: Issuer<D> + Drop + Send,
+    C: Companion + Send,
     R: Threads + Wait + Clock + Sync,
 >(
     rt: &R,
@@ -410,7 +347,7 @@ pub fn serve_door<
     issuer: I,
     control: &ServerControl,
     log: Option<DayLog>,
-    page: Option<PagePort>,
+    companion: Option<C>,
     listener: TcpListener,
     connections: u64,
 ) -> Result<(T, Ending), Unserved>
@@ -418,6 +355,7 @@ pub fn serve_door<
     requires policies { L.policy ≡ D.policy }
     requires held { L.observed ≡ D.observed }
     requires policy { policy.now ≡ D.policy }
+    requires made { IfSome companion (λ c. C.is_for c D.policy) }
 {
     let mut issuer = issuer;
     let pass = match issuer.issue(rt) {
@@ -428,8 +366,8 @@ pub fn serve_door<
         Ok(telling) => telling,
         Err(fault) => return Err(Unserved::of_fault(fault.into())),
     };
-    let paging = match open_page(rt, alloc, gate, door, policy, control, &mut issuer, page) {
-        Ok(paging) => paging,
+    let companion = match accompany(rt, gate, door, policy, &mut issuer, companion) {
+        Ok(companion) => companion,
         Err(fault) => return Err(Unserved::of_fault(fault)),
     };
     let reception = match Reception::open(rt, door, issuer) {
@@ -443,16 +381,19 @@ pub fn serve_door<
     control.matcher.open(rt);
     control.keeper.open(rt);
     let closing = ShutdownFlag::new();
-    run_paged(
+    let hall = Hall {
         rt,
         alloc,
         door,
-        &reception,
+        reception: &reception,
         control,
+    };
+    run_accompanied(
+        &hall,
         &closing,
         pass,
         telling,
-        paging,
+        companion,
         listener,
         connections,
     )

@@ -1,1 +1,1 @@
-pub mod Summary_behind
+pub mod Observer_behind

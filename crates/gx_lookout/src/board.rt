@@ -3,12 +3,11 @@
 ghost use Rattle.std.specs.Prelude.{◌≡◌, IfOk};
 ghost use Rattle.gx_pass.specs.Views.{mine};
 ghost use Rattle.gx_door.specs.Acts.{IsLater};
-ghost use Rattle.gx_board.specs.{Summaries.IsBehind, Views.IsView};
+ghost use Rattle.gx_lookout.specs.Observers.{IsBehind};
 
 use crate::lookout::Lookout;
-use gx_board::{BoardView, Summary};
-use gx_policy::Policy;
-use gx_units::{OutOfMemory, UserName};
+use crate::observer::Observer;
+use gx_units::OutOfMemory;
 use std::alloc::Global;
 use std::hint::spin_loop;
 use std::marker::Model;
@@ -27,58 +26,46 @@ fn pause() {
     }
 }
 
-/// A pass, and the summary of those records that it has followed, the first of what the pass has met. Contracts see what the
+/// A pass, and an observer of those records that it has followed, the first of what the pass has met. Contracts see what the
 /// pass has met.
 #[derive(Drop)]
-pub struct Board<L: Lookout> {
+pub struct Board<L: Lookout, O: Observer> {
     pass: L::Pass,
-    summary: Summary,
+    observer: O,
 }
 
-impl<L: Lookout> Model for Board<L> {
+impl<L: Lookout, O: Observer> Model for Board<L, O> {
     ghost use Rattle.gx_pass.specs.declared.view.LineView.{LineView};
-    ghost use Rattle.gx_board.specs.Summaries.{IsBehind};
+    ghost use Rattle.gx_lookout.specs.Observers.{IsBehind};
 
     ghost Value = { LineView };
 
     ghost view = { λ b. L.observed b.pass };
 
-    ghost invariant = { λ b. IsBehind L.policy (L.observed b.pass).front b.summary };
+    ghost invariant = { λ b. IsBehind O.followed O.follows
+        L.policy (L.observed b.pass).front b.observer };
 }
 
-impl<L: Lookout> Board<L> {
-    /// Of no record yet, by the policy of the gate that the pass is of.
-    ///
-    /// # Errors
-    ///
-    /// `OutOfMemory` where memory was refused. The pass is let go then.
-    #[tactic(auto, using(crate::proofs::Summary_behind::begins))]
-    pub fn new(alloc: Global, policy: &Policy, pass: L::Pass) -> Result<Board<L>, OutOfMemory>
-        requires policy { policy.now ≡ L.policy }
-        ensures held { IfOk result (λ board. board ≡ L.observed pass) }
-    {
-        let summary = Summary::new(alloc, policy)?;
-        Ok(Board { pass, summary })
-    }
-
-    /// The pass, to make steps with at the gate's door, and the summary that goes on with it.
-    pub fn into_parts(self) -> (L::Pass, Summary)
-        ensures held { L.observed result.0 ≡ self }
-        ensures behind { IsBehind L.policy self.front result.1 }
-    {
-        let Board { pass, summary } = self;
-        (pass, summary)
-    }
-
-    /// A board again, of the pass, which has met what it had met before, and what was added since.
-    pub fn from_parts(pass: L::Pass, summary: Summary) -> Board<L>
-        requires behind { IsBehind L.policy (L.observed pass).front summary }
+impl<L: Lookout, O: Observer> Board<L, O> {
+    /// Of an observer that has followed no record yet, or of one that goes on: it has followed some of the first that the pass has
+    /// met.
+    pub fn new(pass: L::Pass, observer: O) -> Board<L, O>
+        requires behind { IsBehind O.followed O.follows L.policy (L.observed pass).front observer }
         ensures held { result ≡ L.observed pass }
     {
-        Board { pass, summary }
+        Board { pass, observer }
     }
 
-    /// What the viewer is shown of all records that the gate has once the last of them is followed: at least of those that the
+    /// The pass, to make steps with at the gate's door, and the observer that goes on with it.
+    pub fn into_parts(self) -> (L::Pass, O)
+        ensures held { L.observed result.0 ≡ self }
+        ensures behind { IsBehind O.followed O.follows L.policy self.front result.1 }
+    {
+        let Board { pass, observer } = self;
+        (pass, observer)
+    }
+
+    /// What the observer sees behind all records that the gate has once the last of them is followed: at least of those that the
     /// pass had met, or was told of.
     ///
     /// # Errors
@@ -89,23 +76,23 @@ impl<L: Lookout> Board<L> {
         rt: &R,
         gate: &L,
         alloc: Global,
-        viewer: UserName,
-    ) -> (Board<L>, Result<BoardView, OutOfMemory>)
+        asked: O::Asked,
+    ) -> (Board<L, O>, Result<O::Seen, OutOfMemory>)
         ensures later { IsLater L.policy self result.0 }
         ensures own { mine result.0 ≡ mine self }
-        ensures view { IfOk result.1 (IsView L.policy result.0.front viewer) }
+        ensures view { IfOk result.1 (O.sees L.policy result.0.front asked) }
     {
         let Board {
             mut pass,
-            mut summary,
+            mut observer,
         } = self;
         for _ in rt.forever() {
-            let (back, found) = gate.look(rt, alloc, pass, &mut summary, viewer, PORTION);
+            let (back, found) = gate.look(rt, alloc, pass, &mut observer, asked, PORTION);
             pass = back;
             match found {
-                Ok(Some(view)) => return (Board { pass, summary }, Ok(view)),
+                Ok(Some(seen)) => return (Board { pass, observer }, Ok(seen)),
                 Ok(None) => pause(),
-                Err(refused) => return (Board { pass, summary }, Err(refused)),
+                Err(refused) => return (Board { pass, observer }, Err(refused)),
             }
         }
         unreachable!()

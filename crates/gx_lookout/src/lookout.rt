@@ -1,16 +1,16 @@
-//! What a risk desk's page asks of a gate.
+//! What an observer asks of a gate that threads share.
 
 ghost use Rattle.std.specs.Prelude.{◌≡◌, ◌+◌, IfNone, IfOk, IfSome};
 ghost use Rattle.gx_pass.specs.Views.{mine};
 ghost use Rattle.gx_door.specs.Acts.{IsLater};
-ghost use Rattle.gx_board.specs.{Summaries.IsBehind, Views.IsView};
+ghost use Rattle.gx_lookout.specs.Observers.{IsBehind};
 
-use gx_board::{BoardView, Summary};
-use gx_units::{OutOfMemory, UserName};
+use crate::observer::Observer;
+use gx_units::OutOfMemory;
 use std::alloc::Global;
 use std::sync::Wait;
 
-/// A gate behind a lock, as a risk desk's page looks at it: nothing of it changes.
+/// A gate behind a lock, as an observer looks at it: nothing of it changes.
 pub trait Lookout {
     ghost use Rattle.gx_policy.specs.declared.policy.PolicyData.{PolicyData};
     ghost use Rattle.gx_pass.specs.declared.view.LineView.{LineView};
@@ -24,23 +24,24 @@ pub trait Lookout {
     // What the pass has met.
     ghost observed: { Self.Pass → LineView };
 
-    /// Lets the summary follow at most so many of the gate's records behind those that it has followed, and once it has
-    /// followed all, shows what the viewer is shown of the gate as it stands then. `None` where there are more.
-    fn look<R: Wait>(
+    /// Lets the observer follow at most so many of the gate's records behind those that it has followed, and once it has
+    /// followed all, see what it is asked for of the gate as it stands then. `None` where there are more.
+    fn look<O: Observer, R: Wait>(
         &self,
         rt: &R,
         alloc: Global,
         pass: Self::Pass,
-        summary: &mut Summary,
-        viewer: UserName,
+        observer: &mut O,
+        asked: O::Asked,
         most: usize,
-    ) -> (Self::Pass, Result<Option<BoardView>, OutOfMemory>)
-        requires behind { IsBehind policy (observed pass).front summary.old }
+    ) -> (Self::Pass, Result<Option<O::Seen>, OutOfMemory>)
+        requires behind { IsBehind O.followed O.follows policy (observed pass).front observer.old }
         ensures later { IsLater policy (observed pass) (observed result.0) }
         ensures own { mine (observed result.0) ≡ mine (observed pass) }
-        ensures behind { IsBehind policy (observed result.0).front summary.new }
+        ensures behind { IsBehind O.followed O.follows
+            policy (observed result.0).front observer.new }
         ensures view { IfOk result.1 (λ found. IfSome found
-            (IsView policy (observed result.0).front viewer)) }
+            (O.sees policy (observed result.0).front asked)) }
         ensures further { IfOk result.1 (λ found. IfNone found
-            (summary.new.counts.records ≡ summary.old.counts.records + most)) };
+            (O.followed observer.new ≡ O.followed observer.old + most)) };
 }

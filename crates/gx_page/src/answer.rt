@@ -7,6 +7,7 @@ ghost use Rattle.gx_page.specs.Answers.{is_stranger, IsAnswer, IsTold};
 use crate::notice::Notice;
 use crate::reply::{PageReply, reply_to};
 use crate::response::{notice_response, response};
+use gx_board::Summary;
 use gx_button::{Refusal, Secret};
 use gx_door::{Dial, Door};
 use gx_http::Request;
@@ -75,9 +76,9 @@ pub(crate) fn answer_to<
     policy: &Policy,
     secret: &Secret,
     about: ServerFigures,
-    board: Board<L>,
+    board: Board<L, Summary>,
     request: &Request,
-) -> (Board<L>, Result<HttpAnswer, OutOfMemory>)
+) -> (Board<L, Summary>, Result<HttpAnswer, OutOfMemory>)
     requires policies { L.policy ≡ D.policy }
     requires held { L.observed ≡ D.observed }
     requires policy { policy.now ≡ D.policy }

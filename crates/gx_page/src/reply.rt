@@ -7,7 +7,7 @@ ghost use Rattle.gx_pass.specs.Views.{mine};
 ghost use Rattle.gx_page.specs.Replies.{kill_announced, health_of, IsKillTold, IsReply, IsSeen};
 
 use crate::viewer::viewer;
-use gx_board::BoardView;
+use gx_board::{BoardView, Summary};
 use gx_button::{Deed, Refusal, Secret, kill};
 use gx_desk::Action;
 use gx_door::{Dial, Door};
@@ -75,9 +75,9 @@ fn see<L: Lookout, R: Wait>(
     rt: &R,
     alloc: Global,
     gate: &L,
-    board: Board<L>,
+    board: Board<L, Summary>,
     user: UserName,
-) -> (Board<L>, Result<BoardView, OutOfMemory>)
+) -> (Board<L, Summary>, Result<BoardView, OutOfMemory>)
     ensures later { IsPrefix board.front result.0.front }
     ensures own { mine result.0 ≡ mine board }
     ensures seen { IfOk result.1 (IsSeen L.policy result.0.front user) }
@@ -147,10 +147,10 @@ fn kill_for<T: Drop, D: Door<Pass = T>, L: Lookout<Pass = T>, R: Wait + Dial + A
     door: &D,
     policy: &Policy,
     secret: &Secret,
-    board: Board<L>,
+    board: Board<L, Summary>,
     caller: Option<Credentials>,
     form: &KillForm,
-) -> (Board<L>, Result<Deed, Refusal>, Announced)
+) -> (Board<L, Summary>, Result<Deed, Refusal>, Announced)
     requires policies { L.policy ≡ D.policy }
     requires held { L.observed ≡ D.observed }
     requires policy { policy.now ≡ D.policy }
@@ -161,7 +161,7 @@ fn kill_for<T: Drop, D: Door<Pass = T>, L: Lookout<Pass = T>, R: Wait + Dial + A
     let (pass, summary) = board.into_parts();
     let (pass, done) = kill(door, rt, policy, secret, pass, caller, form);
     let announced = announce(rt, ended_of(caller, form, &done));
-    (Board::from_parts(pass, summary), done, announced)
+    (Board::new(pass, summary), done, announced)
 }
 
 /// What becomes of a request. A kill makes steps on the line of the board's pass; nothing else makes any. What is shown is of
@@ -182,9 +182,9 @@ pub(crate) fn reply_to<
     gate: &L,
     policy: &Policy,
     secret: &Secret,
-    board: Board<L>,
+    board: Board<L, Summary>,
     request: &Request,
-) -> (Board<L>, Result<PageReply, OutOfMemory>)
+) -> (Board<L, Summary>, Result<PageReply, OutOfMemory>)
     requires policies { L.policy ≡ D.policy }
     requires held { L.observed ≡ D.observed }
     requires policy { policy.now ≡ D.policy }

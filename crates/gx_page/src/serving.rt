@@ -4,6 +4,7 @@ ghost use Rattle.std.specs.Prelude.{◌≡◌};
 
 use crate::answer::{HttpAnswer, answer_to};
 use crate::guest::Guest;
+use gx_board::Summary;
 use gx_button::Secret;
 use gx_control::{ServerControl, ShutdownFlag};
 use gx_door::{Dial, Door};
@@ -211,9 +212,9 @@ fn answer_next<
     rt: &R,
     alloc: Global,
     server: &PageServer<'_, T, D, L>,
-    board: Board<L>,
+    board: Board<L, Summary>,
     guests: &mut Guests,
-) -> Board<L> {
+) -> Board<L, Summary> {
     if !guests.may_answer(time(rt)) {
         return board;
     }
@@ -266,7 +267,7 @@ pub fn serve_page<
     rt: &R,
     alloc: Global,
     server: &PageServer<'_, T, D, L>,
-    board: Board<L>,
+    board: Board<L, Summary>,
     listener: &TcpListener,
     closing: &ShutdownFlag,
 ) {

@@ -1,5 +1,5 @@
 pub mod Command_call
-pub mod Summary_next
+pub mod Observer_next
 pub mod Match_idle
 pub mod Match_next
 pub mod Pass_met

@@ -10,19 +10,18 @@ ghost use Rattle.gx_pass.specs.declared.pass.PassFault.TheVariants as pass_fault
 ghost use Rattle.gx_pass.specs.Views.{highest_line, mine, of_line};
 ghost use Rattle.gx_door.specs.declared.fault.PullFault.TheVariants as pull_faults;
 ghost use Rattle.gx_door.specs.{Acts.{asked_on, gate_at, login_on, AddsOwn, EndsWith, IsLater, IsPulled, IsToldFull, LogsIn, MayBeRefused}, Callers.caller_of, Matching.{EndsSo, MatchesBehind, Turns}};
-ghost use Rattle.gx_board.specs.{Summaries.IsBehind, Views.IsView};
+ghost use Rattle.gx_lookout.specs.Observers.{IsBehind};
 ghost use Rattle.gx_shared.specs.Permits.{all_parts};
 
 use crate::counted_pass::CountedPass;
 use crate::counting::CountingKeeper;
-use crate::looking::look;
 use crate::permit::{BlankLedgers, Permits};
 use crate::resuming::resume;
 use crate::steps::{asked_on, leave, match_and_note, match_some, pull, step_and_note, turn};
 use gx_access_gate::{AccessGate, LoginAnswer, Outcome, Pulled, StepFault};
-use gx_board::{BoardView, Summary};
 use gx_door::{Caller, Matched, PullFault, Turned};
 use gx_history::record::{Record, Request};
+use gx_lookout::Observer;
 use gx_pass::{Blank, GateName, Keeper, Pass, PassFault};
 use gx_policy::Policy;
 use gx_records::{ShowsRecords, ShowsState};
@@ -398,29 +397,29 @@ impl<G: ShowsState, N: GateName> GuardedGate<G, N> {
 }
 
 impl<G: ShowsRecords + ShowsState, N: GateName> GuardedGate<G, N> {
-    /// Lets the summary follow at most so many records behind those that it has followed, which the pass had met, and once
-    /// it has followed all, shows what the viewer is shown.
-    #[tactic(auto, using(crate::proofs::Summary_next::behind_gate))]
-    pub fn look(
+    /// Lets the observer follow at most so many records behind those that it has followed, which the pass had met, and once
+    /// it has followed all, see what it is asked for.
+    #[tactic(auto, using(crate::proofs::Observer_next::behind_gate))]
+    pub fn look<O: Observer>(
         &mut self,
         alloc: Global,
         pass: Pass<N>,
-        summary: &mut Summary,
-        viewer: UserName,
+        observer: &mut O,
+        asked: O::Asked,
         most: usize,
-    ) -> (Pass<N>, Result<Option<BoardView>, OutOfMemory>)
-        requires behind { IsBehind N.policy pass.front summary.old }
+    ) -> (Pass<N>, Result<Option<O::Seen>, OutOfMemory>)
+        requires behind { IsBehind O.followed O.follows N.policy pass.front observer.old }
         ensures same { self.new ≡ self.old }
         ensures front { result.0.front ≡ self.new }
         ensures later { IsLater N.policy pass result.0 }
         ensures own { mine result.0 ≡ mine pass }
-        ensures behind { IsBehind N.policy self.new summary.new }
-        ensures view { IfOk result.1 (λ found. IfSome found (IsView N.policy self.new viewer)) }
+        ensures behind { IsBehind O.followed O.follows N.policy self.new observer.new }
+        ensures view { IfOk result.1 (λ found. IfSome found (O.sees N.policy self.new asked)) }
         ensures further { IfOk result.1 (λ found. IfNone found
-            (summary.new.counts.records ≡ summary.old.counts.records + most)) }
+            (O.followed observer.new ≡ O.followed observer.old + most)) }
     {
         let entered = self.keeper.enter(pass);
-        let found = look(&self.gate, alloc, summary, viewer, most);
+        let found = observer.observe(alloc, &self.gate, asked, most);
         (leave(&self.gate, &mut self.keeper, entered), found)
     }
 }

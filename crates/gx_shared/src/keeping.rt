@@ -18,7 +18,7 @@ use gx_control::{ServerControl, Tallied};
 use gx_devices::WriteFault;
 use gx_journal::{Journal, JournalName, Journaled};
 use gx_leaving::log_out_at_last;
-use gx_listen::{DayLog, Ending, PagePort, serve_door};
+use gx_listen::{Companion, DayLog, Ending, serve_door};
 use gx_pass::{Blank, GateName, PassFault};
 use gx_policy::Policy;
 use gx_records::{ShowsRecords, ShowsState};
@@ -93,6 +93,7 @@ fn serve_kept<
     N: GateName + Send + Sync,
     J: JournalName + Send + Sync,
     W: Write + Drop + Send,
+    C: Companion + Send,
     R: Threads + Wait + Clock + Sync,
 >(
     rt: &R,
@@ -106,7 +107,7 @@ fn serve_kept<
     policy: &Policy,
     control: &ServerControl,
     log: Option<DayLog>,
-    page: Option<PagePort>,
+    companion: Option<C>,
     listener: TcpListener,
     connections: u64,
 ) -> (KeptDay<G, W>, CountedPass<N>, Total<N>, Ending)
@@ -118,6 +119,7 @@ fn serve_kept<
     requires met { pass.held.front ≡ J.earlier }
     requires none_added { pass.added ≡ 0 }
     requires within { count ≤ length J.earlier }
+    requires made { IfSome companion (λ c. C.is_for c N.policy) }
     ensures policy { (G.state result.0.gate).policy ≡ N.policy }
     ensures legal { IsLegal N.policy (G.state result.0.gate).records }
     ensures front { IsPrefix J.earlier (G.state result.0.gate).records }
@@ -140,7 +142,7 @@ fn serve_kept<
         entrance,
         control,
         log,
-        page,
+        companion,
         listener,
         connections,
     );
@@ -158,6 +160,7 @@ fn serve_named<
     N: GateName + Send + Sync,
     J: JournalName + Send + Sync,
     W: Write + Drop + Send,
+    C: Companion + Send,
     R: Threads + Wait + Clock + Sync,
 >(
     rt: &R,
@@ -170,7 +173,7 @@ fn serve_named<
     device: W,
     policy: &Policy,
     control: &ServerControl,
-    page: Option<PagePort>,
+    companion: Option<C>,
     listener: TcpListener,
     connections: u64,
 ) -> Result<(KeptDay<G, W>, Ending), PassFault>
@@ -185,6 +188,7 @@ fn serve_named<
     requires count { count ≡ J.count }
     requires earlier { (G.state gate).records ≡ J.earlier }
     requires within { count ≤ length J.earlier }
+    requires made { IfSome companion (λ c. C.is_for c N.policy) }
     ensures policy { IfOk result (λ left. (G.state left.0.gate).policy ≡ N.policy) }
     ensures legal { IfOk result (λ left. IsLegal N.policy (G.state left.0.gate).records) }
     ensures front { IfOk result (λ left. IsPrefix J.earlier (G.state left.0.gate).records) }
@@ -198,7 +202,7 @@ fn serve_named<
     };
     match SharedGate::<G, N>::over(gate, blank, ledgers) {
         Ok((shared, permits, pass)) => {
-            let (kept, _met, _total, ended) = serve_kept::<G, N, J, W, R>(
+            let (kept, _met, _total, ended) = serve_kept::<G, N, J, W, C, R>(
                 rt,
                 alloc,
                 shared,
@@ -210,7 +214,7 @@ fn serve_named<
                 policy,
                 control,
                 log,
-                page,
+                companion,
                 listener,
                 connections,
             );
@@ -233,6 +237,7 @@ fn serve_named<
 pub fn serve_journaled<
     G: ShowsRecords + ShowsState + Send,
     W: Write + Drop + Send,
+    C: Companion + Send,
     R: Threads + Wait + Clock + Sync,
 >(
     rt: &R,
@@ -242,11 +247,12 @@ pub fn serve_journaled<
     count: u64,
     device: W,
     control: &ServerControl,
-    page: Option<PagePort>,
+    companion: Option<C>,
     listener: TcpListener,
     connections: u64,
 ) -> Result<(KeptDay<G, W>, Ending), PassFault>
-    requires { count ≤ length (G.state gate).records }
+    requires count { count ≤ length (G.state gate).records }
+    requires made { IfSome companion (λ c. C.is_for c (G.state gate).policy) }
     ensures policy { IfOk result
         (λ left. (G.state left.0.gate).policy ≡ (G.state gate).policy) }
     ensures legal { IfOk result
@@ -268,7 +274,7 @@ pub fn serve_journaled<
     };
     // no connection is left that made the records
     log_out_at_last(&mut gate);
-    serve_named::<G, Brand, Brand, W, R>(
+    serve_named::<G, Brand, Brand, W, C, R>(
         rt,
         alloc,
         gate,
@@ -279,7 +285,7 @@ pub fn serve_journaled<
         device,
         &policy,
         control,
-        page,
+        companion,
         listener,
         connections,
     )

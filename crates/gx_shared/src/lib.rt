@@ -16,7 +16,6 @@
 //! - `counted_pass`: a pass, and how many records were added with it;
 //! - `counting`: the keeper, and the books in which each record and each line is counted;
 //! - `steps`: each step is one call of the gate, and the keeper notes its record before the lock is let go;
-//! - `looking`: a summary follows the records, and a viewer is shown what is his: no step is made;
 //! - `ending`: what a Kill or a Close Day ends, counted in front of its step;
 //! - `resuming`: the keeper of a history that was there before it, which it reads a portion at a time;
 //! - `serving`: a server whose day begins with it, and the gate that was served;
@@ -32,7 +31,6 @@ mod entrance;
 mod guarded_gate;
 mod keeping;
 mod logging;
-mod looking;
 mod permit;
 mod rest;
 mod resuming;

@@ -1,6 +1,6 @@
 //! A server whose day begins with it.
 
-ghost use Rattle.std.specs.Prelude.{◌≡◌, length, IfOk};
+ghost use Rattle.std.specs.Prelude.{◌≡◌, length, IfOk, IfSome};
 ghost use Rattle.gx_history.specs.Verdicts.{IsLegal};
 ghost use Rattle.gx_shared.specs.Permits.{all_parts};
 
@@ -10,7 +10,7 @@ use crate::logging::day_log;
 use crate::permit::BlankLedgers;
 use crate::shared::SharedGate;
 use gx_control::ServerControl;
-use gx_listen::{Ending, PagePort, ServeFault, serve_door};
+use gx_listen::{Companion, Ending, ServeFault, serve_door};
 use gx_pass::{Blank, GateName};
 use gx_policy::Policy;
 use gx_records::{ShowsRecords, ShowsState};
@@ -34,6 +34,7 @@ pub struct Served<G> {
 fn serve_shared<
     G: ShowsRecords + ShowsState + Send,
     N: GateName + Send + Sync,
+    C: Companion + Send,
     R: Threads + Wait + Clock + Sync,
 >(
     rt: &R,
@@ -42,7 +43,7 @@ fn serve_shared<
     blank: Blank,
     ledgers: BlankLedgers,
     control: &ServerControl,
-    page: Option<PagePort>,
+    companion: Option<C>,
     listener: TcpListener,
     connections: u64,
 ) -> Result<(Served<G>, CountedPass<N>, Total<N>), ServeFault>
@@ -51,6 +52,7 @@ fn serve_shared<
     requires records { ledgers.records ≡ N.name }
     requires lines { ledgers.lines ≡ N.lines }
     requires parts { N.parts ≡ all_parts }
+    requires made { IfSome companion (λ c. C.is_for c N.policy) }
     ensures policy { IfOk result (λ left. (G.state left.0.gate).policy ≡ N.policy) }
     ensures legal { IfOk result (λ left. IsLegal N.policy (G.state left.0.gate).records) }
     ensures met { IfOk result (λ left. left.1.held.front ≡ (G.state left.0.gate).records) }
@@ -69,7 +71,7 @@ fn serve_shared<
         entrance,
         control,
         log,
-        page,
+        companion,
         listener,
         connections,
     );
@@ -89,6 +91,7 @@ fn serve_shared<
 fn serve_named<
     G: ShowsRecords + ShowsState + Send,
     N: GateName + Send + Sync,
+    C: Companion + Send,
     R: Threads + Wait + Clock + Sync,
 >(
     rt: &R,
@@ -97,7 +100,7 @@ fn serve_named<
     blank: Blank,
     ledgers: BlankLedgers,
     control: &ServerControl,
-    page: Option<PagePort>,
+    companion: Option<C>,
     listener: TcpListener,
     connections: u64,
 ) -> Result<Served<G>, ServeFault>
@@ -106,17 +109,18 @@ fn serve_named<
     requires records { ledgers.records ≡ N.name }
     requires lines { ledgers.lines ≡ N.lines }
     requires parts { N.parts ≡ all_parts }
+    requires made { IfSome companion (λ c. C.is_for c N.policy) }
     ensures policy { IfOk result (λ served. (G.state served.gate).policy ≡ N.policy) }
     ensures legal { IfOk result (λ served. IsLegal N.policy (G.state served.gate).records) }
 {
-    match serve_shared::<G, N, R>(
+    match serve_shared::<G, N, C, R>(
         rt,
         alloc,
         policy,
         blank,
         ledgers,
         control,
-        page,
+        companion,
         listener,
         connections,
     ) {
@@ -126,30 +130,35 @@ fn serve_named<
 }
 
 /// Takes connections under the policy, and serves each until it ends: so many of them, or
-/// fewer where the server is asked to end. The risk desk's page is served beside them, if it has a port. Gives the gate back, also
+/// fewer where the server is asked to end. The companion, if there is one, is served beside them. Gives the gate back, also
 /// where it gave up.
-pub fn serve<G: ShowsRecords + ShowsState + Send, R: Threads + Wait + Clock + Sync>(
+pub fn serve<
+    G: ShowsRecords + ShowsState + Send,
+    C: Companion + Send,
+    R: Threads + Wait + Clock + Sync,
+>(
     rt: &R,
     alloc: Global,
     policy: &Policy,
     control: &ServerControl,
-    page: Option<PagePort>,
+    companion: Option<C>,
     listener: TcpListener,
     connections: u64,
 ) -> Result<Served<G>, ServeFault>
+    requires { IfSome companion (λ c. C.is_for c policy.now) }
     ensures policy { IfOk result (λ served. (G.state served.gate).policy ≡ policy.now) }
     ensures legal { IfOk result (λ served. IsLegal policy.now (G.state served.gate).records) }
 {
     let blank = Blank::new(alloc)?;
     let ledgers = BlankLedgers::new();
-    serve_named::<G, Brand, R>(
+    serve_named::<G, Brand, C, R>(
         rt,
         alloc,
         policy,
         blank,
         ledgers,
         control,
-        page,
+        companion,
         listener,
         connections,
     )

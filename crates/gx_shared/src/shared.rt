@@ -11,10 +11,9 @@ use crate::counted_pass::CountedPass;
 use crate::guarded_gate::GuardedGate;
 use crate::permit::{BlankLedgers, Permits};
 use gx_access_gate::{AccessGate, LoginAnswer, Outcome, Pulled, StepFault};
-use gx_board::{BoardView, Summary};
 use gx_door::{Caller, Dial, Door, Matched, PullFault, Turned};
 use gx_history::record::{Record, Request};
-use gx_lookout::Lookout;
+use gx_lookout::{Lookout, Observer};
 use gx_pass::{Blank, GateName, PassFault};
 use gx_policy::Policy;
 use gx_records::{ShowsRecords, ShowsState};
@@ -342,17 +341,17 @@ impl<G: ShowsRecords + ShowsState, N: GateName> Lookout for SharedGate<G, N> {
 
     ghost observed = { λ p. p.held };
 
-    fn look<R: Wait>(
+    fn look<O: Observer, R: Wait>(
         &self,
         rt: &R,
         alloc: Global,
         pass: CountedPass<N>,
-        summary: &mut Summary,
-        viewer: UserName,
+        observer: &mut O,
+        asked: O::Asked,
         most: usize,
-    ) -> (CountedPass<N>, Result<Option<BoardView>, OutOfMemory>) {
+    ) -> (CountedPass<N>, Result<Option<O::Seen>, OutOfMemory>) {
         let CountedPass { pass, share } = pass;
-        let (pass, found) = self.guarded(rt).look(alloc, pass, summary, viewer, most);
+        let (pass, found) = self.guarded(rt).look(alloc, pass, observer, asked, most);
         (CountedPass { pass, share }, found)
     }
 }

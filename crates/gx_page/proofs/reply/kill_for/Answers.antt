@@ -1,13 +1,13 @@
 use Rattle.std.proofs.Common.{sym, subst, ◌∙◌}
 use mathlib.Core.List.{IsPrefix}
 use Rattle.gx_pass.specs.declared.view.LineView.{LineView}
-use Rattle.gx_lookout.proofs.Summary_behind.{behind_all}
+use Rattle.gx_lookout.proofs.Observer_behind.{behind_all}
 use Rattle.gx_page.proofs.Kill_call.{board_goes_on, done_so, told_so}
 use Rattle.gx_page.proofs.reply.kill_for.Goals as goal
 
 -- the summary stands behind what the pass has met now
-pub from_parts-requires : goal.from_parts-requires
-from_parts-requires g c = record {
+pub new-requires : goal.new-requires
+new-requires g c = record {
   behind =
       behind_all (g.L.Lookout.observed c.kill-pass.result.0).front c.into_parts-pass.result.1
       (board_goes_on g.L.Lookout.observed g.D.Door.observed g.D.Door.policy c.args.board c.into_parts-pass.result.0 c.kill-pass.result.0 c.kill-pass.result.1 c.requires.held c.into_parts-pass.ensures.held c.kill-pass.ensures.later
@@ -18,14 +18,14 @@ from_parts-requires g c = record {
 -- a deed, or a refusal that leaves the pass as it was; and what was announced
 pub returns-clause-kill : goal.returns-clause-kill
 returns-clause-kill g c =
-    told_so g.L.Lookout.observed g.D.Door.observed g.D.Door.policy c.args.secret.now.bytes c.args.board c.from_parts.result c.into_parts-pass.result.0 c.kill-pass.result.0 c.args.caller c.args.form.now c.kill-pass.result.1
-    c.announce-announced.result c.requires.held c.into_parts-pass.ensures.held c.from_parts.ensures.held
+    told_so g.L.Lookout.observed g.D.Door.observed g.D.Door.policy c.args.secret.now.bytes c.args.board c.new.result c.into_parts-pass.result.0 c.kill-pass.result.0 c.args.caller c.args.form.now c.kill-pass.result.1
+    c.announce-announced.result c.requires.held c.into_parts-pass.ensures.held c.new.ensures.held
     (done_so g.D.Door.observed _ _ c.into_parts-pass.result.0 c.kill-pass.result.0 c.args.caller c.args.form.now _ c.kill-pass.result.1 c.kill-pass.ensures.refused c.kill-pass.ensures.untouched c.kill-pass.ensures.permitted
     c.kill-pass.ensures.named c.kill-pass.ensures.steps)
     (c.announce-announced.ensures ∙ c.ended_of.ensures)
 
 pub returns-clause-later : goal.returns-clause-later
 returns-clause-later g c =
-    subst (λ (h : LineView). IsPrefix c.args.board.front h.front) (sym c.from_parts.ensures.held)
+    subst (λ (h : LineView). IsPrefix c.args.board.front h.front) (sym c.new.ensures.held)
     (board_goes_on g.L.Lookout.observed g.D.Door.observed g.D.Door.policy c.args.board c.into_parts-pass.result.0 c.kill-pass.result.0 c.kill-pass.result.1 c.requires.held c.into_parts-pass.ensures.held c.kill-pass.ensures.later
     c.kill-pass.ensures.untouched)

@@ -1,5 +1,5 @@
 use Rattle.std.proofs.Common.{◌∙◌}
-use Rattle.gx_lookout.proofs.Summary_behind.{goes_on}
+use Rattle.gx_lookout.proofs.Observer_behind.{goes_on}
 use Rattle.gx_lookout.proofs.board.Board.view.Goals as goal
 
 pub loop-preserved : goal.loop-preserved

@@ -1,7 +1,7 @@
 use Rattle.std.proofs.Common.{◌≡◌}
 use Rattle.gx_pass.specs.Views.{mine}
-use Rattle.gx_board.specs.Summaries.{IsBehind}
-use Rattle.gx_lookout.proofs.Summary_behind.{GoesOn}
+use Rattle.gx_lookout.specs.Observers.{IsBehind}
+use Rattle.gx_lookout.proofs.Observer_behind.{GoesOn}
 use Rattle.gx_lookout.proofs.board.Board.view.Given as goal
 
 abbrev pub invariant-loop : goal.invariant-loop
@@ -10,5 +10,5 @@ invariant-loop g l = record {
   finite : (goal.iterator-loop g).is_finite l.iterator';
   later : GoesOn g.L.Lookout.policy l.fn.self (g.L.Lookout.observed l.pass);
   own : mine (g.L.Lookout.observed l.pass) ≡ mine l.fn.self;
-  behind : IsBehind g.L.Lookout.policy (g.L.Lookout.observed l.pass).front l.summary;
+  behind : IsBehind g.O.Observer.followed g.O.Observer.follows g.L.Lookout.policy (g.L.Lookout.observed l.pass).front l.observer;
 }

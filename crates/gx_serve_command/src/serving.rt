@@ -72,7 +72,7 @@ fn serve_logged<G: ShowsRecords + ShowsState + Send, R: ServerRuntime>(
 }
 
 /// Serves connections on gates of the kind `G`: the status that says how that ended.
-pub(crate) fn serve_told<G: ShowsRecords + ShowsState + Send, R: ServerRuntime>(
+pub fn serve_told<G: ShowsRecords + ShowsState + Send, R: ServerRuntime>(
     rt: &R,
     host: &HostRuntime,
     serving: Serving<'_>,

@@ -6,7 +6,7 @@ use std::thread::Threads;
 use std::time::Clock;
 
 /// A runtime with threads, waiting, sockets and clocks, which each thread may have for itself.
-pub(crate) trait ServerRuntime: Net<Listener = TcpListener, Stream = TcpStream>
+pub trait ServerRuntime: Net<Listener = TcpListener, Stream = TcpStream>
     + Threads
     + Wait
     + Clock

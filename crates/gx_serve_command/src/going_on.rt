@@ -44,7 +44,8 @@ fn go_on<'a, G: ShowsRecords + ShowsState + Send, R: ServerRuntime>(
         cut,
         device,
     } = day;
-    match open_lobby(rt, host, serving, start, gate.moment_of_last(), log) {
+    let last = gate.moment_of_last();
+    match open_lobby(rt, host, serving, gate.policy(), start, last, log) {
         Ok(
             ServerEntrance {
                 listener,

@@ -1,13 +1,17 @@
 //! Where connections come in.
 
+ghost use Rattle.std.specs.Prelude.{[], IfOk, IfSome};
+ghost use Rattle.gx_board.specs.Summaries.{IsSummaryBehind};
+
 use crate::announcing::Announcer;
 use crate::limits::places_for;
-use crate::page::{listen, open_page};
+use crate::page::{RiskPage, listen, open_page};
 use crate::runtime::ServerRuntime;
 use gx_command_line::Serving;
 use gx_control::ServerControl;
-use gx_listen::{Ending, PagePort, ServeFault};
+use gx_listen::{Ending, ServeFault};
 use gx_log::Log;
+use gx_policy::Policy;
 use gx_program::Failure;
 use gx_runs::{Start, await_ends};
 use gx_server::ProgramFault;
@@ -21,23 +25,27 @@ use std::sync::Arc;
 #[derive(Drop)]
 pub(crate) struct ServerEntrance {
     pub(crate) listener: TcpListener,
-    pub(crate) page: Option<PagePort>,
+    pub(crate) page: Option<RiskPage>,
     pub(crate) control: Arc<ServerControl, Global>,
     pub(crate) announcer: Announcer,
 }
 
-/// Listens for connections, which is told once they are taken. The server ends as was asked for, and its clock
+/// Listens for connections to a gate that judges by this policy, which is told once they are taken. The server ends as was asked for, and its clock
 /// has begun at the start, no earlier than at the moment `last`.
 pub(crate) fn open_lobby<'a, R: ServerRuntime>(
     rt: &R,
     host: &HostRuntime,
     serving: &Serving<'a>,
+    policy: &Policy,
     start: Start,
     last: Moment,
     log: &Arc<Log, Global>,
-) -> Result<ServerEntrance, Failure<'a>> {
+) -> Result<ServerEntrance, Failure<'a>>
+    ensures { IfOk result (λ entrance. IfSome entrance.page
+        (λ page. IsSummaryBehind policy.now [] page.summary)) }
+{
     let listener = listen(rt, serving.port)?;
-    let page = open_page(rt, host, serving)?;
+    let page = open_page(rt, host, serving, policy)?;
     let alloc = host.alloc();
     let places = places_for(rt, host, log, serving.at_once, page.is_some());
     let clock = start.clock(serving.midnight, last);

@@ -1,6 +1,7 @@
 //! A server of a day that begins with it.
 
 use crate::entrance::{ServerEntrance, open_lobby, served, unserved};
+use crate::page::RiskPage;
 use crate::runtime::ServerRuntime;
 use gx_command_line::Serving;
 use gx_log::Log;
@@ -31,9 +32,9 @@ fn serve_on<'a, G: ShowsRecords + ShowsState + Send, R: ServerRuntime>(
         page,
         control,
         announcer,
-    } = open_lobby(rt, host, serving, start, NO_MOMENT, log)?;
+    } = open_lobby(rt, host, serving, policy, start, NO_MOMENT, log)?;
     let connections = connections_of(serving.ends);
-    let served = serve::<G, R>(
+    let served = serve::<G, RiskPage, R>(
         rt,
         host.alloc(),
         policy,
