@@ -7,15 +7,13 @@ use gx_ouch::{CancelOrder, EnterOrder, ReplaceOrder};
 use gx_units::{OutOfMemory, unpadded};
 use std::alloc::Global;
 
-/// Puts a word more at the end of the line.
-fn add(line: &mut Vec<u8>, word: &[u8]) -> Result<(), OutOfMemory> {
-    append(line, b" ")?;
-    append(line, word)
-}
-
-/// Puts a name more at the end of the line, without the spaces that fill it up.
-fn add_name(line: &mut Vec<u8>, name: &[u8]) -> Result<(), OutOfMemory> {
-    add(line, unpadded(name))
+/// Puts words more at the end of the line, each without the spaces that fill it up.
+fn add(line: &mut Vec<u8>, words: &[&[u8]]) -> Result<(), OutOfMemory> {
+    for word in words {
+        append(line, b" ")?;
+        append(line, unpadded(word))?;
+    }
+    Ok(())
 }
 
 /// Puts a number more at the end of the line.
@@ -24,74 +22,76 @@ fn add_number(line: &mut Vec<u8>, number: u64) -> Result<(), OutOfMemory> {
     append_number(line, number)
 }
 
+/// Puts these more at the end of the line.
+fn add_numbers(line: &mut Vec<u8>, numbers: &[u32]) -> Result<(), OutOfMemory> {
+    for number in numbers {
+        add_number(line, u64::from(*number))?;
+    }
+    Ok(())
+}
+
 fn add_enter(line: &mut Vec<u8>, order: &EnterOrder) -> Result<(), OutOfMemory> {
-    add(line, b"enter")?;
-    add_name(line, &order.token.bytes)?;
-    add(line, &[order.side])?;
-    add_number(line, u64::from(order.shares))?;
-    add_name(line, &order.stock.bytes)?;
-    add_number(line, u64::from(order.price))?;
-    add_number(line, u64::from(order.time_in_force))
+    add(line, &[b"enter", &order.token.bytes, &[order.side]])?;
+    add_numbers(line, &[order.shares])?;
+    add(line, &[&order.stock.bytes])?;
+    add_numbers(line, &[order.price, order.time_in_force])
 }
 
 fn add_replace(line: &mut Vec<u8>, order: &ReplaceOrder) -> Result<(), OutOfMemory> {
-    add(line, b"replace")?;
-    add_name(line, &order.existing_token.bytes)?;
-    add_name(line, &order.replacement_token.bytes)?;
-    add_number(line, u64::from(order.shares))?;
-    add_number(line, u64::from(order.price))?;
-    add_number(line, u64::from(order.time_in_force))
+    add(
+        line,
+        &[
+            b"replace",
+            &order.existing_token.bytes,
+            &order.replacement_token.bytes,
+        ],
+    )?;
+    add_numbers(line, &[order.shares, order.price, order.time_in_force])
 }
 
 fn add_cancel(line: &mut Vec<u8>, order: &CancelOrder) -> Result<(), OutOfMemory> {
-    add(line, b"cancel")?;
-    add_name(line, &order.token.bytes)?;
-    add_number(line, u64::from(order.shares))
+    add(line, &[b"cancel", &order.token.bytes])?;
+    add_numbers(line, &[order.shares])
 }
 
 /// What a command names behind its tag.
 fn add_named(line: &mut Vec<u8>, action: &Action) -> Result<(), OutOfMemory> {
     match action {
-        Action::Kill(account) | Action::Lift(account) => add_name(line, &account.bytes),
+        Action::Kill(account) | Action::Lift(account) => add(line, &[&account.bytes]),
         Action::SetLimit(rule, limit) => {
-            add_name(line, &rule.bytes)?;
+            add(line, &[&rule.bytes])?;
             add_number(line, *limit)
         }
         Action::Restrict(rule, stock) | Action::Unrestrict(rule, stock) => {
-            add_name(line, &rule.bytes)?;
-            add_name(line, &stock.bytes)
+            add(line, &[&rule.bytes, &stock.bytes])
         }
         Action::Grant(reader, account) | Action::Revoke(reader, account) => {
-            add_name(line, &reader.bytes)?;
-            add_name(line, &account.bytes)
+            add(line, &[&reader.bytes, &account.bytes])
         }
         Action::CloseDay => Ok(()),
     }
 }
 
 fn add_command(line: &mut Vec<u8>, command: &Command) -> Result<(), OutOfMemory> {
-    add(line, command.action.word())?;
-    add_name(line, &command.tag.bytes)?;
+    add(line, &[command.action.word(), &command.tag.bytes])?;
     add_named(line, &command.action)
 }
 
 fn add_login(line: &mut Vec<u8>, password: &[u8], wanted: u64) -> Result<(), OutOfMemory> {
-    add(line, b"login")?;
-    add_name(line, password)?;
+    add(line, &[b"login", password])?;
     add_number(line, wanted)
 }
 
 fn add_raw(line: &mut Vec<u8>, payload: &[u8]) -> Result<(), OutOfMemory> {
     let digits = hex::encode(*line.allocator(), payload)?;
-    add(line, b"raw")?;
-    add(line, digits.as_bytes())
+    add(line, &[b"raw", digits.as_bytes()])
 }
 
 /// What a user asks for: `payload` is what `raw` spells.
 fn add_step(line: &mut Vec<u8>, step: &ScriptStep, payload: &[u8]) -> Result<(), OutOfMemory> {
     match step {
         ScriptStep::Login(password, wanted) => add_login(line, &password.bytes, *wanted),
-        ScriptStep::Logout => add(line, b"logout"),
+        ScriptStep::Logout => add(line, &[b"logout"]),
         ScriptStep::Enter(order) => add_enter(line, order),
         ScriptStep::Replace(order) => add_replace(line, order),
         ScriptStep::Cancel(order) => add_cancel(line, order),
@@ -100,25 +100,24 @@ fn add_step(line: &mut Vec<u8>, step: &ScriptStep, payload: &[u8]) -> Result<(),
     }
 }
 
+/// What is asked for at a moment: a word that stands alone.
+fn add_timed(text: &mut Vec<u8>, moment: u64, word: &[u8]) -> Result<(), OutOfMemory> {
+    append_number(text, moment)?;
+    add(text, &[word])
+}
+
 fn add_line(text: &mut Vec<u8>, line: &ScriptLine, payload: &[u8]) -> Result<(), OutOfMemory> {
     match line {
         ScriptLine::Skipped => append(text, b"#"),
         ScriptLine::Step(moment, user, step) => {
-            append_number(text, *moment)?;
-            add_name(text, &user.bytes)?;
+            add_timed(text, *moment, &user.bytes)?;
             add_step(text, step, payload)
         }
-        ScriptLine::Match(moment) => {
-            append_number(text, *moment)?;
-            add(text, b"match")
-        }
-        ScriptLine::Settle(moment) => {
-            append_number(text, *moment)?;
-            add(text, b"settle")
-        }
+        ScriptLine::Match(moment) => add_timed(text, *moment, b"match"),
+        ScriptLine::Settle(moment) => add_timed(text, *moment, b"settle"),
         ScriptLine::Stream(user) => {
             append(text, b"stream")?;
-            add_name(text, &user.bytes)
+            add(text, &[&user.bytes])
         }
     }
 }

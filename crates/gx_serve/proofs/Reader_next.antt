@@ -72,6 +72,15 @@ nothing_heard before input o state opening left = record {
 pub heard_first : (before : List ℕ) (input : Option (List ℕ)) (o : OpeningData) (feeder : Held) (state : Left) → feeder ≡ o.feeder → IsOpening before o → IsLeft o.fault state → HeardSoFar before input input feeder state
 heard_first before input o feeder state is opening left = subst (λ f. HeardSoFar before input input f state) (sym is) (nothing_heard before input o state opening left)
 
+-- a piece more was read
+pub heard_more : (before piece : List ℕ) (input mid left : Option (List ℕ)) (feeder feeder' : Held) (state state' : Left) → HeardSoFar before input mid feeder state → Consumes mid left piece
+    → ((front : List ℕ) → Stands state feeder front → Stands state' feeder' (front ++ piece)) → HeardSoFar before input left feeder' state'
+heard_more before piece input mid left feeder feeder' state state' h read more = record {
+  bytes = h.bytes ++ piece;
+  consumed = Consumes-trans input mid left h.bytes piece h.consumed read;
+  stands = subst (Stands state' feeder') (append_assoc before h.bytes piece) (more (before ++ h.bytes) h.stands);
+}
+
 pub heard : (before : List ℕ) (input mid left : Option (List ℕ)) (feeder : Held) (state : Left) (failed failed' : ℕ) → HeardSoFar before input mid feeder state → HasEnded mid left failed failed' → WasHeard before input left failed' state
 heard before input mid left feeder state failed failed' h end = record {
   bytes = h.bytes;
