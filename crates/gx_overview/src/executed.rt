@@ -1,8 +1,8 @@
 //! What each account has executed, by side: one pass over the records.
 
-ghost use Rattle.std.specs.{Prelude.{◌≡◌, fold, map, nat_eq, IfOk, OnOk}, Map.lookup};
+ghost use Rattle.std.specs.{Prelude.{◌≡◌, [], fold, map, nat_eq, IfOk, OnOk}, Map.lookup};
 ghost use Rattle.gx_history.specs.Executions.{executions};
-ghost use Rattle.gx_overview.specs.Executed.{executed_row, no_executions, row_filled, rows_after, rows_filled, with_fill, NoteRecord};
+ghost use Rattle.gx_overview.specs.Executed.{executed_row, no_executions, row_filled, rows_after, rows_filled, with_fill, KnowOrders, NoteRecord};
 
 use crate::owners::{Owner, Owners};
 use gx_history::record::{Fill, Record, Step, Verdict};
@@ -115,6 +115,25 @@ fn note_record(
     }
 }
 
+/// The same of each of these records, by who owns the orders in them.
+fn note_each(
+    rows: &mut [ExecutedRow],
+    owners: &mut Owners,
+    policy: &Policy,
+    people: &People,
+    records: &Records<'_>,
+) -> Result<(), OutOfMemory>
+    requires people { people.now ≡ policy.now.users }
+    requires none { KnowOrders owners.old [] }
+    ensures noted { OnOk result
+        (rows.new ≡ fold rows_after rows.old (executions policy.now records.now)) }
+{
+    for place in 0..records.len() {
+        note_record(rows, owners, policy, people, &records.at(place))?;
+    }
+    Ok(())
+}
+
 /// Notes the fills of these records in the rows of the accounts whose orders they are of.
 fn note_records(
     alloc: Global,
@@ -126,11 +145,9 @@ fn note_records(
         (rows.new ≡ fold rows_after rows.old (executions policy.now records.now)) }
 {
     let people = People::new(alloc, policy)?;
-    let mut owners = Owners::new(alloc);
-    for place in 0..records.len() {
-        note_record(rows, &mut owners, policy, &people, &records.at(place))?;
-    }
-    Ok(())
+    let noted = note_each(rows, &mut Owners::new(alloc), policy, &people, records);
+    people.release();
+    noted
 }
 
 fn first_row(account: &Account) -> ExecutedRow

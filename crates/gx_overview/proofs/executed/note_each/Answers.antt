@@ -1,10 +1,10 @@
 use Rattle.std.proofs.{Common.{sym, arith}, lemmas.Option.get_or_from_slice_get}
 use Rattle.gx_overview.proofs.Fills_call.{known_further, noted_further, nothing_known, nothing_noted}
-use Rattle.gx_overview.proofs.executed.note_records.Goals as goal
+use Rattle.gx_overview.proofs.executed.note_each.Goals as goal
 
 pub loop-place-init : goal.loop-place-init
 loop-place-init c = record {
-  knows = nothing_known c.args.policy.now c.new-owners.result c.new-owners.ensures.none;
+  knows = nothing_known c.args.policy.now c.args.owners.now c.requires.none;
   rows = nothing_noted c.args.policy.now c.args.rows.now;
 }
 
