@@ -8,3 +8,4 @@ pub mod Header_parts
 pub mod Records_next
 pub mod Message_written
 pub mod Record_parts
+pub mod Body_free

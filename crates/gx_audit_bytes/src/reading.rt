@@ -76,7 +76,8 @@ pub(crate) fn step_shown(bytes: &[u8]) -> Option<Step>
     let handed = long(&bytes[12..20]);
     let line = short(&bytes[28..30]);
     let user = whole(&bytes[30..36]);
-    step(bytes[36], handed, line, user, &bytes[37..95])
+    let kind = byte(&bytes[36..37]);
+    step(kind, handed, line, user, &bytes[37..95])
 }
 
 #[tactic(auto, unfolding(crate::specs::Reading::verdict_shown))]
