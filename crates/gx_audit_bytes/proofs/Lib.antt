@@ -9,3 +9,4 @@ pub mod Records_next
 pub mod Message_written
 pub mod Record_parts
 pub mod Body_free
+pub mod Fields_put

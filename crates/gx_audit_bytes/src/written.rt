@@ -6,6 +6,7 @@ ghost use Rattle.gx_desk.specs.Contents.{command_layout};
 
 use crate::bodies::request_kind;
 use crate::draft::{RECORD_SIZE, whole};
+use crate::reading::byte;
 use crate::version::AuditVersion;
 use crate::writing::{NO_RULE, NO_USER, mark};
 use gx_desk::Action;
@@ -43,7 +44,9 @@ fn is_step_written(step: &Step, bytes: &[u8; RECORD_SIZE]) -> bool
     ensures { result ≡ is_step_written step.now bytes.now }
 {
     match step {
-        Step::Asked(asked) => is_request_written(&asked.request, bytes[36], &bytes[37..95]),
+        Step::Asked(asked) => {
+            is_request_written(&asked.request, byte(&bytes[36..37]), &bytes[37..95])
+        }
         Step::Matching(_) => {
             is_zero::<2>(&bytes[28..30])
                 && whole(&bytes[30..36]) == NO_USER

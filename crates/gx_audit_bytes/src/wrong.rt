@@ -27,8 +27,8 @@ const FIELDS: [(usize, &str); 14] = [
 
 /// The field in which a record's byte stands.
 fn field_at(at: usize) -> &'static str {
-    for (end, name) in FIELDS {
-        if at < end {
+    for (end, name) in &FIELDS {
+        if at < *end {
             return name;
         }
     }
@@ -40,11 +40,18 @@ fn unshown(content: &RecordData) -> &'static str {
     if content.number == 0 {
         return "number";
     }
-    match (&content.step, &content.verdict) {
-        (Step::Asked(asked), _) if asked.line == 0 => "line",
-        (Step::Asked(asked), _) if !has_no_lower_case(&asked.user.bytes) => "user",
-        (Step::Asked(_), Verdict::Denied(_)) => "rule",
-        (_, _) => "verdict",
+    let Step::Asked(asked) = &content.step else {
+        return "verdict";
+    };
+    if asked.line == 0 {
+        return "line";
+    }
+    if !has_no_lower_case(&asked.user.bytes) {
+        return "user";
+    }
+    match content.verdict {
+        Verdict::Denied(_) => "rule",
+        _ => "verdict",
     }
 }
 

@@ -12,7 +12,7 @@ use crate::writing::send_answer;
 use gx_control::ShutdownFlag;
 use gx_devices::CallCounter;
 use gx_door::{Caller, Dial, Door};
-use gx_reception::{Admission, Admits, Denial, Knock, NoLine, Opening, Undenied, await_login};
+use gx_reception::{Admission, Admits, Denial, Knock, NoLine, Opening, Undenied, await_login, read_piece};
 use gx_soup::LoginRequest;
 use std::alloc::Global;
 use std::io::{Read, Write};
@@ -125,9 +125,8 @@ pub fn turn_away<D: Door, A: Admits<D>, O: Write, R: Wait + Dial>(
 pub fn read_to_end<N: Read, R: Wait>(rt: &R, reader: &mut CallCounter<N>) {
     let mut buffer = [0u8; 4096];
     for _ in rt.forever() {
-        match reader.read(&mut buffer) {
-            Ok(n) if n > 0 => {}
-            _ => return,
+        if read_piece(reader, &mut buffer).is_none() {
+            return;
         }
     }
 }
