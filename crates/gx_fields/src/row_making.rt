@@ -9,193 +9,157 @@ use gx_desk::Action;
 use gx_history::record::{RecordData, Request, Step, Verdict};
 use gx_ouch::{EnterOrder, ReplaceOrder};
 
-/// The row with the fields of a command.
-fn with_action(action: &Action, row: Row) -> Row
-    ensures { result ≡ with_action action.now row }
+/// Puts the fields of a command into the row.
+fn put_action(row: &mut Row, action: &Action)
+    ensures { row.new ≡ with_action action.now row.old }
 {
     match *action {
-        Action::Kill(account) => Row {
-            kind: RowKind::Kill,
-            named_account: Some(account),
-            ..row
-        },
-        Action::Lift(account) => Row {
-            kind: RowKind::Lift,
-            named_account: Some(account),
-            ..row
-        },
-        Action::SetLimit(rule, limit) => Row {
-            kind: RowKind::SetLimit,
-            named_rule: Some(rule),
-            limit: Some(limit),
-            ..row
-        },
-        Action::Restrict(rule, stock) => Row {
-            kind: RowKind::Restrict,
-            named_rule: Some(rule),
-            stock: Some(stock),
-            ..row
-        },
-        Action::Unrestrict(rule, stock) => Row {
-            kind: RowKind::Unrestrict,
-            named_rule: Some(rule),
-            stock: Some(stock),
-            ..row
-        },
-        Action::Grant(reader, account) => Row {
-            kind: RowKind::Grant,
-            reader: Some(reader),
-            named_account: Some(account),
-            ..row
-        },
-        Action::Revoke(reader, account) => Row {
-            kind: RowKind::Revoke,
-            reader: Some(reader),
-            named_account: Some(account),
-            ..row
-        },
-        Action::CloseDay => Row {
-            kind: RowKind::CloseDay,
-            ..row
-        },
+        Action::Kill(account) => {
+            row.kind = RowKind::Kill;
+            row.named_account = Some(account);
+        }
+        Action::Lift(account) => {
+            row.kind = RowKind::Lift;
+            row.named_account = Some(account);
+        }
+        Action::SetLimit(rule, limit) => {
+            row.kind = RowKind::SetLimit;
+            row.named_rule = Some(rule);
+            row.limit = Some(limit);
+        }
+        Action::Restrict(rule, stock) => {
+            row.kind = RowKind::Restrict;
+            row.named_rule = Some(rule);
+            row.stock = Some(stock);
+        }
+        Action::Unrestrict(rule, stock) => {
+            row.kind = RowKind::Unrestrict;
+            row.named_rule = Some(rule);
+            row.stock = Some(stock);
+        }
+        Action::Grant(reader, account) => {
+            row.kind = RowKind::Grant;
+            row.reader = Some(reader);
+            row.named_account = Some(account);
+        }
+        Action::Revoke(reader, account) => {
+            row.kind = RowKind::Revoke;
+            row.reader = Some(reader);
+            row.named_account = Some(account);
+        }
+        Action::CloseDay => row.kind = RowKind::CloseDay,
     }
 }
 
-/// The row with the fields of an Enter.
-fn with_enter(m: &EnterOrder, row: Row) -> Row
-    ensures { result ≡ with_request (requests.Enter m.now) row }
+/// Puts the fields of an Enter into the row.
+fn put_enter(row: &mut Row, m: &EnterOrder)
+    ensures { row.new ≡ with_request (requests.Enter m.now) row.old }
 {
-    Row {
-        kind: RowKind::Enter,
-        token: Some(m.token),
-        side: Some(m.side),
-        shares: Some(m.shares),
-        stock: Some(m.stock),
-        price: Some(m.price),
-        time_in_force: Some(m.time_in_force),
-        firm: Some(m.firm),
-        display: Some(m.display),
-        capacity: Some(m.capacity),
-        intermarket_sweep: Some(m.intermarket_sweep),
-        minimum_quantity: Some(m.minimum_quantity),
-        cross_type: Some(m.cross_type),
-        customer_type: Some(m.customer_type),
-        ..row
-    }
+    row.kind = RowKind::Enter;
+    row.token = Some(m.token);
+    row.side = Some(m.side);
+    row.shares = Some(m.shares);
+    row.stock = Some(m.stock);
+    row.price = Some(m.price);
+    row.time_in_force = Some(m.time_in_force);
+    row.firm = Some(m.firm);
+    row.display = Some(m.display);
+    row.capacity = Some(m.capacity);
+    row.intermarket_sweep = Some(m.intermarket_sweep);
+    row.minimum_quantity = Some(m.minimum_quantity);
+    row.cross_type = Some(m.cross_type);
+    row.customer_type = Some(m.customer_type);
 }
 
-/// The row with the fields of a Replace.
-fn with_replace(m: &ReplaceOrder, row: Row) -> Row
-    ensures { result ≡ with_request (requests.Replace m.now) row }
+/// Puts the fields of a Replace into the row.
+fn put_replace(row: &mut Row, m: &ReplaceOrder)
+    ensures { row.new ≡ with_request (requests.Replace m.now) row.old }
 {
-    Row {
-        kind: RowKind::Replace,
-        token: Some(m.existing_token),
-        new_token: Some(m.replacement_token),
-        shares: Some(m.shares),
-        price: Some(m.price),
-        time_in_force: Some(m.time_in_force),
-        display: Some(m.display),
-        intermarket_sweep: Some(m.intermarket_sweep),
-        minimum_quantity: Some(m.minimum_quantity),
-        ..row
-    }
+    row.kind = RowKind::Replace;
+    row.token = Some(m.existing_token);
+    row.new_token = Some(m.replacement_token);
+    row.shares = Some(m.shares);
+    row.price = Some(m.price);
+    row.time_in_force = Some(m.time_in_force);
+    row.display = Some(m.display);
+    row.intermarket_sweep = Some(m.intermarket_sweep);
+    row.minimum_quantity = Some(m.minimum_quantity);
 }
 
-/// The row with the fields of a request.
-fn with_request(request: &Request, row: Row) -> Row
-    ensures { result ≡ with_request request.now row }
+/// Puts the fields of a request into the row.
+fn put_request(row: &mut Row, request: &Request)
+    ensures { row.new ≡ with_request request.now row.old }
 {
     match request {
-        Request::Login(m) => Row {
-            kind: RowKind::Login,
-            password_is_right: Some(m.password_is_right),
-            session_is_right: Some(m.session_is_right),
-            wanted: Some(m.wanted),
-            ..row
-        },
-        Request::Logout => Row {
-            kind: RowKind::Logout,
-            ..row
-        },
-        Request::Unreadable(m) => Row {
-            kind: RowKind::Unreadable,
-            length: Some(m.length),
-            first: Some(m.first),
-            ..row
-        },
-        Request::Enter(m) => with_enter(m, row),
-        Request::Replace(m) => with_replace(m, row),
-        Request::Cancel(m) => Row {
-            kind: RowKind::Cancel,
-            token: Some(m.token),
-            shares: Some(m.shares),
-            ..row
-        },
-        Request::Command(command) => with_action(
-            &command.action,
-            Row {
-                tag: Some(command.tag),
-                ..row
-            },
-        ),
+        Request::Login(m) => {
+            row.kind = RowKind::Login;
+            row.password_is_right = Some(m.password_is_right);
+            row.session_is_right = Some(m.session_is_right);
+            row.wanted = Some(m.wanted);
+        }
+        Request::Logout => row.kind = RowKind::Logout,
+        Request::Unreadable(m) => {
+            row.kind = RowKind::Unreadable;
+            row.length = Some(m.length);
+            row.first = Some(m.first);
+        }
+        Request::Enter(m) => put_enter(row, m),
+        Request::Replace(m) => put_replace(row, m),
+        Request::Cancel(m) => {
+            row.kind = RowKind::Cancel;
+            row.token = Some(m.token);
+            row.shares = Some(m.shares);
+        }
+        Request::Command(command) => {
+            row.tag = Some(command.tag);
+            put_action(row, &command.action);
+        }
     }
 }
 
-/// The row with the fields of a step.
-fn with_step(step: &Step, row: Row) -> Row
-    ensures { result ≡ with_step step.now row }
+/// Puts the fields of a step into the row.
+fn put_step(row: &mut Row, step: &Step)
+    ensures { row.new ≡ with_step step.now row.old }
 {
     match step {
-        Step::Asked(asked) => with_request(
-            &asked.request,
-            Row {
-                handed: asked.handed,
-                line: Some(asked.line),
-                user: Some(asked.user),
-                ..row
-            },
-        ),
-        Step::Matching(handed) => Row {
-            kind: RowKind::Match,
-            handed: *handed,
-            ..row
-        },
+        Step::Asked(asked) => {
+            row.handed = asked.handed;
+            row.line = Some(asked.line);
+            row.user = Some(asked.user);
+            put_request(row, &asked.request);
+        }
+        Step::Matching(handed) => {
+            row.kind = RowKind::Match;
+            row.handed = *handed;
+        }
     }
 }
 
-/// The row with the fields of a verdict.
-fn with_verdict(verdict: &Verdict, row: Row) -> Row
-    ensures { result ≡ with_verdict verdict.now row }
+/// Puts the fields of a verdict into the row.
+fn put_verdict(row: &mut Row, verdict: &Verdict)
+    ensures { row.new ≡ with_verdict verdict.now row.old }
 {
     match verdict {
-        Verdict::Granted => Row {
-            verdict: RowVerdict::Granted,
-            ..row
-        },
-        Verdict::Denied(rule) => Row {
-            verdict: RowVerdict::Denied,
-            rule: Some(*rule),
-            ..row
-        },
-        Verdict::Filled(fill) => Row {
-            verdict: RowVerdict::Filled,
-            taker: Some(fill.taker),
-            maker: Some(fill.maker),
-            fill_shares: Some(fill.shares),
-            fill_price: Some(fill.price),
-            ..row
-        },
-        Verdict::Rested(order) => Row {
-            verdict: RowVerdict::Rested,
-            order: Some(*order),
-            ..row
-        },
-        Verdict::Expired(order) => Row {
-            verdict: RowVerdict::Expired,
-            order: Some(*order),
-            ..row
-        },
+        Verdict::Granted => row.verdict = RowVerdict::Granted,
+        Verdict::Denied(rule) => {
+            row.verdict = RowVerdict::Denied;
+            row.rule = Some(*rule);
+        }
+        Verdict::Filled(fill) => {
+            row.verdict = RowVerdict::Filled;
+            row.taker = Some(fill.taker);
+            row.maker = Some(fill.maker);
+            row.fill_shares = Some(fill.shares);
+            row.fill_price = Some(fill.price);
+        }
+        Verdict::Rested(order) => {
+            row.verdict = RowVerdict::Rested;
+            row.order = Some(*order);
+        }
+        Verdict::Expired(order) => {
+            row.verdict = RowVerdict::Expired;
+            row.order = Some(*order);
+        }
     }
 }
 
@@ -206,10 +170,10 @@ pub fn row_of(shown: &RecordData) -> Row
     ensures row { result ≡ row_of shown.now }
     ensures read_back { record_of result ≡ Some shown.now }
 {
-    let base = Row {
-        number: shown.number,
-        moment: shown.moment,
-        ..BLANK
-    };
-    with_step(&shown.step, with_verdict(&shown.verdict, base))
+    let mut row = BLANK;
+    row.number = shown.number;
+    row.moment = shown.moment;
+    put_verdict(&mut row, &shown.verdict);
+    put_step(&mut row, &shown.step);
+    row
 }

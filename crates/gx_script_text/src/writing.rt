@@ -73,7 +73,8 @@ fn add_named(line: &mut Vec<u8>, action: &Action) -> Result<(), OutOfMemory> {
 }
 
 fn add_command(line: &mut Vec<u8>, command: &Command) -> Result<(), OutOfMemory> {
-    add(line, &[command.action.word(), &command.tag.bytes])?;
+    add(line, &[command.action.word()])?;
+    add(line, &[&command.tag.bytes])?;
     add_named(line, &command.action)
 }
 
