@@ -1,10 +1,11 @@
 //! Charts over the day, as SVG within a page: bars of counts, and lines of the used share of limits.
 
+use crate::parts::Part::{Number, Words};
+use crate::parts::{append_escaped_name, append_parts};
 use crate::samples::{Sample, Seat};
 use crate::spans::Spans;
 use gx_activity::spans::SpanRow;
-use gx_tables::append_escaped;
-use gx_text::{append, append_minute, append_name, append_number};
+use gx_text::{append, append_minute};
 use gx_units::OutOfMemory;
 use std::alloc::Global;
 
@@ -19,6 +20,22 @@ const MINUTE: u64 = 60_000_000_000;
 
 /// The greatest share that a chart shows, in tenths of a percent.
 const MOST_TENTHS: u64 = 1_200;
+
+/// What begins a figure, in front of its caption.
+const FIGURE: &[u8] = b"\n<figure><figcaption>";
+
+/// What begins its chart, behind the caption.
+const CHART: &[u8] =
+    b"</figcaption><svg viewBox=\"0 -8 720 150\" role=\"img\" aria-hidden=\"true\">";
+
+/// What ends a figure.
+const FIGURE_END: &[u8] = b"</svg></figure>";
+
+/// The marks at 75, 90 and 100 percent of a limit.
+const MARKS: &[u8] =
+    b"<path d=\"M0 45H720M0 30H720\" class=\"w\"/><path d=\"M0 20H720\" class=\"m\"/>\
+      <text x=\"2\" y=\"44\">75 %</text><text x=\"2\" y=\"29\">90 %</text>\
+      <text x=\"2\" y=\"18\">100 %</text>";
 
 /// What is counted over the day.
 #[derive(Clone, Copy, PartialEq, Eq)]
@@ -56,21 +73,22 @@ fn height_of(part: u64, whole: u64) -> u64 {
     }
 }
 
-/// Puts an attribute with a number at the end of the text.
-fn append_attribute(text: &mut Vec<u8>, name: &[u8], value: u64) -> Result<(), OutOfMemory> {
-    append(text, name)?;
-    append(text, b"\"")?;
-    append_number(text, value)?;
-    append(text, b"\"")
-}
-
 /// A bar that stands on the ground.
 fn append_bar(text: &mut Vec<u8>, left: u64, height: u64) -> Result<(), OutOfMemory> {
-    append_attribute(text, b"<rect x=", left)?;
-    append_attribute(text, b" y=", GROUND.saturating_sub(height))?;
-    append_attribute(text, b" width=", STEP - 2)?;
-    append_attribute(text, b" height=", height)?;
-    append(text, b"/>")
+    append_parts(
+        text,
+        &[
+            Words(b"<rect x=\""),
+            Number(left),
+            Words(b"\" y=\""),
+            Number(GROUND.saturating_sub(height)),
+            Words(b"\" width=\""),
+            Number(STEP - 2),
+            Words(b"\" height=\""),
+            Number(height),
+            Words(b"\"/>"),
+        ],
+    )
 }
 
 fn append_bars(
@@ -103,10 +121,16 @@ fn append_time(
     anchor: &[u8],
     nanoseconds: u64,
 ) -> Result<(), OutOfMemory> {
-    append_attribute(text, b"<text x=", left)?;
-    append(text, b" y=\"136\" text-anchor=\"")?;
-    append(text, anchor)?;
-    append(text, b"\">")?;
+    append_parts(
+        text,
+        &[
+            Words(b"<text x=\""),
+            Number(left),
+            Words(b"\" y=\"136\" text-anchor=\""),
+            Words(anchor),
+            Words(b"\">"),
+        ],
+    )?;
     append_minute(text, nanoseconds / MINUTE)?;
     append(text, b"</text>")
 }
@@ -114,30 +138,17 @@ fn append_time(
 /// The ground, and the times at which the day begins, is half over, and ends.
 fn append_axis(text: &mut Vec<u8>, spans: Spans) -> Result<(), OutOfMemory> {
     let right = spans.count.saturating_mul(STEP);
-    append_attribute(
+    append_parts(
         text,
-        b"<path d=\"M0 120H720\" class=\"g\" data-spans=",
-        spans.count,
+        &[
+            Words(b"<path d=\"M0 120H720\" class=\"g\" data-spans=\""),
+            Number(spans.count),
+            Words(b"\"/>"),
+        ],
     )?;
-    append(text, b"/>")?;
     append_time(text, 0, b"start", spans.begin(0))?;
     append_time(text, right / 2, b"middle", spans.begin(spans.count / 2))?;
     append_time(text, right, b"end", spans.begin(spans.count))
-}
-
-fn begin_figure(text: &mut Vec<u8>) -> Result<(), OutOfMemory> {
-    append(text, b"\n<figure><figcaption>")
-}
-
-fn begin_chart(text: &mut Vec<u8>) -> Result<(), OutOfMemory> {
-    append(
-        text,
-        b"</figcaption><svg viewBox=\"0 -8 720 150\" role=\"img\" aria-hidden=\"true\">",
-    )
-}
-
-fn end_figure(text: &mut Vec<u8>) -> Result<(), OutOfMemory> {
-    append(text, b"</svg></figure>")
 }
 
 /// Bars of how many there were in each span, below what they are of and how many there were at most.
@@ -148,15 +159,20 @@ pub(crate) fn append_count_chart(
     rows: &[SpanRow],
 ) -> Result<(), OutOfMemory> {
     let most = most_of(counted, rows);
-    begin_figure(text)?;
-    append(text, counted.title())?;
-    append(text, b": at most ")?;
-    append_number(text, most)?;
-    append(text, b" in one span")?;
-    begin_chart(text)?;
+    append_parts(
+        text,
+        &[
+            Words(FIGURE),
+            Words(counted.title()),
+            Words(b": at most "),
+            Number(most),
+            Words(b" in one span"),
+            Words(CHART),
+        ],
+    )?;
     append_bars(text, counted, rows, most)?;
     append_axis(text, spans)?;
-    end_figure(text)
+    append(text, FIGURE_END)
 }
 
 /// The used share of a limit, in tenths of a percent: at most what a chart shows.
@@ -173,10 +189,11 @@ fn share_of(sample: &Sample) -> u64 {
 
 /// A point of a line.
 fn append_point(text: &mut Vec<u8>, left: u64, share: u64) -> Result<(), OutOfMemory> {
-    append_number(text, left)?;
-    append(text, b",")?;
-    append_number(text, GROUND.saturating_sub(height_of(share, MOST_TENTHS)))?;
-    append(text, b" ")
+    let below = GROUND.saturating_sub(height_of(share, MOST_TENTHS));
+    append_parts(
+        text,
+        &[Number(left), Words(b","), Number(below), Words(b" ")],
+    )
 }
 
 /// The line of a seat, one point a span: the samples of all seats stand one span after the other.
@@ -200,24 +217,6 @@ fn append_line(
     append(text, b"\"/>")
 }
 
-/// The marks at 75, 90 and 100 percent of a limit.
-fn append_marks(text: &mut Vec<u8>) -> Result<(), OutOfMemory> {
-    append(
-        text,
-        b"<path d=\"M0 45H720M0 30H720\" class=\"w\"/><path d=\"M0 20H720\" class=\"m\"/>\
-          <text x=\"2\" y=\"44\">75 %</text><text x=\"2\" y=\"29\">90 %</text>\
-          <text x=\"2\" y=\"18\">100 %</text>",
-    )
-}
-
-fn append_seat(text: &mut Vec<u8>, alloc: Global, seat: &Seat) -> Result<(), OutOfMemory> {
-    let mut name = Vec::new(alloc);
-    append_name(&mut name, &seat.rule.bytes)?;
-    append(&mut name, b", ")?;
-    append_name(&mut name, &seat.account.bytes)?;
-    append_escaped(text, name.as_slice())
-}
-
 /// What a person reads behind the rule and the account.
 fn caption_of(seat: &Seat) -> &'static [u8] {
     if seat.is_net {
@@ -225,6 +224,15 @@ fn caption_of(seat: &Seat) -> &'static [u8] {
     } else {
         b": used share of the limit"
     }
+}
+
+/// The rule and the account of a seat, and what its line shows.
+fn append_caption(text: &mut Vec<u8>, alloc: Global, seat: &Seat) -> Result<(), OutOfMemory> {
+    append(text, FIGURE)?;
+    append_escaped_name(text, alloc, &seat.rule.bytes)?;
+    append(text, b", ")?;
+    append_escaped_name(text, alloc, &seat.account.bytes)?;
+    append(text, caption_of(seat))
 }
 
 /// A line of the used share of a seat's limit at the end of each span, below the rule and the account.
@@ -239,12 +247,9 @@ pub(crate) fn append_share_chart(
     let Some(seat) = seats.get(place) else {
         return Ok(());
     };
-    begin_figure(text)?;
-    append_seat(text, alloc, seat)?;
-    append(text, caption_of(seat))?;
-    begin_chart(text)?;
-    append_marks(text)?;
+    append_caption(text, alloc, seat)?;
+    append_parts(text, &[Words(CHART), Words(MARKS)])?;
     append_line(text, spans, samples, place, seats.len())?;
     append_axis(text, spans)?;
-    end_figure(text)
+    append(text, FIGURE_END)
 }

@@ -7,6 +7,7 @@
 //! - `accounts`, `limits`, `commands`, `denials`, `day`: the tables;
 //! - `report`: all of them together;
 //! - `page`, `charts`: the report as a page of HTML;
+//! - `parts`: texts that are put together of parts;
 //! - `writing`: the report in each form;
 //! - `making`: from an audit to its report.
 #![tactic(auto)]
@@ -20,6 +21,7 @@ mod limits;
 mod looking;
 mod making;
 mod page;
+mod parts;
 mod report;
 pub mod samples;
 mod spans;

@@ -1,9 +1,11 @@
 //! The report as a page of HTML, which stands alone: no script, and nothing from elsewhere.
 
 use crate::charts::{Counted, append_count_chart, append_share_chart};
+use crate::parts::Part::Words;
+use crate::parts::{append_digest, append_escaped_name, append_parts};
 use crate::report::{DayReport, Digests};
-use gx_tables::{Table, append_escaped, append_html};
-use gx_text::{append, append_name};
+use gx_tables::{Table, append_html};
+use gx_text::append;
 use gx_units::OutOfMemory;
 use std::alloc::Global;
 
@@ -38,28 +40,6 @@ text{font:10px system-ui,sans-serif;fill:var(--soft)}
 /// How many tables stand above the charts.
 const ABOVE: usize = 3;
 
-/// A digest below the page's title.
-fn append_digest(
-    text: &mut Vec<u8>,
-    alloc: Global,
-    of: &[u8],
-    digest: &[u8; 32],
-) -> Result<(), OutOfMemory> {
-    let shown = hex::encode(alloc, digest)?;
-    append(text, b"<p class=\"d\">SHA-256 of the ")?;
-    append(text, of)?;
-    append(text, b": <code>")?;
-    append(text, shown.as_bytes())?;
-    append(text, b"</code></p>\n")
-}
-
-/// The name of the day's session.
-fn append_session(text: &mut Vec<u8>, alloc: Global, session: &[u8]) -> Result<(), OutOfMemory> {
-    let mut name = Vec::new(alloc);
-    append_name(&mut name, session)?;
-    append_escaped(text, name.as_slice())
-}
-
 /// All in front of the page's body.
 fn append_head(text: &mut Vec<u8>, alloc: Global, session: &[u8]) -> Result<(), OutOfMemory> {
     append(
@@ -67,17 +47,35 @@ fn append_head(text: &mut Vec<u8>, alloc: Global, session: &[u8]) -> Result<(), 
         b"<!doctype html>\n<html lang=\"en\"><head><meta charset=\"utf-8\">\n\
           <meta name=\"viewport\" content=\"width=device-width,initial-scale=1\">\n<title>Day report ",
     )?;
-    append_session(text, alloc, session)?;
-    append(text, b"</title>\n<style>")?;
-    append(text, STYLE)?;
-    append(text, b"</style></head>\n<body>\n<h1>Day report ")?;
-    append_session(text, alloc, session)?;
+    append_escaped_name(text, alloc, session)?;
+    append_parts(
+        text,
+        &[
+            Words(b"</title>\n<style>"),
+            Words(STYLE),
+            Words(b"</style></head>\n<body>\n<h1>Day report "),
+        ],
+    )?;
+    append_escaped_name(text, alloc, session)?;
     append(text, b"</h1>\n")
 }
 
+/// The digests below the page's title.
 fn append_digests(text: &mut Vec<u8>, alloc: Global, digests: &Digests) -> Result<(), OutOfMemory> {
-    append_digest(text, alloc, b"audit", &digests.audit)?;
-    append_digest(text, alloc, b"policy, less its passwords", &digests.policy)
+    append_digest(
+        text,
+        alloc,
+        b"<p class=\"d\">SHA-256 of the audit: <code>",
+        &digests.audit,
+        b"</code></p>\n",
+    )?;
+    append_digest(
+        text,
+        alloc,
+        b"<p class=\"d\">SHA-256 of the policy, less its passwords: <code>",
+        &digests.policy,
+        b"</code></p>\n",
+    )
 }
 
 /// Bars of orders, fills and denials over the day.

@@ -1,6 +1,7 @@
 //! The report in each form.
 
 use crate::page::append_page;
+use crate::parts::append_digest;
 use crate::report::{DayReport, Digests};
 use gx_tables::{append_columns, append_csv, append_json};
 use gx_text::append;
@@ -20,21 +21,21 @@ pub enum ReportForm {
     Html,
 }
 
-fn append_digest_line(
-    text: &mut Vec<u8>,
-    alloc: Global,
-    of: &[u8],
-    digest: &[u8; 32],
-) -> Result<(), OutOfMemory> {
-    let shown = hex::encode(alloc, digest)?;
-    append(text, of)?;
-    append(text, shown.as_bytes())?;
-    append(text, b"\n")
-}
-
 fn append_text(text: &mut Vec<u8>, alloc: Global, report: &DayReport) -> Result<(), OutOfMemory> {
-    append_digest_line(text, alloc, b"audit   sha256 ", &report.digests.audit)?;
-    append_digest_line(text, alloc, b"policy  sha256 ", &report.digests.policy)?;
+    append_digest(
+        text,
+        alloc,
+        b"audit   sha256 ",
+        &report.digests.audit,
+        b"\n",
+    )?;
+    append_digest(
+        text,
+        alloc,
+        b"policy  sha256 ",
+        &report.digests.policy,
+        b"\n",
+    )?;
     for table in report.tables.as_slice() {
         append(text, b"\n")?;
         append_columns(text, alloc, table)?;
@@ -53,18 +54,6 @@ fn append_csv_tables(
     Ok(())
 }
 
-fn append_json_digest(
-    text: &mut Vec<u8>,
-    alloc: Global,
-    name: &[u8],
-    digest: &[u8; 32],
-) -> Result<(), OutOfMemory> {
-    let shown = hex::encode(alloc, digest)?;
-    append(text, name)?;
-    append(text, shown.as_bytes())?;
-    append(text, b"\"")
-}
-
 fn append_json_tables(text: &mut Vec<u8>, report: &DayReport) -> Result<(), OutOfMemory> {
     for table in report.tables.as_slice() {
         append(text, b",")?;
@@ -79,10 +68,30 @@ fn append_object(
     digests: &Digests,
     report: &DayReport,
 ) -> Result<(), OutOfMemory> {
-    append_json_digest(text, alloc, b"{\"audit_sha256\":\"", &digests.audit)?;
-    append_json_digest(text, alloc, b",\"policy_sha256\":\"", &digests.policy)?;
+    append_digest(text, alloc, b"{\"audit_sha256\":\"", &digests.audit, b"\"")?;
+    append_digest(
+        text,
+        alloc,
+        b",\"policy_sha256\":\"",
+        &digests.policy,
+        b"\"",
+    )?;
     append_json_tables(text, report)?;
     append(text, b"}\n")
+}
+
+fn append_report(
+    text: &mut Vec<u8>,
+    alloc: Global,
+    report: &DayReport,
+    form: ReportForm,
+) -> Result<(), OutOfMemory> {
+    match form {
+        ReportForm::Text => append_text(text, alloc, report),
+        ReportForm::Csv => append_csv_tables(text, alloc, report),
+        ReportForm::Json => append_object(text, alloc, &report.digests, report),
+        ReportForm::Html => append_page(text, alloc, report),
+    }
 }
 
 /// The report in this form.
@@ -96,11 +105,6 @@ pub fn written(
     form: ReportForm,
 ) -> Result<Vec<u8>, OutOfMemory> {
     let mut text = Vec::new(alloc);
-    match form {
-        ReportForm::Text => append_text(&mut text, alloc, report)?,
-        ReportForm::Csv => append_csv_tables(&mut text, alloc, report)?,
-        ReportForm::Json => append_object(&mut text, alloc, &report.digests, report)?,
-        ReportForm::Html => append_page(&mut text, alloc, report)?,
-    }
+    append_report(&mut text, alloc, report, form)?;
     Ok(text)
 }
