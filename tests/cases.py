@@ -26,11 +26,14 @@ behind it; the last one, `-- answer`, is what comes of those before it:
   The day of a header of version 3 is set to 27 November 2026, five hours behind UTC.
 - `-- show`, `-- show-2`, also with `account NAME` or `user NAME` behind it: what `gate show` tells of it.
 
-Behind the parts stands who is logged in and which accounts are killed, as `gate state` tells of the audit. Run as
+Behind the parts stands who is logged in and which accounts are killed, as `gate state` tells of the audit.
 
-  tests/cases.py [GATE]
+Cases that want more than the program shows have parts that run in `gate_cases`: tests/cases_inside.py says which. Run as
 
-GATE: the built program; where none is named, crates/gate/out/gate of this repository.
+  tests/cases.py [GATE CASES]
+
+GATE and CASES: the built programs; where none are named, crates/gate/out/gate and crates/gate_cases/out/gate_cases of this
+repository.
 """
 
 import json
@@ -46,12 +49,15 @@ import tomllib
 from collections.abc import Callable, Iterator
 from concurrent.futures import ThreadPoolExecutor
 from dataclasses import dataclass
-from itertools import groupby
 from pathlib import Path
 from struct import Struct
 
+sys.dont_write_bytecode = True
+
+import cases_inside  # noqa: E402  (beside this file)
+from cases_inside import Trial, told_of_trials, trial  # noqa: E402
+
 TOP = Path(__file__).resolve().parents[1]
-GATE = TOP / "crates" / "gate" / "out" / "gate"
 CASES = TOP / "tests" / "cases"
 SAMPLE = (TOP / "examples" / "policies" / "sample.toml").read_text()
 PATIENCE_SECONDS = 60
@@ -62,6 +68,18 @@ DAY_FIELDS = slice(55, 62)
 DAY = Struct(">IcH").pack(20_784, b"-", 300)
 # A record's verdict: its letter, a rule, an order, a maker, shares and a price.
 VERDICT = Struct(">95xc8sQQII")
+
+
+# The parts whose input the built program reads.
+READ = {"script", "script-in-hex", "again", "pipe", "pipe-lengths", "pipe-in-turn", "script-in-turn"}
+
+
+@dataclass(frozen=True)
+class Programs:
+    """The built programs."""
+
+    gate: str
+    cases: str
 
 
 @dataclass(frozen=True)
@@ -85,6 +103,10 @@ class Case:
     title: str
     parts: list[Part]
     wanted: str
+
+    def is_read(self) -> bool:
+        """Whether the built program reads an input in it, which may come in pieces."""
+        return any(part.kind in READ for part in self.parts)
 
 
 @dataclass(frozen=True)
@@ -188,16 +210,12 @@ def changed(audit: bytes, line: str) -> bytes:
     return audit
 
 
-def told_range(first: int, last: int) -> str:
-    """From one number to another, or one number."""
-    return str(first) if first == last else f"{first} to {last}"
-
-
 class Bench:
     """Where a case is run: the program, a folder of its own files, and the day so far."""
 
-    def __init__(self, gate: str, folder: str, in_pieces: bool) -> None:
-        self.gate = gate
+    def __init__(self, programs: Programs, folder: str, in_pieces: bool) -> None:
+        self.gate = programs.gate
+        self.cases = programs.cases
         self.folder = Path(folder)
         self.in_pieces = in_pieces
         self.policy: list[str] = []
@@ -232,7 +250,7 @@ class Bench:
                 return "".join(verdicts(self.audit)[before:])
             case "pipe" if number == "lengths":
                 return self.lengths(part.content())
-            case "pipe":
+            case "pipe" if not number:
                 return "".join(self.pipe(part.content()))
             case "audit":
                 return self.in_hex(number)
@@ -240,7 +258,7 @@ class Bench:
                 return "".join(self.check(number, line) for line in part.text.splitlines())
             case "show":
                 return self.show(number, part.words)
-        raise ValueError(f"no such part: {part.kind}")
+        return cases_inside.answer(self.cases, part.kind, part.words, part.text)
 
     def file(self, name: str, content: bytes) -> str:
         """A file that has these bytes."""
@@ -300,15 +318,14 @@ class Bench:
     def lengths(self, given: bytes) -> str:
         """Runs each front of a connection."""
         _, whole, _ = self.pipe(given)
-        runs = []
-        for length in range(len(given) + 1):
-            told, sent, end = self.pipe(given[:length])
-            is_front = whole.startswith(sent.rstrip("\n"))
-            size = told_range(len(sent) // 2, len(sent) // 2)
-            runs.append((f"{size} bytes\n{told}{end}" + ("" if is_front else "no front of the whole answer\n"), length))
+        trials = [self.front(given, length, whole.strip()) for length in range(len(given) + 1)]
         self.audit = b""
-        groups = [(text, [length for _, length in group]) for text, group in groupby(runs, lambda run: run[0])]
-        return whole + "".join(f"lengths {told_range(lengths[0], lengths[-1])}: {text}" for text, lengths in groups)
+        return whole + told_of_trials("lengths", iter(trials))
+
+    def front(self, given: bytes, length: int, whole: str) -> Trial:
+        """Runs a front of a connection, of whose bytes this is the whole answer in hex."""
+        told, sent, end = self.pipe(given[:length])
+        return trial(length, sent.strip(), told + end, whole)
 
     def in_turn(self, command: str, given: bytes) -> str:
         """Runs an input whose peer waits for each answer."""
@@ -383,10 +400,10 @@ class Bench:
         return "".join(on + [f"killed: {account['account']}\n" for account in day["accounts"] if account["killed"]])
 
 
-def is_right(gate: str, case: Case, in_pieces: bool) -> bool:
+def is_right(programs: Programs, case: Case, in_pieces: bool) -> bool:
     """Whether what comes of a case is what is wanted; what is otherwise is told."""
     with tempfile.TemporaryDirectory() as folder:
-        found = Bench(gate, folder, in_pieces).answer(case)
+        found = Bench(programs, folder, in_pieces).answer(case)
     if found.removesuffix("\n") == case.wanted:
         return True
     how = "byte by byte" if in_pieces else "whole"
@@ -396,16 +413,16 @@ def is_right(gate: str, case: Case, in_pieces: bool) -> bool:
 
 def main() -> int:
     """Runs all cases. Answers the status: 1 where something else came of one than is wanted."""
-    gate = str(Path(sys.argv[1] if len(sys.argv) > 1 else GATE).resolve())
+    named = sys.argv[1:] or [TOP / "crates" / name / "out" / name for name in ("gate", "gate_cases")]
+    programs = Programs(*(str(Path(name).resolve()) for name in named))
     are_all_right = True
     for file in sorted(CASES.glob("*.txt")):
         cases = list(read_cases(file.read_text()))
         with ThreadPoolExecutor(os.cpu_count()) as threads:
-            whole = threads.map(lambda case: is_right(gate, case, False), cases)
-            in_pieces = threads.map(lambda case: is_right(gate, case, True), cases)
-            right = sum(both == (True, True) for both in zip(whole, in_pieces, strict=True))
-        print(f"{file.name}: {right} of {len(cases)} cases are right", flush=True)
-        are_all_right = are_all_right and right == len(cases)
+            runs = [(case, in_pieces) for case in cases for in_pieces in ((False, True) if case.is_read() else (False,))]
+            right = list(threads.map(lambda run: is_right(programs, *run), runs))
+        print(f"{file.name}: {len(cases)} cases, {sum(right)} of {len(runs)} runs are right", flush=True)
+        are_all_right = are_all_right and all(right)
     return 0 if are_all_right else 1
 
 

@@ -4,7 +4,7 @@ ghost use Rattle.std.specs.Prelude.{◌≡◌};
 ghost use Rattle.gx_shared.specs.Permits.{all_parts};
 
 use crate::scenarios::{ScenarioCase, run_at_gate};
-use gx_case_parts::{CallKind, put_legal, report_calls};
+use gx_case_parts::{put_legal, report_calls, report_shown};
 use gx_pass::{Blank, GateName};
 use gx_policy::Policy;
 use gx_records::{ShowsRecords, ShowsState};
@@ -23,7 +23,7 @@ pub(crate) enum SharedCase<'a, 't> {
     /// A scenario.
     Scenario(ScenarioCase<'a, 't>),
     /// Calls.
-    Calls(CallKind),
+    Calls(&'t str),
 }
 
 /// Makes the calls at a gate, on a clock that stands still, and writes what came of them.
@@ -37,7 +37,7 @@ fn make_calls_at<
     out: &mut OutputText,
     shared: &SharedGate<G, N>,
     permits: Permits<N>,
-    kind: CallKind,
+    name: &str,
 ) {
     let (clock, clock_reads) = (ScenarioClock::new(), ClockReads::new());
     let mut entrance = Entrance::new(shared, permits);
@@ -47,7 +47,7 @@ fn make_calls_at<
         out,
         shared,
         &mut entrance,
-        kind,
+        name,
     )
 }
 
@@ -64,10 +64,13 @@ fn report_calls_at<
     shared: SharedGate<G, N>,
     permits: Permits<N>,
     pass: CountedPass<N>,
-    kind: CallKind,
+    name: &str,
 ) {
-    make_calls_at(rt, alloc, out, &shared, permits, kind);
+    make_calls_at(rt, alloc, out, &shared, permits, name);
     let (gate, _met, _total) = shared.close(pass);
+    if name == "three" {
+        report_shown(alloc, out, &gate, policy);
+    }
     put_legal(alloc, out, &gate, policy);
     gate.close();
 }
@@ -100,8 +103,8 @@ fn report_shared_over<
             SharedCase::Scenario(scenario) => {
                 run_at_gate(rt, alloc, out, policy, shared, permits, pass, scenario)
             }
-            SharedCase::Calls(kind) => report_calls_at(
-                rt, alloc, out, policy, shared, permits, pass, kind,
+            SharedCase::Calls(name) => report_calls_at(
+                rt, alloc, out, policy, shared, permits, pass, name,
             ),
         },
         Err(_) => out.mark_incomplete(),

@@ -2,63 +2,34 @@
 
 ghost use Rattle.std.specs.Prelude.{◌-◌, ◌^◌, ◌<◌};
 
-use crate::audits::{report_audit, report_checks, report_shown, write_audit_bytes};
-use crate::endless::report_endless;
-use crate::fresh_gate::FreshGateRunner;
+use crate::audits::{report_audit, report_first_version, report_shown};
 use gx_access_gate::AccessGate;
-use gx_audit_bytes::AuditDay;
-use gx_audit_bytes::AuditVersion::{One, Three, Two};
-use gx_clock::UtcOffset;
-use gx_connection::{PipeFault, run_pipe};
+use gx_connection::{PipeFault, run_pipe_within};
 use gx_devices::CallCounter;
+use gx_history::record::Record;
 use gx_policy::Policy;
 use gx_records::ShowsRecords;
 use gx_script_run::{Explained, run_script};
+use gx_script_text::outcome_line;
 use gx_server::ErrorRecorder;
 use gx_test_devices::{
-    DeviceLimits, InputKind, OutputText, RunOutcome, ShortReader, ShortWriter, halves,
-    hex_bytes_of, limits_of, put_hex, put_records, report_in_turn, report_session, report_varied,
-    text_of,
+    DeviceLimits, OutputText, ShortReader, ShortWriter, halves, hex_bytes_of, limits_of, put_hex,
+    report_session,
 };
+use gx_units::unpadded;
 use std::alloc::Global;
-use std::io::Read;
 use std::{fmt, io};
 
-/// The day of audits of version 3: 27 November 2026, five hours behind UTC.
-const DAY: AuditDay = AuditDay {
-    date: 20_784,
-    offset: UtcOffset::Behind(300),
-};
-
-/// The kinds of parts that report the audit of the case's gate, or its records.
-const AUDITED: &str = "audit-1 audit-3 check check-2 check-3 show show-2";
-
-/// The kinds of parts that run on the case's gate, over devices that may have limits of their own.
-const RUNS: &str = "pipe script script-in-hex again audit";
-
-/// The kinds of parts whose peer waits for each answer.
-const IN_TURN: &str = "pipe-in-turn script-in-turn";
-
-/// Runs the input that the reader gives.
-pub(crate) fn run_kind<G: AccessGate, R: Read, W: io::Write>(
-    kind: InputKind,
-    alloc: Global,
-    gate: &mut G,
-    reader: &mut CallCounter<R>,
-    writer: &mut CallCounter<W>,
-) -> RunEnd
-    requires reader { reader.old.failed < 2 ^ 64 - 1 }
-    requires writer { writer.old.failed < 2 ^ 64 - 1 }
-{
-    match kind {
-        InputKind::Pipe => RunEnd::Pipe(run_pipe(alloc, gate, 1, reader, writer)),
-        InputKind::Script => RunEnd::Script(run_script(alloc, gate, reader, writer)),
-    }
+/// What an input is: packets of a connection, or lines of a script.
+#[derive(Clone, Copy)]
+enum InputKind {
+    Pipe,
+    Script,
 }
 
 /// How a run ended.
 #[derive(Clone, Copy)]
-pub(crate) enum RunEnd {
+enum RunEnd {
     Pipe(Result<(), PipeFault>),
     Script(Result<(), Explained>),
 }
@@ -80,30 +51,58 @@ impl fmt::Display for RunEnd {
     }
 }
 
-impl RunEnd {
-    /// Whether the run came to its end without a fault.
-    fn is_done(&self) -> bool {
-        match self {
-            RunEnd::Pipe(end) => end.is_ok(),
-            RunEnd::Script(end) => end.is_ok(),
+/// What came of a run: how it ended, how often a device failed and why it last did, and what was written.
+#[derive(Drop)]
+struct RunOutcome {
+    end: RunEnd,
+    failed_reads: u64,
+    failed_writes: u64,
+    cause: Option<io::Error>,
+    written: Vec<u8>,
+}
+
+impl RunOutcome {
+    /// Writes how the run ended, and how often its devices failed and why they last did, if they did.
+    fn put(&self, out: &mut OutputText) {
+        out.put_shown(&self.end);
+        if self.failed_reads > 0 || self.failed_writes > 0 {
+            out.put("; ");
+            out.put_number(self.failed_reads);
+            out.put(" reads and ");
+            out.put_number(self.failed_writes);
+            out.put(" writes failed");
         }
+        if let Some(cause) = self.cause {
+            out.put(": ");
+            out.put_shown(&cause);
+        }
+        out.put("\n")
     }
 }
 
 /// Runs an input over devices of these limits.
-pub(crate) fn run_on<G: AccessGate>(
+fn run_on<G: AccessGate>(
     kind: InputKind,
     alloc: Global,
     gate: &mut G,
     limits: DeviceLimits,
     input: &[u8],
-) -> RunOutcome<RunEnd> {
+) -> RunOutcome {
     let mut reader = CallCounter::new(ErrorRecorder::new(ShortReader::new(input, limits)));
     let mut writer = CallCounter::new(ErrorRecorder::new(ShortWriter::new(alloc, limits)));
-    let end = run_kind(kind, alloc, gate, &mut reader, &mut writer);
+    let end = match kind {
+        InputKind::Pipe => RunEnd::Pipe(run_pipe_within(
+            alloc,
+            gate,
+            1,
+            &mut reader,
+            &mut writer,
+            limits.most_reads,
+        )),
+        InputKind::Script => RunEnd::Script(run_script(alloc, gate, &mut reader, &mut writer)),
+    };
     RunOutcome {
         end,
-        is_done: end.is_done(),
         failed_reads: reader.failed(),
         failed_writes: writer.failed(),
         cause: reader.device().cause.or(writer.device().cause),
@@ -111,55 +110,61 @@ pub(crate) fn run_on<G: AccessGate>(
     }
 }
 
+/// Writes the verdict of a record.
+fn put_verdict(alloc: Global, out: &mut OutputText, entry: &Record) {
+    let content = entry.content();
+    match outcome_line(alloc, content.number, &content.verdict) {
+        Ok(line) => out.put_bytes(line.as_slice()),
+        Err(_) => out.mark_incomplete(),
+    }
+}
+
+/// Writes the verdicts of these records, a line each.
+pub(crate) fn put_records(alloc: Global, out: &mut OutputText, records: &[Record]) {
+    for entry in records {
+        put_verdict(alloc, out, entry);
+    }
+}
+
 /// Writes the verdicts of the records from this number on, a line each.
-pub(crate) fn put_verdicts<G: AccessGate>(
-    alloc: Global,
-    out: &mut OutputText,
-    gate: &G,
-    from: u64,
-) {
+fn put_verdicts<G: AccessGate>(alloc: Global, out: &mut OutputText, gate: &G, from: u64) {
     match gate.records(from, u64::MAX) {
         Ok(records) => put_records(alloc, out, records.as_slice()),
         Err(_) => out.mark_incomplete(),
     }
 }
 
-/// Writes the verdicts of a connection's records from this number on, the bytes that it was sent, in hex, and how it ended.
-fn put_piped<G: AccessGate>(
-    alloc: Global,
-    out: &mut OutputText,
-    gate: &G,
-    from: u64,
-    outcome: &RunOutcome<RunEnd>,
-) {
-    put_verdicts(alloc, out, gate, from);
-    put_hex(alloc, out, outcome.written.as_slice());
-    outcome.put(out)
-}
-
-/// Runs a connection, and writes the verdicts of its records, the bytes that it was sent, in hex, and how it ended.
+/// Runs a connection whose bytes are in hex, and writes the verdicts of its records, the bytes that it was sent, in hex, and
+/// how it ended.
 fn report_pipe<G: AccessGate>(
     alloc: Global,
     out: &mut OutputText,
     gate: &mut G,
     limits: DeviceLimits,
-    input: &[u8],
+    text: &str,
 ) {
     let from = gate.length().saturating_add(1);
-    let outcome = run_on(InputKind::Pipe, alloc, gate, limits, input);
-    put_piped(alloc, out, gate, from, &outcome)
+    let input = hex_bytes_of(alloc, out, text);
+    let outcome = run_on(InputKind::Pipe, alloc, gate, limits, input.as_slice());
+    put_verdicts(alloc, out, gate, from);
+    put_hex(alloc, out, outcome.written.as_slice());
+    outcome.put(out)
 }
 
-/// Runs a script, and writes what it printed and how it ended.
+/// Runs a script, and writes what it printed, with a line end behind it, and how it ended.
 fn report_script<G: AccessGate>(
     alloc: Global,
     out: &mut OutputText,
     gate: &mut G,
     limits: DeviceLimits,
-    input: &[u8],
+    text: &str,
 ) {
-    let outcome = run_on(InputKind::Script, alloc, gate, limits, input);
-    outcome.put_printed(out)
+    let outcome = run_on(InputKind::Script, alloc, gate, limits, text.as_bytes());
+    out.put_bytes(outcome.written.as_slice());
+    if outcome.written.last().is_some_and(|last| *last != b'\n') {
+        out.put("\n");
+    }
+    outcome.put(out)
 }
 
 /// Makes the step of a script's line, and makes it again if it left no record: then it was refused.
@@ -186,87 +191,6 @@ fn report_again<G: AccessGate>(
     put_verdicts(alloc, out, gate, from)
 }
 
-/// Runs a connection or a script whose bytes are in hex, and writes what came of it.
-fn report_in_hex<G: AccessGate>(
-    alloc: Global,
-    out: &mut OutputText,
-    gate: &mut G,
-    kind: &str,
-    limits: DeviceLimits,
-    text: &str,
-) {
-    let input = hex_bytes_of(alloc, out, text);
-    match kind {
-        "pipe" => report_pipe(alloc, out, gate, limits, input.as_slice()),
-        _ => report_script(alloc, out, gate, limits, input.as_slice()),
-    }
-}
-
-/// Runs a part on the case's gate, over devices of these limits.
-fn report_run<G: ShowsRecords>(
-    alloc: Global,
-    out: &mut OutputText,
-    gate: &mut G,
-    kind: &str,
-    limits: DeviceLimits,
-    text: &str,
-) {
-    match kind {
-        "script" => report_script(alloc, out, gate, limits, text.as_bytes()),
-        "again" => report_again(alloc, out, gate, limits, text),
-        "audit" => report_audit(alloc, out, gate, limits),
-        _ => report_in_hex(alloc, out, gate, kind, limits, text),
-    }
-}
-
-/// Reports the audit of the case's gate, or its records.
-fn report_audited<G: ShowsRecords>(
-    alloc: Global,
-    out: &mut OutputText,
-    gate: &G,
-    policy: &Policy,
-    kind: &str,
-    words: &str,
-    text: &str,
-    usual: DeviceLimits,
-) {
-    match kind {
-        "audit-1" => write_audit_bytes(alloc, out, One, gate),
-        "audit-3" => write_audit_bytes(alloc, out, Three(DAY), gate),
-        "check" => report_checks(alloc, out, One, gate, policy, text),
-        "check-2" => report_checks(alloc, out, Two, gate, policy, text),
-        "check-3" => report_checks(alloc, out, Three(DAY), gate, policy, text),
-        "show" => report_shown(alloc, out, One, gate, policy, usual, words),
-        _ => report_shown(alloc, out, Two, gate, policy, usual, words),
-    }
-}
-
-/// Whether a word is one of these, which stand with a space between them.
-fn is_among(word: &str, words: &str) -> bool {
-    words.split(' ').any(|one| one == word)
-}
-
-/// Runs a part that has neither limits of its own nor an audit.
-fn report_other<G: AccessGate>(
-    alloc: Global,
-    out: &mut OutputText,
-    gate: &mut G,
-    policy: &Policy,
-    kind: &str,
-    words: &str,
-    text: &str,
-    usual: DeviceLimits,
-) {
-    match kind {
-        "pipe-endless" => report_endless(alloc, out, gate, usual, words, text),
-        "session" => report_session(alloc, out, words, text),
-        _ => {
-            let runner = FreshGateRunner::<G>::new(alloc, policy);
-            report_varied(alloc, out, &runner, kind, words, text)
-        }
-    }
-}
-
 /// Runs a part of a case: its first line says what it is, and names its devices' limits where it has its own.
 fn report_part<G: ShowsRecords>(
     alloc: Global,
@@ -278,43 +202,49 @@ fn report_part<G: ShowsRecords>(
 ) {
     let (head, text) = halves(part, "\n");
     let (kind, words) = halves(head, " ");
-    if is_among(kind, AUDITED) {
-        return report_audited(alloc, out, gate, policy, kind, words, text, usual);
-    }
-    match limits_of(words, usual) {
-        Some(limits) if is_among(kind, RUNS) => report_run(alloc, out, gate, kind, limits, text),
-        Some(limits) if is_among(kind, IN_TURN) => {
-            let runner = FreshGateRunner::<G>::new(alloc, policy);
-            report_in_turn(alloc, out, &runner, kind, limits, text)
-        }
-        _ => report_other(alloc, out, gate, policy, kind, words, text, usual),
+    let limits = limits_of(words, usual);
+    if kind == "pipe" {
+        report_pipe(alloc, out, gate, limits, text)
+    } else if kind == "script" {
+        report_script(alloc, out, gate, limits, text)
+    } else if kind == "again" {
+        report_again(alloc, out, gate, limits, text)
+    } else if kind == "audit" {
+        report_audit(alloc, out, gate, limits)
+    } else if kind == "audit-1" {
+        report_first_version(alloc, out, gate)
+    } else if kind == "show" {
+        report_shown(alloc, out, gate, policy)
+    } else {
+        report_session(alloc, out, words, text)
     }
 }
 
-/// Writes which users are logged in, and on which line.
-fn put_users<G: AccessGate>(out: &mut OutputText, gate: &G, policy: &Policy) {
+/// Writes a name behind a word, without the spaces behind it.
+fn put_named(out: &mut OutputText, word: &str, name: &[u8]) {
+    out.put(word);
+    out.put_bytes(unpadded(name))
+}
+
+/// Writes which users are logged in, and on which line, and which accounts are killed.
+fn put_standing<G: AccessGate>(out: &mut OutputText, gate: &G, policy: &Policy) {
     for user in policy.users() {
         if let Some(line) = gate.on(user.name) {
-            out.put("on: ");
-            out.put(text_of(&user.name.bytes));
+            put_named(out, "on: ", &user.name.bytes);
             out.put(" ");
             out.put_number(u64::from(line));
             out.put("\n");
         }
     }
-}
-
-/// Writes which accounts are killed.
-fn put_accounts<G: AccessGate>(out: &mut OutputText, gate: &G, policy: &Policy) {
     for account in policy.accounts() {
         if gate.is_killed(account.name) {
-            out.put("killed: ");
-            out.put_line(text_of(&account.name.bytes));
+            put_named(out, "killed: ", &account.name.bytes);
+            out.put("\n");
         }
     }
 }
 
-/// Runs the parts of a case on a gate, one after the other, and reports each; there may be none.
+/// Runs the parts of a case on a gate, one after the other, and reports each.
 pub fn report_parts<G: ShowsRecords>(
     alloc: Global,
     out: &mut OutputText,
@@ -323,12 +253,8 @@ pub fn report_parts<G: ShowsRecords>(
     parts: &str,
     usual: DeviceLimits,
 ) {
-    if parts.is_empty() {
-        return;
-    }
     for part in parts.split("\n-- ") {
         report_part(alloc, out, gate, policy, part, usual);
     }
-    put_users(out, gate, policy);
-    put_accounts(out, gate, policy)
+    put_standing(out, gate, policy)
 }

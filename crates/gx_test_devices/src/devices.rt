@@ -19,6 +19,8 @@ pub struct DeviceLimits {
     pub room: usize,
     /// How often each call is interrupted before it is done.
     pub interrupts: usize,
+    /// How often a connection is read at most before its input is called endless.
+    pub most_reads: u64,
 }
 
 /// No limits: each call gives or takes all that it has room for.
@@ -29,6 +31,7 @@ pub const LARGE: DeviceLimits = DeviceLimits {
     writes: usize::MAX,
     room: usize::MAX,
     interrupts: 0,
+    most_reads: 1_000_000_000,
 };
 
 /// A byte at a time.
@@ -143,28 +146,38 @@ impl Write for ShortWriter {
     }
 }
 
-/// The limits that the head of a case's part names, or the usual ones where it names none.
-pub fn limits_of(words: &str, usual: DeviceLimits) -> Option<DeviceLimits> {
+/// The limits that the head of a case's part names, or the usual ones where it names none: how many bytes a read gives, how
+/// many reads there are, how many bytes the writer takes in all, interrupts, how many bytes a write takes where that is
+/// another number, how many writes there are, and how many reads make an input endless. `-` is no limit.
+pub fn limits_of(words: &str, usual: DeviceLimits) -> DeviceLimits {
     if words.is_empty() {
-        return Some(usual);
+        return usual;
     }
-    let (read_size, rest) = words.split_once(' ')?;
-    let (reads, rest) = rest.split_once(' ')?;
-    let (room, interrupts) = rest.split_once(' ').unwrap_or((rest, "0"));
-    match (
-        read_size.parse(),
-        reads.parse(),
-        room.parse(),
-        interrupts.parse(),
-    ) {
-        (Ok(read_size), Ok(reads), Ok(room), Ok(interrupts)) => Some(DeviceLimits {
-            read_size,
-            write_size: read_size,
-            reads,
-            writes: usize::MAX,
-            room,
-            interrupts,
-        }),
-        _ => None,
+    let mut numbers = [usize::MAX; 7];
+    numbers[3] = 0;
+    for (number, word) in numbers.iter_mut().zip(words.split(' ')) {
+        *number = word.parse().unwrap_or(usize::MAX);
+    }
+    let [
+        read_size,
+        reads,
+        room,
+        interrupts,
+        write_size,
+        writes,
+        most_reads,
+    ] = numbers;
+    DeviceLimits {
+        read_size,
+        write_size: if write_size == usize::MAX {
+            read_size
+        } else {
+            write_size
+        },
+        reads,
+        writes,
+        room,
+        interrupts,
+        most_reads: LARGE.most_reads.min(most_reads as u64),
     }
 }

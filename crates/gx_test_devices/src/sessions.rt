@@ -1,64 +1,70 @@
 //! Sessions without a gate: the events of one, and what it answers to each.
 
-use crate::texts::{OutputText, decode_hex, halves};
+use crate::texts::{OutputText, halves, hex_bytes_of};
 use gx_access_gate::{LoginAnswer, StepFault};
 use gx_session::{Control, Event, Next, Reply, Session, Sign};
 use gx_soup::{ClientPacket, LoginRequest, Payload};
-use gx_units::{LoginRejection, OutOfMemory, Password, SessionName, UserName};
+use gx_units::{LoginRejection, Password, SessionName, UserName};
 use std::alloc::Global;
 
 const BLANK: SessionName = SessionName {
     bytes: *b"          ",
 };
 
-/// The payload whose bytes are in hex.
-fn payload_of(alloc: Global, hex: &str) -> Result<Payload, OutOfMemory> {
-    let bytes = decode_hex(alloc, hex)?;
-    Ok(Payload::new(alloc, bytes.as_slice())?)
-}
+/// The events that have one word each and are no packets.
+const EVENTS: [(&str, Event<'static>); 6] = [
+    (
+        "accepted",
+        Event::Answered(LoginAnswer::Accepted {
+            session: BLANK,
+            next: 1,
+        }),
+    ),
+    (
+        "rejected",
+        Event::Answered(LoginAnswer::Rejected(LoginRejection::NotAuthorized)),
+    ),
+    ("refused", Event::Refused(StepFault::OutOfMemory)),
+    ("tick", Event::Tick),
+    ("fault", Event::Fault),
+    ("end", Event::End),
+];
 
-/// The packet that a word names, if it names one; its payload is in hex.
-fn packet_of(alloc: Global, word: &str, hex: &str) -> Result<Option<ClientPacket>, OutOfMemory> {
-    match word {
-        "login" => Ok(Some(ClientPacket::Login(LoginRequest {
+/// The packet that one word names, if it names one.
+fn packet_of(word: &str) -> Option<ClientPacket> {
+    if word == "login" {
+        Some(ClientPacket::Login(LoginRequest {
             user: UserName { bytes: *b"ALICE " },
             password: Password {
                 bytes: *b"APPLE     ",
             },
             session: BLANK,
             wanted: 1,
-        }))),
-        "data" => Ok(Some(ClientPacket::Data(payload_of(alloc, hex)?))),
-        "heartbeat" => Ok(Some(ClientPacket::Heartbeat)),
-        "debug" => Ok(Some(ClientPacket::Debug)),
-        "logout" => Ok(Some(ClientPacket::Logout)),
-        _ => Ok(None),
-    }
-}
-
-fn pulled(count: &str, ended: bool) -> Option<Event<'static>> {
-    match count.parse() {
-        Ok(count) => Some(Event::Pulled { count, ended }),
-        Err(_) => None,
+        }))
+    } else if word == "heartbeat" {
+        Some(ClientPacket::Heartbeat)
+    } else if word == "debug" {
+        Some(ClientPacket::Debug)
+    } else if word == "logout" {
+        Some(ClientPacket::Logout)
+    } else {
+        None
     }
 }
 
 /// The event that a word names, if it names one that is no packet.
 fn event_of(word: &str, count: &str) -> Option<Event<'static>> {
-    match word {
-        "accepted" => Some(Event::Answered(LoginAnswer::Accepted {
-            session: BLANK,
-            next: 1,
-        })),
-        "rejected" => Some(Event::Answered(LoginAnswer::Rejected(LoginRejection::NotAuthorized))),
-        "pulled" => pulled(count, false),
-        "pulled-last" => pulled(count, true),
-        "refused" => Some(Event::Refused(StepFault::OutOfMemory)),
-        "tick" => Some(Event::Tick),
-        "fault" => Some(Event::Fault),
-        "end" => Some(Event::End),
-        _ => None,
+    let ended = word == "pulled-last";
+    if ended || word == "pulled" {
+        let count = count.parse().unwrap_or(0);
+        return Some(Event::Pulled { count, ended });
     }
+    for (name, event) in &EVENTS {
+        if *name == word {
+            return Some(*event);
+        }
+    }
+    None
 }
 
 fn sent_text(send: Option<Control>) -> &'static str {
@@ -100,6 +106,18 @@ fn report_other_event(
     }
 }
 
+/// Writes what follows a message whose bytes are in hex.
+fn report_data(alloc: Global, out: &mut OutputText, session: &mut Session, moment: u64, hex: &str) {
+    let bytes = hex_bytes_of(alloc, out, hex);
+    match Payload::new(alloc, bytes.as_slice()) {
+        Ok(payload) => {
+            let packet = ClientPacket::Data(payload);
+            put_reply(out, session.on(Event::Packet(&packet), moment))
+        }
+        Err(_) => out.mark_incomplete(),
+    }
+}
+
 /// Writes what follows the event that a word names.
 fn report_event(
     alloc: Global,
@@ -109,10 +127,12 @@ fn report_event(
     words: &str,
 ) {
     let (word, rest) = halves(words, " ");
-    match packet_of(alloc, word, rest) {
-        Ok(Some(packet)) => put_reply(out, session.on(Event::Packet(&packet), moment)),
-        Ok(None) => report_other_event(out, session, moment, word, rest),
-        Err(_) => out.mark_incomplete(),
+    if word == "data" {
+        return report_data(alloc, out, session, moment, rest);
+    }
+    match packet_of(word) {
+        Some(packet) => put_reply(out, session.on(Event::Packet(&packet), moment)),
+        None => report_other_event(out, session, moment, word, rest),
     }
 }
 

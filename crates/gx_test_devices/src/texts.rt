@@ -1,6 +1,6 @@
-//! The text of what a case did, as it is put together, and names and bytes in it.
+//! The text of what a case did, as it is put together, and bytes in it.
 
-use gx_units::{OutOfMemory, unpadded};
+use gx_units::OutOfMemory;
 use std::alloc::Global;
 use std::fmt::{Display, Write};
 
@@ -80,11 +80,6 @@ impl OutputText {
     }
 }
 
-/// A name without the spaces behind it.
-pub fn text_of(name: &[u8]) -> &str {
-    str::from_utf8(unpadded(name)).unwrap_or("no UTF-8")
-}
-
 /// The bytes of a text in hex, whose spaces and line ends are skipped; none where it is no hex.
 pub fn decode_hex(alloc: Global, text: &str) -> Result<Vec<u8>, OutOfMemory> {
     let mut digits = Vec::new(alloc);
@@ -115,17 +110,6 @@ pub fn put_hex(alloc: Global, out: &mut OutputText, bytes: &[u8]) {
     match hex::encode(alloc, bytes) {
         Ok(digits) => out.put_line(digits.as_str()),
         Err(_) => out.mark_incomplete(),
-    }
-}
-
-/// Writes the output of both kinds of devices: once where it is the same.
-pub fn put_both(out: &mut OutputText, large: &OutputText, byte_by_byte: &OutputText) {
-    out.inherit_gaps(large);
-    out.inherit_gaps(byte_by_byte);
-    out.put(large.as_str());
-    if byte_by_byte.as_str() != large.as_str() {
-        out.put("byte by byte:\n");
-        out.put(byte_by_byte.as_str());
     }
 }
 

@@ -2,12 +2,13 @@
 
 ghost use Rattle.std.specs.Prelude.{◌<◌};
 
+use crate::switches::{OnceFlag, PauseSwitch};
 use gx_door::Dial;
 use gx_serve::{Announces, EndedOrders};
 use gx_units::Moment;
 use std::io;
 use std::sync::Wait;
-use std::sync::atomic::{AtomicBool, AtomicU64, Ordering};
+use std::sync::atomic::{AtomicU64, Ordering};
 use std::thread::Threads;
 use std::time::{Clock, Duration};
 
@@ -21,7 +22,7 @@ const RELEASED_SECONDS: u64 = 100_000;
 #[derive(Drop)]
 pub struct ScenarioClock {
     moment: AtomicU64,
-    released: AtomicBool,
+    released: OnceFlag,
 }
 
 impl ScenarioClock {
@@ -29,7 +30,7 @@ impl ScenarioClock {
     pub fn new() -> ScenarioClock {
         ScenarioClock {
             moment: AtomicU64::new(0),
-            released: AtomicBool::new(false),
+            released: OnceFlag::new(),
         }
     }
 
@@ -40,7 +41,7 @@ impl ScenarioClock {
 
     /// From now on waits are measured by the machine's clock.
     pub(crate) fn release(&self) {
-        self.released.store(true, Ordering::SeqCst);
+        self.released.raise();
     }
 
     /// The moment that it shows.
@@ -52,7 +53,7 @@ impl ScenarioClock {
 
     /// The time that waits are measured by.
     fn monotonic<R: Clock>(&self, rt: &R) -> io::Result<Duration> {
-        if self.released.load(Ordering::SeqCst) {
+        if self.released.is_raised() {
             let gone = rt.monotonic()?;
             Ok(gone.saturating_add(Duration::from_secs(RELEASED_SECONDS)))
         } else {
@@ -61,40 +62,22 @@ impl ScenarioClock {
     }
 }
 
-/// How often a clock was read: for the moment, and to measure a wait.
+/// How often a clock was read: for the moment, and to measure a wait. Whoever reads the moment can be made to wait.
 #[derive(Drop)]
 pub struct ClockReads {
-    moments: AtomicU64,
-    waits: AtomicU64,
+    pub(crate) moments: AtomicU64,
+    pub(crate) waits: AtomicU64,
+    pub(crate) pause: PauseSwitch,
 }
 
 impl ClockReads {
-    /// Not read yet.
+    /// Not read yet, and nobody waits.
     pub fn new() -> ClockReads {
         ClockReads {
             moments: AtomicU64::new(0),
             waits: AtomicU64::new(0),
+            pause: PauseSwitch::new(),
         }
-    }
-
-    /// How often the moment was read.
-    pub(crate) fn moments(&self) -> u64 {
-        self.moments.load(Ordering::SeqCst)
-    }
-
-    /// How often it was read to measure a wait.
-    pub(crate) fn waits(&self) -> u64 {
-        self.waits.load(Ordering::SeqCst)
-    }
-
-    /// Counts a reading of the moment.
-    fn add_moment(&self) {
-        self.moments.fetch_add(1, Ordering::SeqCst);
-    }
-
-    /// Counts a reading that measures a wait.
-    fn add_wait(&self) {
-        self.waits.fetch_add(1, Ordering::SeqCst);
     }
 }
 
@@ -137,7 +120,7 @@ impl<R: Threads> Threads for ClockedRuntime<'_, R> {}
 impl<R: Clock> Clock for ClockedRuntime<'_, R> {
     fn monotonic(&self) -> io::Result<Duration> {
         let gone = self.clock.monotonic(self.rt);
-        self.clock_reads.add_wait();
+        self.clock_reads.waits.fetch_add(1, Ordering::SeqCst);
         gone
     }
 
@@ -150,11 +133,12 @@ impl<R: Clock> Clock for ClockedRuntime<'_, R> {
     }
 }
 
-impl<R> Dial for ClockedRuntime<'_, R> {
+impl<R: Wait + Clock> Dial for ClockedRuntime<'_, R> {
     ghost shown = { λ moment. moment < 86400000000000 };
 
     fn moment(&self) -> Moment {
-        self.clock_reads.add_moment();
+        self.clock_reads.pause.pass(self.rt);
+        self.clock_reads.moments.fetch_add(1, Ordering::SeqCst);
         self.clock.moment()
     }
 }

@@ -1,16 +1,12 @@
 //! A connection in memory between a peer and the server.
 
 use crate::clock::ClockReads;
+use crate::switches::{OnceFlag, PauseSwitch};
 use gx_serve::{Cut, HangUp};
 use gx_units::OutOfMemory;
 use std::alloc::Global;
-use std::sync::atomic::{AtomicBool, AtomicU64, Ordering};
+use std::sync::atomic::{AtomicU64, Ordering};
 use std::sync::{Mutex, Wait};
-use std::thread;
-use std::time::{Clock, Duration};
-
-/// How many microseconds a thread that waits for a peer sleeps between two checks.
-const POLL_INTERVAL_MICROS: u64 = 50;
 
 /// What a peer has sent, and how far the server has read it.
 #[derive(Drop)]
@@ -50,66 +46,6 @@ impl Inbox {
     }
 }
 
-/// A flag that is raised once and stays raised.
-#[derive(Drop)]
-pub(crate) struct OnceFlag {
-    raised: AtomicBool,
-}
-
-impl OnceFlag {
-    /// A flag that is not raised.
-    fn new() -> OnceFlag {
-        OnceFlag {
-            raised: AtomicBool::new(false),
-        }
-    }
-
-    /// Raises it.
-    pub(crate) fn raise(&self) {
-        self.raised.store(true, Ordering::SeqCst);
-    }
-
-    /// Whether it is raised.
-    pub(crate) fn is_raised(&self) -> bool {
-        self.raised.load(Ordering::SeqCst)
-    }
-}
-
-/// A switch by which a peer makes the server's threads wait.
-#[derive(Drop)]
-pub(crate) struct PauseSwitch {
-    paused: AtomicBool,
-    /// Whether a thread waits.
-    waiting: AtomicBool,
-}
-
-impl PauseSwitch {
-    /// Nobody has to wait.
-    fn new() -> PauseSwitch {
-        PauseSwitch {
-            paused: AtomicBool::new(false),
-            waiting: AtomicBool::new(false),
-        }
-    }
-
-    /// Makes threads wait from now on, or no longer.
-    pub(crate) fn set(&self, paused: bool) {
-        self.paused.store(paused, Ordering::SeqCst);
-    }
-
-    /// Whether the calling thread has to wait; notes that it waits.
-    fn check(&self) -> bool {
-        let paused = self.paused.load(Ordering::SeqCst);
-        self.waiting.store(paused, Ordering::SeqCst);
-        paused
-    }
-
-    /// Whether a thread waits.
-    pub(crate) fn has_waiter(&self) -> bool {
-        self.waiting.load(Ordering::SeqCst) && self.paused.load(Ordering::SeqCst)
-    }
-}
-
 /// A connection in memory between a peer and the server.
 #[derive(Drop)]
 pub(crate) struct MemoryConnection {
@@ -120,9 +56,8 @@ pub(crate) struct MemoryConnection {
     cut_reason: Mutex<Option<Cut>>,
     /// While it is on, writes to the peer wait.
     pub(crate) write_pause: PauseSwitch,
-    /// While it is on, the peer's requests wait at the door.
-    pub(crate) request_pause: PauseSwitch,
-    /// How often the threads of the connection have read the clock.
+    /// How often the threads of the connection have read the clock. While its switch is on, the peer's requests wait at the
+    /// door: each reads the moment before it is made.
     pub(crate) clock_reads: ClockReads,
     /// The connection was opened.
     pub(crate) begun: OnceFlag,
@@ -157,7 +92,7 @@ pub(crate) fn first_packet(bytes: &[u8]) -> Option<(&[u8], &[u8])> {
 }
 
 /// How many whole packets these bytes begin with.
-pub(crate) fn packets_in(bytes: &[u8]) -> u64 {
+fn packets_in(bytes: &[u8]) -> u64 {
     let mut count = 0u64;
     let mut rest = bytes;
     for _ in 0..bytes.len() {
@@ -183,7 +118,6 @@ impl MemoryConnection {
             written: Mutex::new(Vec::new(alloc)),
             packets: AtomicU64::new(0),
             write_pause: PauseSwitch::new(),
-            request_pause: PauseSwitch::new(),
             cut_reason: Mutex::new(None),
             clock_reads: ClockReads::new(),
             begun: OnceFlag::new(),
@@ -223,7 +157,9 @@ impl MemoryConnection {
 
     /// Whether the server has read everything and a read waits for more, or a request waits at the door.
     pub(crate) fn is_read<R: Wait>(&self, rt: &R) -> bool {
-        self.request_pause.has_waiter() || self.inbox.lock(rt).awaited
+        let inbox = self.inbox.lock(rt);
+        let is_taken = inbox.read >= inbox.sent.len();
+        inbox.awaited || is_taken && self.clock_reads.pause.has_waiter()
     }
 
     /// The server reads what is there. Once it has hung up, the input has ended.
@@ -234,21 +170,10 @@ impl MemoryConnection {
         self.inbox.lock(rt).take(buf)
     }
 
-    /// Waits while this switch is on, unless the server has hung up.
-    pub(crate) fn wait_while_paused<R: Wait + Clock>(&self, rt: &R, pause: &PauseSwitch) {
-        for _ in rt.forever() {
-            if self.hung_up.is_raised() || !pause.check() {
-                return;
-            }
-            thread::sleep(rt, Duration::from_micros(POLL_INTERVAL_MICROS));
-        }
-        unreachable!()
-    }
-
     /// Whether the server writes no more and waits for the peer to end by now, or has hung up.
     pub(crate) fn is_finished(&self) -> bool {
         let at_finish = self.wait_reads_at_finish.load(Ordering::SeqCst);
-        let waits = !self.admitted.is_raised() || self.clock_reads.waits() > at_finish;
+        let waits = !self.admitted.is_raised() || self.clock_reads.waits.load(Ordering::SeqCst) > at_finish;
         self.hung_up.is_raised() || self.finished.is_raised() && waits
     }
 
@@ -292,12 +217,14 @@ impl MemoryConnection {
 
 impl HangUp for MemoryConnection {
     fn finish(&self) {
-        self.wait_reads_at_finish
-            .store(self.clock_reads.waits(), Ordering::SeqCst);
+        let waits = self.clock_reads.waits.load(Ordering::SeqCst);
+        self.wait_reads_at_finish.store(waits, Ordering::SeqCst);
         self.finished.raise();
     }
 
     fn hang_up(&self) {
         self.hung_up.raise();
+        self.write_pause.release();
+        self.clock_reads.pause.release();
     }
 }

@@ -71,8 +71,7 @@ impl<R> Drop for MemoryWriter<'_, R> {
 
 impl<R: Wait + Clock> Write for MemoryWriter<'_, R> {
     fn write(&mut self, buf: &[u8]) -> io::Result<usize> {
-        self.connection
-            .wait_while_paused(self.rt, &self.connection.write_pause);
+        self.connection.write_pause.pass(self.rt);
         if self.connection.hung_up.is_raised() {
             return Err(io::Error::from(ErrorKind::BrokenPipe));
         }

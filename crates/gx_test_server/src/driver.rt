@@ -2,7 +2,6 @@
 
 use crate::connection::MemoryConnection;
 use crate::fixture::{ScenarioRun, ServerFixture};
-use crate::step::ScenarioStep;
 use gx_door::Door;
 use std::sync::Wait;
 use std::time::Clock;
@@ -76,11 +75,6 @@ impl<'x, T: Drop, D: Door<Pass = T>, A, R: Wait + Clock> ScenarioRun<'x, D, A, R
         !opened || self.all_read(&mut driver.pass)
     }
 
-    /// Runs a step that opens no connection. Answers whether what it waits for came.
-    fn run_next(&self, driver: &mut ScenarioDriver<T>, step: &ScenarioStep<'_>) -> bool {
-        self.await_opened(driver) && self.run_step(&mut driver.pass, step)
-    }
-
     /// Runs the steps up to the next one that opens a connection, or to the end.
     pub(crate) fn next_connection(
         &self,
@@ -89,13 +83,13 @@ impl<'x, T: Drop, D: Door<Pass = T>, A, R: Wait + Clock> ScenarioRun<'x, D, A, R
         for _ in 0..u64::MAX {
             let place = driver.next_place()?;
             let line = *self.scenario.lines.get(place)?;
-            match ScenarioStep::read(line) {
-                Some(ScenarioStep::Open(name)) if self.await_opened(driver) => {
-                    driver.opened = true;
-                    return self.connect(name);
-                }
-                Some(step) if self.run_next(driver, &step) => {}
-                _ => driver.failure = ScenarioFailure::Step(place),
+            if !self.await_opened(driver) {
+                driver.failure = ScenarioFailure::Step(place);
+            } else if let Some(name) = line.strip_prefix("open ") {
+                driver.opened = true;
+                return self.connect(name);
+            } else if !self.run_line(&mut driver.pass, line) {
+                driver.failure = ScenarioFailure::Step(place);
             }
         }
         None

@@ -3,7 +3,6 @@
 #![tactic(auto)]
 
 mod clock;
-mod comparison;
 mod connection;
 mod devices;
 mod driver;
@@ -11,13 +10,12 @@ mod fixture;
 mod output;
 mod running;
 mod scenario;
-mod stalling;
 mod step;
+mod switches;
 mod threads;
 
 pub use clock::{ClockReads, ClockedRuntime, ScenarioClock};
-pub use comparison::{are_owed, write_comparisons};
 pub use driver::ScenarioFailure;
-pub use output::{write_failure, write_packets};
+pub use output::{write_failure, write_owed, write_packets};
 pub use scenario::Scenario;
 pub use threads::run_scenario;

@@ -1,31 +1,17 @@
 //! What is printed of a scenario.
 
-use crate::connection::{first_packet, packets_in};
+use crate::connection::first_packet;
 use crate::driver::ScenarioFailure;
 use crate::scenario::{Scenario, ScenarioPeer};
-use crate::step::ScenarioStep;
+use gx_access_gate::AccessGate;
 use gx_control::words_of;
+use gx_history::report::Report;
+use gx_ouch::MESSAGE_ROOM;
 use gx_serve::{Cut, Exclusion};
 use gx_test_devices::{OutputText, put_hex};
-use gx_units::OutOfMemory;
+use gx_units::{UserName, padded};
 use std::alloc::Global;
 use std::sync::Wait;
-
-/// The most packets of a peer that are printed.
-const MOST_PACKETS: u64 = 12;
-
-impl Scenario<'_> {
-    /// Whether two peers send at once.
-    fn has_races(&self) -> bool {
-        let mut found = false;
-        for line in &self.lines {
-            if let Some(ScenarioStep::Both(_, _, _)) = ScenarioStep::read(line) {
-                found = true;
-            }
-        }
-        found
-    }
-}
 
 /// Why a peer was cut off, in words.
 fn reason_of(cut: Cut) -> (&'static str, &'static str) {
@@ -36,113 +22,84 @@ fn reason_of(cut: Cut) -> (&'static str, &'static str) {
     }
 }
 
-/// Writes why a peer was cut off, if he was.
-fn put_cut(out: &mut OutputText, name: &str, cut: Option<Cut>) {
-    if let Some(cut) = cut {
-        let (reason, words) = reason_of(cut);
-        out.put(name);
-        out.put(reason);
-        out.put_line(words);
-    }
-}
-
-/// Writes a packet that a peer was sent.
-fn put_packet(alloc: Global, out: &mut OutputText, name: &str, packet: &[u8]) {
-    out.put(name);
-    out.put(": ");
-    put_hex(alloc, out, packet)
-}
-
-/// Writes how many more packets were sent.
-fn put_rest(out: &mut OutputText, name: &str, rest: &[u8]) {
-    let count = packets_in(rest);
-    if count > 0 {
+/// Writes the packets that were sent, a line each.
+fn put_packets(alloc: Global, out: &mut OutputText, name: &str, bytes: &[u8]) {
+    let mut rest = bytes;
+    for _ in 0..bytes.len() {
+        let Some((packet, behind)) = first_packet(rest) else {
+            break;
+        };
         out.put(name);
         out.put(": ");
-        out.put_number(count);
-        out.put(" more\n");
-    } else if !rest.is_empty() {
+        put_hex(alloc, out, packet);
+        rest = behind;
+    }
+    if !rest.is_empty() {
         out.put(name);
         out.put(": a packet that was cut\n");
     }
 }
 
-/// Writes the packets that were sent, a line each, and how many more there are.
-fn put_packets(alloc: Global, out: &mut OutputText, name: &str, bytes: &[u8]) {
-    let mut rest = bytes;
-    for _ in 0..MOST_PACKETS {
-        let Some((packet, behind)) = first_packet(rest) else {
-            break;
-        };
-        put_packet(alloc, out, name, packet);
-        rest = behind;
-    }
-    put_rest(out, name, rest)
-}
-
 /// Writes what a peer was sent, and why he was cut off, if he was.
-fn put_peer<R: Wait>(
-    rt: &R,
-    alloc: Global,
-    out: &mut OutputText,
-    name: &str,
-    peer: &ScenarioPeer<'_>,
-) {
+fn put_peer<R: Wait>(rt: &R, alloc: Global, out: &mut OutputText, peer: &ScenarioPeer<'_>) {
     match peer.connection.written(rt, alloc) {
-        Ok(bytes) => put_packets(alloc, out, name, bytes.as_slice()),
+        Ok(bytes) => put_packets(alloc, out, peer.name, bytes.as_slice()),
         Err(_) => out.mark_incomplete(),
     }
-    put_cut(out, name, peer.connection.cut_reason(rt))
+    if let Some(cut) = peer.connection.cut_reason(rt) {
+        let (reason, words) = reason_of(cut);
+        out.put(peer.name);
+        out.put(reason);
+        out.put_line(words);
+    }
 }
 
 /// Writes what each peer was sent.
-fn put_peers<R: Wait>(rt: &R, alloc: Global, out: &mut OutputText, scenario: &Scenario<'_>) {
-    for peer in &scenario.peers {
-        put_peer(rt, alloc, out, peer.name, peer);
-    }
-}
-
-/// Writes what all peers were sent, without their names.
-fn put_unnamed<R: Wait>(rt: &R, alloc: Global, out: &mut OutputText, scenario: &Scenario<'_>) {
-    for peer in &scenario.peers {
-        put_peer(rt, alloc, out, "one of them", peer);
-    }
-}
-
-/// The lines of a text in the order of their bytes.
-fn sorted_lines(alloc: Global, text: &str) -> Result<Vec<&str>, OutOfMemory> {
-    let mut lines = Vec::new(alloc);
-    for line in text.lines() {
-        lines.push(line)?;
-    }
-    lines.sort()?;
-    Ok(lines)
-}
-
-/// Writes the lines of a text in the order of their bytes.
-fn put_sorted(alloc: Global, out: &mut OutputText, text: &str) {
-    let Ok(lines) = sorted_lines(alloc, text) else {
-        return out.mark_incomplete();
-    };
-    for line in &lines {
-        out.put_line(line);
-    }
-}
-
-/// Writes what each peer was sent: where two send at once, without names and sorted, since either may come first.
 pub fn write_packets<R: Wait>(
     rt: &R,
     alloc: Global,
     scenario: &Scenario<'_>,
     out: &mut OutputText,
 ) {
-    if !scenario.has_races() {
-        return put_peers(rt, alloc, out, scenario);
+    for peer in &scenario.peers {
+        put_peer(rt, alloc, out, peer);
     }
-    let mut unsorted = OutputText::new(alloc);
-    put_unnamed(rt, alloc, &mut unsorted, scenario);
-    out.inherit_gaps(&unsorted);
-    put_sorted(alloc, out, unsorted.as_str())
+}
+
+/// Writes a report that a peer is owed, in hex.
+fn put_report(alloc: Global, out: &mut OutputText, name: &str, report: &Report) {
+    let mut room = [0u8; MESSAGE_ROOM];
+    let size = report.write(&mut room);
+    out.put(name);
+    out.put(" is owed ");
+    put_hex(alloc, out, &room[..size])
+}
+
+/// Writes the reports that the gate owes the user of a peer's name.
+fn put_owed<G: AccessGate>(alloc: Global, out: &mut OutputText, gate: &G, name: &str) {
+    let user = UserName {
+        bytes: padded(name.as_bytes()).unwrap_or([b' '; 6]),
+    };
+    match gate.reports(user, 1, u64::MAX) {
+        Ok(owed) => {
+            for report in owed.reports.as_slice() {
+                put_report(alloc, out, name, report);
+            }
+        }
+        Err(_) => out.mark_incomplete(),
+    }
+}
+
+/// Writes, for each peer, the reports that the gate owes the user of his name.
+pub fn write_owed<G: AccessGate>(
+    alloc: Global,
+    out: &mut OutputText,
+    gate: &G,
+    scenario: &Scenario<'_>,
+) {
+    for peer in &scenario.peers {
+        put_owed(alloc, out, gate, peer.name);
+    }
 }
 
 /// Writes what was waited for in vain.

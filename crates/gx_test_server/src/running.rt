@@ -1,15 +1,18 @@
 //! What each step of a scenario does, and what it waits for.
 
-use crate::connection::{MemoryConnection, PauseSwitch};
+use crate::connection::MemoryConnection;
 use crate::fixture::ScenarioRun;
 use crate::scenario::Scenario;
-use crate::step::ScenarioStep;
+use crate::step::{Deed, ScenarioStep};
+use crate::switches::{OnceFlag, PauseSwitch};
 use gx_door::Door;
-use gx_test_devices::decode_hex;
+use gx_serve::HangUp;
+use gx_test_devices::{decode_hex, halves};
 use gx_units::{Moment, OutOfMemory};
 use std::alloc::Global;
 use std::fmt::Write;
 use std::sync::Wait;
+use std::sync::atomic::Ordering;
 use std::thread;
 use std::time::{Clock, Duration};
 
@@ -33,17 +36,15 @@ enum WaitCondition<'x> {
     Received(&'x MemoryConnection, u64),
     /// The server writes no more.
     Finished(&'x MemoryConnection),
-    /// The server has hung up.
-    HungUp(&'x MemoryConnection),
-    /// All threads of the connection have ended.
-    Ended(&'x MemoryConnection),
+    /// The server has hung up, or all threads of a connection have ended.
+    Raised(&'x OnceFlag),
     /// There are so many records.
     Records(u64),
 }
 
 /// Whether the threads of a connection have read the clock so often, or only wait for their peer.
 fn has_read_clock(connection: &MemoryConnection, least: u64) -> bool {
-    connection.clock_reads.moments() >= least || connection.waits_for_peer()
+    connection.clock_reads.moments.load(Ordering::SeqCst) >= least || connection.waits_for_peer()
 }
 
 /// Makes threads wait at this switch from now on, or no longer. Always `true`: there is nothing to wait for.
@@ -76,8 +77,7 @@ impl<'x, D: Door, A, R: Wait + Clock> ScenarioRun<'x, D, A, R> {
             WaitCondition::ClockRead(connection, least) => has_read_clock(connection, *least),
             WaitCondition::Received(connection, least) => connection.packets() >= *least,
             WaitCondition::Finished(connection) => connection.is_finished(),
-            WaitCondition::HungUp(connection) => connection.hung_up.is_raised(),
-            WaitCondition::Ended(connection) => connection.ended.is_raised(),
+            WaitCondition::Raised(flag) => flag.is_raised(),
             WaitCondition::Records(least) => self.fixture.door.length(pass) >= *least,
         }
     }
@@ -107,10 +107,8 @@ impl<'x, D: Door, A, R: Wait + Clock> ScenarioRun<'x, D, A, R> {
 
     /// Waits until the threads of a connection have done what they do at this moment.
     fn settle(&self, pass: &mut D::Pass, connection: &MemoryConnection) -> bool {
-        let least = connection
-            .clock_reads
-            .moments()
-            .saturating_add(SETTLED_AFTER);
+        let moments = connection.clock_reads.moments.load(Ordering::SeqCst);
+        let least = moments.saturating_add(SETTLED_AFTER);
         self.wait(pass, WaitCondition::ClockRead(connection, least))
     }
 
@@ -144,8 +142,9 @@ impl<'x, D: Door, A, R: Wait + Clock> ScenarioRun<'x, D, A, R> {
     }
 
     /// A peer sends the bytes of the hex so many times, each with its number.
-    fn send_repeatedly(&self, connection: &MemoryConnection, count: u64, hex: &str) -> bool {
-        for number in 0..count {
+    fn send_repeatedly(&self, connection: &MemoryConnection, words: &str) -> bool {
+        let (count, hex) = halves(words, " ");
+        for number in 0..count.parse().unwrap_or(0) {
             if !self.send_numbered(connection, number, hex) {
                 return false;
             }
@@ -154,17 +153,16 @@ impl<'x, D: Door, A, R: Wait + Clock> ScenarioRun<'x, D, A, R> {
     }
 
     /// Two peers send the bytes of the hex at once; waits until the server has read both.
-    fn send_both(
-        &self,
-        pass: &mut D::Pass,
-        one: &MemoryConnection,
-        other: &MemoryConnection,
-        hex: &str,
-    ) -> bool {
-        self.send(one, hex, false)
-            && self.send(other, hex, false)
-            && self.wait(pass, WaitCondition::Read(one))
-            && self.wait(pass, WaitCondition::Read(other))
+    fn send_both(&self, pass: &mut D::Pass, words: &str) -> bool {
+        let (one, rest) = halves(words, " ");
+        let (other, hex) = halves(rest, " ");
+        let (Some(one), Some(other)) = (self.scenario.peer(one), self.scenario.peer(other)) else {
+            return false;
+        };
+        self.send(&one.connection, hex, false)
+            && self.send(&other.connection, hex, false)
+            && self.wait(pass, WaitCondition::Read(&one.connection))
+            && self.wait(pass, WaitCondition::Read(&other.connection))
     }
 
     /// Waits until a peer was sent so many packets, and the server has done what follows.
@@ -179,71 +177,44 @@ impl<'x, D: Door, A, R: Wait + Clock> ScenarioRun<'x, D, A, R> {
         step: &ScenarioStep<'_>,
         connection: &MemoryConnection,
     ) -> bool {
-        match step {
-            ScenarioStep::Gives(_, hex) => self.send(connection, hex, false)
+        match step.deed {
+            Deed::Gives => self.send(connection, step.words, false)
                 && self.wait(pass, WaitCondition::Read(connection)),
-            ScenarioStep::Repeats(_, count, hex) => self.send_repeatedly(connection, *count, hex),
-            ScenarioStep::TakesNothing(_) => set_pause(&connection.write_pause, true),
-            ScenarioStep::TakesAll(_) => set_pause(&connection.write_pause, false),
-            ScenarioStep::AsksNothing(_) => set_pause(&connection.request_pause, true),
-            ScenarioStep::AsksAll(_) => set_pause(&connection.request_pause, false),
-            ScenarioStep::Ends(_, hex) => self.send(connection, hex, true),
-            ScenarioStep::Hears(_, count) => self.await_packets(pass, connection, *count),
-            ScenarioStep::IsFinished(_) => self.wait(pass, WaitCondition::Finished(connection)),
-            ScenarioStep::IsCut(_) => self.wait(pass, WaitCondition::HungUp(connection)),
-            ScenarioStep::Open(_)
-            | ScenarioStep::Clock(_)
-            | ScenarioStep::Both(_, _, _)
-            | ScenarioStep::Records(_)
-            | ScenarioStep::Stop => { false }
-        }
-    }
-
-    /// Runs a step on the connection of the peer of this name.
-    fn run_for_peer(&self, pass: &mut D::Pass, step: &ScenarioStep<'_>, name: &str) -> bool {
-        match self.scenario.peer(name) {
-            Some(peer) => self.run_on_connection(pass, step, &peer.connection),
-            None => false,
-        }
-    }
-
-    /// Runs the step of two peers who send at once.
-    fn run_for_both(&self, pass: &mut D::Pass, one: &str, other: &str, hex: &str) -> bool {
-        match (self.scenario.peer(one), self.scenario.peer(other)) {
-            (Some(one), Some(other)) => self.send_both(
-                pass,
-                &one.connection,
-                &other.connection,
-                hex,
-            ),
+            Deed::Repeats => self.send_repeatedly(connection, step.words),
+            Deed::TakesNothing => set_pause(&connection.write_pause, true),
+            Deed::TakesAll => set_pause(&connection.write_pause, false),
+            Deed::AsksNothing => set_pause(&connection.clock_reads.pause, true),
+            Deed::AsksAll => set_pause(&connection.clock_reads.pause, false),
+            Deed::Ends => self.send(connection, step.words, true),
+            Deed::Hears => self.await_packets(pass, connection, step.number()),
+            Deed::IsFinished => self.wait(pass, WaitCondition::Finished(connection)),
+            Deed::IsCut => self.wait(pass, WaitCondition::Raised(&connection.hung_up)),
             _ => false,
         }
     }
 
-    /// Asks the server to end.
-    fn ask_to_stop(&self) -> bool {
-        self.fixture.control.shutdown.request();
-        true
+    /// Runs a step. Answers whether what it waits for came.
+    fn run_step(&self, pass: &mut D::Pass, step: &ScenarioStep<'_>) -> bool {
+        match step.deed {
+            Deed::Clock => self.set_clock(pass, step.number()),
+            Deed::Both => self.send_both(pass, step.words),
+            Deed::Records => self.wait(pass, WaitCondition::Records(step.number())),
+            Deed::Stop => {
+                self.fixture.control.shutdown.request();
+                true
+            }
+            _ => match self.scenario.peer(step.name) {
+                Some(peer) => self.run_on_connection(pass, step, &peer.connection),
+                None => false,
+            },
+        }
     }
 
-    /// Runs a step. Answers whether what it waits for came.
-    pub(crate) fn run_step(&self, pass: &mut D::Pass, step: &ScenarioStep<'_>) -> bool {
-        match step {
-            ScenarioStep::Clock(moment) => self.set_clock(pass, *moment),
-            ScenarioStep::Both(one, other, hex) => self.run_for_both(pass, one, other, hex),
-            ScenarioStep::Records(count) => self.wait(pass, WaitCondition::Records(*count)),
-            ScenarioStep::Stop => self.ask_to_stop(),
-            ScenarioStep::Open(name)
-            | ScenarioStep::Gives(name, _)
-            | ScenarioStep::Repeats(name, _, _)
-            | ScenarioStep::TakesNothing(name)
-            | ScenarioStep::TakesAll(name)
-            | ScenarioStep::AsksNothing(name)
-            | ScenarioStep::AsksAll(name)
-            | ScenarioStep::Ends(name, _)
-            | ScenarioStep::Hears(name, _)
-            | ScenarioStep::IsFinished(name)
-            | ScenarioStep::IsCut(name) => self.run_for_peer(pass, step, name),
+    /// Runs the step of a line that opens no connection. Answers whether what it waits for came.
+    pub(crate) fn run_line(&self, pass: &mut D::Pass, line: &str) -> bool {
+        match ScenarioStep::read(line) {
+            Some(step) => self.run_step(pass, &step),
+            None => false,
         }
     }
 
@@ -253,7 +224,7 @@ impl<'x, D: Door, A, R: Wait + Clock> ScenarioRun<'x, D, A, R> {
         for (place, peer) in self.scenario.peers.iter().enumerate() {
             peer.connection.end(self.fixture.rt);
             if peer.connection.begun.is_raised()
-                && !self.wait(pass, WaitCondition::Ended(&peer.connection))
+                && !self.wait(pass, WaitCondition::Raised(&peer.connection.ended))
             {
                 return Some(place);
             }
@@ -267,7 +238,7 @@ impl<'x, D: Door, A, R: Wait + Clock> ScenarioRun<'x, D, A, R> {
         self.fixture.clock.release();
         for peer in &self.scenario.peers {
             peer.connection.end(self.fixture.rt);
-            peer.connection.hung_up.raise();
+            peer.connection.hang_up();
         }
     }
 }

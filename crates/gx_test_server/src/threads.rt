@@ -6,7 +6,6 @@ use crate::devices::{MemoryReader, MemoryWriter};
 use crate::driver::{NewConnection, ScenarioDriver, ScenarioFailure};
 use crate::fixture::{ScenarioRun, ServerFixture};
 use crate::scenario::Scenario;
-use crate::stalling::StallingDoor;
 use gx_control::WriterWakeup;
 use gx_devices::CallCounter;
 use gx_door::{Caller, Dial, Door, Issuer};
@@ -43,11 +42,10 @@ where
 {
     let wakeup = WriterWakeup::new(fixture.alloc, WRITER_REST_MILLIS).ok()?;
     let shared = SharedConnection::new(rt, pass, caller);
-    let door = &StallingDoor::new(fixture.rt, fixture.door, connection);
     let (_hung_up, listening) = run_connection(
         rt,
         fixture.alloc,
-        door,
+        fixture.door,
         &fixture.control.matcher,
         &wakeup,
         &fixture.control.shutdown,

@@ -1,0 +1,222 @@
+"""Parts of cases that want the inside: they run in the program `gate_cases`, on the gate's own libraries.
+
+- `-- pipe-reads READ WRITE`: the bytes of a connection, in hex, which is run again and again, each time on a gate of its own:
+  the reader fails at once, after one read, after two, until nothing fails. Reads give at most READ bytes, writes take at most
+  WRITE. `-- pipe-writes READ WRITE`: so too, with a writer that fails. It answers what was sent where nothing failed, in hex,
+  and then how each run ended, with how many bytes of that answer written. Runs in a row that end alike are told once:
+  `writes 4 to 6: 10 bytes`, or, where each wrote a byte more than the one before it, `writes 4 to 6: 10 to 12 bytes`.
+- `-- pipe-endless READS`: the bytes of a connection, in hex, which it is sent again and again. It is read so often at most. It
+  answers the bytes that it was sent, in hex, how it ended, and how often it was read: once for reads that give all of the
+  bytes, and again, where that is another answer, for reads that give one.
+- `-- play-races`: a scenario of `gate_cases`, of whose records only the number is told, since they may come in more than one
+  order. Twelve packets of a peer are told at most. Where two peers send at once their packets are told sorted, without names.
+- `-- play-kept`, `-- play-kept SIZE READS ROOM`: a scenario whose journal's device takes so many bytes at a time, and so many
+  in all. It answers how many reports each peer was sent, how many the user of his name is owed, whether these are the same in
+  order, and whether the journal is the audit; of a journal that failed, whether all that was sent is of its day.
+- `-- calls three`: how many requests of three callers at once are on record on their lines, in order.
+"""
+
+import re
+import subprocess
+from collections.abc import Iterator
+from dataclasses import dataclass
+from itertools import groupby
+
+PATIENCE_SECONDS = 60
+NO_LIMIT = "-"
+MOST_RUNS = 1_000
+RUNS_AT_ONCE = 100
+MOST_PACKETS = 12
+HEX_LINE = re.compile(r"(?m)^(?:[0-9a-f]{2})+\n")
+LEFT_OUT = re.compile(r"(?m)^(?:(?:[0-9a-f]{2})+|on: .*|killed: .*)\n")
+# The type of a packet that carries a report.
+REPORT = "53"
+
+
+def run_parts(program: str, parts: list[str]) -> list[str]:
+    """What comes of parts, each run as a case of its own."""
+    text = "".join(f"== {number}\n-- {part}\n" for number, part in enumerate(parts))
+    run = subprocess.run([program], input=text.encode(), capture_output=True, timeout=PATIENCE_SECONDS, check=True)
+    return re.split(r"(?m)^== \d+\n", run.stdout.decode())[1:]
+
+
+def told_range(first: int, last: int) -> str:
+    """From one number to another, or one number."""
+    return str(first) if first == last else f"{first} to {last}"
+
+
+@dataclass(frozen=True)
+class Trial:
+    """A run of a connection that is run again and again: which it is, how many bytes it was sent, and what is told of it."""
+
+    count: int
+    size: int
+    told: str
+
+
+def trial(count: int, sent: str, told: str, whole: str) -> Trial:
+    """A run that was sent these bytes, in hex, of the whole answer."""
+    is_front = whole.startswith(sent)
+    return Trial(count, len(sent) // 2, told if is_front else told + "no front of the whole answer\n")
+
+
+def continues(group: list[Trial], trial: Trial) -> bool:
+    """Whether a run ends like those before it: with as many bytes, or each with a byte more than the one before."""
+    first, last = group[0], group[-1]
+    is_level = first.size == last.size == trial.size
+    is_rising = all(each.size - first.size == each.count - first.count for each in (last, trial))
+    return trial.told == first.told and (is_level or is_rising)
+
+
+def told_of_trials(what: str, trials: Iterator[Trial]) -> str:
+    """What is told of runs; those in a row that end alike are told once."""
+    groups: list[list[Trial]] = []
+    for each in trials:
+        if groups and continues(groups[-1], each):
+            groups[-1].append(each)
+        else:
+            groups.append([each])
+    return "".join(
+        f"{what} {told_range(group[0].count, group[-1].count)}: {told_range(group[0].size, group[-1].size)} bytes\n"
+        + group[0].told
+        for group in groups
+    )
+
+
+def sent_and_told(answer: str) -> tuple[str, str]:
+    """The bytes that a connection was sent, in hex, and its verdicts and how it ended."""
+    sent = HEX_LINE.search(answer)
+    return sent[0].strip() if sent else "", LEFT_OUT.sub("", answer)
+
+
+def failing(program: str, what: str, words: str, text: str) -> str:
+    """Runs a connection whose reads or writes fail, one later each time, until none does."""
+    read_size, write_size = words.split()
+
+    def part(count: int | str) -> str:
+        reads, writes = (count, NO_LIMIT) if what == "reads" else (NO_LIMIT, count)
+        return f"pipe {read_size} {reads} {NO_LIMIT} 0 {write_size} {writes}\n{text}"
+
+    whole, _ = sent_and_told(run_parts(program, [part(NO_LIMIT)])[0])
+
+    def trials() -> Iterator[Trial]:
+        for count in range(MOST_RUNS):
+            if count % RUNS_AT_ONCE == 0:
+                answers = run_parts(program, [part(count + more) for more in range(RUNS_AT_ONCE)])
+            sent, told = sent_and_told(answers[count % RUNS_AT_ONCE])
+            yield trial(count, sent, told, whole)
+            if told.endswith("pipe: done\n"):
+                return
+
+    return f"{whole}\n" + told_of_trials(what, trials())
+
+
+def endless(program: str, words: str, text: str) -> str:
+    """Runs a connection that is sent bytes again and again, in pieces of all of them, and of one."""
+    most, once = int(words), text.strip()
+
+    def told(size: int) -> str:
+        """How it ended with as few reads as it takes."""
+        for reads in range(most + 1):
+            part = f"pipe {size} {reads} {NO_LIMIT} 0 {NO_LIMIT} {NO_LIMIT} {most}\n{once * (most + 1)}"
+            sent, end = sent_and_told(run_parts(program, [part])[0])
+            if "read failed" not in end:
+                return (f"{sent}\n" if sent else "") + f"{end.strip()}, {reads} reads\n"
+        return "it was read more often\n"
+
+    whole, in_pieces = told(len(bytes.fromhex(once))), told(1)
+    return whole if whole == in_pieces else f"{whole}byte by byte:\n{in_pieces}"
+
+
+def play(program: str, part: str) -> tuple[dict[str, list[str]], list[str]]:
+    """Runs a scenario: the packets that each peer was sent, in hex, and the lines that tell no packet and no record, with a
+    line for each peer where his packets stand."""
+    sent: dict[str, list[str]] = {}
+    lines = []
+    for name, told in groupby(run_parts(program, [part])[0].splitlines(), peer_of):
+        if name:
+            sent[name] = [line.partition(": ")[2] for line in told]
+            lines.append(name)
+        else:
+            lines += [line for line in told if not re.search(r"# (line \d+ )?at \d|^audit: done", line)]
+    return sent, lines
+
+
+def peer_of(line: str) -> str:
+    """Whose packet a line tells, if one's."""
+    told = re.fullmatch(r"(\w+): [0-9a-f]+", line)
+    return told[1] if told and told[1].isupper() else ""
+
+
+def races(program: str, text: str) -> str:
+    """Runs a scenario, of whose records the number is told."""
+    sent, lines = play(program, f"play\n{text}")
+    told = []
+    for line in lines:
+        told += [f"{line}: {packet}\n" for packet in sent.get(line, [line])[:MOST_PACKETS]] if line in sent else [f"{line}\n"]
+        more = len(sent.get(line, [])) - MOST_PACKETS
+        told += [f"{line}: {more} more\n"] if more > 0 else []
+    if re.search(r"(?m)^both ", text):
+        told[:-1] = sorted(re.sub(r"^\w+", "one of them", line) for line in told[:-1])
+    return "".join(told)
+
+
+def kept(program: str, words: str, text: str) -> str:
+    """Runs a scenario whose journal is looked at."""
+    sent, lines = play(program, f"play-kept {words}".rstrip() + f"\n{text}")
+    told, legal, files, owed = [], "", set(), {name: [] for name in re.findall(r"(?m)^open (\w+)$", text)}
+    for line in lines:
+        match line.split(" "):
+            case [name, "is", "owed", report]:
+                owed[name].append(report)
+            case ["journal:" | "audit:", content]:
+                files.add(content)
+            case ["legal", _]:
+                legal = f"{line}\n"
+            case _ if line not in sent:
+                told.append(f"{line}\n")
+    reports = {name: [packet[6:] for packet in sent.get(name, []) if packet[4:6] == REPORT] for name in owed}
+    if "the journal failed\n" in told:
+        is_front = all(owed[name][:len(reports[name])] == reports[name] for name in owed)
+        told.append(f"{'all' if is_front else 'not all'} that was told is in the journal\n")
+        return "".join(told)
+    for name in owed:
+        words = "the same in order" if reports[name] == owed[name] else "others"
+        told.append(f"{name}: {len(reports[name])} sent, {len(owed[name])} owed, {words}\n")
+    told += [legal, f"the journal is {'' if len(files) == 1 else 'not '}the audit\n"]
+    return "".join(told)
+
+
+def three_callers(program: str) -> str:
+    """Has three callers make requests at once."""
+    answer = run_parts(program, ["calls three"])[0]
+    records = {int(number): (line, step) for step, line, number in re.findall(r"(?m)^0 (.*) # line (\d+) at 0: (\d+) ", answer)}
+    told = []
+    for name, line, numbers in re.findall(r"(?m)^(\w+) on line (\d+):(.*)$", answer):
+        made = [int(number) for number in numbers.split()]
+        right = [number for call, (before, number) in enumerate(zip([0, *made], made))
+                 if number > before and is_call(records.get(number), line, name, call)]
+        of_line = sum(of == line for of, _ in records.values())
+        told.append(f"{name}: {len(made)} requests, {len(right)} of them on record in order, {of_line} records of the line\n")
+    return "".join(told) + answer[answer.rindex("legal"):]
+
+
+def is_call(record: tuple[str, str] | None, line: str, name: str, call: int) -> bool:
+    """Whether a record is of the line, and of the caller's request of this number."""
+    return record is not None and record[0] == line and re.match(rf"{name} \w+ A{call:03} ", record[1]) is not None
+
+
+def answer(program: str, kind: str, words: str, text: str) -> str:
+    """What comes of a part."""
+    match kind, words:
+        case "pipe-reads" | "pipe-writes", _:
+            return failing(program, kind.removeprefix("pipe-"), words, text)
+        case "pipe-endless", _:
+            return endless(program, words, text)
+        case "play-races", _:
+            return races(program, text)
+        case "play-kept", _:
+            return kept(program, words, text)
+        case "calls", "three":
+            return three_callers(program)
+    raise ValueError(f"no such part: {kind} {words}")
