@@ -122,7 +122,15 @@ pub(crate) fn run_at_gate<
     write_packets(rt, alloc, case.scenario, out);
     if case.is_kept {
         let written = device.taken.as_slice();
-        put_kept(alloc, out, policy, &gate, fault.is_some(), written, case.scenario);
+        put_kept(
+            alloc,
+            out,
+            policy,
+            &gate,
+            fault.is_some(),
+            written,
+            case.scenario,
+        );
     } else {
         report_shown(alloc, out, &gate, policy);
     }

@@ -83,7 +83,14 @@ pub fn report_shown<G: ShowsRecords>(
         return out.mark_incomplete();
     };
     let mut writer = CallCounter::new(ShortWriter::new(alloc, LARGE));
-    let ended = write_records(alloc, policy, &Style::PLAIN, records.as_slice(), &[], &mut writer);
+    let ended = write_records(
+        alloc,
+        policy,
+        &Style::PLAIN,
+        records.as_slice(),
+        &[],
+        &mut writer,
+    );
     out.put_bytes(writer.into_inner().taken.as_slice());
     put_ended(out, ended.err())
 }

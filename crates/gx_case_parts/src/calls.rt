@@ -122,8 +122,16 @@ fn request(caller: TestCaller, number: u16) -> Request
 
 /// A login.
 fn log_in<D: Door, R: Wait + Dial>(rt: &R, door: &D, caller: TestCaller, pass: D::Pass) -> D::Pass {
-    door.login(rt, pass, caller.user, caller.password, TODAY, 1, rt.moment())
-        .0
+    door.login(
+        rt,
+        pass,
+        caller.user,
+        caller.password,
+        TODAY,
+        1,
+        rt.moment(),
+    )
+    .0
 }
 
 /// Logs in, and makes the requests of a caller. Answers, in words, his line and the numbers of the records that these left.

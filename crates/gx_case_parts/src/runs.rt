@@ -1,6 +1,6 @@
 //! Runs on a case's gate: connections and scripts over devices, and the text of what came of them.
 
-ghost use Rattle.std.specs.Prelude.{◌-◌, ◌^◌, ◌<◌};
+ghost use Rattle.std.specs.Prelude.{◌-◌, ◌<◌};
 
 use crate::audits::{report_audit, report_first_version, report_shown};
 use gx_access_gate::AccessGate;

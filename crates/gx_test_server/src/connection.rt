@@ -173,7 +173,8 @@ impl MemoryConnection {
     /// Whether the server writes no more and waits for the peer to end by now, or has hung up.
     pub(crate) fn is_finished(&self) -> bool {
         let at_finish = self.wait_reads_at_finish.load(Ordering::SeqCst);
-        let waits = !self.admitted.is_raised() || self.clock_reads.waits.load(Ordering::SeqCst) > at_finish;
+        let waits = !self.admitted.is_raised()
+            || self.clock_reads.waits.load(Ordering::SeqCst) > at_finish;
         self.hung_up.is_raised() || self.finished.is_raised() && waits
     }
 
