@@ -28,7 +28,8 @@ behind it; the last one, `-- answer`, is what comes of those before it:
 
 Behind the parts stands who is logged in and which accounts are killed, as `gate state` tells of the audit.
 
-Cases that want more than the program shows have parts that run in `gate_cases`: tests/cases_inside.py says which. Run as
+Cases that want more than the program shows have parts that run in `gate_cases`: tests/cases_inside.py says which. So does a
+connection behind a script, at one gate. Run as
 
   tests/cases.py [GATE CASES]
 
@@ -46,7 +47,7 @@ import sys
 import tempfile
 import threading
 import tomllib
-from collections.abc import Callable, Iterator
+from collections.abc import Callable, Iterator, Sequence
 from concurrent.futures import ThreadPoolExecutor
 from dataclasses import dataclass
 from pathlib import Path
@@ -54,22 +55,18 @@ from struct import Struct
 
 sys.dont_write_bytecode = True
 
-import cases_inside  # noqa: E402  (beside this file)
-from cases_inside import Trial, told_of_trials, trial  # noqa: E402
+from cases_inside import Inside, Trial, told_of_trials, trial  # noqa: E402  (beside this file)
 
 TOP = Path(__file__).resolve().parents[1]
 CASES = TOP / "tests" / "cases"
 SAMPLE = (TOP / "examples" / "policies" / "sample.toml").read_text()
 PATIENCE_SECONDS = 60
 RECORD_SIZE = 128
-MARK = slice(0, 4)
 # The date, the sign and the minutes of a header of version 3, and what they are set to.
 DAY_FIELDS = slice(55, 62)
 DAY = Struct(">IcH").pack(20_784, b"-", 300)
 # A record's verdict: its letter, a rule, an order, a maker, shares and a price.
 VERDICT = Struct(">95xc8sQQII")
-
-
 # The parts whose input the built program reads.
 READ = {"script", "script-in-hex", "again", "pipe", "pipe-lengths", "pipe-in-turn", "script-in-turn"}
 
@@ -215,7 +212,7 @@ class Bench:
 
     def __init__(self, programs: Programs, folder: str, in_pieces: bool) -> None:
         self.gate = programs.gate
-        self.cases = programs.cases
+        self.inside = Inside(programs.cases, self.shown_of, self.checked)
         self.folder = Path(folder)
         self.in_pieces = in_pieces
         self.policy: list[str] = []
@@ -225,8 +222,12 @@ class Bench:
         self.printed = b""
 
     def answer(self, case: Case) -> str:
-        """What comes of a case."""
-        return "".join([self.do(part) for part in case.parts]) + (self.standing() if self.audit else "")
+        """What comes of a case. Where a connection stands behind a script, they run on one gate inside."""
+        parts, told = case.parts, ""
+        if [part.kind for part in parts[:2]] == ["script", "pipe"]:
+            told, self.audit = self.inside.at_one_gate([f"{part.kind}\n{part.text}" for part in parts[:2]])
+            parts = parts[2:]
+        return told + "".join([self.do(part) for part in parts]) + (self.standing() if self.audit else "")
 
     def do(self, part: Part) -> str:
         """What comes of a part."""
@@ -258,7 +259,7 @@ class Bench:
                 return "".join(self.check(number, line) for line in part.text.splitlines())
             case "show":
                 return self.show(number, part.words)
-        return cases_inside.answer(self.cases, part.kind, part.words, part.text)
+        return self.inside.answer(part.kind, part.words, part.text)
 
     def file(self, name: str, content: bytes) -> str:
         """A file that has these bytes."""
@@ -386,8 +387,16 @@ class Bench:
         """The records of the audit as a person reads them, all or those of an account or a user."""
         kind, _, name = words.partition(" ")
         asked = [f"--{kind}", name] if kind else []
-        run = self.run(["show", *self.policy, *asked, self.file("shown", self.in_version(number))])
+        return self.shown_of(self.in_version(number), asked)
+
+    def shown_of(self, audit: bytes, asked: Sequence[str] = ()) -> str:
+        """What `gate show` tells of an audit."""
+        run = self.run(["show", *self.policy, *asked, self.file("shown", audit)])
         return "no such name\n" if run.status == 2 else run.printed.decode() + run.end("audit")
+
+    def checked(self, audit: bytes) -> str:
+        """What `gate check` tells of an audit."""
+        return self.run(["check", *self.policy, self.file("checked", audit)]).printed.decode()
 
     def state(self) -> dict:
         """What stands behind the audit's last record."""

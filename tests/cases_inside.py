@@ -8,17 +8,20 @@
 - `-- pipe-endless READS`: the bytes of a connection, in hex, which it is sent again and again. It is read so often at most. It
   answers the bytes that it was sent, in hex, how it ended, and how often it was read: once for reads that give all of the
   bytes, and again, where that is another answer, for reads that give one.
-- `-- play-races`: a scenario of `gate_cases`, of whose records only the number is told, since they may come in more than one
-  order. Twelve packets of a peer are told at most. Where two peers send at once their packets are told sorted, without names.
-- `-- play-kept`, `-- play-kept SIZE READS ROOM`: a scenario whose journal's device takes so many bytes at a time, and so many
-  in all. It answers how many reports each peer was sent, how many the user of his name is owed, whether these are the same in
-  order, and whether the journal is the audit; of a journal that failed, whether all that was sent is of its day.
-- `-- calls three`: how many requests of three callers at once are on record on their lines, in order.
+- `-- play`: a scenario of `gate_cases`. It answers the packets that each peer was sent, in hex, a line each, twelve of them at
+  most, and why he was cut off, if he was; the records of the day, as `gate show` shows them; and what `gate check` tells of its
+  audit. `-- play-races`: so too, but for the records, which may come in more than one order. Where two peers send at once
+  their packets are told sorted, without names. `-- play-kept`, `-- play-kept SIZE READS ROOM`: the journal's device takes so
+  many bytes at a time, and so many in all. It answers how many reports each peer was sent, how many the user of his name is
+  owed, whether these are the same in order, and whether the journal is the audit; of a journal that failed, whether all that
+  was sent is of its day.
+- `-- calls pulls`, `-- calls meeting`, `-- calls again`, `-- calls three`: calls of `gate_cases`, and what `gate check` tells of
+  their audit. Of three callers at once it answers how many requests are on record on their lines, in order.
 """
 
 import re
 import subprocess
-from collections.abc import Iterator
+from collections.abc import Callable, Iterator
 from dataclasses import dataclass
 from itertools import groupby
 
@@ -128,77 +131,81 @@ def endless(program: str, words: str, text: str) -> str:
     return whole if whole == in_pieces else f"{whole}byte by byte:\n{in_pieces}"
 
 
-def play(program: str, part: str) -> tuple[dict[str, list[str]], list[str]]:
-    """Runs a scenario: the packets that each peer was sent, in hex, and the lines that tell no packet and no record, with a
-    line for each peer where his packets stand."""
-    sent: dict[str, list[str]] = {}
-    lines = []
-    for name, told in groupby(run_parts(program, [part])[0].splitlines(), peer_of):
-        if name:
-            sent[name] = [line.partition(": ")[2] for line in told]
-            lines.append(name)
-        else:
-            lines += [line for line in told if not re.search(r"# (line \d+ )?at \d|^audit: done", line)]
-    return sent, lines
+@dataclass
+class Scenario:
+    """What came of a scenario: what each peer was sent and is owed, in hex, what else is told of it, and its files."""
+
+    sent: dict[str, list[str]]
+    owed: dict[str, list[str]]
+    # Lines of a peer have their name before them here; others have none.
+    lines: list[tuple[str, str]]
+    journal: str = ""
+    audit: str = ""
 
 
-def peer_of(line: str) -> str:
-    """Whose packet a line tells, if one's."""
-    told = re.fullmatch(r"(\w+): [0-9a-f]+", line)
-    return told[1] if told and told[1].isupper() else ""
-
-
-def races(program: str, text: str) -> str:
-    """Runs a scenario, of whose records the number is told."""
-    sent, lines = play(program, f"play\n{text}")
-    told = []
-    for line in lines:
-        told += [f"{line}: {packet}\n" for packet in sent.get(line, [line])[:MOST_PACKETS]] if line in sent else [f"{line}\n"]
-        more = len(sent.get(line, [])) - MOST_PACKETS
-        told += [f"{line}: {more} more\n"] if more > 0 else []
-    if re.search(r"(?m)^both ", text):
-        told[:-1] = sorted(re.sub(r"^\w+", "one of them", line) for line in told[:-1])
-    return "".join(told)
-
-
-def kept(program: str, words: str, text: str) -> str:
-    """Runs a scenario whose journal is looked at."""
-    sent, lines = play(program, f"play-kept {words}".rstrip() + f"\n{text}")
-    told, legal, files, owed = [], "", set(), {name: [] for name in re.findall(r"(?m)^open (\w+)$", text)}
-    for line in lines:
+def play(program: str, words: str, text: str) -> Scenario:
+    """Runs a scenario."""
+    names = re.findall(r"(?m)^open (\w+)$", text)
+    scenario = Scenario({name: [] for name in names}, {name: [] for name in names}, [])
+    for line in run_parts(program, [f"play {words}".rstrip() + f"\n{text}"])[0].splitlines():
         match line.split(" "):
             case [name, "is", "owed", report]:
-                owed[name].append(report)
-            case ["journal:" | "audit:", content]:
-                files.add(content)
-            case ["legal", _]:
-                legal = f"{line}\n"
-            case _ if line not in sent:
-                told.append(f"{line}\n")
-    reports = {name: [packet[6:] for packet in sent.get(name, []) if packet[4:6] == REPORT] for name in owed}
-    if "the journal failed\n" in told:
-        is_front = all(owed[name][:len(reports[name])] == reports[name] for name in owed)
-        told.append(f"{'all' if is_front else 'not all'} that was told is in the journal\n")
-        return "".join(told)
-    for name in owed:
-        words = "the same in order" if reports[name] == owed[name] else "others"
-        told.append(f"{name}: {len(reports[name])} sent, {len(owed[name])} owed, {words}\n")
-    told += [legal, f"the journal is {'' if len(files) == 1 else 'not '}the audit\n"]
-    return "".join(told)
+                scenario.owed[name].append(report)
+            case ["journal:", content]:
+                scenario.journal = content
+            case ["audit:", content]:
+                scenario.audit = content
+            case [peer, packet] if re.fullmatch("[0-9a-f]+", packet):
+                scenario.sent[peer.removesuffix(":")].append(packet)
+                scenario.lines.append((peer, packet))
+            case _:
+                scenario.lines.append(("", line))
+    return scenario
 
 
-def three_callers(program: str) -> str:
-    """Has three callers make requests at once."""
-    answer = run_parts(program, ["calls three"])[0]
-    records = {int(number): (line, step) for step, line, number in re.findall(r"(?m)^0 (.*) # line (\d+) at 0: (\d+) ", answer)}
+def packets(scenario: Scenario) -> list[str]:
+    """A line for each packet of a peer, twelve at most, and the other lines."""
     told = []
-    for name, line, numbers in re.findall(r"(?m)^(\w+) on line (\d+):(.*)$", answer):
+    for peer, lines in groupby(scenario.lines, lambda line: line[0]):
+        texts = [text for _, text in lines]
+        told += [f"{peer} {text}".lstrip() for text in (texts[:MOST_PACKETS] if peer else texts)]
+        told += [f"{peer} {len(texts) - MOST_PACKETS} more"] if peer and len(texts) > MOST_PACKETS else []
+    return told
+
+
+def races(scenario: Scenario, text: str) -> str:
+    """What each peer was sent; without names and sorted, where two sent at once."""
+    told = packets(scenario)
+    if re.search(r"(?m)^both ", text):
+        told = sorted(re.sub(r"^\w+", "one of them", line) for line in told)
+    return "".join(f"{line}\n" for line in told)
+
+
+def kept(scenario: Scenario, legal: str) -> str:
+    """How what each peer was sent compares with what he is owed, and the journal with the audit."""
+    told = [f"{line}\n" for name, line in scenario.lines if not name]
+    reports = {name: [packet[6:] for packet in sent if packet[4:6] == REPORT] for name, sent in scenario.sent.items()}
+    if "the journal failed\n" in told:
+        is_front = all(owed[:len(reports[name])] == reports[name] for name, owed in scenario.owed.items())
+        return "".join(told) + f"{'all' if is_front else 'not all'} that was told is in the journal\n"
+    for name, owed in scenario.owed.items():
+        words = "the same in order" if reports[name] == owed else "others"
+        told.append(f"{name}: {len(reports[name])} sent, {len(owed)} owed, {words}\n")
+    return "".join(told) + legal + f"the journal is {'' if scenario.journal == scenario.audit else 'not '}the audit\n"
+
+
+def three_callers(called: str, shown: str) -> str:
+    """How many requests of three callers are on record: what each call answered, and the records as they are shown."""
+    found = re.findall(r"(?m)^0 (.*) # line (\d+) at 0: (\d+) ", shown)
+    records = {int(number): (line, step) for step, line, number in found}
+    told = []
+    for name, line, numbers in re.findall(r"(?m)^(\w+) on line (\d+):(.*)$", called):
         made = [int(number) for number in numbers.split()]
-        right = [number for call, (before, number) in enumerate(zip([0, *made], made))
+        right = [number for call, (before, number) in enumerate(zip([0, *made], made, strict=False))
                  if number > before and is_call(records.get(number), line, name, call)]
         of_line = sum(of == line for of, _ in records.values())
         told.append(f"{name}: {len(made)} requests, {len(right)} of them on record in order, {of_line} records of the line\n")
-    return "".join(told) + answer[answer.rindex("legal"):]
+    return "".join(told)
 
 
 def is_call(record: tuple[str, str] | None, line: str, name: str, call: int) -> bool:
@@ -206,17 +213,47 @@ def is_call(record: tuple[str, str] | None, line: str, name: str, call: int) -> 
     return record is not None and record[0] == line and re.match(rf"{name} \w+ A{call:03} ", record[1]) is not None
 
 
-def answer(program: str, kind: str, words: str, text: str) -> str:
-    """What comes of a part."""
-    match kind, words:
-        case "pipe-reads" | "pipe-writes", _:
-            return failing(program, kind.removeprefix("pipe-"), words, text)
-        case "pipe-endless", _:
-            return endless(program, words, text)
-        case "play-races", _:
-            return races(program, text)
-        case "play-kept", _:
-            return kept(program, words, text)
-        case "calls", "three":
-            return three_callers(program)
-    raise ValueError(f"no such part: {kind} {words}")
+class Inside:
+    """Runs parts, with the built programs: `gate_cases`, and what `gate show` and `gate check` tell of an audit."""
+
+    def __init__(self, program: str, shown: Callable[[bytes], str], legal: Callable[[bytes], str]) -> None:
+        self.program = program
+        self.shown = shown
+        self.legal = legal
+
+    def answer(self, kind: str, words: str, text: str) -> str:
+        """What comes of a part."""
+        match kind:
+            case "pipe-reads" | "pipe-writes":
+                return failing(self.program, kind.removeprefix("pipe-"), words, text)
+            case "pipe-endless":
+                return endless(self.program, words, text)
+            case "calls":
+                return self.calls(words)
+            case "play" | "play-races" | "play-kept":
+                return self.scenario(kind, words, text)
+        raise ValueError(f"no such part: {kind}")
+
+    def scenario(self, kind: str, words: str, text: str) -> str:
+        """What comes of a scenario."""
+        scenario = play(self.program, words, text)
+        audit = bytes.fromhex(scenario.audit)
+        match kind:
+            case "play":
+                return races(scenario, text) + self.shown(audit) + self.legal(audit)
+            case "play-races":
+                return races(scenario, text) + self.legal(audit)
+        return kept(scenario, self.legal(audit))
+
+    def calls(self, words: str) -> str:
+        """What comes of calls."""
+        called, _, content = run_parts(self.program, [f"calls {words}"])[0].partition("audit: ")
+        audit = bytes.fromhex(content)
+        told = three_callers(called, self.shown(audit)) if words == "three" else called
+        return told + self.legal(audit)
+
+    def at_one_gate(self, parts: list[str]) -> tuple[str, bytes]:
+        """What comes of parts that run on one gate, and its audit of version 2."""
+        case = "\n-- ".join([*parts, "audit"])
+        told, _, rest = run_parts(self.program, [case])[0].partition("47584832")
+        return told, bytes.fromhex("47584832" + rest.partition("audit: ")[0])

@@ -54,8 +54,8 @@ fn answer<G: ShowsRecords + ShowsState + Send, R: Threads + Wait + Clock + Sync>
 ) {
     let (head, text) = halves(parts, "\n");
     let (kind, words) = halves(head, " ");
-    if kind == "play" || kind == "play-kept" {
-        report_scenario::<G, R>(rt, alloc, out, policy, kind, words, text)
+    if kind == "play" {
+        report_scenario::<G, R>(rt, alloc, out, policy, words, text)
     } else if kind == "calls" {
         report_shared::<G, R>(rt, alloc, out, policy, SharedCase::Calls(words))
     } else {

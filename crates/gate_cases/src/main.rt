@@ -8,21 +8,20 @@
 //! - `-- again`: the lines of a script, each a run of its own, and run again where its step was refused, as for want of
 //!   memory. It prints the verdicts of their records: they are the same, whichever step was refused.
 //! - `-- audit`: the audit of the records so far is written; its bytes are printed in hex, a line for the header and a line
-//!   a record. `-- audit-1`: the bytes of the one in version 1. `-- show`: the records as a person reads them.
+//!   a record. `-- audit-1`: the bytes of the one in version 1.
 //! - `-- session MOMENT`: the events of a session that begins at this moment, a line each: its moment and what happens
 //!   (`login`, `data HEX`, `heartbeat`, `debug`, `logout`, `accepted`, `rejected`, `pulled COUNT`, `pulled-last COUNT`,
 //!   `refused`, `tick`, `fault`, `end`). It prints what the session sends and what follows.
 //! - `-- play`, alone: a scenario, whose steps, a line each, are run one after the other. Peers speak over connections in
 //!   memory to the server's own code at a gate of their own, whose journal is written to a device in memory; the clock shows
 //!   what the steps say. It prints what was waited for in vain, if anything was (the scenario ends there); the packets that
-//!   each peer was sent, in hex, a line each, and why he was cut off, if he was; the records of the day, as they are shown to
-//!   a person; and how many there are in its audit, if that is a legal day's. The journal has line 1, the matcher line 2, the
-//!   scenario's driver line 3, and the first peer line 4. `-- play-kept`: in place of the records it prints the reports that
-//!   the user of each peer's name is owed, and the bytes of the journal and of the audit; of a journal that failed, the reports
-//!   that are owed by its day.
+//!   each peer was sent, in hex, a line each, and why he was cut off, if he was; the reports that the user of each peer's
+//!   name is owed, of a journal that failed those by its day; and the bytes of the journal and of the audit. The journal has
+//!   line 1, the matcher line 2, the scenario's driver line 3, and the first peer line 4.
 //! - `-- calls pulls`, `-- calls meeting`, `-- calls again`, `-- calls three`, alone: calls at a shared gate of their own,
 //!   by passes of several lines, in one thread or in three. It prints what they answered, and what is on record of them;
-//!   of those that are made again where they are refused, as for want of memory, which records they leave.
+//!   of those that are made again where they are refused, as for want of memory, which records they leave; and the bytes of
+//!   the audit.
 //!
 //! The steps of a scenario, in which NAME is a peer:
 //!

@@ -8,7 +8,7 @@ use gx_access_gate::AccessGate;
 use gx_audit::{Resumed, resume};
 use gx_audit_bytes::AuditVersion::Two;
 use gx_audit_bytes::write_header;
-use gx_case_parts::{audit_in, put_legal, report_shown};
+use gx_case_parts::put_audit;
 use gx_journal::Journaled;
 use gx_pass::GateName;
 use gx_policy::Policy;
@@ -23,11 +23,10 @@ use std::sync::Wait;
 use std::thread::Threads;
 use std::time::Clock;
 
-/// A scenario, whether what its journal has kept is printed, and the limits of the journal's device.
+/// A scenario, and the limits of the journal's device.
 #[derive(Clone, Copy)]
 pub(crate) struct ScenarioCase<'a, 't> {
     scenario: &'a Scenario<'t>,
-    is_kept: bool,
     limits: DeviceLimits,
 }
 
@@ -39,13 +38,14 @@ fn journal_of(alloc: Global, policy: &Policy, written: &[u8]) -> Result<Vec<u8>,
 }
 
 /// Writes what each peer is owed by the day of a journal that failed.
-fn put_owed_by<G: AccessGate>(
+fn put_failed<G: AccessGate>(
     alloc: Global,
     out: &mut OutputText,
     policy: &Policy,
     file: &[u8],
     scenario: &Scenario<'_>,
 ) {
+    out.put("the journal failed\n");
     let Ok(Resumed { gate, kept: _ }) = resume::<G>(alloc, policy, file) else {
         return out.put("the journal is not legal\n");
     };
@@ -53,9 +53,8 @@ fn put_owed_by<G: AccessGate>(
     gate.close();
 }
 
-/// Writes what each peer is owed, and the bytes of the journal and of the gate's audit; of a journal that failed, what each is
-/// owed by its day.
-fn put_kept<G: ShowsRecords>(
+/// Writes the journal, and what each peer is owed by its day.
+fn put_journal<G: AccessGate>(
     alloc: Global,
     out: &mut OutputText,
     policy: &Policy,
@@ -68,15 +67,11 @@ fn put_kept<G: ShowsRecords>(
         return out.mark_incomplete();
     };
     if has_failed {
-        out.put("the journal failed\n");
-        return put_owed_by::<G>(alloc, out, policy, file.as_slice(), scenario);
+        return put_failed::<G>(alloc, out, policy, file.as_slice(), scenario);
     }
     write_owed(alloc, out, gate, scenario);
     out.put("journal: ");
-    put_hex(alloc, out, file.as_slice());
-    let audit = audit_in(alloc, out, Two, gate);
-    out.put("audit: ");
-    put_hex(alloc, out, audit.as_slice())
+    put_hex(alloc, out, file.as_slice())
 }
 
 /// Runs a scenario at a gate whose journal is written with this pass, and reports it.
@@ -120,44 +115,30 @@ pub(crate) fn run_at_gate<
         None => out.mark_incomplete(),
     }
     write_packets(rt, alloc, case.scenario, out);
-    if case.is_kept {
-        let written = device.taken.as_slice();
-        put_kept(
-            alloc,
-            out,
-            policy,
-            &gate,
-            fault.is_some(),
-            written,
-            case.scenario,
-        );
-    } else {
-        report_shown(alloc, out, &gate, policy);
-    }
-    put_legal(alloc, out, &gate, policy);
+    let written = device.taken.as_slice();
+    put_journal(
+        alloc,
+        out,
+        policy,
+        &gate,
+        fault.is_some(),
+        written,
+        case.scenario,
+    );
+    put_audit(alloc, out, &gate);
     gate.close();
 }
 
-/// Runs a scenario at a gate of its own, and reports it as its kind says; the words are the limits of the journal's device,
-/// if it has any.
+/// Runs a scenario at a gate of its own, and reports it; the words are the limits of the journal's device, if it has any.
 pub(crate) fn report_scenario<
     G: ShowsRecords + ShowsState + Send,
     R: Threads + Wait + Clock + Sync,
->(
-    rt: &R,
-    alloc: Global,
-    out: &mut OutputText,
-    policy: &Policy,
-    kind: &str,
-    words: &str,
-    text: &str,
-) {
+>(rt: &R, alloc: Global, out: &mut OutputText, policy: &Policy, words: &str, text: &str) {
     let Ok(scenario) = Scenario::new(alloc, text) else {
         return out.mark_incomplete();
     };
     let case = ScenarioCase {
         scenario: &scenario,
-        is_kept: kind == "play-kept",
         limits: limits_of(words, LARGE),
     };
     report_shared::<G, R>(rt, alloc, out, policy, SharedCase::Scenario(case))

@@ -4,7 +4,7 @@ ghost use Rattle.std.specs.Prelude.{◌≡◌};
 ghost use Rattle.gx_shared.specs.Permits.{all_parts};
 
 use crate::scenarios::{ScenarioCase, run_at_gate};
-use gx_case_parts::{put_legal, report_calls, report_shown};
+use gx_case_parts::{put_audit, report_calls};
 use gx_pass::{Blank, GateName};
 use gx_policy::Policy;
 use gx_records::{ShowsRecords, ShowsState};
@@ -51,7 +51,7 @@ fn make_calls_at<
     )
 }
 
-/// Makes the calls at a gate, and writes what came of them and whether its audit is legal.
+/// Makes the calls at a gate, and writes what came of them and its audit.
 fn report_calls_at<
     G: ShowsRecords + ShowsState + Send,
     N: GateName + Send + Sync,
@@ -60,7 +60,6 @@ fn report_calls_at<
     rt: &R,
     alloc: Global,
     out: &mut OutputText,
-    policy: &Policy,
     shared: SharedGate<G, N>,
     permits: Permits<N>,
     pass: CountedPass<N>,
@@ -68,10 +67,7 @@ fn report_calls_at<
 ) {
     make_calls_at(rt, alloc, out, &shared, permits, name);
     let (gate, _met, _total) = shared.close(pass);
-    if name == "three" {
-        report_shown(alloc, out, &gate, policy);
-    }
-    put_legal(alloc, out, &gate, policy);
+    put_audit(alloc, out, &gate);
     gate.close();
 }
 
@@ -103,9 +99,7 @@ fn report_shared_over<
             SharedCase::Scenario(scenario) => {
                 run_at_gate(rt, alloc, out, policy, shared, permits, pass, scenario)
             }
-            SharedCase::Calls(name) => report_calls_at(
-                rt, alloc, out, policy, shared, permits, pass, name,
-            ),
+            SharedCase::Calls(name) => report_calls_at(rt, alloc, out, shared, permits, pass, name),
         },
         Err(_) => out.mark_incomplete(),
     }

@@ -1,26 +1,14 @@
-//! The audit of a gate's records: it is written to a device, and shown.
+//! The audit of a gate's records, which is written to a device, and its bytes.
 
-use gx_audit::{AuditFault, audit_of, check_audit, write_audit};
+use gx_audit::{audit_of, write_audit};
 use gx_audit_bytes::{AuditVersion, RECORD_SIZE};
 use gx_devices::{CallCounter, WriteFault};
-use gx_policy::Policy;
 use gx_records::ShowsRecords;
-use gx_show::{Style, write_records};
-use gx_test_devices::{DeviceLimits, LARGE, OutputText, ShortWriter, put_hex};
+use gx_test_devices::{DeviceLimits, OutputText, ShortWriter, put_hex};
 use std::alloc::Global;
 
-/// Writes how the writing of an audit, or of its records' lines, ended.
-fn put_ended(out: &mut OutputText, fault: Option<WriteFault>) {
-    out.put("audit: ");
-    match fault {
-        Some(fault) => out.put_shown(&fault),
-        None => out.put("done"),
-    }
-    out.put("\n");
-}
-
 /// The bytes of the gate's audit in this version; none where there is no memory for them.
-pub fn audit_in<G: ShowsRecords>(
+fn audit_in<G: ShowsRecords>(
     alloc: Global,
     out: &mut OutputText,
     version: AuditVersion,
@@ -33,7 +21,7 @@ pub fn audit_in<G: ShowsRecords>(
 }
 
 /// Writes bytes in hex, a line for a header or a record.
-pub fn put_in_hex(alloc: Global, out: &mut OutputText, audit: &[u8]) {
+fn put_in_hex(alloc: Global, out: &mut OutputText, audit: &[u8]) {
     for bytes in audit.chunks(RECORD_SIZE) {
         put_hex(alloc, out, bytes);
     }
@@ -49,7 +37,12 @@ pub(crate) fn report_audit<G: ShowsRecords>(
     let mut writer = CallCounter::new(ShortWriter::new(alloc, limits));
     let ended = write_audit(AuditVersion::Two, gate, &mut writer);
     put_in_hex(alloc, out, writer.into_inner().taken.as_slice());
-    put_ended(out, ended.err().map(WriteFault::from))
+    out.put("audit: ");
+    match ended {
+        Ok(()) => out.put("done"),
+        Err(failed) => out.put_shown(&WriteFault::from(failed)),
+    }
+    out.put("\n");
 }
 
 /// Writes the bytes of the gate's audit in version 1, in hex.
@@ -58,39 +51,9 @@ pub(crate) fn report_first_version<G: ShowsRecords>(alloc: Global, out: &mut Out
     put_in_hex(alloc, out, audit.as_slice())
 }
 
-/// Writes how many records the gate's audit has, if it is legal.
-pub fn put_legal<G: ShowsRecords>(alloc: Global, out: &mut OutputText, gate: &G, policy: &Policy) {
+/// Writes the gate's audit on a line of its own, in hex.
+pub fn put_audit<G: ShowsRecords>(alloc: Global, out: &mut OutputText, gate: &G) {
     let audit = audit_in(alloc, out, AuditVersion::Two, gate);
-    match check_audit::<G>(alloc, policy, audit.as_slice()) {
-        Ok(count) => {
-            out.put("legal ");
-            out.put_number(count);
-            out.put("\n");
-        }
-        Err(AuditFault::OutOfMemory) => out.mark_incomplete(),
-        Err(_) => out.put("not legal\n"),
-    }
-}
-
-/// Writes the gate's records as a person reads them.
-pub fn report_shown<G: ShowsRecords>(
-    alloc: Global,
-    out: &mut OutputText,
-    gate: &G,
-    policy: &Policy,
-) {
-    let Ok(records) = gate.records(1, u64::MAX) else {
-        return out.mark_incomplete();
-    };
-    let mut writer = CallCounter::new(ShortWriter::new(alloc, LARGE));
-    let ended = write_records(
-        alloc,
-        policy,
-        &Style::PLAIN,
-        records.as_slice(),
-        &[],
-        &mut writer,
-    );
-    out.put_bytes(writer.into_inner().taken.as_slice());
-    put_ended(out, ended.err())
+    out.put("audit: ");
+    put_hex(alloc, out, audit.as_slice())
 }

@@ -6,6 +6,6 @@ mod audits;
 mod calls;
 mod runs;
 
-pub use audits::{audit_in, put_in_hex, put_legal, report_shown};
+pub use audits::put_audit;
 pub use calls::report_calls;
 pub use runs::report_parts;

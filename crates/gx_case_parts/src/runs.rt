@@ -2,7 +2,7 @@
 
 ghost use Rattle.std.specs.Prelude.{◌-◌, ◌<◌};
 
-use crate::audits::{report_audit, report_first_version, report_shown};
+use crate::audits::{report_audit, report_first_version};
 use gx_access_gate::AccessGate;
 use gx_connection::{PipeFault, run_pipe_within};
 use gx_devices::CallCounter;
@@ -196,7 +196,6 @@ fn report_part<G: ShowsRecords>(
     alloc: Global,
     out: &mut OutputText,
     gate: &mut G,
-    policy: &Policy,
     part: &str,
     usual: DeviceLimits,
 ) {
@@ -213,8 +212,6 @@ fn report_part<G: ShowsRecords>(
         report_audit(alloc, out, gate, limits)
     } else if kind == "audit-1" {
         report_first_version(alloc, out, gate)
-    } else if kind == "show" {
-        report_shown(alloc, out, gate, policy)
     } else {
         report_session(alloc, out, words, text)
     }
@@ -254,7 +251,7 @@ pub fn report_parts<G: ShowsRecords>(
     usual: DeviceLimits,
 ) {
     for part in parts.split("\n-- ") {
-        report_part(alloc, out, gate, policy, part, usual);
+        report_part(alloc, out, gate, part, usual);
     }
     put_standing(out, gate, policy)
 }
