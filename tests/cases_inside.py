@@ -8,7 +8,9 @@
 - `-- pipe-endless READS`: the bytes of a connection, in hex, which it is sent again and again. It is read so often at most. It
   answers the bytes that it was sent, in hex, how it ended, and how often it was read: once for reads that give all of the
   bytes, and again, where that is another answer, for reads that give one.
-- `-- play`: a scenario of `gate_cases`. It answers the packets that each peer was sent, in hex, a line each, twelve of them at
+- `-- play`: a scenario of `gate_cases`. It may have two more steps: `NAME repeats COUNT HEX`: a peer sends these bytes so often,
+  and nothing is waited for; `######` is the number of each, from 000 on; `both NAME NAME HEX`: two peers give them at once. It
+  answers the packets that each peer was sent, in hex, a line each, twelve of them at
   most, and why he was cut off, if he was; the records of the day, as `gate show` shows them; and what `gate check` tells of its
   audit. `-- play-races`: so too, but for the records, which may come in more than one order. Where two peers send at once
   their packets are told sorted, without names. `-- play-kept`, `-- play-kept SIZE READS ROOM`: the journal's device takes so
@@ -143,11 +145,23 @@ class Scenario:
     audit: str = ""
 
 
+def steps_of(line: str) -> list[str]:
+    """The steps of `gate_cases` that a step of a scenario here is."""
+    match line.split(" ", 3):
+        case ["both", one, other, content]:
+            return [f"{one} sends {content}", f"{other} sends {content}"]
+        case [name, "repeats", count, content]:
+            digits = (f"{number:03}".encode().hex() for number in range(int(count)))
+            return [f"{name} sends " + " ".join(content.replace("######", each) for each in digits)]
+    return [line]
+
+
 def play(program: str, words: str, text: str) -> Scenario:
     """Runs a scenario."""
     names = re.findall(r"(?m)^open (\w+)$", text)
     scenario = Scenario({name: [] for name in names}, {name: [] for name in names}, [])
-    for line in run_parts(program, [f"play {words}".rstrip() + f"\n{text}"])[0].splitlines():
+    steps = "\n".join(step for line in text.splitlines() for step in steps_of(line))
+    for line in run_parts(program, [f"play {words}".rstrip() + f"\n{steps}"])[0].splitlines():
         match line.split(" "):
             case [name, "is", "owed", report]:
                 scenario.owed[name].append(report)

@@ -27,9 +27,8 @@
 //!
 //! - `clock MOMENT`: the clock shows this moment from now on, until each connection has done what it does then;
 //! - `open NAME`: a peer connects, until the server reads;
-//! - `NAME gives HEX`: he sends these bytes, until the server has read all and waits for more, or at the door; `NAME
-//!   repeats COUNT HEX`: he sends them so often, and nothing is waited for; `######` is the number of each, from 000 on;
-//!   `both NAME NAME HEX`: two peers give them at once, after which all packets are printed without names, sorted;
+//! - `NAME gives HEX`: he sends these bytes, until the server has read all and waits for more, or at the door; `NAME sends
+//!   HEX`: he sends these bytes, and nothing is waited for;
 //! - `NAME ends HEX`: he sends these bytes and no more; `NAME ends`: no more;
 //! - `NAME takes nothing`: what the server writes to him has to wait from now on; `NAME takes all`: no longer;
 //! - `NAME asks nothing`: his requests have to wait at the door from now on; `NAME asks all`: no longer;

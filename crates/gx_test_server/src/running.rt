@@ -7,10 +7,8 @@ use crate::step::{Deed, ScenarioStep};
 use crate::switches::{OnceFlag, PauseSwitch};
 use gx_door::Door;
 use gx_serve::HangUp;
-use gx_test_devices::{decode_hex, halves};
-use gx_units::{Moment, OutOfMemory};
-use std::alloc::Global;
-use std::fmt::Write;
+use gx_test_devices::decode_hex;
+use gx_units::Moment;
 use std::sync::Wait;
 use std::sync::atomic::Ordering;
 use std::thread;
@@ -51,14 +49,6 @@ fn has_read_clock(connection: &MemoryConnection, least: u64) -> bool {
 fn set_pause(pause: &PauseSwitch, paused: bool) -> bool {
     pause.set(paused);
     true
-}
-
-/// The hex with the last three digits of this number, in ASCII, in the place of `######`.
-fn numbered(alloc: Global, hex: &str, number: u64) -> Result<String, OutOfMemory> {
-    let mut digits = String::new(alloc);
-    let (high, middle, low) = (number / 100 % 10, number / 10 % 10, number % 10);
-    write!(digits, "3{high}3{middle}3{low}")?;
-    Ok(hex.replacen(alloc, "######", digits.as_str(), 1)?)
 }
 
 impl<'x, D: Door, A, R: Wait + Clock> ScenarioRun<'x, D, A, R> {
@@ -133,38 +123,6 @@ impl<'x, D: Door, A, R: Wait + Clock> ScenarioRun<'x, D, A, R> {
             .is_ok()
     }
 
-    /// A peer sends the bytes of the hex with this number in it.
-    fn send_numbered(&self, connection: &MemoryConnection, number: u64, hex: &str) -> bool {
-        match numbered(self.fixture.alloc, hex, number) {
-            Ok(hex) => self.send(connection, hex.as_str(), false),
-            Err(_) => false,
-        }
-    }
-
-    /// A peer sends the bytes of the hex so many times, each with its number.
-    fn send_repeatedly(&self, connection: &MemoryConnection, words: &str) -> bool {
-        let (count, hex) = halves(words, " ");
-        for number in 0..count.parse().unwrap_or(0) {
-            if !self.send_numbered(connection, number, hex) {
-                return false;
-            }
-        }
-        true
-    }
-
-    /// Two peers send the bytes of the hex at once; waits until the server has read both.
-    fn send_both(&self, pass: &mut D::Pass, words: &str) -> bool {
-        let (one, rest) = halves(words, " ");
-        let (other, hex) = halves(rest, " ");
-        let (Some(one), Some(other)) = (self.scenario.peer(one), self.scenario.peer(other)) else {
-            return false;
-        };
-        self.send(&one.connection, hex, false)
-            && self.send(&other.connection, hex, false)
-            && self.wait(pass, WaitCondition::Read(&one.connection))
-            && self.wait(pass, WaitCondition::Read(&other.connection))
-    }
-
     /// Waits until a peer was sent so many packets, and the server has done what follows.
     fn await_packets(&self, pass: &mut D::Pass, connection: &MemoryConnection, count: u64) -> bool {
         self.wait(pass, WaitCondition::Received(connection, count)) && self.settle(pass, connection)
@@ -180,7 +138,7 @@ impl<'x, D: Door, A, R: Wait + Clock> ScenarioRun<'x, D, A, R> {
         match step.deed {
             Deed::Gives => self.send(connection, step.words, false)
                 && self.wait(pass, WaitCondition::Read(connection)),
-            Deed::Repeats => self.send_repeatedly(connection, step.words),
+            Deed::Sends => self.send(connection, step.words, false),
             Deed::TakesNothing => set_pause(&connection.write_pause, true),
             Deed::TakesAll => set_pause(&connection.write_pause, false),
             Deed::AsksNothing => set_pause(&connection.clock_reads.pause, true),
@@ -197,7 +155,6 @@ impl<'x, D: Door, A, R: Wait + Clock> ScenarioRun<'x, D, A, R> {
     fn run_step(&self, pass: &mut D::Pass, step: &ScenarioStep<'_>) -> bool {
         match step.deed {
             Deed::Clock => self.set_clock(pass, step.number()),
-            Deed::Both => self.send_both(pass, step.words),
             Deed::Records => self.wait(pass, WaitCondition::Records(step.number())),
             Deed::Stop => {
                 self.fixture.control.shutdown.request();

@@ -9,12 +9,10 @@ pub(crate) enum Deed {
     Clock,
     /// A peer connects.
     Open,
-    /// A peer sends bytes, in hex.
+    /// A peer sends bytes, in hex; waits until the server has read them.
     Gives,
-    /// A peer sends bytes, in hex, so many times; `######` stands for the number of each.
-    Repeats,
-    /// Two peers send bytes at once.
-    Both,
+    /// A peer sends bytes, in hex.
+    Sends,
     /// A peer sends bytes, in hex, and no more.
     Ends,
     /// Writes to a peer wait from now on.
@@ -38,10 +36,9 @@ pub(crate) enum Deed {
 }
 
 /// The steps that begin with a word and no peer's name.
-const COMMON: [(&str, Deed); 5] = [
+const COMMON: [(&str, Deed); 4] = [
     ("clock", Deed::Clock),
     ("open", Deed::Open),
-    ("both", Deed::Both),
     ("records", Deed::Records),
     ("stop", Deed::Stop),
 ];
@@ -49,7 +46,7 @@ const COMMON: [(&str, Deed); 5] = [
 /// The steps of a peer: what stands behind his name.
 const OF_A_PEER: [(&str, Deed); 10] = [
     ("gives ", Deed::Gives),
-    ("repeats ", Deed::Repeats),
+    ("sends ", Deed::Sends),
     ("ends", Deed::Ends),
     ("takes nothing", Deed::TakesNothing),
     ("takes all", Deed::TakesAll),
