@@ -198,7 +198,7 @@ def options_part(name):
         word = re.search(r"name: (?:\"([^\"]*)\"|(\w+)),", inner)
         value = re.search(r'value: "([^"]*)"', inner).group(1)
         kind = re.search(r"kind: Kind::(\w+)(.*?),\n", inner, re.S)
-        if kind.group(1) in ("Word", "Words"):
+        if kind.group(1) in ("Word", "Rest"):
             continue
         helped = " ".join(re.sub(r"\\\n\s*", "", re.search(r'help: "(.*?)",\n', inner, re.S).group(1)).split())
         limits = re.search(r"Count\((\w+), &\[\"?(\w*)", inner)

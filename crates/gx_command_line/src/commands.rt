@@ -1,11 +1,9 @@
 //! The commands of `gate` and their arguments, as data, with the help of each.
 
-use clap::builder::ValueParser;
-use clap::{Arg, ArgAction, Command};
-use std::alloc::{AllocError, Global};
+use crate::building::{Argument, Kind, Subcommand};
 
 /// What `gate --help` says of the policy.
-const SAMPLE_POLICY: &str =
+pub(crate) const SAMPLE_POLICY: &str =
     "Without --policy the sample policy holds: accounts ALFA and BETA, stock TEST, users ALICE, BOB, OLGA, OTTO and RITA,
 no order of more than 500000 shares, and no account with more than $1,000 open and executed. The file is
 examples/policies/sample.toml of the repository, where its passwords stand: run nothing real under it.";
@@ -43,64 +41,6 @@ and then the number of the record and its verdict, as a script prints them. An a
 RIGHT and WRONG stand in its place. What no line of a script asks for is a comment. To run a day again,
 under a copy of its policy in which each user has the password RIGHT:
   gate show AUDIT --policy DAY | sed 's/\\(.*\\) # .*/\\1/' | gate script --policy COPY";
-
-/// What an argument is, and what stands behind it.
-#[derive(Clone, Copy)]
-enum Kind {
-    /// A word that is known by its place, and has to be there.
-    Word,
-    /// Words known by their place, all that stand behind the options.
-    Words,
-    /// An option with a text.
-    Text,
-    /// An option with a text, which has to be there.
-    NeededText,
-    /// An option with nothing.
-    Flag,
-    /// An option with one of these words.
-    Choice(&'static [&'static str]),
-    /// An option with a number from 1 to 65,535, which has to be there.
-    Port,
-    /// An option with a number from 1 to the most, and the one that holds without it.
-    Count(i64, &'static [&'static str]),
-    /// An option with a number from 1 to 65,535.
-    OtherPort,
-    /// An option with a number from 1 on.
-    Number,
-    /// An option with an offset from UTC, which may begin with `-`, and the one that holds without it.
-    Offset(&'static [&'static str]),
-    /// An option with nothing, which stands beside the option, or one of the group, of this name.
-    FlagBeside(&'static str),
-    /// An option with a text, which stands beside the option of the first name, and not beside that of the second.
-    TextBeside(&'static str, &'static str),
-    /// An option with a text, of a group of which one alone may stand.
-    TextOf(&'static str),
-    /// An option with nothing, which stands in place of the options of these names.
-    FlagInPlaceOf(&'static [&'static str]),
-    /// An option with a text, which stands in place of the option of this name.
-    TextInPlaceOf(&'static str),
-}
-
-/// An argument of a command.
-#[derive(Clone, Copy)]
-struct Argument {
-    /// The name that it is read by, which is an option's word behind `--` too.
-    name: &'static str,
-    /// What help calls the value; a flag has none.
-    value: &'static str,
-    kind: Kind,
-    help: &'static str,
-}
-
-/// A command.
-#[derive(Clone, Copy)]
-struct Subcommand {
-    name: &'static str,
-    about: &'static str,
-    arguments: &'static [Argument],
-    /// What its help says at the end, if it says more.
-    lines: Option<&'static str>,
-}
 
 /// The option `--policy FILE` of a run.
 const RUN_POLICY: Argument = Argument {
@@ -179,21 +119,21 @@ pub(crate) const FROM: &str = "from";
 
 pub(crate) const TO: &str = "to";
 
-const PIPE: Subcommand = Subcommand {
-    name: "pipe",
+pub(crate) const PIPE: Subcommand = Subcommand {
+    command: CommandName::Pipe,
     about: "Serves one SoupBinTCP connection: client packets on standard input, server packets on standard output",
     arguments: &[RUN_POLICY, RUN_AUDIT, RUN_VERSION],
     lines: None,
 };
 
-const SERVE: Subcommand = Subcommand {
-    name: "serve",
+pub(crate) const SERVE: Subcommand = Subcommand {
+    command: CommandName::Serve,
     about: "Serves SoupBinTCP connections over TCP, all of them on one gate, each in threads of its own",
     arguments: &[
         Argument {
             name: "port",
             value: "P",
-            kind: Kind::Port,
+            kind: Kind::NeededPort,
             help: "The port of this machine's own address 127.0.0.1 to listen on",
         },
         Argument {
@@ -211,13 +151,13 @@ const SERVE: Subcommand = Subcommand {
         Argument {
             name: UNTIL,
             value: "TIME",
-            kind: Kind::TextInPlaceOf("connections"),
+            kind: Kind::TextInPlaceOf(&["connections"]),
             help: "Take connections until it is HH:MM or HH:MM:SS by the clock of --midnight, and count none",
         },
         Argument {
             name: "stop-file",
             value: "FILE",
-            kind: Kind::TextInPlaceOf("connections"),
+            kind: Kind::TextInPlaceOf(&["connections"]),
             help: "Take connections until there is such a file, which is looked for ten times a second, and count none",
         },
         Argument {
@@ -236,7 +176,7 @@ const SERVE: Subcommand = Subcommand {
         Argument {
             name: "status-port",
             value: "P",
-            kind: Kind::OtherPort,
+            kind: Kind::Port,
             help: "Serve the risk desk's page there too, for officers and readers, by HTTP on 127.0.0.1 alone",
         },
         Argument {
@@ -249,27 +189,27 @@ const SERVE: Subcommand = Subcommand {
         Argument {
             name: "journal",
             value: "FILE",
-            kind: Kind::TextOf(KEPT),
+            kind: Kind::TextOf(&[KEPT]),
             help: "Where to keep the day: each record is written before anything that comes of it is sent; \
                    a day that is there goes on",
         },
         Argument {
             name: "standby",
             value: "JOURNAL",
-            kind: Kind::TextOf(KEPT),
+            kind: Kind::TextOf(&[KEPT]),
             help: "Follow the journal of a server that runs, and take over once that has ended, however it did: \
                    listen then, and go on with the day",
         },
         Argument {
             name: "takeover-file",
             value: "FILE",
-            kind: Kind::TextBeside("standby", "journal"),
+            kind: Kind::TextBeside(&["standby"], &["journal"]),
             help: "Take over only once there is such a file too, which is looked for as often as the journal is read",
         },
         Argument {
             name: "journal-sync",
             value: "",
-            kind: Kind::FlagBeside(KEPT),
+            kind: Kind::FlagBeside(&[KEPT]),
             help: "Force the journal to the disk too, before anything is sent",
         },
         Argument {
@@ -286,29 +226,29 @@ const SERVE: Subcommand = Subcommand {
     lines: None,
 };
 
-const SCRIPT: Subcommand = Subcommand {
-    name: "script",
+pub(crate) const SCRIPT: Subcommand = Subcommand {
+    command: CommandName::Script,
     about: "Runs a script of steps from standard input, and prints what becomes of each",
     arguments: &[RUN_POLICY, RUN_AUDIT, RUN_VERSION],
     lines: Some(SCRIPT_LINES),
 };
 
-const POLICY: Subcommand = Subcommand {
-    name: "policy",
+pub(crate) const POLICY: Subcommand = Subcommand {
+    command: CommandName::Policy,
     about: "Reads a policy file, and tells how much it holds or what is wrong with it",
     arguments: &[POLICY_FILE],
     lines: None,
 };
 
-const MIGRATE: Subcommand = Subcommand {
-    name: "migrate",
+pub(crate) const MIGRATE: Subcommand = Subcommand {
+    command: CommandName::Migrate,
     about: "Reads a policy file, and prints it in version 2, with the same meaning",
     arguments: &[POLICY_FILE],
     lines: None,
 };
 
-const CHECK: Subcommand = Subcommand {
-    name: "check",
+pub(crate) const CHECK: Subcommand = Subcommand {
+    command: CommandName::Check,
     about: "Checks that an audit is that of a legal day under the policy",
     arguments: &[
         Argument {
@@ -322,8 +262,8 @@ const CHECK: Subcommand = Subcommand {
     lines: None,
 };
 
-const SHOW: Subcommand = Subcommand {
-    name: "show",
+pub(crate) const SHOW: Subcommand = Subcommand {
+    command: CommandName::Show,
     about: "Shows the records of an audit, each as a line of a script and what became of it",
     arguments: &[
         Argument {
@@ -421,8 +361,8 @@ lists, and who put them there. Values are in dollars. A net rule has a line for 
 With --json all of it is one object, where values are in ten-thousandths of a dollar.
 Nothing is told of an audit that is none of a legal day up to there: its fault is, as by `gate check`, with status 4.";
 
-const STATE: Subcommand = Subcommand {
-    name: "state",
+pub(crate) const STATE: Subcommand = Subcommand {
+    command: CommandName::State,
     about: "Tells what stands in an audit's day: accounts, limits and what is used of them, lists, users who are on",
     arguments: &[
         Argument {
@@ -468,8 +408,8 @@ Values are in dollars; in JSON they are in ten-thousandths of a dollar. The page
 needs nothing from elsewhere. Nothing is told of an audit that is none of a legal day: its fault is, as by `gate check`,
 with status 4.";
 
-const REPORT: Subcommand = Subcommand {
-    name: "report",
+pub(crate) const REPORT: Subcommand = Subcommand {
+    command: CommandName::Report,
     about: "Reports an audit's day: what accounts did, the most that was used of limits, commands and denials",
     arguments: &[
         Argument {
@@ -501,8 +441,8 @@ them come under it: the rules that deny under one policy alone, and the accounts
 With --json all of it is one object on a line.
 Nothing is told of an audit that is none of a legal day under --policy: its fault is, as by `gate check`, with status 4.";
 
-const WHATIF: Subcommand = Subcommand {
-    name: "whatif",
+pub(crate) const WHATIF: Subcommand = Subcommand {
+    command: CommandName::WhatIf,
     about: "Tells which verdicts of an audit's day change under another policy",
     arguments: &[
         Argument {
@@ -547,8 +487,8 @@ time in the day. With --json each line is a JSON object.
 It ends with status 0 once the day is closed and nothing more has come within the time of --every; with status 4 and what
 `gate check` says at the first record that is none of a legal day; with status 1 where the file has lost whole records, or its name.";
 
-const FOLLOW: Subcommand = Subcommand {
-    name: "follow",
+pub(crate) const FOLLOW: Subcommand = Subcommand {
+    command: CommandName::Follow,
     about: "Follows the journal of a running server: checks each record as it comes, and tells what matters of it",
     arguments: &[
         Argument {
@@ -596,14 +536,14 @@ standard input, a line each. Answers are written on standard output, all else on
   2  a line can't be read                  5  something was denied or rejected
   6  the login was rejected";
 
-const DESK: Subcommand = Subcommand {
-    name: "desk",
+pub(crate) const DESK: Subcommand = Subcommand {
+    command: CommandName::Desk,
     about: "Logs in to a gate, sends commands of an officer or orders of a trader, and shows the answers",
     arguments: &[
         Argument {
             name: "port",
             value: "P",
-            kind: Kind::Port,
+            kind: Kind::NeededPort,
             help: "The port that the gate listens on",
         },
         Argument {
@@ -646,136 +586,72 @@ const DESK: Subcommand = Subcommand {
         Argument {
             name: WORDS,
             value: "WORDS",
-            kind: Kind::Words,
+            kind: Kind::Rest,
             help: "One command; options stand in front of it",
         },
     ],
     lines: Some(DESK_LINES),
 };
 
-/// The argument, with its help.
-fn build_argument<'a>(alloc: Global, asked: &Argument) -> Result<Arg<'a>, AllocError> {
-    let made = Arg::new(alloc, asked.name).help(asked.help);
-    with_others(with_value(made, asked), asked.kind)
+/// A command.
+#[derive(Clone, Copy)]
+pub(crate) enum CommandName {
+    Pipe,
+    Serve,
+    Script,
+    Policy,
+    Migrate,
+    Check,
+    Show,
+    State,
+    Report,
+    WhatIf,
+    Follow,
+    Desk,
 }
 
-/// The argument with its word, and with what may stand behind that.
-fn with_value<'a>(made: Arg<'a>, asked: &Argument) -> Arg<'a> {
-    match asked.kind {
-        Kind::Word => made.value_name(asked.value).required(true),
-        Kind::Words => trailing_words(made, asked),
-        Kind::Text | Kind::TextBeside(_, _) | Kind::TextOf(_) | Kind::TextInPlaceOf(_) => {
-            text(made, asked)
+impl CommandName {
+    /// All of them, as help lists them.
+    pub(crate) const ALL: [CommandName; 12] = [
+        CommandName::Pipe,
+        CommandName::Serve,
+        CommandName::Script,
+        CommandName::Policy,
+        CommandName::Migrate,
+        CommandName::Check,
+        CommandName::Show,
+        CommandName::State,
+        CommandName::Report,
+        CommandName::WhatIf,
+        CommandName::Follow,
+        CommandName::Desk,
+    ];
+
+    /// The word that it is called by.
+    pub(crate) fn name(self) -> &'static str {
+        match self {
+            CommandName::Pipe => "pipe",
+            CommandName::Serve => "serve",
+            CommandName::Script => "script",
+            CommandName::Policy => "policy",
+            CommandName::Migrate => "migrate",
+            CommandName::Check => "check",
+            CommandName::Show => "show",
+            CommandName::State => "state",
+            CommandName::Report => "report",
+            CommandName::WhatIf => "whatif",
+            CommandName::Follow => "follow",
+            CommandName::Desk => "desk",
         }
-        Kind::NeededText => text(made, asked).required(true),
-        Kind::Flag | Kind::FlagBeside(_) | Kind::FlagInPlaceOf(_) => flag(made, asked),
-        Kind::Choice(words) => text(made, asked).value_parser(words),
-        Kind::Port => number(made.required(true), asked, 65_535),
-        Kind::Count(most, default) => number(made.default_values(default), asked, most),
-        Kind::OtherPort => number(made, asked, 65_535),
-        Kind::Number => number(made, asked, i64::MAX),
-        Kind::Offset(default) => offset(made.default_values(default), asked),
     }
-}
 
-/// The argument with the options beside which it stands, and those that it can't stand beside.
-fn with_others<'a>(made: Arg<'a>, kind: Kind) -> Result<Arg<'a>, AllocError> {
-    match kind {
-        Kind::FlagBeside(other) => made.requires_arg(other),
-        Kind::TextBeside(other, against) => made.requires_arg(other)?.conflicts_with(against),
-        Kind::TextOf(group) => made.group(group),
-        Kind::FlagInPlaceOf(others) => made.conflicts_with_all(others),
-        Kind::TextInPlaceOf(other) => made.conflicts_with(other),
-        Kind::Word
-        | Kind::Words
-        | Kind::Text
-        | Kind::NeededText
-        | Kind::Flag
-        | Kind::Choice(_)
-        | Kind::Port
-        | Kind::Count(_, _)
-        | Kind::OtherPort
-        | Kind::Number
-        | Kind::Offset(_) => Ok(made),
+    /// The command of this name, if there is one.
+    pub(crate) fn of_name(name: &str) -> Option<CommandName> {
+        for command in CommandName::ALL {
+            if command.name() == name {
+                return Some(command);
+            }
+        }
+        None
     }
-}
-
-/// The argument as an option with a text behind it.
-fn text<'a>(made: Arg<'a>, asked: &Argument) -> Arg<'a> {
-    made.long(asked.name).value_name(asked.value)
-}
-
-/// The argument as an option with nothing behind it.
-fn flag<'a>(made: Arg<'a>, asked: &Argument) -> Arg<'a> {
-    made.long(asked.name).action(ArgAction::SetTrue)
-}
-
-/// The argument as all words from the first on that is no option; those behind it may begin with `-`.
-fn trailing_words<'a>(made: Arg<'a>, asked: &Argument) -> Arg<'a> {
-    made.value_name(asked.value)
-        .num_args(1..)
-        .trailing_var_arg(true)
-}
-
-/// The argument as an option with an offset from UTC.
-fn offset<'a>(made: Arg<'a>, asked: &Argument) -> Arg<'a> {
-    text(made, asked).allow_hyphen_values(true)
-}
-
-/// The argument as an option with a number from 1 on.
-fn number<'a>(made: Arg<'a>, asked: &Argument, most: i64) -> Arg<'a> {
-    text(made, asked).value_parser(ValueParser::signed(1, most))
-}
-
-/// The command, with one more argument.
-fn with_argument<'a>(
-    alloc: Global,
-    command: Command<'a>,
-    asked: &Argument,
-) -> Result<Command<'a>, AllocError> {
-    command.arg(build_argument(alloc, asked)?)
-}
-
-/// The command, with its help and its arguments.
-fn build_subcommand<'a>(alloc: Global, asked: &Subcommand) -> Result<Command<'a>, AllocError> {
-    let mut command = Command::new(alloc, asked.name).about(asked.about);
-    if let Some(lines) = asked.lines {
-        command = command.after_help(lines);
-    }
-    for argument in asked.arguments {
-        command = with_argument(alloc, command, argument)?;
-    }
-    Ok(command)
-}
-
-/// The program, with its help.
-fn program<'a>(alloc: Global) -> Command<'a> {
-    Command::new(alloc, "gate")
-        .version("0.1.0")
-        .about(
-            "A sponsored-access gateway: OUCH 4.2 orders in SoupBinTCP 3.00 packets, judged by a written policy",
-        )
-        .after_help(SAMPLE_POLICY)
-        .subcommand_required(true)
-        .arg_required_else_help(true)
-}
-
-/// The program, with one more command.
-fn with_subcommand<'a>(
-    alloc: Global,
-    gate: Command<'a>,
-    asked: &Subcommand,
-) -> Result<Command<'a>, AllocError> {
-    gate.subcommand(build_subcommand(alloc, asked)?)
-}
-
-/// The command line: what may be asked, with its help.
-pub(crate) fn command_line<'a>(alloc: Global) -> Result<Command<'a>, AllocError> {
-    let mut gate = program(alloc);
-    for asked in &[
-        PIPE, SERVE, SCRIPT, POLICY, MIGRATE, CHECK, SHOW, STATE, REPORT, WHATIF, FOLLOW, DESK,
-    ] {
-        gate = with_subcommand(alloc, gate, asked)?;
-    }
-    Ok(gate)
 }

@@ -7,7 +7,7 @@ use std::alloc::{AllocFailed, Global};
 const LONGEST_MILLIS: u64 = 3_600_000;
 
 /// How often a journal that has nothing new is looked at.
-#[derive(Clone, Copy, PartialEq, Eq)]
+#[derive(Clone, Copy)]
 pub struct Every {
     /// So many milliseconds lie between two looks.
     pub milliseconds: u64,

@@ -1,6 +1,7 @@
 //! The command line of the program `gate`: what may be asked, with its help, and what a call asks for.
 #![tactic(auto)]
 
+mod building;
 mod commands;
 mod follow;
 mod refused;
@@ -8,10 +9,11 @@ mod state;
 mod values;
 mod words;
 
+use building::command_line;
 use clap::{ArgMatches, Error};
 use commands::{
-    AT, AUDIT_VERSION, CSV, EVERY, FORMAT, FROM, HTML, JSON, LOG, MIDNIGHT, ONCE, ORDERS, THIRD,
-    TO, UNDER, UNTIL, WARN, WORDS, command_line,
+    AT, AUDIT_VERSION, CSV, CommandName, EVERY, FORMAT, FROM, HTML, JSON, LOG, MIDNIGHT, ONCE,
+    ORDERS, THIRD, TO, UNDER, UNTIL, WARN, WORDS,
 };
 use follow::follow_asked;
 pub use follow::{Every, FollowAsked, WarnedShares};
@@ -21,11 +23,12 @@ use refused::shown_fault;
 use state::state_asked;
 pub use state::{Behind, StateOptions};
 use std::alloc::Global;
+use values::READ_OPTIONS;
 pub use values::{BadValue, ReadOption};
 pub use words::{BadWord, LONGEST_WORD, first_bad_word};
 
 /// In which version the audit of a run is written, and a journal that is begun.
-#[derive(Clone, Copy, PartialEq, Eq)]
+#[derive(Clone, Copy)]
 pub enum VersionAsked {
     /// Version 2.
     Two,
@@ -129,7 +132,7 @@ pub struct ShowFilter<'a> {
 }
 
 /// The form in which records are shown.
-#[derive(Clone, Copy, PartialEq, Eq)]
+#[derive(Clone, Copy)]
 pub enum TableForm {
     /// As lines of a script.
     Text,
@@ -140,7 +143,7 @@ pub enum TableForm {
 }
 
 /// The form in which a day is reported.
-#[derive(Clone, Copy, PartialEq, Eq)]
+#[derive(Clone, Copy)]
 pub enum PageForm {
     /// As tables in columns.
     Text,
@@ -358,25 +361,18 @@ fn form_of_page<'a>(given: &ArgMatches<'a>) -> PageForm {
     }
 }
 
-/// To show records of an audit.
-fn show_options<'a>(given: &ArgMatches<'a>) -> Option<Invocation<'a>> {
-    let shape = Shape {
+/// How records are shown.
+fn shape_of<'a>(given: &ArgMatches<'a>) -> Shape {
+    Shape {
         form: form_of_table(given),
         has_clock: given.get_flag("clock"),
         has_words: given.get_flag("words"),
-    };
-    Some(Invocation::Show(audit_files(given)?, wanted_records(given), shape))
+    }
 }
 
 /// The last so many words.
 fn last_words<'a>(words: &'a [String], count: usize) -> &'a [String] {
     &words[words.len().saturating_sub(count)..]
-}
-
-/// To follow a journal.
-fn follow_options<'a>(given: &ArgMatches<'a>) -> Option<Invocation<'a>> {
-    let asked = follow_asked(given, EVERY, WARN, JSON, ONCE)?;
-    Some(Invocation::Follow(audit_files(given)?, asked))
 }
 
 /// Under which policy a day is judged again.
@@ -405,69 +401,49 @@ fn desk_options<'a>(given: &ArgMatches<'a>, words: &'a [String]) -> Option<Desk<
     })
 }
 
+/// What was asked of an audit; `None` where its command is none of these.
+fn asked_of_audit<'a>(command: CommandName, given: &ArgMatches<'a>) -> Option<Invocation<'a>> {
+    let files = audit_files(given)?;
+    Some(match command {
+        CommandName::Check => Invocation::Check(files),
+        CommandName::Show => Invocation::Show(files, wanted_records(given), shape_of(given)),
+        CommandName::State => Invocation::State(files, state_asked(given, AT, ORDERS, JSON)?),
+        CommandName::Report => Invocation::Report(files, form_of_page(given)),
+        CommandName::WhatIf => Invocation::WhatIf(files, other_policy(given)?),
+        CommandName::Follow => {
+            Invocation::Follow(files, follow_asked(given, EVERY, WARN, JSON, ONCE)?)
+        }
+        _ => return None,
+    })
+}
+
 /// What was asked for; `None` where no command was named, which the command line refuses beforehand.
 fn asked_for<'a>(given: &ArgMatches<'a>, words: &'a [String]) -> Option<Invocation<'a>> {
     let (name, given) = given.subcommand()?;
-    match name {
-        "pipe" => Some(Invocation::Pipe(run_files(given))),
-        "serve" => Some(Invocation::Serve(server_options(given)?)),
-        "script" => Some(Invocation::Script(run_files(given))),
-        "policy" => Some(Invocation::Policy(given.get_str("file")?)),
-        "migrate" => Some(Invocation::Migrate(given.get_str("file")?)),
-        "check" => Some(Invocation::Check(audit_files(given)?)),
-        "show" => Some(show_options(given)?),
-        "state" => Some(Invocation::State(
-            audit_files(given)?,
-            state_asked(given, AT, ORDERS, JSON)?,
-        )),
-        "report" => Some(Invocation::Report(audit_files(given)?, form_of_page(given))),
-        "whatif" => Some(Invocation::WhatIf(audit_files(given)?, other_policy(given)?)),
-        "follow" => Some(follow_options(given)?),
-        "desk" => Some(Invocation::Desk(desk_options(given, words)?)),
-        _ => None,
-    }
-}
-
-/// The value of `--midnight`, where one is given that is no offset.
-fn bad_midnight<'a>(given: &ArgMatches<'a>) -> Option<BadValue<'a>> {
-    BadValue::of_midnight(given.get_str(MIDNIGHT)?)
-}
-
-/// The value of the option of this name, where one is given that is no time of day.
-fn bad_time<'a>(given: &ArgMatches<'a>, option: ReadOption, name: &str) -> Option<BadValue<'a>> {
-    BadValue::of_time(option, given.get_str(name)?)
-}
-
-/// A value that is no time of day.
-fn bad_times<'a>(given: &ArgMatches<'a>) -> Option<BadValue<'a>> {
-    bad_time(given, ReadOption::Until, UNTIL)
-        .or(bad_time(given, ReadOption::From, FROM))
-        .or(bad_time(given, ReadOption::To, TO))
-}
-
-/// The value of `--at`, where one is given that is no place.
-fn bad_place<'a>(given: &ArgMatches<'a>) -> Option<BadValue<'a>> {
-    BadValue::of_at(given.get_str(AT)?)
-}
-
-/// The value of `--every`, where one is given that is no time.
-fn bad_pause<'a>(given: &ArgMatches<'a>) -> Option<BadValue<'a>> {
-    BadValue::of_every(given.get_str(EVERY)?)
-}
-
-/// The value of `--warn`, where one is given that is no list of shares.
-fn bad_shares<'a>(given: &ArgMatches<'a>) -> Option<BadValue<'a>> {
-    BadValue::of_shares(given.get_str(WARN)?)
+    let command = CommandName::of_name(name)?;
+    Some(match command {
+        CommandName::Pipe => Invocation::Pipe(run_files(given)),
+        CommandName::Script => Invocation::Script(run_files(given)),
+        CommandName::Serve => Invocation::Serve(server_options(given)?),
+        CommandName::Policy => Invocation::Policy(given.get_str("file")?),
+        CommandName::Migrate => Invocation::Migrate(given.get_str("file")?),
+        CommandName::Desk => Invocation::Desk(desk_options(given, words)?),
+        _ => return asked_of_audit(command, given),
+    })
 }
 
 /// The value of a command's option, where one is given that can't be read.
 fn bad_value<'a>(given: &ArgMatches<'a>) -> Option<BadValue<'a>> {
     let (_name, given) = given.subcommand()?;
-    bad_midnight(given)
-        .or(bad_times(given))
-        .or(bad_place(given))
-        .or(bad_pause(given))
-        .or(bad_shares(given))
+    for option in READ_OPTIONS {
+        if let Some(text) = given.get_str(option.name()) {
+            let bad = BadValue::of(option, text);
+            if bad.is_some() {
+                return bad;
+            }
+        }
+    }
+    None
 }
 
 /// The words of a call, as the command line has them. The error is `clap`'s: what is wrong with the words, the help or the

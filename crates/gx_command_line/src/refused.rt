@@ -1,6 +1,6 @@
 //! What is told of words that were refused: of a long word a front alone.
 
-use crate::commands::command_line;
+use crate::building::command_line;
 use clap::Error;
 use gx_shortened::Shortened;
 use std::alloc::{AllocError, Global};

@@ -4,7 +4,7 @@ use clap::ArgMatches;
 use gx_clock::TimeOfDay;
 
 /// Behind which record of an audit.
-#[derive(Clone, Copy, PartialEq, Eq)]
+#[derive(Clone, Copy)]
 pub enum Behind {
     /// The last.
     Last,

@@ -3,6 +3,7 @@
 ghost use Rattle.std.specs.Prelude.{◌≡◌, ◌↔◌, IsSome, IfSome, None};
 ghost use Rattle.gx_clock.specs.{Offsets.offset_of, Times.time_of};
 
+use crate::commands::{AT, EVERY, FROM, MIDNIGHT, TO, UNTIL, WARN};
 use crate::follow::{Every, WarnedShares};
 use crate::state::Behind;
 use gx_clock::{TimeOfDay, UtcOffset};
@@ -12,7 +13,7 @@ use std::fmt;
 const SHOWN: usize = 64;
 
 /// An option whose value is read by itself.
-#[derive(Clone, Copy, PartialEq, Eq)]
+#[derive(Clone, Copy)]
 pub enum ReadOption {
     /// `--midnight <OFFSET>`.
     Midnight,
@@ -30,9 +31,33 @@ pub enum ReadOption {
     Warn,
 }
 
+/// All of them, in the order in which they are read.
+pub(crate) const READ_OPTIONS: [ReadOption; 7] = [
+    ReadOption::Midnight,
+    ReadOption::Until,
+    ReadOption::From,
+    ReadOption::To,
+    ReadOption::At,
+    ReadOption::Every,
+    ReadOption::Warn,
+];
+
 impl ReadOption {
+    /// The name that it is read by.
+    pub(crate) fn name(self) -> &'static str {
+        match self {
+            ReadOption::Midnight => MIDNIGHT,
+            ReadOption::Until => UNTIL,
+            ReadOption::From => FROM,
+            ReadOption::To => TO,
+            ReadOption::At => AT,
+            ReadOption::Every => EVERY,
+            ReadOption::Warn => WARN,
+        }
+    }
+
     /// As it stands in the help.
-    fn name(self) -> &'static str {
+    fn shown(self) -> &'static str {
         match self {
             ReadOption::Midnight => "--midnight <OFFSET>",
             ReadOption::Until => "--until <TIME>",
@@ -136,17 +161,31 @@ impl<'a> BadValue<'a> {
     }
 }
 
+impl<'a> BadValue<'a> {
+    /// The value of the option, if that can't be read.
+    pub(crate) fn of(option: ReadOption, text: &'a str) -> Option<BadValue<'a>> {
+        match option {
+            ReadOption::Midnight => BadValue::of_midnight(text),
+            ReadOption::Until | ReadOption::From | ReadOption::To => BadValue::of_time(
+                option, text,
+            ),
+            ReadOption::At => BadValue::of_at(text),
+            ReadOption::Every => BadValue::of_every(text),
+            ReadOption::Warn => BadValue::of_shares(text),
+        }
+    }
+}
+
 impl fmt::Display for BadValue<'_> {
     fn fmt<W: fmt::Write>(&self, f: &mut fmt::Formatter<W>) -> fmt::Result {
-        let name = self.option.name();
+        let name = self.option.shown();
         let wanted = self.option.wanted();
         let bytes = self.text.as_bytes();
         let shown = bytes[..bytes.len().min(SHOWN)].escape_ascii();
         let rest = if bytes.len() > SHOWN { ".." } else { "" };
-        writeln!(
+        write!(
             f,
-            "error: invalid value '{shown}{rest}' for '{name}': {wanted}"
-        )?;
-        write!(f, "\nFor more information, try '--help'.\n")
+            "error: invalid value '{shown}{rest}' for '{name}': {wanted}\n\nFor more information, try '--help'.\n"
+        )
     }
 }

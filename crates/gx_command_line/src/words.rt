@@ -25,11 +25,10 @@ impl fmt::Display for BadWord<'_> {
         let place = place_in(self.bytes);
         let shown = self.bytes[..self.bytes.len().min(SHOWN)].escape_ascii();
         let rest = if self.bytes.len() > SHOWN { ".." } else { "" };
-        writeln!(
+        write!(
             f,
-            "error: argument {number} is not UTF-8 from byte {place} on: {shown}{rest}"
-        )?;
-        write!(f, "\nFor more information, try '--help'.\n")
+            "error: argument {number} is not UTF-8 from byte {place} on: {shown}{rest}\n\nFor more information, try '--help'.\n"
+        )
     }
 }
 
