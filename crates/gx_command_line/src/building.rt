@@ -184,12 +184,10 @@ fn build_commands<'a>(alloc: Global, asked: &[Subcommand]) -> Result<Vec<Command
 
 /// All commands, as help lists them.
 fn all_commands<'a>(alloc: Global) -> Result<Vec<Command<'a>>, AllocError> {
-    build_commands(
-        alloc,
-        &[
-            PIPE, SERVE, SCRIPT, POLICY, MIGRATE, CHECK, SHOW, STATE, REPORT, WHATIF, FOLLOW, DESK,
-        ],
-    )
+    let all = [
+        PIPE, SERVE, SCRIPT, POLICY, MIGRATE, CHECK, SHOW, STATE, REPORT, WHATIF, FOLLOW, DESK,
+    ];
+    build_commands(alloc, &all)
 }
 
 /// The command line: what may be asked, with its help.

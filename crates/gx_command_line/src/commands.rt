@@ -89,14 +89,14 @@ pub(crate) const MIDNIGHT: &str = "midnight";
 /// The name of the option `--log`, and its values.
 pub(crate) const LOG: &str = "log";
 
-pub(crate) const TEXT: &str = "text";
+const TEXT: &str = "text";
 
 pub(crate) const JSON: &str = "json";
 
 /// The name of the option `--audit-version`, and its values.
 pub(crate) const AUDIT_VERSION: &str = "audit-version";
 
-pub(crate) const SECOND: &str = "2";
+const SECOND: &str = "2";
 
 pub(crate) const THIRD: &str = "3";
 

@@ -1,5 +1,6 @@
 //! How a journal is followed, and of what it is warned.
 
+use crate::commands::{EVERY, JSON, ONCE, WARN};
 use clap::ArgMatches;
 use std::alloc::{AllocFailed, Global};
 
@@ -101,25 +102,19 @@ pub struct FollowAsked<'a> {
 }
 
 /// How a journal is to be followed; `None` where that can't be read.
-pub(crate) fn follow_asked<'a>(
-    given: &ArgMatches<'a>,
-    every: &str,
-    warn: &str,
-    json: &str,
-    once: &str,
-) -> Option<FollowAsked<'a>> {
-    let every = match given.get_str(every) {
+pub(crate) fn follow_asked<'a>(given: &ArgMatches<'a>) -> Option<FollowAsked<'a>> {
+    let every = match given.get_str(EVERY) {
         Some(text) => Every::parse(text)?,
         None => Every::SECOND,
     };
-    let shares = match given.get_str(warn) {
+    let shares = match given.get_str(WARN) {
         Some(text) => WarnedShares::parse(text)?,
         None => WarnedShares::USUAL,
     };
     Some(FollowAsked {
         every,
         shares,
-        is_json: given.get_flag(json),
-        is_once: given.get_flag(once),
+        is_json: given.get_flag(JSON),
+        is_once: given.get_flag(ONCE),
     })
 }

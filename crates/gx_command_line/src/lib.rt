@@ -12,8 +12,8 @@ mod words;
 use building::command_line;
 use clap::{ArgMatches, Error};
 use commands::{
-    AT, AUDIT_VERSION, CSV, CommandName, EVERY, FORMAT, FROM, HTML, JSON, LOG, MIDNIGHT, ONCE,
-    ORDERS, THIRD, TO, UNDER, UNTIL, WARN, WORDS,
+    AUDIT_VERSION, CSV, CommandName, FORMAT, FROM, HTML, JSON, LOG, MIDNIGHT, THIRD, TO, UNDER,
+    UNTIL, WORDS,
 };
 use follow::follow_asked;
 pub use follow::{Every, FollowAsked, WarnedShares};
@@ -257,9 +257,9 @@ fn run_files<'a>(given: &ArgMatches<'a>) -> RunFiles<'a> {
     }
 }
 
-/// What a server is to do.
-fn server_options<'a>(given: &ArgMatches<'a>) -> Option<Serving<'a>> {
-    Some(Serving {
+/// What is asked of a server.
+fn asked_of_server<'a>(given: &ArgMatches<'a>) -> Option<Invocation<'a>> {
+    Some(Invocation::Serve(Serving {
         files: run_files(given),
         port: given.get_one::<u16>("port")?,
         status_port: given.get_one::<u16>("status-port"),
@@ -270,7 +270,7 @@ fn server_options<'a>(given: &ArgMatches<'a>) -> Option<Serving<'a>> {
         journal: journal_file(given),
         standby: standby_options(given),
         log: form_of_log(given),
-    })
+    }))
 }
 
 /// When a server ends.
@@ -383,13 +383,13 @@ fn other_policy<'a>(given: &ArgMatches<'a>) -> Option<OtherPolicy<'a>> {
     })
 }
 
-/// What a terminal client is to do. The words of its command stand behind all others of the call.
-fn desk_options<'a>(given: &ArgMatches<'a>, words: &'a [String]) -> Option<Desk<'a>> {
+/// What is asked of a terminal client. The words of its command stand behind all others of the call.
+fn asked_of_desk<'a>(given: &ArgMatches<'a>, words: &'a [String]) -> Option<Invocation<'a>> {
     let count = match given.get_strs(WORDS) {
         Some(command) => command.len(),
         None => 0,
     };
-    Some(Desk {
+    Some(Invocation::Desk(Desk {
         host: given.get_str("host"),
         port: given.get_one::<u16>("port")?,
         user: given.get_str("user")?,
@@ -398,7 +398,7 @@ fn desk_options<'a>(given: &ArgMatches<'a>, words: &'a [String]) -> Option<Desk<
         is_json: given.get_flag(JSON),
         reconnects: given.get_flag("reconnect"),
         words: last_words(words, count),
-    })
+    }))
 }
 
 /// What was asked of an audit; `None` where its command is none of these.
@@ -407,12 +407,10 @@ fn asked_of_audit<'a>(command: CommandName, given: &ArgMatches<'a>) -> Option<In
     Some(match command {
         CommandName::Check => Invocation::Check(files),
         CommandName::Show => Invocation::Show(files, wanted_records(given), shape_of(given)),
-        CommandName::State => Invocation::State(files, state_asked(given, AT, ORDERS, JSON)?),
+        CommandName::State => Invocation::State(files, state_asked(given)?),
         CommandName::Report => Invocation::Report(files, form_of_page(given)),
         CommandName::WhatIf => Invocation::WhatIf(files, other_policy(given)?),
-        CommandName::Follow => {
-            Invocation::Follow(files, follow_asked(given, EVERY, WARN, JSON, ONCE)?)
-        }
+        CommandName::Follow => Invocation::Follow(files, follow_asked(given)?),
         _ => return None,
     })
 }
@@ -421,25 +419,25 @@ fn asked_of_audit<'a>(command: CommandName, given: &ArgMatches<'a>) -> Option<In
 fn asked_for<'a>(given: &ArgMatches<'a>, words: &'a [String]) -> Option<Invocation<'a>> {
     let (name, given) = given.subcommand()?;
     let command = CommandName::of_name(name)?;
-    Some(match command {
-        CommandName::Pipe => Invocation::Pipe(run_files(given)),
-        CommandName::Script => Invocation::Script(run_files(given)),
-        CommandName::Serve => Invocation::Serve(server_options(given)?),
-        CommandName::Policy => Invocation::Policy(given.get_str("file")?),
-        CommandName::Migrate => Invocation::Migrate(given.get_str("file")?),
-        CommandName::Desk => Invocation::Desk(desk_options(given, words)?),
-        _ => return asked_of_audit(command, given),
-    })
+    match command {
+        CommandName::Pipe => Some(Invocation::Pipe(run_files(given))),
+        CommandName::Script => Some(Invocation::Script(run_files(given))),
+        CommandName::Serve => asked_of_server(given),
+        CommandName::Policy => Some(Invocation::Policy(given.get_str("file")?)),
+        CommandName::Migrate => Some(Invocation::Migrate(given.get_str("file")?)),
+        CommandName::Desk => asked_of_desk(given, words),
+        _ => asked_of_audit(command, given),
+    }
 }
 
 /// The value of a command's option, where one is given that can't be read.
 fn bad_value<'a>(given: &ArgMatches<'a>) -> Option<BadValue<'a>> {
     let (_name, given) = given.subcommand()?;
     for option in READ_OPTIONS {
-        if let Some(text) = given.get_str(option.name()) {
-            let bad = BadValue::of(option, text);
-            if bad.is_some() {
-                return bad;
+        let (name, _) = option.words();
+        if let Some(text) = given.get_str(name) {
+            if let Some(bad) = BadValue::of(option, text) {
+                return Some(bad);
             }
         }
     }

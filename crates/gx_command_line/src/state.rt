@@ -1,5 +1,6 @@
 //! Which state of an audit's day is wanted, and in which form.
 
+use crate::commands::{AT, JSON, ORDERS};
 use clap::ArgMatches;
 use gx_clock::TimeOfDay;
 
@@ -17,12 +18,10 @@ pub enum Behind {
 impl Behind {
     /// What the value of `--at` says: the number of a record, or a time of day, `HH:MM` or `HH:MM:SS`.
     pub fn parse(text: &str) -> Option<Behind> {
-        match TimeOfDay::parse(text) {
-            Some(time) => Some(Behind::Time(time)),
-            None => match text.parse() {
-                Ok(number) => Some(Behind::Record(number)),
-                Err(_) => None,
-            },
+        match (TimeOfDay::parse(text), text.parse()) {
+            (Some(time), _) => Some(Behind::Time(time)),
+            (None, Ok(number)) => Some(Behind::Record(number)),
+            _ => None,
         }
     }
 }
@@ -39,19 +38,14 @@ pub struct StateOptions {
 }
 
 /// Which state is wanted; `None` where it is neither a record's nor a time's.
-pub(crate) fn state_asked<'a>(
-    given: &ArgMatches<'a>,
-    at: &str,
-    orders: &str,
-    json: &str,
-) -> Option<StateOptions> {
-    let behind = match given.get_str(at) {
+pub(crate) fn state_asked<'a>(given: &ArgMatches<'a>) -> Option<StateOptions> {
+    let behind = match given.get_str(AT) {
         Some(text) => Behind::parse(text)?,
         None => Behind::Last,
     };
     Some(StateOptions {
         behind,
-        with_orders: given.get_flag(orders),
-        is_json: given.get_flag(json),
+        with_orders: given.get_flag(ORDERS),
+        is_json: given.get_flag(JSON),
     })
 }

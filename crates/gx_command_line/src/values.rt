@@ -43,29 +43,16 @@ pub(crate) const READ_OPTIONS: [ReadOption; 7] = [
 ];
 
 impl ReadOption {
-    /// The name that it is read by.
-    pub(crate) fn name(self) -> &'static str {
+    /// The name that it is read by, and what help calls its value.
+    pub(crate) fn words(self) -> (&'static str, &'static str) {
         match self {
-            ReadOption::Midnight => MIDNIGHT,
-            ReadOption::Until => UNTIL,
-            ReadOption::From => FROM,
-            ReadOption::To => TO,
-            ReadOption::At => AT,
-            ReadOption::Every => EVERY,
-            ReadOption::Warn => WARN,
-        }
-    }
-
-    /// As it stands in the help.
-    fn shown(self) -> &'static str {
-        match self {
-            ReadOption::Midnight => "--midnight <OFFSET>",
-            ReadOption::Until => "--until <TIME>",
-            ReadOption::From => "--from <TIME>",
-            ReadOption::To => "--to <TIME>",
-            ReadOption::At => "--at <PLACE>",
-            ReadOption::Every => "--every <TIME>",
-            ReadOption::Warn => "--warn <SHARES>",
+            ReadOption::Midnight => (MIDNIGHT, "OFFSET"),
+            ReadOption::Until => (UNTIL, "TIME"),
+            ReadOption::From => (FROM, "TIME"),
+            ReadOption::To => (TO, "TIME"),
+            ReadOption::At => (AT, "PLACE"),
+            ReadOption::Every => (EVERY, "TIME"),
+            ReadOption::Warn => (WARN, "SHARES"),
         }
     }
 
@@ -116,76 +103,34 @@ impl<'a> BadValue<'a> {
             None => Some(BadValue { option, text }),
         }
     }
-}
-
-impl<'a> BadValue<'a> {
-    /// The value of `--at`, if it is neither a record's number nor a time of day.
-    pub fn of_at(text: &'a str) -> Option<BadValue<'a>>
-        ensures text { IfSome result (λ bad. bad.text ≡ text.entry) }
-    {
-        match Behind::parse(text) {
-            Some(_) => None,
-            None => Some(BadValue {
-                option: ReadOption::At,
-                text,
-            }),
-        }
-    }
-}
-
-impl<'a> BadValue<'a> {
-    /// The value of `--every`, if it is no time.
-    pub fn of_every(text: &'a str) -> Option<BadValue<'a>>
-        ensures text { IfSome result (λ bad. bad.text ≡ text.entry) }
-    {
-        match Every::parse(text) {
-            Some(_) => None,
-            None => Some(BadValue {
-                option: ReadOption::Every,
-                text,
-            }),
-        }
-    }
-
-    /// The value of `--warn`, if it is no list of shares.
-    pub fn of_shares(text: &'a str) -> Option<BadValue<'a>>
-        ensures text { IfSome result (λ bad. bad.text ≡ text.entry) }
-    {
-        match WarnedShares::parse(text) {
-            Some(_) => None,
-            None => Some(BadValue {
-                option: ReadOption::Warn,
-                text,
-            }),
-        }
-    }
-}
-
-impl<'a> BadValue<'a> {
     /// The value of the option, if that can't be read.
-    pub(crate) fn of(option: ReadOption, text: &'a str) -> Option<BadValue<'a>> {
-        match option {
-            ReadOption::Midnight => BadValue::of_midnight(text),
-            ReadOption::Until | ReadOption::From | ReadOption::To => BadValue::of_time(
-                option, text,
-            ),
-            ReadOption::At => BadValue::of_at(text),
-            ReadOption::Every => BadValue::of_every(text),
-            ReadOption::Warn => BadValue::of_shares(text),
+    pub fn of(option: ReadOption, text: &'a str) -> Option<BadValue<'a>>
+        ensures text { IfSome result (λ bad. bad.text ≡ text.entry) }
+    {
+        let is_read = match option {
+            ReadOption::Midnight => return BadValue::of_midnight(text),
+            ReadOption::At => Behind::parse(text).is_some(),
+            ReadOption::Every => Every::parse(text).is_some(),
+            ReadOption::Warn => WarnedShares::parse(text).is_some(),
+            _ => return BadValue::of_time(option, text),
+        };
+        if is_read {
+            return None;
         }
+        Some(BadValue { option, text })
     }
 }
 
 impl fmt::Display for BadValue<'_> {
     fn fmt<W: fmt::Write>(&self, f: &mut fmt::Formatter<W>) -> fmt::Result {
-        let name = self.option.shown();
+        let (name, value) = self.option.words();
         let wanted = self.option.wanted();
         let bytes = self.text.as_bytes();
         let shown = bytes[..bytes.len().min(SHOWN)].escape_ascii();
         let rest = if bytes.len() > SHOWN { ".." } else { "" };
         write!(
             f,
-            "error: invalid value '{shown}{rest}' for '{name}': {wanted}\n\nFor more information, try '--help'.\n"
+            "error: invalid value '{shown}{rest}' for '--{name} <{value}>': {wanted}\n\nFor more information, try '--help'.\n"
         )
     }
 }
