@@ -2,21 +2,13 @@
 //!
 //! All of it is over any gate `G`, and `main` alone names the [`Gate`](gx_core::Gate) of `gx_core`:
 //!
-//! - `checking`, `showing`, `standing`, `reporting`, `comparing`, `following`: the commands that read an audit or a journal,
-//!   each on a gate of its own that makes the steps of its records again, with `telling`, what is told of its faults.
+//! - `gx_audit_commands`: the commands that read an audit or a journal;
+//! - `gx_serve_command`: the command `serve`; `gx_desk_command`: the command `desk`, which asks no gate of its own;
+//! - `gx_runs`: the commands `script` and `pipe`; `gx_program`: those that ask a policy file alone.
 #![tactic(auto)]
 
-mod checking;
-mod comparing;
-mod following;
-mod reporting;
-mod showing;
-mod standing;
-mod telling;
 
-use checking::check;
-use comparing::whatif;
-use following::follow;
+use gx_audit_commands::{check, follow, report, show, state, whatif};
 use gx_command_line::Invocation;
 use gx_core::Gate;
 use gx_desk_command::desk_told;
@@ -26,9 +18,6 @@ use gx_program::{
 use gx_records::{ShowsRecords, ShowsState};
 use gx_runs::{Input, run_files};
 use gx_serve_command::{ServerRuntime, serve_told};
-use reporting::report;
-use showing::show;
-use standing::state;
 use std::net::{Net, TcpListener, TcpStream};
 use std::process::ExitCode;
 use std::sync::Wait;

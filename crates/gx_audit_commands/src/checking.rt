@@ -56,7 +56,7 @@ fn check_under<'a, G: AccessGate>(
 }
 
 /// Checks an audit: the status that says what it is.
-pub(crate) fn check<'a, G: AccessGate>(
+pub fn check<'a, G: AccessGate>(
     rt: &HostRuntime,
     files: AuditFiles<'a>,
 ) -> Result<ExitCode, Failure<'a>> {

@@ -66,7 +66,7 @@ fn state_under<'a, G: ShowsRecords + ShowsState>(
 }
 
 /// Tells what stands in an audit's day: the status that says whether the audit is legal up to there.
-pub(crate) fn state<'a, G: ShowsRecords + ShowsState>(
+pub fn state<'a, G: ShowsRecords + ShowsState>(
     rt: &HostRuntime,
     files: AuditFiles<'a>,
     asked: StateOptions,

@@ -35,7 +35,7 @@ fn report_under<'a, G: ShowsRecords + ShowsState + Send, R: Threads + Sync>(
 }
 
 /// Reports an audit's day: the status that says whether the audit is legal.
-pub(crate) fn report<'a, G: ShowsRecords + ShowsState + Send, R: Threads + Sync>(
+pub fn report<'a, G: ShowsRecords + ShowsState + Send, R: Threads + Sync>(
     rt: &R,
     host: &HostRuntime,
     files: AuditFiles<'a>,

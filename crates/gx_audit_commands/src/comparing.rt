@@ -16,11 +16,12 @@ use std::process::ExitCode;
 /// What is told of what changes.
 fn output_text(alloc: Global, found: &WhatIf, is_json: bool) -> Result<Vec<u8>, OutOfMemory> {
     let mut text = Vec::new(alloc);
-    if is_json {
-        append_whatif_json(&mut text, alloc, found)?;
+    let put = if is_json {
+        append_whatif_json(&mut text, alloc, found)
     } else {
-        append_whatif_text(&mut text, found)?;
-    }
+        append_whatif_text(&mut text, found)
+    };
+    put?;
     Ok(text)
 }
 
@@ -79,7 +80,7 @@ fn whatif_under<'a, G: ShowsRecords + ShowsState>(
 }
 
 /// Tells which verdicts of an audit's day change under another policy: the status that says whether the audit is legal.
-pub(crate) fn whatif<'a, G: ShowsRecords + ShowsState>(
+pub fn whatif<'a, G: ShowsRecords + ShowsState>(
     rt: &HostRuntime,
     files: AuditFiles<'a>,
     asked: OtherPolicy<'a>,

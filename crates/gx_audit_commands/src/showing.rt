@@ -127,6 +127,24 @@ fn endings_for<G: ShowsState>(
     Ok(Vec::new(alloc))
 }
 
+/// Writes the records on standard output.
+fn write_out<'a>(
+    rt: &HostRuntime,
+    policy: &Policy,
+    style: &Style,
+    records: &[Record],
+    endings: &[Ending],
+) -> Result<(), Failure<'a>> {
+    let mut writer = held_back(rt.alloc(), io::writer(rt))?;
+    match write_records(rt.alloc(), policy, style, records, endings, &mut writer) {
+        Ok(()) => Ok(()),
+        Err(fault) => {
+            let cause = writer.into_inner().cause;
+            Err(Failure::of_writing(fault, Resource::Output, cause))
+        }
+    }
+}
+
 /// Writes the records, and tells the number of the first that is none: the status that says whether there is one.
 fn write_found<'a, G: ShowsState>(
     rt: &HostRuntime,
@@ -135,14 +153,9 @@ fn write_found<'a, G: ShowsState>(
     style: &Style,
     found: &AuditRecords,
 ) -> Result<ExitCode, Failure<'a>> {
-    let mut writer = held_back(rt.alloc(), io::writer(rt))?;
     let records = found.records.as_slice();
     let endings = endings_for::<G>(rt.alloc(), policy, audit, style, records)?;
-    let endings = endings.as_slice();
-    if let Err(fault) = write_records(rt.alloc(), policy, style, records, endings, &mut writer) {
-        let cause = writer.into_inner().cause;
-        return Err(Failure::of_writing(fault, Resource::Output, cause));
-    }
+    write_out(rt, policy, style, records, endings.as_slice())?;
     match found.bad {
         Some(number) => {
             let _ = eprintln!(rt; "bad record {number}");
@@ -215,7 +228,7 @@ fn show_under<'a, G: ShowsState>(
 }
 
 /// Shows records of an audit: the status that says whether all were records.
-pub(crate) fn show<'a, G: ShowsState>(
+pub fn show<'a, G: ShowsState>(
     rt: &HostRuntime,
     files: AuditFiles<'a>,
     wanted: ShowFilter<'a>,

@@ -303,7 +303,7 @@ fn follow_under<'a, G: ShowsRecords + ShowsState, R: Wait + Clock>(
 }
 
 /// Follows a journal, and tells what its records tell: the status that says what it is, or why the program gave up.
-pub(crate) fn follow<'a, G: ShowsRecords + ShowsState, R: Wait + Clock>(
+pub fn follow<'a, G: ShowsRecords + ShowsState, R: Wait + Clock>(
     rt: &R,
     host: &HostRuntime,
     files: AuditFiles<'a>,
