@@ -7,7 +7,6 @@
 //! - `gx_runs`: the commands `script` and `pipe`; `gx_program`: those that ask a policy file alone.
 #![tactic(auto)]
 
-
 use gx_audit_commands::{check, follow, report, show, state, whatif};
 use gx_command_line::Invocation;
 use gx_core::Gate;

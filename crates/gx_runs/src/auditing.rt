@@ -209,9 +209,11 @@ fn write_pipe<'a, G: ShowsRecords>(
 impl Beside {
     /// Whether what stands in the audit's place is what stood there, or else is no one's.
     fn hold_place<'a>(&self, rt: &HostRuntime, path: &'a str) -> Result<Option<File>, Failure<'a>> {
-        let held = self.standing.as_ref().and_then(|file| identity(file));
-        if held.is_some() && held == file_named(rt, path) {
-            return Ok(None);
+        if let Some(file) = &self.standing {
+            let held = identity(file);
+            if held.is_some() && held == file_named(rt, path) {
+                return Ok(None);
+            }
         }
         claim(rt, path)
     }
@@ -224,17 +226,32 @@ impl Beside {
         }
     }
 
+    /// Puts the file in its place, which is held.
+    fn move_there(&self, rt: &HostRuntime, path: &str) -> io::Result<()> {
+        self.take_mode()?;
+        self.file.sync_data()?;
+        fs::rename(rt, self.name.as_str(), path)
+    }
+
     /// Puts the file in its place.
     fn put<'a>(&self, rt: &HostRuntime, path: &'a str) -> Result<(), Failure<'a>> {
         let _held = self.hold_place(rt, path)?;
-        let put = self
-            .take_mode()
-            .and_then(|()| self.file.sync_data())
-            .and_then(|()| fs::rename(rt, self.name.as_str(), path));
-        match put {
+        match self.move_there(rt, path) {
             Ok(()) => Ok(()),
             Err(error) => Err(unwritten(path, error)),
         }
+    }
+
+    /// Writes the gate's audit into the file, and puts it in its place.
+    fn write<'a, G: ShowsRecords>(
+        &self,
+        rt: &HostRuntime,
+        version: AuditVersion,
+        gate: &G,
+        path: &'a str,
+    ) -> Result<(), Failure<'a>> {
+        write_through(version, gate, path, &self.file)?;
+        self.put(rt, path)
     }
 }
 
@@ -261,19 +278,16 @@ impl<'a> AuditFile<'a> {
 
     /// Writes the gate's audit there in this version.
     fn write<G: ShowsRecords>(
-        self,
+        &self,
         rt: &HostRuntime,
         version: AuditVersion,
         gate: &G,
     ) -> Result<(), Failure<'a>> {
-        let AuditFile { path, way } = self;
-        match way {
-            AuditWay::Through(file) => write_through(version, gate, path, &file),
+        let path = self.path;
+        match &self.way {
+            AuditWay::Through(file) => write_through(version, gate, path, file),
             AuditWay::Pipe => write_pipe(rt, version, gate, path),
-            AuditWay::Beside(beside) => {
-                write_through(version, gate, path, &beside.file)?;
-                beside.put(rt, path)
-            }
+            AuditWay::Beside(beside) => beside.write(rt, version, gate, path),
         }
     }
 

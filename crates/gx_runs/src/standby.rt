@@ -261,6 +261,43 @@ fn followed<'a, R: Wait + Clock, G: AccessGate>(
     }
 }
 
+/// Follows the journal until it is this server's: when that was, and the day as its file holds it. `None` where the standby is to
+/// end before.
+fn stand_by<'a, R: Wait + Clock, G: AccessGate>(
+    rt: &R,
+    host: &HostRuntime,
+    policy: &Policy,
+    serving: &Serving<'a>,
+    looking: &Looking<'a, '_>,
+    file: &mut File,
+) -> Result<Option<(Start, Found<G>)>, Failure<'a>> {
+    tell_begin(rt, host, looking);
+    let Some((follower, length)) = followed::<R, G>(rt, host, policy, looking, file)? else {
+        return Ok(None);
+    };
+    let start = Start::of_run(rt, serving.files.version, serving.midnight);
+    let found = found_of(follower, length, start.version)?;
+    tell_turn(rt, host, looking, found.resumed.gate.length());
+    Ok(Some((start, found)))
+}
+
+/// The day that was found, which goes on; `None` where none was.
+fn taken_over<'a, G: AccessGate>(
+    host: &HostRuntime,
+    policy: &Policy,
+    journal: JournalFile<'a>,
+    file: File,
+    found: Option<(Start, Found<G>)>,
+) -> Result<Option<TakenOver<G>>, Failure<'a>> {
+    let Some((start, found)) = found else {
+        return Ok(None);
+    };
+    match go_on_from(host, policy, journal, file, found) {
+        Ok(day) => Ok(Some(TakenOver { start, day })),
+        Err(ended) => Err(ended),
+    }
+}
+
 /// Stands by until the journal, whose file is open, is this server's: when that was, and the day that goes on. `None` where the
 /// server is to end before.
 pub fn take_over<'a, R: Wait + Clock, G: AccessGate>(
@@ -276,13 +313,8 @@ pub fn take_over<'a, R: Wait + Clock, G: AccessGate>(
 ) -> Result<Option<TakenOver<G>>, Failure<'a>> {
     let mut file = file;
     let looking = begin_looking(host, serving, standby, journal.path, start, log)?;
-    tell_begin(rt, host, &looking);
-    let Some((follower, length)) = followed::<R, G>(rt, host, policy, &looking, &mut file)? else {
-        return Ok(None);
-    };
-    let start = Start::of_run(rt, serving.files.version, serving.midnight);
-    let found = found_of(follower, length, start.version)?;
-    tell_turn(rt, host, &looking, found.resumed.gate.length());
-    let day = go_on_from(host, policy, journal, file, found)?;
-    Ok(Some(TakenOver { start, day }))
+    match stand_by(rt, host, policy, serving, &looking, &mut file) {
+        Ok(found) => taken_over(host, policy, journal, file, found),
+        Err(ended) => Err(ended),
+    }
 }
