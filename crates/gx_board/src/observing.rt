@@ -1,6 +1,5 @@
 //! What a viewer is shown of a day, once its summary has followed all records.
 
-
 use crate::summary::Summary;
 use crate::view::{BoardView, view_of};
 use gx_lookout::Observer;

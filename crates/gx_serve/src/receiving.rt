@@ -12,7 +12,9 @@ use crate::writing::send_answer;
 use gx_control::ShutdownFlag;
 use gx_devices::CallCounter;
 use gx_door::{Caller, Dial, Door};
-use gx_reception::{Admission, Admits, Denial, Knock, NoLine, Opening, Undenied, await_login, read_piece};
+use gx_reception::{
+    Admission, Admits, Denial, Knock, NoLine, Opening, Undenied, await_login, read_piece,
+};
 use gx_soup::LoginRequest;
 use std::alloc::Global;
 use std::io::{Read, Write};

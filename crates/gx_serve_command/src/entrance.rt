@@ -7,6 +7,7 @@ use crate::announcing::Announcer;
 use crate::limits::places_for;
 use crate::page::{RiskPage, listen, open_page};
 use crate::runtime::ServerRuntime;
+use gx_clock::DayClock;
 use gx_command_line::Serving;
 use gx_control::ServerControl;
 use gx_listen::{Ending, ServeFault};
@@ -30,8 +31,44 @@ pub(crate) struct ServerEntrance {
     pub(crate) announcer: Announcer,
 }
 
-/// Listens for connections to a gate that judges by this policy, which is told once they are taken. The server ends as was asked for, and its clock
-/// has begun at the start, no earlier than at the moment `last`.
+/// What the threads of a server share, which is served on so many places, on this clock, and ends as was asked for.
+fn open_control<'a, R: ServerRuntime>(
+    rt: &R,
+    host: &HostRuntime,
+    serving: &Serving<'a>,
+    clock: DayClock,
+    places: u16,
+    log: &Arc<Log, Global>,
+) -> Result<Arc<ServerControl, Global>, Failure<'a>> {
+    let Ok(log) = Arc::try_clone(log) else {
+        return Err(OutOfMemory.into());
+    };
+    let alloc = host.alloc();
+    let control = ServerControl::new(alloc, clock, places, u64::from(serving.login_within), log);
+    let Ok(control) = Arc::new(alloc, control) else {
+        return Err(OutOfMemory.into());
+    };
+    await_ends(*rt, *host, serving.ends, &control)?;
+    Ok(control)
+}
+
+/// Who listens for connections, and the page of a gate that judges by this policy, if it is to be served.
+fn open_ports<'a, R: ServerRuntime>(
+    rt: &R,
+    host: &HostRuntime,
+    serving: &Serving<'a>,
+    policy: &Policy,
+) -> Result<(TcpListener, Option<RiskPage>), Failure<'a>>
+    ensures { IfOk result (λ ports. IfSome ports.1
+        (λ page. IsSummaryBehind policy.now [] page.summary)) }
+{
+    let listener = listen(rt, serving.port)?;
+    let page = open_page(rt, host, serving, policy)?;
+    Ok((listener, page))
+}
+
+/// Listens for connections to a gate that judges by this policy, which is told once they are taken. The server ends as was
+/// asked for, and its clock has begun at the start, no earlier than at the moment `last`.
 pub(crate) fn open_lobby<'a, R: ServerRuntime>(
     rt: &R,
     host: &HostRuntime,
@@ -44,19 +81,10 @@ pub(crate) fn open_lobby<'a, R: ServerRuntime>(
     ensures { IfOk result (λ entrance. IfSome entrance.page
         (λ page. IsSummaryBehind policy.now [] page.summary)) }
 {
-    let listener = listen(rt, serving.port)?;
-    let page = open_page(rt, host, serving, policy)?;
-    let alloc = host.alloc();
+    let (listener, page) = open_ports(rt, host, serving, policy)?;
     let places = places_for(rt, host, log, serving.at_once, page.is_some());
     let clock = start.clock(serving.midnight, last);
-    let Ok(log) = Arc::try_clone(log) else {
-        return Err(OutOfMemory.into());
-    };
-    let control = ServerControl::new(alloc, clock, places, u64::from(serving.login_within), log);
-    let Ok(control) = Arc::new(alloc, control) else {
-        return Err(OutOfMemory.into());
-    };
-    await_ends(*rt, *host, serving.ends, &control)?;
+    let control = open_control(rt, host, serving, clock, places, log)?;
     let announcer = Announcer::begin(*rt, *host, &control, serving.port)?;
     Ok(ServerEntrance {
         listener,
