@@ -101,7 +101,7 @@ fn add_step(line: &mut Vec<u8>, step: &ScriptStep, payload: &[u8]) -> Result<(),
     }
 }
 
-/// What is asked for at a moment: a word that stands alone.
+/// A moment, and the word behind it.
 fn add_timed(text: &mut Vec<u8>, moment: u64, word: &[u8]) -> Result<(), OutOfMemory> {
     append_number(text, moment)?;
     add(text, &[word])
