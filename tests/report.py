@@ -319,7 +319,8 @@ def compare(gate, seed: int) -> None:
 
 
 def compare_forms(gate, expected: dict, heights: list) -> None:
-    """The other forms have as many rows, and names and counts as they are; lines of charts end as high as they have to."""
+    """The other forms have as many rows, names and counts as they are, and values in dollars: in CSV with four digits behind
+    the point and nothing else, for a person as `$30,000.00`; lines of charts end as high as they have to."""
     table = rows_of_csv(gate.run("report", gate.audit, "--format", "csv")[1])
     page = Cells()
     page.feed(gate.run("report", gate.audit, "--format", "html")[1])
@@ -328,14 +329,14 @@ def compare_forms(gate, expected: dict, heights: list) -> None:
         if len(table.get(name, [])) != len(rows) or len(page.tables[place]) != len(rows):
             sys.exit(f"{name}: {len(rows)} rows, {len(table.get(name, []))} of CSV, {len(page.tables[place])} of HTML")
         for row, line, cells in zip(rows, table.get(name, []), page.tables[place]):
-            if list(line.values()) != cells:
-                sys.exit(f"{name}: CSV {line}, HTML {cells}")
+            seen = dict(zip(line, cells, strict=True))
             for key, value in row.items():
                 is_value = "value" in key or row.get("rule") == "GROSS" and key in ("peak", "limit")
                 is_value = is_value or row.get("of") == "GROSS" and key in ("before", "after")
                 wanted = f"{value // 10000}.{value % 10000:04}" if is_value else shown(key, value)
-                if line[key] != wanted or (wanted and wanted not in text):
-                    sys.exit(f"{name}: {key} {line[key]}, expected {wanted}")
+                read = state.dollars(value) if is_value else wanted
+                if line[key] != wanted or seen[key] != read or (read and read not in text):
+                    sys.exit(f"{name}: {key} {line[key]} in CSV, {seen[key]} in HTML, expected {wanted} and {read}")
     if page.charts != 3 + len(heights) or page.heights != heights:
         sys.exit(f"{page.charts} charts, whose lines end at {page.heights}, expected {heights}")
 
@@ -439,6 +440,22 @@ def refused(gate) -> None:
     gate.policy.write_text(state.POLICY)
 
 
+def collar(gate) -> None:
+    """A collar's limit is no money: a part of the reference price, in each form."""
+    gate.policy.write_text(state.POLICY + '[[rule]]\nname = "BAND"\nkind = "collar"\nlimit = 12345\n')
+    gate.run("script", "--audit", gate.audit, given="1 OLGA login RIGHT 1\n2 OLGA limit C1 BAND 500\n")
+    for form in ("text", "csv", "html"):
+        told = gate.run("report", gate.audit, "--format", form)[1]
+        if not re.search(r"\b1\.2345\b.*\b0\.0500\b", told) or "$1.2345" in told:
+            sys.exit(f"a collar's limit as {form}: {told}")
+    (row,) = json.loads(gate.run("report", gate.audit, "--format", "json")[1])["commands"]
+    if (row["before"], row["after"]) != (12345, 500):
+        sys.exit(f"a collar's limit as JSON: {row}")
+    if "limit BAND 0.0500 file 1.2345 set by OLGA" not in " ".join(gate.run("state", gate.audit)[1].split()):
+        sys.exit("a collar's limit in gate state")
+    gate.policy.write_text(state.POLICY)
+
+
 def main() -> None:
     count = int(sys.argv[2]) if len(sys.argv) > 2 else 10
     with tempfile.TemporaryDirectory() as folder:
@@ -447,6 +464,7 @@ def main() -> None:
             compare(gate, seed)
         looked = looked_at(gate, Path(folder))
         refused(gate)
+        collar(gate)
     print(f"reports of {count} days: as worked out from their records; {looked}")
 
 

@@ -236,6 +236,12 @@ def clock(moment: int) -> str:
     return f"{seconds // 3600:02}:{seconds // 60 % 60:02}:{seconds % 60:02}.{nanoseconds:09}"
 
 
+def dollars(amount: int) -> str:
+    """Ten-thousandths of a dollar as a person reads them: to the cent, or with all four digits."""
+    whole, part = divmod(amount, 10_000)
+    return f"${whole:,}.{part // 100:02}" if part % 100 == 0 else f"${whole:,}.{part:04}"
+
+
 SHOWN = re.compile(r"(?:(?P<asked>.*?) )?# (?:line (?P<line>\d+) )?at (?P<moment>\d+): (?P<number>\d+) (?P<verdict>\w+) ?(?P<more>.*)")
 
 
@@ -337,6 +343,40 @@ def figures(day: Day) -> dict:
     }
 
 
+def by(mark: dict) -> str:
+    """Who gave a command, when, and its record, as the lines of the text form have it."""
+    return f"{mark['officer']} {mark['at']}, record {mark['record']}"
+
+
+def account_line(row: dict) -> str:
+    """The line of an account in the text form, with one space between words."""
+    line = f"account {row['account']} live {row['live']} open B {row['open_buys']} open S {row['open_sells']}"
+    for side, done in (("B", row["bought"]), ("S", row["sold"])):
+        line += f" done {side} {done['shares']} for {dollars(done['value'])}"
+    line += " KILLED" if row["killed"] else ""
+    line += f" by {by(row['kill'])}" if row["kill"] else ""
+    return line + (f" lifted by {by(row['lift'])}" if row["lift"] else "")
+
+
+def limit_lines(row: dict) -> list:
+    """The lines of a rule's limit and of what is used of it in the text form, with one space between words."""
+    if row["limit"] is None:
+        return []
+    name, amount = row["rule"], dollars if row["rule"] == "GROSS" else str
+    set_by = f" set by {by(row['set'])}" if row["set"] else ""
+    lines = [f"limit {name} {amount(row['limit'])} file {amount(row['file'])}{set_by}"]
+    for used in row.get("gross", []):
+        if used["used"] is not None:
+            whose = "together" if name == "GROSS" else used["account"]
+            lines.append(f"used {name} {whose} used {amount(used['used'])} left {amount(used['left'])}")
+    return lines[:2] if name == "GROSS" else lines
+
+
+def lines_of(told: dict) -> list:
+    """The lines of accounts, of limits and of what is used of gross limits in the text form."""
+    return [*map(account_line, told["accounts"]), *(line for row in told["rules"] for line in limit_lines(row))]
+
+
 class Gate:
     """The program, with a policy and an audit."""
 
@@ -358,6 +398,12 @@ class Gate:
         if status != 0:
             sys.exit(f"state {words}: status {status}: {told}")
         return json.loads(told)
+
+    def lines(self, *words: object) -> list:
+        """The same lines of the text form as `lines_of` makes, with one space between words."""
+        told = self.run("state", self.audit, *words)[1]
+        lines = [" ".join(line.split()) for line in told.splitlines()]
+        return [line for line in lines if line.startswith(("account ", "limit ", "used "))]
 
 
 def same(what: str, told: dict, expected: dict) -> None:
@@ -382,6 +428,8 @@ def main() -> None:
         places = sorted({0, 1, last, *chance.sample(range(last), 12)})
         for place in places:
             same(f"behind record {place}", gate.state("--at", place), expected[place][1])
+            told, wanted = gate.lines("--at", place), lines_of(expected[place][1])
+            same(f"in words, behind record {place}", dict(enumerate(told)), dict(enumerate(wanted)))
         times = [9 * 3600 + minutes * 60 + 7 for minutes in (0, 3, 8)]
         for time in times:
             count = max(place for place, (moment, _) in enumerate(expected) if place == 0 or moment <= time * SECOND)

@@ -5,7 +5,8 @@ statuses, JSON, `--reconnect`, Wireshark's dissectors; and a kill in a flood of 
 An officer kills an account from the shell while 64 traders flood the server: how long that takes, and that the audit has no
 order and no fill of the account behind the kill. Each refusal of a command, of a login and of a line has its text and its
 status. Each command prints what it has done; commands come as arguments or on standard input, and the password in the
-variable, in a file or in front of them. Two traders trade, and a reader watches. A report that is told again at a login
+variable, in a file or in front of them. `kill --all` and `kill` of several accounts say of each account what became of it:
+killed before, denied, not answered, and behind a line that is cut after three and a half kills, with and without `--reconnect`. Two traders trade, and a reader watches. A report that is told again at a login
 answers nothing, and whatever bytes are in it, only visible characters are shown. What `--json` prints is JSON. A run that
 says nothing for longer than a server waits stays logged in. With `--reconnect` it goes on behind a server that was killed.
 Where there is tshark, it reads the traffic without a malformed packet. A line is printed for each point, and behind one that
@@ -38,7 +39,7 @@ TOP = Path(__file__).resolve().parents[2]
 sys.path[:0] = [str(Path(__file__).resolve().parent), str(TOP / "examples")]
 
 from client import Packets, packet  # noqa: E402  (in the folder above)
-from desks import HOST, POLICIES, Server, Session, Told, flooding, serving  # noqa: E402  (beside this file)
+from desks import HOST, PASSWORDS, POLICIES, Server, Session, Told, flooding, serving  # noqa: E402  (beside this file)
 
 TRADERS = 64
 TURNS = 10
@@ -187,7 +188,9 @@ def wrong_words(gate: str, folder: Path, points: Points) -> None:
             "word 4: wanted PRICE, dollars with at most four decimals, as 10, 10.5 or 10.0001, below 429496.7296",
         ),
         "a line that ends early": ("kill", "word 2: wanted ACCOUNT, 1 to 8 of the characters ! to ~, or --all"),
-        "a word too many": ("kill ALFA BETA", "word 3: wanted the end of the line"),
+        "a word too many": ("lift ALFA BETA", "word 3: wanted the end of the line"),
+        "a word behind --all": ("kill --all ALFA", "word 3: wanted the end of the line"),
+        "a second account that is none": ("kill ALFA BETABETAB", "word 3: wanted ACCOUNT, 1 to 8 of the characters ! to ~"),
         "a form that is none": ("halt ALFA", f"word 1: wanted {FORMS}"),
         "close without --yes": (
             "close", "word 2: wanted --yes: closing ends the day for everybody, and nobody can undo it"
@@ -202,6 +205,11 @@ def wrong_words(gate: str, folder: Path, points: Points) -> None:
         without = server.desk("OLGA", "kill", "--all")
         is_told = without.status == 2 and not without.out and "--policy" in " ".join(without.err)
         points.look("kill --all without --policy", is_told, without)
+        listed = server.desk("OLGA", "kill", "--all", options=("--accounts", "ALFA,BETABETAB"))
+        is_told = listed.status == 2 and not listed.out and "--accounts" in " ".join(listed.err)
+        points.look("kill --all with a list that is none", is_told, listed)
+        both = server.desk("OLGA", "kill", "--all", options=("--accounts", "ALFA", "--policy", str(server.policy)))
+        points.look("--accounts beside --policy", both.status == 2 and not both.out, both)
         server.end()
         shown = server.read_audit("show", "--user", "OLGA")
         points.look("nothing was sent for any of them", not any("kill" in line or "close" in line for line in shown), shown)
@@ -255,18 +263,211 @@ def two_officers(gate: str, folder: Path, points: Points) -> None:
         points.told("the second of two lifts", server.desk("OTTO", "lift", "ALFA"), 0, [LIFTED])
 
 
+def killed(*accounts: str) -> list[str]:
+    """The lines of accounts that are killed."""
+    return [account + " killed: record {n} at {t}" for account in accounts]
+
+
+def killed_before(*accounts: str) -> list[str]:
+    """The lines of accounts that were killed already."""
+    return [f"gate: denied Q4: {account} is killed already" for account in accounts]
+
+
+def without_account(folder: Path, name: str) -> Path:
+    """A copy of the sample policy that lacks an account, its users and its rules."""
+    parts = (POLICIES / "sample.toml").read_text().split("\n[[")
+    kept = [part for part in parts if f'"{name}"' not in part and not part.startswith("rule")]
+    path = folder / f"without-{name}.toml"
+    path.write_text("\n[[".join(kept))
+    return path
+
+
 def kills_all(gate: str, folder: Path, points: Points) -> None:
-    """A kill of each account of a policy."""
-    both = ["ALFA killed: record {n} at {t}", "BETA killed: record {n} at {t}"]
+    """A kill of each account, with the line that sums it up."""
     with serving(gate, folder) as server:
-        policy = ("--policy", str(server.policy))
+        policy, listed = ("--policy", str(server.policy)), ("--accounts", "ALFA,BETA")
+        source = f" (the accounts are those of {server.policy}; the server's policy may have others)"
         told = server.desk("OLGA", "kill", "--all", options=policy)
-        told.out.sort()
-        points.told("`kill --all` with --policy", told, 0, both)
-        again = server.desk("OLGA", "kill", "--all", options=policy)
-        again.out.sort()
-        wanted = [f"gate: denied Q4: {account} is killed already" for account in ("ALFA", "BETA")]
-        points.told("`kill --all` of what is killed", again, 5, wanted)
+        points.told("`kill --all` with --policy", told, 0, [*killed("ALFA", "BETA"), "2 accounts: 2 killed" + source])
+        told = server.desk("OLGA", "kill", "--all", options=policy)
+        wanted = [*killed_before("ALFA", "BETA"), "2 accounts: 0 killed, 2 were killed already" + source]
+        points.told("`kill --all` of what is killed", told, 0, wanted)
+        server.desk("OLGA", "lift", "ALFA")
+        told = server.desk("OLGA", "kill", "--all", options=listed)
+        wanted = [*killed("ALFA"), *killed_before("BETA"), "2 accounts: 1 killed, 1 was killed already"]
+        points.told("`kill --all` with --accounts, one of them killed before", told, 0, wanted)
+        told = server.desk("OLGA", "kill", "--all", options=("--accounts", "ALFA,HOTEL"))
+        wanted = [*killed_before("ALFA"), "gate: denied Q1: the policy has no account HOTEL",
+                  "2 accounts: 0 killed, 1 was killed already, 1 denied: HOTEL"]
+        points.told("`kill --all` with an account that is not there", told, 5, wanted)
+        told = server.desk("ALICE", "kill", "--all", options=listed)
+        points.told("`kill --all` of who is no officer", told, 7, ["2 accounts: 0 killed, 2 not answered: ALFA BETA"],
+                    ["gate: no answer within 5 seconds"])
+    with serving(gate, folder) as server:
+        path, real = folder / "desk.toml", server.policy.read_text()
+        printed = subprocess.run([gate, "policy", "--for-desk", str(server.policy)], capture_output=True, text=True, check=True)
+        path.write_text(printed.stdout)
+        secrets = [*PASSWORDS, *PASSWORDS.values(), "password"]
+        points.look("`gate policy --for-desk` prints no user and no password",
+                    all(word in real and word not in printed.stdout for word in secrets), printed.stdout)
+        counted = subprocess.run([gate, "policy", str(path)], capture_output=True, text=True, check=False).stdout
+        points.look("and all else of the policy", counted == "policy 2: 2 accounts, 1 stocks, 0 users, 2 rules\n", counted)
+        told = server.desk("OLGA", "kill", "--all", options=("--policy", str(path)))
+        source = f" (the accounts are those of {path}; the server's policy may have others)"
+        points.told("`kill --all` with that file", told, 0, [*killed("ALFA", "BETA"), "2 accounts: 2 killed" + source])
+    with serving(gate, folder) as server:
+        copy = without_account(folder, "BETA")
+        told = server.desk("OLGA", "kill", "--all", options=("--policy", str(copy)))
+        source = f" (the accounts are those of {copy}; the server's policy may have others)"
+        points.told("`kill --all` with a copy that lacks an account", told, 0, [*killed("ALFA"), "1 account: 1 killed" + source])
+        told = server.desk("OLGA", "kill", "BETA")
+        points.told("that account was not killed", told, 0, killed("BETA"))
+
+
+def kills_several(gate: str, folder: Path, points: Points) -> None:
+    """A kill of several accounts that are named, with the line that sums it up."""
+    with serving(gate, folder, "risk-desk.toml") as server:
+        server.desk("OLGA", "kill", "BETA")
+        told = server.desk("OTTO", "kill", "ALFA", "BETA")
+        wanted = ["gate: denied Q3: ALFA is not an account of yours", *killed_before("BETA"),
+                  "2 accounts: 0 killed, 1 was killed already, 1 denied: ALFA"]
+        points.told("several accounts, one of another officer", told, 5, wanted)
+        told = server.desk("OLGA", "kill", "ALFA", "BETA")
+        wanted = [*killed("ALFA"), *killed_before("BETA"), "2 accounts: 1 killed, 1 was killed already"]
+        points.told("several accounts, one killed before", told, 0, wanted)
+        told = server.desk("OLGA", given="lift ALFA\nkill ALFA BETA\nlift ALFA\nlift BETA\n")
+        points.told("on standard input, between other commands", told, 0, [LIFTED, *wanted, LIFTED, "BETA lifted: {any}"])
+        told = server.desk("OLGA", given="kill ALFA HOTEL\nkill ALFA\n")
+        wanted = [*killed("ALFA"), "gate: denied Q1: the policy has no account HOTEL",
+                  "2 accounts: 1 killed, 1 denied: HOTEL", IS_KILLED]
+        points.told("an account that is not there, and the kill of one account as ever", told, 5, wanted)
+        told = server.desk("OLGA", "kill", "ALFA", "HOTEL", "INDIA", options=("--json",))
+        counts = {"event": "kills", "accounts": 3, "killed": 0, "killed_already": 1, "denied": 2, "not_answered": 0}
+        summed = {**counts, "not_killed": ["HOTEL", "INDIA"]}
+        points.look("--json", told.status == 5 and json.loads(told.out[-1]) == summed and len(told.out) == 4, told)
+        policy = ("--json", "--policy", str(server.policy))
+        told = server.desk("OLGA", "kill", "--all", options=policy)
+        last = json.loads(told.out[-1])
+        is_right = told.status == 0 and last["policy"] == str(server.policy) and last["not_killed"] == []
+        points.look("--json of `kill --all` with --policy", is_right, told)
+        told = server.desk("ALICE", "kill", "ALFA", "BETA", options=("--json",))
+        last = json.loads(told.out[-1])
+        is_right = told.status == 7 and (last["not_answered"], last["not_killed"]) == (2, ["ALFA", "BETA"])
+        points.look("--json of kills without an answer", is_right, told)
+
+
+# A line that is cut.
+
+
+class Cutter:
+    """A relay in front of a server, which cuts its first line in the middle of the fourth Kill, once the server has answered
+    three; the client has heard these answers, or none. Later lines are relayed whole."""
+
+    def __init__(self, port: int, are_heard: bool) -> None:
+        self.behind, self.are_heard = port, are_heard
+        self.answers = threading.Semaphore(0)
+        self.listener = socket.create_server((HOST, 0))
+        self.port = self.listener.getsockname()[1]
+        threading.Thread(target=self.take, daemon=True).start()
+
+    def take(self) -> None:
+        """Takes connections."""
+        is_first = True
+        while True:
+            client, _ = self.listener.accept()
+            server = socket.create_connection((HOST, self.behind))
+            for one, other, relay in ((client, server, self.ask), (server, client, self.answer)):
+                threading.Thread(target=relay if is_first else relay_all, args=(one, other), daemon=True).start()
+            is_first = False
+
+    def ask(self, client: socket.socket, server: socket.socket) -> None:
+        """Passes on what the client asks, up to the middle of his fourth Kill."""
+        kills, rest = 0, b""
+        while kills < 4 and (piece := client.recv(65536)):
+            rest += piece
+            while kills < 4 and len(rest) >= 2 and len(rest) >= (end := 2 + int.from_bytes(rest[:2], "big")):
+                kills += rest[2:4] == b"UK"
+                server.sendall(rest[: end // 2 if kills == 4 else end])
+                rest = rest[end:]
+        for _ in range(3):
+            self.answers.acquire(timeout=10)
+        client.shutdown(socket.SHUT_WR)
+        server.close()
+        while client.recv(65536):
+            pass
+
+    def answer(self, server: socket.socket, client: socket.socket) -> None:
+        """Passes on what the server answers; of answers to Kills only where they are to be heard."""
+        packets = Packets()
+        try:
+            while piece := server.recv(65536):
+                for kind, payload in packets.take(piece):
+                    is_answer = kind == b"S" and payload[:1] == b"Q"
+                    if self.are_heard or not is_answer:
+                        client.sendall(packet(kind, payload))
+                    if is_answer:
+                        self.answers.release()
+        except OSError:
+            pass
+
+
+def relay_all(one: socket.socket, other: socket.socket) -> None:
+    """Passes on all that one end says."""
+    try:
+        while piece := one.recv(65536):
+            other.sendall(piece)
+        other.shutdown(socket.SHUT_WR)
+    except OSError:
+        pass
+
+
+def ten_accounts(folder: Path) -> tuple[Path, list[str]]:
+    """The sample policy with ten accounts, and their names."""
+    names = ["ALFA", "BETA", *(f"ACCT{i}" for i in range(8))]
+    text = (POLICIES / "sample.toml").read_text()
+    more = "".join(f'[[account]]\nname = "{name}"\nfirm = "F{name[-1]}"\n\n' for name in names[2:])
+    path = folder / "ten.toml"
+    path.write_text(text.replace("[[stock]]", more + "[[stock]]", 1))
+    return path, names
+
+
+def cut_kills(gate: str, folder: Path, points: Points) -> None:
+    """A line that is cut in the middle of the fourth Kill of ten, with and without --reconnect."""
+    path, names = ten_accounts(folder)
+    listed = ("--accounts", ",".join(names))
+    lost = " ".join(names[3:])
+    for are_heard, what in ((True, "three answers were heard"), (False, "no answer was heard")):
+        with serving(gate, folder, path) as server:
+            own = server.port
+            server.port = Cutter(own, are_heard).port
+            told = server.desk("OLGA", "kill", "--all", options=listed)
+            summed = f"10 accounts: 3 killed, 7 not answered: {lost}"
+            wanted = [*killed(*names[:3]), summed]
+            if not are_heard:
+                wanted = [f"10 accounts: 0 killed, 10 not answered: {' '.join(names)}"]
+            points.told(f"a line that is cut: {what}", told, 7, wanted, [BROKEN])
+        with serving(gate, folder, path) as server:
+            server.desk("OLGA", "kill", names[9])
+            own = server.port
+            server.port = Cutter(own, are_heard).port
+            told = server.desk("OLGA", "kill", "--all", options=("--reconnect", *listed))
+            wanted = [*killed(*names[:9]), *killed_before(names[9]), "10 accounts: 9 killed, 1 was killed already"]
+            points.told(f"the same with --reconnect: {what}", told, 0, wanted, [BROKEN_AGAIN])
+            server.port = own
+            told = server.desk("OLGA", "kill", *names)
+            wanted = [*killed_before(*names), "10 accounts: 0 killed, 10 were killed already"]
+            points.told("and each is killed", told, 0, wanted)
+    with serving(gate, folder, path) as server:
+        server.port = Cutter(server.port, True).port
+        told = server.desk("OLGA", "kill", *names, options=("--reconnect",))
+        points.told("several that are named, with --reconnect", told, 0, [*killed(*names), "10 accounts: 10 killed"], [BROKEN_AGAIN])
+    with serving(gate, folder, path) as server:
+        server.port = Cutter(server.port, True).port
+        given = "kill alfa\nkill --all\nlift BETA\n"
+        told = server.desk("OLGA", options=("--reconnect", "--accounts", ",".join(names)), given=given)
+        wanted = ["gate: denied Q1: the policy has no account alfa; names are in capitals", *killed(*names),
+                  "10 accounts: 10 killed", "BETA lifted: record {n} at {t}"]
+        points.told("on standard input, behind a kill that is denied", told, 5, wanted, [BROKEN_AGAIN])
 
 
 def standard_input(gate: str, folder: Path, points: Points) -> None:
@@ -549,6 +750,8 @@ PARTS: dict[str, Callable[[str, Path, Points], None]] = {
     "settings": settings_that_are_so,
     "two-officers": two_officers,
     "all": kills_all,
+    "several": kills_several,
+    "cut": cut_kills,
     "input": standard_input,
     "orders": orders,
     "shell": orders_from_the_shell,

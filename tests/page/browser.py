@@ -12,8 +12,10 @@ from collections.abc import Iterator
 from contextlib import contextmanager
 from pathlib import Path
 
+import peers  # of tests, as pages.py has it
 from pages import (
-    HOST, KILLED_SECONDS, OLGA, OTTO, PATIENCE_SECONDS, POLICY, RITA, TRADERS, Points, Server, flood_policy, flooding, serving, traded,
+    HOST, KILLED_SECONDS, OLGA, OTTO, PATIENCE_SECONDS, POLICY, RITA, TRADERS, Points, Server, flood_policy, flooding, is_documented,
+    serving, traded,
 )
 
 INSTALL_SECONDS = 240
@@ -174,12 +176,37 @@ def browsing(folder: Path, seconds: float) -> Iterator[Browser | None]:
             browser.end()
 
 
+NARROW_WIDTHS = (390, 480, 519)
+# Ten-thousandths of a dollar, and how they are shown.
+AMOUNTS = {
+    "0": "$0.00", "4": "$0.0004", "100": "$0.01", "5000": "$0.50", "9999999": "$999.9999", "10000001": "$1,000.0001",
+    "300000000": "$30,000.00", "9007199254740993": "$900,719,925,474.0993", "18446744073709551615": "$1,844,674,407,370,955.1615",
+}
 ROW = "[...document.querySelectorAll('#accounts tr')].find((row) => row.cells[0].textContent === '%s')"
+
+BUTTONS = "[...document.querySelectorAll('#accounts button')].filter((one) => one.checkVisibility())"
+ARE_LIVE = f"{BUTTONS}.every((one) => one.getAttribute('aria-disabled') === 'false' && one.title === '' && " \
+    "getComputedStyle(one).borderStyle === 'solid')"
+# Whether all Kill buttons are disabled, look so, and say this.
+ARE_DISABLED = f"{BUTTONS}.every((one) => one.getAttribute('aria-disabled') === 'true' && one.title.startsWith('%s') && " \
+    "getComputedStyle(one).borderStyle === 'dashed')"
+OLD = "What you see is old"
+ELSEWHERE = "You are logged in elsewhere: kill from there, or log out there"
+# What is seen at the middle of an element, and whether that is the element or lies in it.
+SEEN_AT = "((one) => { const box = one.getBoundingClientRect(); const seen = document.elementFromPoint(box.x + box.width / 2, " \
+    "box.y + box.height / 2); return [one.contains(seen), seen && seen.outerHTML.slice(0, 200)]; })(document.getElementById('%s'))"
 
 
 def page_of(server: Server, user: tuple) -> str:
     """The page's address, with a name and a password."""
     return f"http://{user[0]}:{user[1]}@{HOST}:{server.page}/"
+
+
+def keep_picture(browser: Browser, points: Points, name: str) -> None:
+    """Writes a picture of the page, where pictures are wanted."""
+    if points.screenshots:
+        points.screenshots.mkdir(parents=True, exist_ok=True)
+        (points.screenshots / f"page-{name}.png").write_bytes(browser.picture())
 
 
 def pictures(browser: Browser, points: Points) -> None:
@@ -189,14 +216,13 @@ def pictures(browser: Browser, points: Points) -> None:
         browser.sized(width, height, scheme)
         wide = browser.value("document.documentElement.scrollWidth")
         points.look(f"{name}: the page is no wider than {width}", wide <= width, wide)
-        if points.screenshots:
-            points.screenshots.mkdir(parents=True, exist_ok=True)
-            (points.screenshots / f"page-{name}.png").write_bytes(browser.picture())
+        keep_picture(browser, points, name)
     browser.sized(1280, 720, "light")
 
 
 def killed_by_keyboard(browser: Browser, points: Points) -> None:
     """Kill of ALFA, asked for by keyboard alone: first not, then so."""
+    browser.waits(ARE_LIVE, 3)  # where `gate desk` has logged the officer in they are not at once
     is_kill = "(one) => one.tagName === 'BUTTON' && one.textContent === 'Kill ALFA'"
     points.look("Tab comes to the Kill button of ALFA", browser.tabs_to(is_kill), browser.value("document.activeElement.outerHTML"))
     browser.value(f"window.sameRow = {ROW % 'ALFA'}; 0")
@@ -221,13 +247,38 @@ def killed_by_keyboard(browser: Browser, points: Points) -> None:
     points.look(f"Tab and Enter kill it, and KILLED is seen after {took:.2f} s", is_seen, browser.value("document.body.innerText"))
     points.look("the answer was 303", browser.statuses("/kill") == [303], browser.statuses("/kill"))
     is_told = browser.value("document.getElementById('answer').innerText")
-    points.look("the page tells that it was granted", "Kill ALFA: granted" in is_told, is_told)
+    is_right = is_told.endswith(" Kill ALFA: granted") and is_documented(is_told)
+    points.look("the page tells that it was granted", is_right, is_told)
     is_right = browser.value(f"window.sameRow === {ROW % 'ALFA'} && !window.sameRow.querySelector('button').checkVisibility()")
     points.look("its row is the same element, without its button", bool(is_right))
 
 
+def money(browser: Browser, server: Server, points: Points) -> None:
+    """Amounts are shown to the last ten-thousandth of a dollar, also those that no number of a browser holds."""
+    told = {digits: browser.value(f"amount(read('[{digits}]')[0], 'dollars/10000')") for digits in AMOUNTS}
+    points.look("amounts are told exactly", told == AMOUNTS, told)
+    is_right = browser.value(
+        "[[1, 'past'], [0, 'near'], [-1, 'near']].every(([more, name]) => withShare({ limit: '9223372036854775807', "
+        "used: String(9223372036854775807n + BigInt(more)) }).level.name === name)"
+    )
+    points.look("and whether a large one is past its limit", is_right)
+    row = "[...document.querySelectorAll('#%s tr')].find((row) => row.innerText.startsWith('GROSS'))?.innerText.replace(/\\s+/g, ' ')"
+    uses, changed = row % "limits", row % "changed"
+    for limit, used in (("9999999", "100.0 % $1,000.00 of $999.9999 \u25b2\u25b2\u25b2 past the limit"),
+                        ("10000001", "99.9 % $1,000.00 of $1,000.0001 \u25b2\u25b2 near the limit"), ("18446744073709551615", None)):
+        server.desk(OLGA, "limit", "GROSS", limit)
+        in_force = f"GROSS {AMOUNTS[limit]} $100,000.00"
+        is_right = browser.waits(f"{changed} === '{in_force}'", 3)
+        is_right &= used is None or browser.value(uses) == f"GROSS ALFA all {used}"
+        points.look(f"a limit of {limit} is shown as {AMOUNTS[limit]}", is_right, browser.value(changed), browser.value(uses))
+    server.desk(OLGA, "limit", "GROSS", "1000000000")
+    is_right = browser.waits("document.getElementById('changed-section').hidden", 3)
+    points.look("the limit of the file is told of no more", is_right, browser.value(changed))
+
+
 def killed_here(browser: Browser, account: str) -> tuple[bool, float]:
     """Kill of an account by its button: whether KILLED is seen in time, and after how many seconds."""
+    browser.waits(ARE_LIVE, 3)
     browser.value(f"({ROW % account}).querySelector('button').focus()")
     browser.press("Enter")
     browser.press("Tab")
@@ -237,18 +288,88 @@ def killed_here(browser: Browser, account: str) -> tuple[bool, float]:
     return is_seen, time.monotonic() - began
 
 
+def old_and_narrow(browser: Browser, points: Points) -> None:
+    """A page that is old, on telephones: what says so is in front, and hides no end of the page."""
+    for width in NARROW_WIDTHS:
+        browser.sized(width, 844, "light")
+        seen = [browser.value(SEEN_AT % "banner")]
+        keep_picture(browser, points, f"old-{width}")
+        browser.value("hasToLogIn = true; showTrouble(); window.scrollTo(0, document.documentElement.scrollHeight); 0")
+        seen += [browser.value(SEEN_AT % "banner"), browser.value(SEEN_AT % "again")]
+        places = browser.value("['main', 'banner'].map((name) => document.getElementById(name).getBoundingClientRect()).map((box) => "
+                               "[box.top, box.bottom])")
+        browser.value("hasToLogIn = false; showTrouble(); window.scrollTo(0, 0); 0")
+        is_right = all(is_seen for is_seen, _ in seen) and places[0][1] <= places[1][0]
+        points.look(f"old, {width} wide: its banner is in front, and below the page's end", is_right, seen, places)
+        wide = browser.value("document.documentElement.scrollWidth")
+        points.look(f"old, {width} wide: the page is no wider", wide <= width, wide)
+    browser.sized(1280, 720, "light")
+
+
+def kills_nothing(browser: Browser, points: Points) -> None:
+    """A page that is old, and on which it was asked already whether to kill: no button kills, and each says why."""
+    kills = len(browser.statuses("/kill"))
+    browser.value("document.getElementById('kill').focus(); 0")
+    browser.press("Enter")
+    seen = browser.value("[document.querySelector('dialog').open, document.getElementById('question-why').innerText, "
+                         "document.getElementById('kill').getAttribute('aria-disabled'), document.getElementById('kill').title]")
+    is_right = seen[0] and seen[1].startswith(OLD) and seen[2] == "true" and seen[3].startswith(OLD)
+    points.look("old: the open question kills nothing, and says why", is_right, seen)
+    browser.press("Escape")
+    is_right = browser.value(f"{BUTTONS}.length === 3 && {ARE_DISABLED % OLD}")
+    points.look("old: the Kill buttons are disabled, and say why", is_right, browser.value("document.body.outerHTML"))
+    browser.value(f"({ROW % 'BETA'}).querySelector('button').focus()")
+    browser.press("Enter")
+    told = browser.value("document.getElementById('answer').innerText")
+    is_right = not browser.value("document.querySelector('dialog').open") and f" Kill BETA: not asked for. {OLD}" in told
+    is_right &= is_documented(told)
+    points.look("old: Enter on one asks nothing, and tells why", is_right and len(browser.statuses("/kill")) == kills, told)
+
+
 def goes_on(browser: Browser, server: Server, points: Points) -> None:
     """A server that is killed and started anew: the page that is open tells the one, goes on behind the other, and kills there."""
+    browser.waits(ARE_LIVE, 3)
+    browser.value(f"({ROW % 'BETA'}).querySelector('button').focus()")
+    browser.press("Enter")
     server.crash()
     is_right = browser.waits("document.getElementById('banner').innerText.startsWith('No answer from the gate since ')", 6)
     points.look("without an answer the page tells that it is old", is_right, browser.value("document.body.innerText"))
+    kills_nothing(browser, points)
+    old_and_narrow(browser, points)
     server.start()
     is_right = browser.waits("document.getElementById('banner').hidden && !document.body.classList.contains('is-old')", 6)
     points.look("and goes on once the server is there again", is_right, browser.value("document.body.innerText"))
+    is_right = browser.value(f"{BUTTONS}.length === 3 && {ARE_LIVE}")
+    points.look("its Kill buttons are live again", is_right, browser.value("document.body.outerHTML"))
     is_seen, took = killed_here(browser, "BETA")
     is_right = is_seen and browser.statuses("/kill") == [303, 303] and server.state()["accounts"][1]["killed"]
     points.look(f"a kill of this run's, of the page of the earlier one: KILLED is seen after {took:.2f} s", is_right,
                 browser.statuses("/kill"), browser.value("document.body.innerText"))
+
+
+def logged_in_elsewhere(browser: Browser, server: Server, points: Points) -> None:
+    """An officer who is logged in at the trading port is told so beforehand, and asked nothing; and kills once he has logged out."""
+    peer = peers.Peer(server.port)
+    peer.line.sendall(peers.login(*(word.encode() for word in OLGA)))
+    peer.packet()
+    is_right = browser.waits(f"{BUTTONS}.length === 2 && {ARE_DISABLED % ELSEWHERE}", 3)
+    points.look("who is logged in elsewhere: his Kill buttons are disabled, and say so", is_right, browser.value("document.body.outerHTML"))
+    told = browser.value("document.getElementById('elsewhere').checkVisibility() && document.getElementById('elsewhere').innerText")
+    points.look("and it stands above them", told == ELSEWHERE, told)
+    keep_picture(browser, points, "elsewhere")
+    records, kills = server.state()["record"], len(browser.statuses("/kill"))
+    browser.value(f"({ROW % 'GAMMA'}).querySelector('button').focus()")
+    browser.press("Enter")
+    told = browser.value("document.getElementById('answer').innerText")
+    is_right = not browser.value("document.querySelector('dialog').open") and told.endswith(f" Kill GAMMA: not asked for. {ELSEWHERE}")
+    is_right &= len(browser.statuses("/kill")) == kills and server.state()["record"] == records
+    points.look("Enter on one asks nothing, tells why, and makes no record", is_right and is_documented(told), told)
+    told = browser.value("kill('GAMMA').then(() => document.getElementById('answer').innerText)")
+    is_right = f" Kill GAMMA: not confirmed. {ELSEWHERE[0].lower()}{ELSEWHERE[1:]}" in told and browser.statuses("/kill")[-1] == 403
+    points.look("a kill that was asked for just before is not confirmed", is_right and is_documented(told), told)
+    peer.log_out()
+    is_right = browser.waits(f"{BUTTONS}.length === 2 && {ARE_LIVE} && !document.getElementById('elsewhere').checkVisibility()", 3)
+    points.look("once he has logged out they are live again", is_right, browser.value("document.body.outerHTML"))
 
 
 def shown_to_others(browser: Browser, server: Server, points: Points) -> None:
@@ -280,11 +401,13 @@ def browser(gate: str, folder: Path, points: Points) -> None:
             is_right = seen.value("document.title") == "Boskurige" and "OLGA" in told and "SIZE" in told
             points.look("its title, its user, and what was denied", is_right, told)
             pictures(seen, points)
+            money(seen, server, points)
             killed_by_keyboard(seen, points)
             server.desk(OLGA, "lift", "ALFA")
             is_right = seen.waits(f"({ROW % 'ALFA'}).innerText.includes('lifted last at')", 3)
             points.look("a lift from the shell is seen, and by whom", is_right, seen.value(f"({ROW % 'ALFA'}).innerText"))
             goes_on(seen, server, points)
+            logged_in_elsewhere(seen, server, points)
             shown_to_others(seen, server, points)
         in_a_flood(seen, gate, folder / "flood", points)
         points.look("no fault was told of", seen.faults() == [], *seen.faults())

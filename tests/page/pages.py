@@ -287,6 +287,12 @@ def comes(condition: Callable[[], object], seconds: float = 2.0) -> bool:
     return True
 
 
+def is_documented(told: str) -> bool:
+    """Whether the risk officers' document has what the page tells of a kill, but for the moment in front and the account."""
+    text = re.sub(r"^(?:[0-9:]{8} )?Kill \w+:", "Kill ALFA:", told)
+    return f"`{text}`" in (TOP / "docs" / "RISK_OFFICERS.md").read_text()
+
+
 # Traders.
 
 

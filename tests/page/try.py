@@ -7,15 +7,17 @@ half a request, of wrong passwords and of more connections than it serves at onc
 server reads, with the times of a trader's reports in buckets, and with a journal what was written to it. Then a kill in a flood
 of 64 traders, and what a thousand idle connections to the page, and one that asks ten times a second, cost a trader. Last a
 browser opens the page with an officer's password, presses Kill by keyboard, and has to show the account as killed within two
-seconds, also in a flood; where no browser can be had that is told, and nothing fails. A line is printed for each point, and
-behind one that is not as wanted what was seen. The status is 1 where there is such a one. Run as
+seconds, also in a flood; without a server its banner has to be in front of a narrow page, and no Kill button to be live, nor
+while the officer is logged in elsewhere; and amounts are shown to the last ten-thousandth of a dollar. Where no browser can be
+had that is told, and nothing fails. A line is printed for each point, and behind one that is not as wanted what was seen. The
+status is 1 where there is such a one. Run as
 
   tests/page/try.py [GATE]
   tests/page/try.py [GATE] --slack 5                    costs may be five times as high
   tests/page/try.py [GATE] --within 90                  takes no longer than so many seconds
   tests/page/try.py [GATE] --only requests,browser      parts of it
   tests/page/try.py [GATE] --only reading --days 8      what one costs that asks ten times a second, measured on eight servers
-  tests/page/try.py [GATE] --screenshots FOLDER         writes pictures of the page: light, dark and narrow
+  tests/page/try.py [GATE] --screenshots FOLDER         writes pictures of the page: light, dark, narrow, and old
 
 GATE: the built program; where none is named, crates/gate/out/gate of this repository.
 """
@@ -43,27 +45,33 @@ sys.path[:0] = [str(Path(__file__).resolve().parent), str(TOP / "tests"), str(TO
 import peers  # noqa: E402  (of tests)
 from browser import browser  # noqa: E402  (beside this file)
 from costs import idle_cost, reading_cost  # noqa: E402
+from crowds import crowds  # noqa: E402
 from desks import HOST  # noqa: E402  (of tests/desk)
 from pages import (  # noqa: E402
     ALICE, KILLED_SECONDS, OLGA, OMAR, OTTO, PATIENCE_SECONDS, POLICY, RITA, TRADERS, Answer, Points, Server, asked, comes,
-    exchanged, flood_policy, flooding, request_for, serving, traded,
+    exchanged, flood_policy, flooding, is_documented, request_for, serving, traded,
 )
 
 PART_SECONDS = 240
 SILENT_SECONDS = 5.0
-AT_ONCE = 32
+AT_ONCE = 64
 FLOOD_KILLS = 10
 PAGE_POLICY = "default-src 'none'; script-src 'self'; style-src 'self'; connect-src 'self'; img-src data:; form-action 'self'; " \
     "base-uri 'none'; frame-ancestors 'none'"
 # What answers say in a line of text.
 WELL, CLOSED = "the gate takes orders", "the day is closed"
 STRANGER = "the name and the password of an officer or a reader are wanted"
+REFUSED = b"HTTP/1.1 401 Unauthorized\r\nContent-Type: text/plain; charset=utf-8\r\nContent-Length: 63\r\n" \
+    b"Cache-Control: no-store\r\nConnection: close\r\nContent-Security-Policy: " + PAGE_POLICY.encode() + b"\r\n" \
+    b"X-Content-Type-Options: nosniff\r\nReferrer-Policy: no-referrer\r\n" \
+    b'WWW-Authenticate: Basic realm="Boskurige", charset="UTF-8"\r\n\r\n' + STRANGER.encode() + b"\n"
 NO_REQUEST = "this is no request that is served here"
 NO_TOKEN = "the page is of an earlier run of the server: try again"
 NO_POWER = "you may not kill this account"
 ELSEWHERE = "you are logged in elsewhere: kill from there, or log out there"
 KILLED = "the account is killed"
 UNKEPT = "the journal can't be written: nothing more is told"
+NO_RECORD = "there is no memory or no record left for the kill: try again"
 DENIED = "the gate denied the kill: the last commands say why"
 # The members of a state, in their order, and those of the rows of its lists.
 MEMBERS = [
@@ -98,6 +106,10 @@ def paths(server: Server, points: Points) -> None:
         points.look(f"GET {path} without a password, with a wrong one, and with a trader's is 401", is_right, *refused)
     health = asked(server.page, "/healthz")
     points.look("/healthz needs no password", health.says(200, WELL), health)
+    answer = exchanged(server.page, request_for("/state.json", None))
+    points.look("the bytes of a 401 are as HTTP has them", answer == REFUSED, answer)
+    answer = Answer(exchanged(server.page, request_for("/state.json", OLGA).replace(b"Basic", b"basic")))
+    points.look("the scheme of a password may be in lower case", answer.status == 200 and answer.is_whole, answer)
     wanted = {("GET", "/kill"): 405, ("POST", "/"): 405, ("POST", "/state.json"): 405, ("GET", "/nothing"): 404, ("GET", "//"): 404,
               ("GET", "/page.js/"): 404}
     for (method, path), status in wanted.items():
@@ -258,6 +270,9 @@ def refused_kills(server: Server, points: Points) -> None:
     after = server.state()
     is_right = after["record"] == before and not any(row["killed"] for row in after["accounts"])
     points.look("no record was made of any of them", is_right, before, after)
+    texts = [f"Kill ALFA: not confirmed. {words}" for words in (STRANGER, NO_TOKEN, NO_POWER, ELSEWHERE, DENIED, NO_RECORD, UNKEPT)]
+    unknown = [text for text in texts if not is_documented(text)]
+    points.look("RISK_OFFICERS.md has what the page tells of refused kills", not unknown, *unknown)
 
 
 def kill_requests(server: Server, points: Points) -> None:
@@ -505,6 +520,7 @@ PARTS: dict[str, Callable[[str, Path, Points], None]] = {
     "unkept": unkept_kill,
     "journal": journaled,
     "flood": kills_in_a_flood,
+    "crowds": crowds,
     "idle": idle_cost,
     "reading": reading_cost,
     "browser": browser,

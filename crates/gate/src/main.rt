@@ -12,7 +12,8 @@ use gx_command_line::Invocation;
 use gx_core::Gate;
 use gx_desk_command::desk_told;
 use gx_program::{
-    Failure, NULL, StandIns, asked_of, print_migrated, tell, tell_bad_word, tell_policy, words_of,
+    Failure, NULL, StandIns, asked_of, print_for_desk, print_migrated, tell, tell_bad_word,
+    tell_policy, words_of,
 };
 use gx_records::{ShowsRecords, ShowsState};
 use gx_runs::{Input, run_files};
@@ -33,6 +34,7 @@ fn run<'a, G: ShowsRecords + ShowsState + Send, R: ServerRuntime>(
         Invocation::Pipe(files) => run_files::<G>(host, Input::Packets, files)?,
         Invocation::Script(files) => run_files::<G>(host, Input::Lines, files)?,
         Invocation::Policy(file) => tell_policy(host, file)?,
+        Invocation::PolicyForDesk(file) => print_for_desk(host, file)?,
         Invocation::Migrate(file) => print_migrated(host, file)?,
         Invocation::Serve(serving) => return Ok(serve_told::<G, R>(rt, host, serving)),
         Invocation::Desk(desk) => return Ok(desk_told(rt, host, desk)),

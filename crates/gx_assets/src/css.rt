@@ -174,8 +174,9 @@ button {
   cursor: pointer;
 }
 button.kill { color: var(--bad); border-color: var(--bad); }
-button.kill:hover { color: var(--on-bad); background: var(--bad); }
-button[aria-disabled="true"] { color: var(--soft); border-style: dashed; background: var(--back); cursor: default; }
+button.kill:not([aria-disabled="true"]):hover { color: var(--on-bad); background: var(--bad); }
+button[aria-disabled="true"] { color: var(--soft); border: 1px dashed var(--edge); background: var(--back); cursor: default; }
+#elsewhere { padding: .2rem .45rem; border-left: 6px solid var(--mark); }
 #accounts th, #accounts td { vertical-align: middle; }
 #accounts td:last-child { padding-top: .1rem; padding-bottom: .1rem; text-align: right; }
 
@@ -221,6 +222,7 @@ dialog {
 }
 dialog::backdrop { background: rgb(0 0 0 / 55%); }
 dialog h2 { font-size: 1.2rem; }
+#question-why { margin-top: .6rem; font-weight: 600; }
 .choices { display: flex; flex-wrap: wrap; justify-content: flex-end; gap: .8rem; margin-top: 1.1rem; }
 .choices button { min-height: 38px; }
 
@@ -236,9 +238,10 @@ dialog h2 { font-size: 1.2rem; }
 }
 @media (max-width: 520px) {
   header { position: static; }
-  #banner { position: fixed; left: 0; right: 0; bottom: 0; }
+  #banner { position: fixed; z-index: 2; left: 0; right: 0; bottom: 0; } /* in front of what is grey */
+  body.is-old { padding-bottom: 5rem; }
   th, td { padding: .25rem .3rem; }
-  #accounts-title + table thead th { white-space: normal; vertical-align: bottom; }
+  #elsewhere + table thead th { white-space: normal; vertical-align: bottom; }
   .record { display: none; }
   .tiles div { padding: .3rem .45rem; }
   .tiles dt { font-size: .82em; }

@@ -48,6 +48,7 @@ pub fn page() -> &'static [u8] {
 
 <section aria-labelledby="accounts-title">
 <h2 id="accounts-title">Accounts</h2>
+<p id="elsewhere" role="status" hidden></p>
 <table>
 <caption class="unseen">Accounts, their state and their live orders</caption>
 <thead><tr>
@@ -158,6 +159,7 @@ pub fn page() -> &'static [u8] {
 <dialog id="question" aria-labelledby="question-title" aria-describedby="question-text">
 <h2 id="question-title"></h2>
 <p id="question-text">All its live orders end, and it can enter none until it is lifted.</p>
+<p id="question-why" role="status"></p>
 <div class="choices">
 <button type="button" id="keep" autofocus>Keep it</button>
 <button type="button" id="kill" class="kill"></button>

@@ -10,8 +10,8 @@ pub fn script() -> &'static [u8] {
 const POLL_MILLIS = 1000; // how often the state is asked for
 const STALE_AFTER_MILLIS = 3000; // without an answer for so long, what is shown is old
 const ANSWER_WAIT_MILLIS = 20000; // so long an answer is waited for: a browser may have to ask for the password meanwhile
-const WARNING = 0.75; // shares of a limit
-const NEAR = 0.9;
+const WARNING = 75n; // percent of a limit
+const NEAR = 90n;
 const DASH = '\u2013';
 
 // Not from the page's own address: a name and a password may stand in it, and then a browser asks for nothing.
@@ -26,6 +26,7 @@ let counted = null; // its counters, with the moment at which they came
 let heardAt = Date.now(); // when the gate answered last
 let trouble = ''; // what it answered in place of a state
 let hasToLogIn = false;
+let isOld = false; // whether what is shown is
 let isAsking = false;
 let isAskedAgain = false;
 const killing = new Set(); // accounts whose kill is on its way
@@ -46,29 +47,48 @@ function mark(element, className) {
   if (element.className !== className) element.className = className;
 }
 
-function number(value) {
-  if (!Number.isFinite(value)) return DASH;
-  // larger ones a number can't hold exactly
-  return Number.isSafeInteger(value) ? grouped.format(value) : 'about ' + value.toPrecision(3);
+// What a JSON text says. Numbers of sixteen digits and more come as texts of them: a number can't hold each exactly.
+function read(json) {
+  const kept = (part) => (part.startsWith('"') ? part : '"' + part + '"');
+  return JSON.parse(json.replace(/"(?:[^"\\]|\\.)*"|-?\d{16,}/g, kept));
 }
 
-const PARTS = 10000; // of a dollar, or of a price
+// Figures are whole numbers of any size, or texts of such, and none is ever rounded.
+function number(value) {
+  return value === null || value === undefined ? DASH : grouped.format(BigInt(value));
+}
+
+// A figure of which so many digits stand behind the point: those in front of it, in groups, and those behind.
+function parted(value, places) {
+  const one = 10n ** BigInt(places);
+  return [grouped.format(BigInt(value) / one), String(BigInt(value) % one).padStart(places, '0')];
+}
+
+// Ten-thousandths of a dollar: to the cent, or where cents don't tell it all to the last digit.
+function dollars(value) {
+  const [whole, digits] = parted(value, 4);
+  return '$' + whole + '.' + digits.replace(/00$/, '');
+}
+
+// Ten-thousandths of a price, in percent.
+function percents(value) {
+  const [whole, digits] = parted(value, 2);
+  return whole + ('.' + digits).replace(/\.?0+$/, '') + ' %';
+}
 
 // A figure of a limit, in its unit.
 function amount(value, unit) {
-  if (unit === 'dollars/10000' && Number.isSafeInteger(value)) return '$' + grouped.format(value / PARTS);
-  if (unit === 'price/10000') return grouped.format((value * 100) / PARTS) + ' %';
-  return number(value);
+  if (unit === 'dollars/10000') return dollars(value);
+  return unit === 'price/10000' ? percents(value) : number(value);
 }
 
 // A moment without its fractions, or with three digits of them.
 const inSeconds = (moment) => moment.slice(0, 8);
 const inThousandths = (moment) => moment.slice(0, 12);
 
-// A share in percent. It is cut and not rounded: 100 % means all of it.
-function percent(share) {
-  const tenths = Math.floor(share * 1000);
-  return grouped.format(Math.floor(tenths / 10)) + '.' + (tenths % 10) + ' %';
+// So much of a limit in percent. It is cut and not rounded: 100 % means all of it.
+function percent(used, limit) {
+  return parted((used * 1000n) / limit, 1).join('.') + ' %';
 }
 
 function aSecond(change, seconds) {
@@ -170,7 +190,6 @@ function fillAccount(view, account) {
   if (!mayKill && asked === account.account) byId('question').close();
   if (!mayKill && document.activeElement === view.button) view.cells[0].focus();
   show(view.button, mayKill);
-  view.button.setAttribute('aria-disabled', String(killing.has(account.account)));
 }
 
 // Limits.
@@ -195,26 +214,24 @@ function limitOf(limits, rule) {
   return { limit, unit };
 }
 
+// A net figure below 0 uses nothing. The share is for bars, and for what is nearest; texts and levels are exact.
 function withShare(use) {
-  const share = use.limit > 0 ? Math.max(0, use.used / use.limit) : use.used > 0 ? Infinity : 1;
-  return { ...use, share, level: level(share) };
+  const used = BigInt(use.used) > 0n ? BigInt(use.used) : 0n;
+  const limit = BigInt(use.limit);
+  const share = limit > 0n ? Number(used) / Number(limit) : used > 0n ? Infinity : 1;
+  const text = limit > 0n ? percent(used, limit) : used > 0n ? 'all' : percent(1n, 1n);
+  return { ...use, share, text, level: level(used, limit) };
 }
 
-function level(share) {
-  if (share > 1) return { name: 'past', words: 'past the limit', sign: '\u25b2\u25b2\u25b2' };
-  if (share === 1) return { name: 'near', words: 'at the limit', sign: '\u25b2\u25b2' };
-  if (share >= NEAR) return { name: 'near', words: 'near the limit', sign: '\u25b2\u25b2' };
-  if (share >= WARNING) return { name: 'warning', words: 'warning', sign: '\u25b2' };
+function level(used, limit) {
+  if (used > limit) return { name: 'past', words: 'past the limit', sign: '\u25b2\u25b2\u25b2' };
+  if (used === limit) return { name: 'near', words: 'at the limit', sign: '\u25b2\u25b2' };
+  if (used * 100n >= limit * NEAR) return { name: 'near', words: 'near the limit', sign: '\u25b2\u25b2' };
+  if (used * 100n >= limit * WARNING) return { name: 'warning', words: 'warning', sign: '\u25b2' };
   return { name: '', words: '', sign: '' };
 }
 
-const shareText = (use) => (Number.isFinite(use.share) ? percent(use.share) : 'all');
-
-// Figures that a number can't hold exactly are told by their share alone.
-function figures(use) {
-  if (!Number.isSafeInteger(use.used) || !Number.isSafeInteger(use.limit)) return '';
-  return amount(use.used, use.unit) + ' of ' + amount(use.limit, use.unit);
-}
+const figures = (use) => amount(use.used, use.unit) + ' of ' + amount(use.limit, use.unit);
 
 function beginUse() {
   const view = emptyRow(['', '', '', '']);
@@ -237,12 +254,12 @@ function beginUse() {
 
 function fillUse(view, use) {
   const width = Math.min(100, use.share * 100);
-  const text = shareText(use) + (use.level.words && ', ' + use.level.words);
+  const text = use.text + (use.level.words && ', ' + use.level.words);
   mark(view.row, use.level.name);
   say(view.cells[0], use.rule);
   say(view.cells[1], use.account);
   say(view.cells[2], use.of);
-  say(view.share, shareText(use));
+  say(view.share, use.text);
   say(view.exact, figures(use));
   say(view.word, use.level.words && use.level.sign + ' ' + use.level.words);
   if (view.text !== text) {
@@ -262,7 +279,7 @@ function showLimits() {
   const rows = uses();
   showRows('limits', rows, (use) => [use.rule, use.account, use.of].join(' '), beginUse, fillUse);
   const nearest = rows.reduce((most, use) => (most && most.share >= use.share ? most : use), null);
-  const words = nearest && [nearest.level.sign, shareText(nearest), nearest.rule, nearest.account];
+  const words = nearest && [nearest.level.sign, nearest.text, nearest.rule, nearest.account];
   if (words && nearest.of !== 'all') words.push(nearest.of);
   say(byId('nearest'), words ? words.filter(Boolean).join(' ') : 'nothing used');
   const changed = state.limits.filter((row) => row.limit !== null && row.limit !== row.file);
@@ -341,9 +358,11 @@ function showTrouble() {
   if (hasToLogIn) text = 'The gate asks for your name and password: you have to log in again. What you see is old.';
   say(byId('trouble'), text);
   show(byId('again'), hasToLogIn);
-  show(byId('banner'), text !== '');
-  show(byId('old'), text !== '');
-  document.body.classList.toggle('is-old', text !== '');
+  isOld = text !== '';
+  show(byId('banner'), isOld);
+  show(byId('old'), isOld);
+  document.body.classList.toggle('is-old', isOld);
+  showButtons();
 }
 
 // What was answered in place of a state.
@@ -359,7 +378,7 @@ async function take(answer) {
     heardAt = Date.now();
     return;
   }
-  state = await answer.json();
+  state = read(await answer.text());
   heardAt = Date.now();
   showAll(performance.now());
   trouble = '';
@@ -391,8 +410,44 @@ async function refresh() {
 
 // Kills.
 
+const OLD = 'What you see is old: kill by gate desk, or here once the gate answers again';
+const ELSEWHERE = 'You are logged in elsewhere: kill from there, or log out there';
+
+// A kill logs the user in, which is denied while he is: by a connection of the trading port, since the page never leaves him on.
+function isLoggedIn() {
+  return state !== null && state.users.some((row) => row.user === state.user && row.line !== null);
+}
+
+// Why no kill may be asked for now; empty where one may.
+function hindrance() {
+  if (isOld) return OLD;
+  return isLoggedIn() ? ELSEWHERE : '';
+}
+
+// A button that is disabled keeps the focus, and says why.
+function showButton(button, isAsked) {
+  const why = hindrance();
+  const isDisabled = String(isAsked || why !== '');
+  if (button.getAttribute('aria-disabled') !== isDisabled) button.setAttribute('aria-disabled', isDisabled);
+  if (button.title !== why) button.title = why;
+}
+
+function showButtons() {
+  for (const [account, view] of shown.get(byId('accounts')) || []) showButton(view.button, killing.has(account));
+  showButton(byId('kill'), false);
+  say(byId('question-why'), hindrance());
+  const isElsewhere = state !== null && state.may_kill && isLoggedIn();
+  say(byId('elsewhere'), isElsewhere ? ELSEWHERE : '');
+  show(byId('elsewhere'), isElsewhere);
+}
+
 function question(account) {
   if (killing.has(account)) return;
+  const why = hindrance();
+  if (why) {
+    tell('Kill ' + account + ': not asked for. ' + why, true);
+    return;
+  }
   asked = account;
   say(byId('question-title'), 'Kill ' + account + '?');
   say(byId('kill'), 'Kill ' + account);
@@ -409,6 +464,7 @@ function tell(text, isRefused) {
 
 async function kill(account) {
   killing.add(account);
+  showButtons();
   tell('Kill ' + account + ': asked for', false);
   try {
     const answer = await fetch(KILL, {
@@ -431,6 +487,7 @@ async function kill(account) {
 
 byId('keep').addEventListener('click', () => byId('question').close());
 byId('kill').addEventListener('click', () => {
+  if (hindrance()) return;
   const account = asked;
   byId('question').close();
   kill(account);

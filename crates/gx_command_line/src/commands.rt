@@ -83,6 +83,9 @@ const POLICY_FILE: Argument = Argument {
     help: "The policy file to read",
 };
 
+/// The name of the option `--for-desk`.
+pub(crate) const FOR_DESK: &str = "for-desk";
+
 /// The name of the option `--midnight`, whose value is read by itself.
 pub(crate) const MIDNIGHT: &str = "midnight";
 
@@ -236,7 +239,15 @@ pub(crate) const SCRIPT: Subcommand = Subcommand {
 pub(crate) const POLICY: Subcommand = Subcommand {
     command: CommandName::Policy,
     about: "Reads a policy file, and tells how much it holds or what is wrong with it",
-    arguments: &[POLICY_FILE],
+    arguments: &[
+        Argument {
+            name: FOR_DESK,
+            value: "",
+            kind: Kind::Flag,
+            help: "Print it in version 2 without its users, and so without a password: for `gate desk --policy`",
+        },
+        POLICY_FILE,
+    ],
     lines: None,
 };
 
@@ -534,7 +545,7 @@ WORDS are one command, as `kill ALFA` or `buy 100 TEST 10.50`; `help` shows all 
 standard input, a line each. Answers are written on standard output, all else on standard error. The status is
   0  all was done                          1  the line failed, or no answer came
   2  a line can't be read                  5  something was denied or rejected
-  6  the login was rejected";
+  6  the login was rejected                7  a kill of several accounts has an account without an answer";
 
 pub(crate) const DESK: Subcommand = Subcommand {
     command: CommandName::Desk,
@@ -565,10 +576,16 @@ pub(crate) const DESK: Subcommand = Subcommand {
             help: "The file whose first line is the password",
         },
         Argument {
+            name: "accounts",
+            value: "A,B,C",
+            kind: Kind::TextInPlaceOf(&["policy"]),
+            help: "The accounts that `kill --all` kills, with commas between them",
+        },
+        Argument {
             name: "policy",
             value: "FILE",
             kind: Kind::Text,
-            help: "The policy file whose accounts `kill --all` kills; needed for that alone",
+            help: "The policy file whose accounts `kill --all` kills; this or --accounts is needed for that alone",
         },
         Argument {
             name: JSON,
@@ -580,8 +597,8 @@ pub(crate) const DESK: Subcommand = Subcommand {
             name: "reconnect",
             value: "",
             kind: Kind::Flag,
-            help: "Where the line breaks, connect again, each second for a minute, and go on; \
-                   what was asked is not asked again",
+            help: "Where the line breaks, connect again, each second for a minute, and go on; what was asked is not asked \
+                   again, but for kills of several accounts",
         },
         Argument {
             name: WORDS,

@@ -12,8 +12,8 @@ mod words;
 use building::command_line;
 use clap::{ArgMatches, Error};
 use commands::{
-    AUDIT_VERSION, CSV, CommandName, FORMAT, FROM, HTML, JSON, LOG, MIDNIGHT, THIRD, TO, UNDER,
-    UNTIL, WORDS,
+    AUDIT_VERSION, CSV, CommandName, FOR_DESK, FORMAT, FROM, HTML, JSON, LOG, MIDNIGHT, THIRD, TO,
+    UNDER, UNTIL, WORDS,
 };
 use follow::follow_asked;
 pub use follow::{Every, FollowAsked, WarnedShares};
@@ -186,6 +186,8 @@ pub struct Desk<'a> {
     pub user: &'a str,
     /// The file whose first line is the password, if there is one.
     pub password_file: Option<&'a str>,
+    /// The accounts that `kill --all` kills, with commas between them, if they are given.
+    pub accounts: Option<&'a str>,
     /// The policy whose accounts are known, if one is named.
     pub policy: Option<&'a str>,
     /// Whether answers are written as JSON.
@@ -207,6 +209,8 @@ pub enum Invocation<'a> {
     Script(RunFiles<'a>),
     /// `gate policy`: to tell of this policy file.
     Policy(&'a str),
+    /// `gate policy --for-desk`: to print this policy file without its users.
+    PolicyForDesk(&'a str),
     /// `gate migrate`: to print this policy file in the newest version.
     Migrate(&'a str),
     /// `gate check`: to check an audit.
@@ -394,11 +398,21 @@ fn asked_of_desk<'a>(given: &ArgMatches<'a>, words: &'a [String]) -> Option<Invo
         port: given.get_one::<u16>("port")?,
         user: given.get_str("user")?,
         password_file: given.get_str("password-file"),
+        accounts: given.get_str("accounts"),
         policy: given.get_str("policy"),
         is_json: given.get_flag(JSON),
         reconnects: given.get_flag("reconnect"),
         words: last_words(words, count),
     }))
+}
+
+/// What was asked of a policy file.
+fn asked_of_policy<'a>(given: &ArgMatches<'a>) -> Option<Invocation<'a>> {
+    let file = given.get_str("file")?;
+    if given.get_flag(FOR_DESK) {
+        return Some(Invocation::PolicyForDesk(file));
+    }
+    Some(Invocation::Policy(file))
 }
 
 /// What was asked of an audit; `None` where its command is none of these.
@@ -423,7 +437,7 @@ fn asked_for<'a>(given: &ArgMatches<'a>, words: &'a [String]) -> Option<Invocati
         CommandName::Pipe => Some(Invocation::Pipe(run_files(given))),
         CommandName::Script => Some(Invocation::Script(run_files(given))),
         CommandName::Serve => asked_of_server(given),
-        CommandName::Policy => Some(Invocation::Policy(given.get_str("file")?)),
+        CommandName::Policy => asked_of_policy(given),
         CommandName::Migrate => Some(Invocation::Migrate(given.get_str("file")?)),
         CommandName::Desk => asked_of_desk(given, words),
         _ => asked_of_audit(command, given),

@@ -2,17 +2,18 @@
 
 use crate::fault::Fault;
 use crate::run::{Phase, Run};
+use crate::summary::kills_line;
 use crate::timer::Timer;
 use crossbeam_channel::Receiver;
 use gx_operator::ClientRequest;
-use gx_terminal::{HELP, Wish, WrongWord};
+use gx_terminal::{HELP, Wish, WrongWord, accounts_named};
 use std::alloc::Global;
 use std::io::{Read, Write};
 use std::sync::Wait;
 use std::time::Clock;
 
 /// What is told of `kill --all` where no accounts are known.
-pub const NO_ACCOUNTS: &str = "kill --all wants --policy FILE, which has the accounts";
+pub const NO_ACCOUNTS: &str = "kill --all wants --accounts A,B,C, or --policy FILE, which has them";
 
 impl<S: Read + Write + Drop, O: Write + Drop, E: Write + Drop> Run<S, O, E> {
     /// Obeys the command or the next line, if nothing waits for an answer.
@@ -64,6 +65,7 @@ impl<S: Read + Write + Drop, O: Write + Drop, E: Write + Drop> Run<S, O, E> {
 
     fn obey<R: Clock>(&mut self, rt: &R, line: &[u8]) -> Result<(), Fault> {
         match Wish::read(line) {
+            Ok(Wish::KillEach) => self.kill_named(rt, line),
             Ok(wish) => self.do_wish(rt, &wish),
             Err(wrong) => {
                 self.tell_wrong(wrong);
@@ -79,7 +81,7 @@ impl<S: Read + Write + Drop, O: Write + Drop, E: Write + Drop> Run<S, O, E> {
 
     fn do_wish<R: Clock>(&mut self, rt: &R, wish: &Wish) -> Result<(), Fault> {
         match wish {
-            Wish::Nothing => Ok(()),
+            Wish::Nothing | Wish::KillEach => Ok(()),
             Wish::Watch => {
                 self.operator.watch();
                 Ok(())
@@ -108,7 +110,7 @@ impl<S: Read + Write + Drop, O: Write + Drop, E: Write + Drop> Run<S, O, E> {
         self.send(rt, packet.as_slice())
     }
 
-    /// Asks for a Kill of each account, all at once.
+    /// Asks for a Kill of each account that `kill --all` kills.
     fn kill_all<R: Clock>(&mut self, rt: &R) -> Result<(), Fault> {
         let Some(accounts) = &self.accounts else {
             self.has_bad_words = true;
@@ -116,7 +118,74 @@ impl<S: Read + Write + Drop, O: Write + Drop, E: Write + Drop> Run<S, O, E> {
             return Ok(());
         };
         let kills = self.operator.kills(accounts.as_slice())?;
-        self.send_each(rt, kills.as_slice())
+        self.kill_each(rt, kills, true)
+    }
+
+    /// Asks for a Kill of each account that the line names.
+    fn kill_named<R: Clock>(&mut self, rt: &R, line: &[u8]) -> Result<(), Fault> {
+        let accounts = accounts_named(self.alloc, line)?;
+        let kills = self.operator.kills(accounts.as_slice())?;
+        self.kill_each(rt, kills, false)
+    }
+
+    /// Asks for each of these Kills, all at once; what becomes of them is told in the end.
+    fn kill_each<R: Clock>(
+        &mut self,
+        rt: &R,
+        kills: Vec<ClientRequest>,
+        is_of_all: bool,
+    ) -> Result<(), Fault> {
+        self.operator.begin_kills(kills);
+        self.has_kills = true;
+        self.is_of_all = is_of_all;
+        self.ask_unanswered(rt)
+    }
+
+    /// Asks for each Kill of several that has no answer, all at once.
+    pub(crate) fn ask_unanswered<R: Clock>(&mut self, rt: &R) -> Result<(), Fault> {
+        let left = self.operator.round().unanswered()?;
+        if left.is_empty() {
+            return Ok(());
+        }
+        self.operator.give_up();
+        self.send_each(rt, left.as_slice())
+    }
+
+    /// Tells what became of the Kills of a command, once none of them is waited for.
+    pub(crate) fn settle_kills(&mut self) -> Result<(), Fault> {
+        if !self.operator.waiting().is_empty() {
+            return Ok(());
+        }
+        self.tell_kills()
+    }
+
+    /// Tells what became of the Kills of a command, if that is not told yet: those that have no answer now are not answered.
+    ///
+    /// # Errors
+    ///
+    /// `OutOfMemory`, or `OutputFailed`; the status counts them all the same.
+    pub fn tell_kills(&mut self) -> Result<(), Fault> {
+        if !self.has_kills {
+            return Ok(());
+        }
+        self.has_kills = false;
+        self.kills_status = self.kills_status.max(self.operator.round().status());
+        let line = kills_line(
+            self.alloc,
+            self.form,
+            self.operator.round(),
+            self.told_file(),
+        )?;
+        self.operator.begin_kills(Vec::new(self.alloc));
+        self.show(line.as_slice())
+    }
+
+    /// The file that alone tells the accounts of the Kills, if one does.
+    fn told_file(&self) -> Option<&[u8]> {
+        if !self.is_of_all {
+            return None;
+        }
+        self.file.as_deref()
     }
 
     /// Asks for each of these, in this order.

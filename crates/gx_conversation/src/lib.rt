@@ -7,6 +7,7 @@ mod fault;
 mod hearing;
 mod named;
 mod run;
+mod summary;
 mod timer;
 
 pub use commands::NO_ACCOUNTS;

@@ -62,6 +62,8 @@ pub struct Setup {
     pub start: u32,
     /// The accounts that `kill --all` kills, where they are known.
     pub accounts: Option<Vec<AccountName>>,
+    /// The name of the file that alone tells these accounts, if one does.
+    pub file: Option<Vec<u8>>,
     /// The one command, where there is but one; behind `watch` lines come all the same.
     pub command: Option<Vec<u8>>,
 }
@@ -76,7 +78,15 @@ pub struct Run<S: Drop, O: Drop, E: Drop> {
     pub(crate) feeder: ServerFeeder,
     pub(crate) session: ClientSession,
     pub(crate) operator: Operator,
+    pub(crate) form: Form,
     pub(crate) accounts: Option<Vec<AccountName>>,
+    pub(crate) file: Option<Vec<u8>>,
+    /// Whether several Kills of one command were asked for of which is not told yet what became of them.
+    pub(crate) has_kills: bool,
+    /// Whether these are those of `kill --all`.
+    pub(crate) is_of_all: bool,
+    /// The highest status that several Kills of one command came to.
+    pub(crate) kills_status: u8,
     /// The one command, until it is obeyed.
     pub(crate) command: Option<Vec<u8>>,
     /// Whether no line is obeyed behind it.
@@ -117,7 +127,12 @@ impl<S: Read + Write + Drop, O: Write + Drop, E: Write + Drop> Run<S, O, E> {
             feeder: ServerFeeder::new(alloc),
             session: ClientSession::new(setup.login),
             operator: Operator::new(alloc, setup.form, setup.start),
+            form: setup.form,
             accounts: setup.accounts,
+            file: setup.file,
+            has_kills: false,
+            is_of_all: false,
+            kills_status: 0,
             is_single: setup.command.is_some(),
             command: setup.command,
             phase: Phase::LoggingIn,
@@ -156,7 +171,8 @@ impl<S: Read + Write + Drop, O: Write + Drop, E: Write + Drop> Run<S, O, E> {
     }
 
     /// Goes on over another stream, from the report behind the last one that it heard: logs in, and waits until that is
-    /// answered. What waits for an answer is not asked again: its answer may come among these reports.
+    /// answered. What waits for an answer is not asked again, since its answer may come among these reports; but for the Kills
+    /// of a command that asks for several, for which a second time changes nothing: the first answer to each holds.
     ///
     /// # Errors
     ///
@@ -169,7 +185,8 @@ impl<S: Read + Write + Drop, O: Write + Drop, E: Write + Drop> Run<S, O, E> {
         self.is_taken_up = true;
         self.asked = Timer::start(rt);
         self.heard = self.asked;
-        self.log_in(rt)
+        self.log_in(rt)?;
+        self.ask_unanswered(rt)
     }
 
     /// Obeys the one command, or the lines that come, each once the one before is answered, until a None comes or nobody
@@ -193,12 +210,14 @@ impl<S: Read + Write + Drop, O: Write + Drop, E: Write + Drop> Run<S, O, E> {
     }
 
     /// The status of what was answered so far: 0; 1 where something was lost with a line; 2 where a line could not be read;
-    /// 5 where anything was denied or rejected, or not answered since there was no such order.
+    /// 5 where anything was denied or rejected, or not answered since there was no such order; 7 where one of several Kills was
+    /// not answered. The highest of them holds.
     pub fn status(&self) -> u8 {
         let lost = if self.is_lost { 1 } else { 0 };
         let words = if self.has_bad_words { 2 } else { 0 };
         let unmet = if self.is_unmet { 5 } else { 0 };
-        self.operator.status().max(lost).max(words).max(unmet)
+        let told = self.operator.status().max(self.kills_status);
+        told.max(lost).max(words).max(unmet)
     }
 
     fn turn<R: Wait + Clock>(
@@ -211,6 +230,7 @@ impl<S: Read + Write + Drop, O: Write + Drop, E: Write + Drop> Run<S, O, E> {
         }
         self.read_reports(rt)?;
         self.keep_time(rt)?;
+        self.settle_kills()?;
         self.obey_next(rt, lines)
     }
 

@@ -7,7 +7,7 @@ use gx_conversation::{Fault, NO_ACCOUNTS, Run, Setup};
 use gx_policy::Policy;
 use gx_program::{Content, Failure, bytes_of, policy_of, tell};
 use gx_soup::LoginRequest;
-use gx_terminal::Wish;
+use gx_terminal::{Wish, accounts_named};
 use gx_text::Form;
 use gx_units::{AccountName, OutOfMemory, Password, SessionName, UserName, padded};
 use std::alloc::Global;
@@ -94,7 +94,7 @@ fn names_of(alloc: Global, policy: &Policy) -> Result<Vec<AccountName>, OutOfMem
 }
 
 /// The accounts of the policy that is named, if one is.
-fn accounts_of<'a>(
+fn accounts_in_file<'a>(
     host: &HostRuntime,
     path: Option<&'a str>,
 ) -> Result<Option<Vec<AccountName>>, Failure<'a>> {
@@ -103,6 +103,45 @@ fn accounts_of<'a>(
     }
     let policy = policy_of(host, path)?;
     Ok(Some(names_of(host.alloc(), &policy)?))
+}
+
+/// The line that kills the accounts of a list with commas between them.
+fn line_of(alloc: Global, list: &str) -> Result<Vec<u8>, OutOfMemory> {
+    let mut line = Vec::from_slice(alloc, b"kill ")?;
+    for byte in list.as_bytes() {
+        line.push(if *byte == b',' { b' ' } else { *byte })?;
+    }
+    Ok(line)
+}
+
+/// The accounts of a list with commas between them.
+fn accounts_listed<'a>(alloc: Global, list: &str) -> Result<Vec<AccountName>, DeskError<'a>> {
+    let line = line_of(alloc, list)?;
+    match Wish::read(line.as_slice()) {
+        Ok(Wish::Ask(_) | Wish::KillEach) => Ok(accounts_named(alloc, line.as_slice())?),
+        _ => Err(DeskError::Words(
+            "--accounts wants accounts with commas between them, each 1 to 8 of the characters ! to ~",
+        )),
+    }
+}
+
+/// The accounts that `kill --all` kills, if they are known.
+fn accounts_of<'a>(
+    host: &HostRuntime,
+    desk: &Desk<'a>,
+) -> Result<Option<Vec<AccountName>>, DeskError<'a>> {
+    match desk.accounts {
+        Some(list) => Ok(Some(accounts_listed(host.alloc(), list)?)),
+        None => Ok(accounts_in_file(host, desk.policy)?),
+    }
+}
+
+/// The name of the file that alone tells these accounts, if one does.
+fn file_of(alloc: Global, desk: &Desk<'_>) -> Result<Option<Vec<u8>>, OutOfMemory> {
+    match desk.policy {
+        Some(path) => Ok(Some(Vec::from_slice(alloc, path.as_bytes())?)),
+        None => Ok(None),
+    }
 }
 
 /// The first line of a text, without what ends it.
@@ -320,7 +359,8 @@ where
         io::writer(host),
         io::writer(&streams),
     );
-    match follow(rt, desk, &mut run, lines) {
+    let ended = follow(rt, desk, &mut run, lines);
+    match ended.and(run.tell_kills()) {
         Ok(()) => Ok(run.status()),
         Err(fault) => Err(DeskError::Fault(fault, run.status())),
     }
@@ -334,7 +374,9 @@ fn form_of(desk: &Desk) -> Form {
 /// Whether lines come behind the one command; where it can't be meant, what is told of that.
 fn goes_on<'a>(host: &HostRuntime, desk: &Desk, command: &[u8]) -> Result<bool, DeskError<'a>> {
     match Wish::read(command) {
-        Ok(Wish::KillAll) if desk.policy.is_none() => Err(DeskError::Words(NO_ACCOUNTS)),
+        Ok(Wish::KillAll) if desk.accounts.or(desk.policy).is_none() => {
+            Err(DeskError::Words(NO_ACCOUNTS))
+        }
         Ok(wish) => Ok(wish == Wish::Watch),
         Err(wrong) => {
             let _ = eprintln!(host; "gate: {wrong}");
@@ -375,7 +417,8 @@ where
     let command = command_of(host.alloc(), desk.words)?;
     let kept = kept_password(host, desk.password_file)?;
     let is_wanted = wants_input(host, &desk, &command, kept.is_some())?;
-    let accounts = accounts_of(host, desk.policy)?;
+    let accounts = accounts_of(host, &desk)?;
+    let file = file_of(host.alloc(), &desk)?;
     let lines = lines_of(*rt, *host, is_wanted)?;
     let password = password_of(rt, kept, &lines)?;
     let setup = Setup {
@@ -383,6 +426,7 @@ where
         form: form_of(&desk),
         start: start_of(rt),
         accounts,
+        file,
         command,
     };
     talk(rt, host, &desk, setup, &lines)

@@ -3,6 +3,7 @@
 //! - `accepting`: connections are taken, and each has a place;
 //! - `visiting`: a connection from its beginning to its end;
 //! - `serving`: the threads of a server;
+//! - `counted`: the connections that it counts;
 //! - `companion`: what is served beside it;
 //! - `announcing`: what commands ended, as the log tells it;
 //! - `telling`: the log of the day's records, as they are made;
@@ -14,6 +15,7 @@
 mod accepting;
 mod announcing;
 mod companion;
+mod counted;
 mod dated;
 mod ending;
 mod fault;

@@ -6,6 +6,7 @@ ghost use Rattle.gx_listen.specs.Endings.{IsHalted};
 
 use crate::accepting::{accept, acquire_slot};
 use crate::companion::{Aside, Companion, accompany};
+use crate::counted::{CountedConnections, Port};
 use crate::dated::Dated;
 use crate::ending::{Ending, Halt, Unserved};
 use crate::fault::ServeFault;
@@ -18,7 +19,7 @@ use gx_logging::RecordLog;
 use gx_lookout::Lookout;
 use gx_pass::PassFault;
 use gx_policy::Policy;
-use gx_reception::{Admits, Reception};
+use gx_reception::{Admits, OfficersAlone, Reception};
 use gx_serve::{keep_on, match_on};
 use std::alloc::Global;
 use std::net::TcpListener;
@@ -131,22 +132,108 @@ fn go_without<R: Wait>(rt: &R, control: &ServerControl, number: u64) {
     control.tally.note(Mishap::Unserved, 1);
 }
 
-/// Takes connections, each in a thread of its own, and waits until all have ended: how this ended. One for which there is
-/// no thread or no memory is closed. All threads beside it are there by now, so it is said that the server has begun.
+/// Ends the server where all connections that it counts were taken and have ended, and tells so.
+fn end_by_count<D, A, R: Wait + Clock>(hall: &Hall<'_, D, A, R>) {
+    if hall.counted.are_over(hall.rt) {
+        hall.control.tell(
+            hall.rt,
+            hall.alloc,
+            "end",
+            "gate: the server ends: it has taken as many connections as it was to, and all have ended",
+        );
+        hall.control.end();
+    }
+}
+
+/// Serves a peer who is counted to his end. Where he was the last that the server waited for, it ends.
+fn serve_counted<D: Door + Sync, A: Admits<D>, R: Threads + Wait + Clock + Sync>(
+    hall: &Hall<'_, D, A, R>,
+    guest: AcceptedPeer<'_, R>,
+    place: Option<ConnectionSlot<'_, R>>,
+)
+where
+    D::Pass: Send,
+{
+    serve_peer(hall, guest);
+    drop(place);
+    end_by_count(hall);
+}
+
+/// Takes connections behind the last that is counted, each in a thread of its own, until the end is asked for: how this
+/// ended.
+fn take_officers<
+    'x,
+    T: Drop + Send,
+    D: Door<Pass = T> + Sync,
+    A: Admits<D> + Sync,
+    R: Threads + Wait + Clock + Sync,
+>(hall: &'x Hall<'x, D, A, R>, port: &Port) -> Ending {
+    thread::scope(thread::scope_env(), hall.rt, |scope| {
+        for before in port.connections..u64::MAX {
+            match next_guest(hall, &port.listener, before + 1) {
+                Ok(Some(guest)) => {
+                    if (&*scope).spawn(move || serve_peer(hall, guest)).is_err() {
+                        go_without(hall.rt, hall.control, before + 1);
+                    }
+                }
+                Ok(None) => go_without(hall.rt, hall.control, before + 1),
+                Err(halt) => return Ending::of_halt(halt),
+            }
+        }
+        Ending::of_all_taken()
+    })
+}
+
+/// Takes officers alone, once all connections that are counted were taken, for as long as one of those is served: how this
+/// ended. It is told that it is so.
+fn go_on_for_officers<
+    'x,
+    T: Drop + Send,
+    D: Door<Pass = T> + Sync,
+    A: Admits<D> + Sync,
+    R: Threads + Wait + Clock + Sync,
+>(hall: &'x Hall<'x, D, A, R>, policy: &'x Policy, port: &Port) -> Ending {
+    hall.control.tell(
+        hall.rt,
+        hall.alloc,
+        "count",
+        "gate: as many connections were taken as were to be: from now on officers alone are, until all of those have ended",
+    );
+    hall.counted.close();
+    end_by_count(hall);
+    let reception = OfficersAlone::new(policy, hall.reception);
+    let hall = Hall {
+        rt: hall.rt,
+        alloc: hall.alloc,
+        door: hall.door,
+        reception: &reception,
+        control: hall.control,
+        counted: hall.counted,
+    };
+    take_officers(&hall, port)
+}
+
+/// Takes connections, each in a thread of its own, and behind the last that is counted officers alone; waits until all have
+/// ended: how this ended. One for which there is no thread or no memory is closed. All threads beside it are there by now, so
+/// it is said that the server has begun.
 fn take_guests<
     'x,
     T: Drop + Send,
     D: Door<Pass = T> + Sync,
     A: Admits<D> + Sync,
     R: Threads + Wait + Clock + Sync,
->(hall: &'x Hall<'x, D, A, R>, listener: TcpListener, connections: u64) -> Ending {
+>(hall: &'x Hall<'x, D, A, R>, policy: &'x Policy, port: Port) -> Ending {
     let rt = hall.rt;
     hall.control.begun.begin(rt);
     thread::scope(thread::scope_env(), rt, |scope| {
-        for before in 0..connections {
-            match next_guest(hall, &listener, before + 1) {
+        for before in 0..port.connections {
+            match next_guest(hall, &port.listener, before + 1) {
                 Ok(Some(guest)) => {
-                    if (&*scope).spawn(move || serve_peer(hall, guest)).is_err() {
+                    let place = hall.counted.begin(rt);
+                    if (&*scope)
+                        .spawn(move || serve_counted(hall, guest, place))
+                        .is_err()
+                    {
                         go_without(rt, hall.control, before + 1);
                     }
                 }
@@ -154,14 +241,7 @@ fn take_guests<
                 Err(halt) => return Ending::of_halt(halt),
             }
         }
-        drop(listener);
-        hall.control.note(
-            rt,
-            hall.alloc,
-            "end",
-            "gate: the server ends: it has taken as many connections as it was to",
-        );
-        Ending::of_all_taken()
+        go_on_for_officers(hall, policy, &port)
     })
 }
 
@@ -202,11 +282,11 @@ fn take_told<
 >(
     hall: &'x Hall<'x, D, A, R>,
     telling: Option<Telling<D>>,
-    listener: TcpListener,
-    connections: u64,
+    policy: &'x Policy,
+    port: Port,
 ) -> Result<Ending, Unserved> {
     let Some(telling) = telling else {
-        return Ok(take_guests(hall, listener, connections));
+        return Ok(take_guests(hall, policy, port));
     };
     thread::scope(thread::scope_env(), hall.rt, |scope| {
         let Ok(_telling) = (&*scope).spawn(move || tell_records(
@@ -218,7 +298,7 @@ fn take_told<
         )) else {
             return Err(Unserved::of_fault(ServeFault::OutOfMemory));
         };
-        let taken = take_guests(hall, listener, connections);
+        let taken = take_guests(hall, policy, port);
         hall.control.newcomers.close();
         Ok(taken)
     })
@@ -235,8 +315,8 @@ fn take_watched<
 >(
     hall: &'x Hall<'x, D, A, R>,
     telling: Option<Telling<D>>,
-    listener: TcpListener,
-    connections: u64,
+    policy: &'x Policy,
+    port: Port,
 ) -> Result<Ending, Unserved> {
     thread::scope(thread::scope_env(), hall.rt, |scope| {
         let Ok(_watching) = (&*scope).spawn(move || watch_newcomers(hall)) else {
@@ -246,7 +326,7 @@ fn take_watched<
             hall.control.newcomers.close();
             return Err(Unserved::of_fault(ServeFault::OutOfMemory));
         };
-        let taken = take_told(hall, telling, listener, connections);
+        let taken = take_told(hall, telling, policy, port);
         hall.control.newcomers.close();
         hall.control.keeper.close(hall.rt);
         taken
@@ -265,14 +345,14 @@ fn run<
     hall: &'x Hall<'x, D, A, R>,
     pass: T,
     telling: Option<Telling<D>>,
-    listener: TcpListener,
-    connections: u64,
+    policy: &'x Policy,
+    port: Port,
 ) -> Result<(T, Ending), Unserved> {
     thread::scope(thread::scope_env(), hall.rt, |scope| {
         let Ok(matcher) = (&*scope).spawn(move || match_all(hall, pass)) else {
             return Err(Unserved::of_fault(ServeFault::OutOfMemory));
         };
-        let taken = take_watched(hall, telling, listener, connections);
+        let taken = take_watched(hall, telling, policy, port);
         hall.control.matcher.close(hall.rt);
         let pass = matcher.join(hall.rt);
         match taken {
@@ -297,11 +377,11 @@ fn run_accompanied<
     pass: T,
     telling: Option<Telling<D>>,
     companion: Option<P>,
-    listener: TcpListener,
-    connections: u64,
+    policy: &'x Policy,
+    port: Port,
 ) -> Result<(T, Ending), Unserved> {
     let Some(companion) = companion else {
-        return run(hall, pass, telling, listener, connections);
+        return run(hall, pass, telling, policy, port);
     };
     thread::scope(thread::scope_env(), hall.rt, |scope| {
         let Ok(_companion) = (&*scope).spawn(move || companion.go_on(
@@ -312,14 +392,15 @@ fn run_accompanied<
         )) else {
             return Err(Unserved::of_fault(ServeFault::OutOfMemory));
         };
-        let ran = run(hall, pass, telling, listener, connections);
+        let ran = run(hall, pass, telling, policy, port);
         closing.request();
         ran
     })
 }
 
 /// Serves at any door, with passes of its gate: takes connections, each in threads of its own, and makes matching steps,
-/// until so many were served, or the server was asked to end. All threads have ended then.
+/// until so many were taken and have ended, or the server was asked to end. Once so many were taken it takes officers alone,
+/// whom it serves until then. All threads have ended at its end.
 ///
 /// A connection has a line from its login on, if its user has the right password. The log of the records, if one is asked
 /// for, is told in the server's. The companion, if there is one, is served beside it, of this gate and by this policy: it has a
@@ -381,20 +462,18 @@ pub fn serve_door<
     control.matcher.open(rt);
     control.keeper.open(rt);
     let closing = ShutdownFlag::new();
+    let counted = CountedConnections::new();
     let hall = Hall {
         rt,
         alloc,
         door,
         reception: &reception,
         control,
+        counted: &counted,
     };
-    run_accompanied(
-        &hall,
-        &closing,
-        pass,
-        telling,
-        companion,
+    let port = Port {
         listener,
         connections,
-    )
+    };
+    run_accompanied(&hall, &closing, pass, telling, companion, policy, port)
 }

@@ -4,6 +4,7 @@ ghost use Rattle.std.specs.Prelude.{◌≡◌};
 ghost use Rattle.gx_door.specs.Callers.{caller_of};
 ghost use Rattle.gx_door.specs.declared.caller.Caller.TheVariants as callers;
 
+use crate::counted::CountedConnections;
 use crate::dated::Dated;
 use gx_control::{Mishap, Peer, ServerControl, WriterWakeup, words_of};
 use gx_devices::CallCounter;
@@ -47,6 +48,7 @@ pub(crate) struct Hall<'x, D, A, R> {
     pub(crate) door: &'x D,
     pub(crate) reception: &'x A,
     pub(crate) control: &'x ServerControl,
+    pub(crate) counted: &'x CountedConnections,
 }
 
 /// Whether the wait is over: so much time has passed, or the clock can't be read.
@@ -278,6 +280,7 @@ fn tell_no_line<R: Wait + Clock>(
 ) {
     let words = match why.why() {
         LineFault::Kept => "the day's last lines and records are for officers and readers",
+        LineFault::NoOfficer => "the server takes officers alone",
         LineFault::Unissued(PassFault::NoLines) => "the day has none left",
         LineFault::Unissued(PassFault::OutOfMemory) => "there is no memory for one",
     };

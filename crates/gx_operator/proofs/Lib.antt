@@ -1,1 +1,2 @@
 pub mod Kills_next
+pub mod Kills_end

@@ -38,6 +38,21 @@ request_wished number wish =
 abbrev pub kill_of : ℕ → AccountName → ClientRequest
 kill_of number account = ClientRequest.Command (record { tag = record { bytes = serial_of number }; action = Action.Kill account })
 
+abbrev pub account_killed : Action → Option AccountName
+account_killed (Action.Kill account) = Some account
+account_killed (Action.Lift account) = None
+account_killed (Action.SetLimit rule limit) = None
+account_killed (Action.Restrict rule stock) = None
+account_killed (Action.Unrestrict rule stock) = None
+account_killed (Action.Grant reader account) = None
+account_killed (Action.Revoke reader account) = None
+account_killed Action.CloseDay = None
+
+-- the account that a request asks to kill, if it is a Kill
+abbrev pub killed_account : ClientRequest → Option AccountName
+killed_account (ClientRequest.Command command) = account_killed command.action
+killed_account (ClientRequest.Order order) = None
+
 -- the serial behind this one
 abbrev pub next_serial : ℕ → ℕ
 next_serial number = min (number + 1) greatest

@@ -1,12 +1,12 @@
--- What a message of the gate is to who waits for answers_request.
-use Rattle.std.specs.{Prelude.{ℕ, Bool, false, not, ◌||◌, if◌then◌else◌, List, [], ◌∷◌, find, filter, take, bytes_eq, Option, Some, None}, List.list_any}
-use Rattle.gx_units.specs.{declared.names.Token.Token, Names.same_token}
+-- What a message of the gate is to who waits for answers.
+use Rattle.std.specs.{Prelude.{ℕ, Bool, false, not, ◌||◌, ◌&&◌, if◌then◌else◌, List, [], ◌∷◌, find, filter, take, bytes_eq, Option, Some, None}, List.list_any}
+use Rattle.gx_units.specs.declared.names.Token.{Token}
 use Rattle.gx_desk.specs.declared.Answer.{Answer}
-use Rattle.gx_ouch.specs.declared.{inbound.Inbound.Inbound, outbound.Outbound.Outbound}
+use Rattle.gx_ouch.specs.declared.outbound.Outbound.{Outbound}
 use Rattle.gx_history.specs.declared.report.Message.{Message}
 use Rattle.gx_text.specs.declared.form.Form.{Form}
 use Rattle.gx_lines.specs.{AnswerLines.{answer_line, earlier_answer_line}, OrderLines.{order_line, copy_line}}
-use Rattle.gx_operator.specs.{declared.asked.ClientRequest.ClientRequest, Asking.serial_of}
+use Rattle.gx_operator.specs.{declared.asked.ClientRequest.ClientRequest, Asking.serial_of, Answering.answers_request, Kills.{KillRoundData}}
 
 -- the token of the order that a message is on
 abbrev pub message_token : Outbound → Option Token
@@ -17,38 +17,6 @@ message_token (Outbound.Canceled m) = Some m.token
 message_token (Outbound.Executed m) = Some m.token
 message_token (Outbound.Rejected m) = Some m.token
 
--- the order under this token was taken, or was not
-abbrev pub decides : Token → Outbound → Bool
-decides token (Outbound.SystemEvent event) = false
-decides token (Outbound.Accepted m) = same_token m.token token
-decides token (Outbound.Replaced m) = same_token m.token token
-decides token (Outbound.Canceled m) = false
-decides token (Outbound.Executed m) = false
-decides token (Outbound.Rejected m) = same_token m.token token
-
--- the order under this token has lost shares
-abbrev pub cancels : Token → Outbound → Bool
-cancels token (Outbound.SystemEvent event) = false
-cancels token (Outbound.Accepted m) = false
-cancels token (Outbound.Replaced m) = false
-cancels token (Outbound.Canceled m) = same_token m.token token
-cancels token (Outbound.Executed m) = false
-cancels token (Outbound.Rejected m) = false
-
--- the message answers_request the order: a new one by its own token, a cancel by the token that it names
-abbrev pub answers_order : Outbound → Inbound → Bool
-answers_order message (Inbound.Enter order) = decides order.token message
-answers_order message (Inbound.Replace order) = decides order.replacement_token message
-answers_order message (Inbound.Cancel order) = cancels order.token message
-
--- the message answers_request what was asked: a command by its tag
-abbrev pub answers_request : Message → ClientRequest → Bool
-answers_request (Message.Answer answer) (ClientRequest.Command command) = bytes_eq answer.tag.bytes command.tag.bytes
-answers_request (Message.Answer answer) (ClientRequest.Order order) = false
-answers_request (Message.Order message) (ClientRequest.Command command) = false
-answers_request (Message.Order message) (ClientRequest.Order order) = answers_order message order
-answers_request (Message.DropCopy copy) asked = false
-
 -- what a message answers_request, if it answers_request anything that waits
 abbrev pub answered_by : Message → List ClientRequest → Option ClientRequest
 answered_by message waiting = find (answers_request message) waiting
@@ -56,10 +24,6 @@ answered_by message waiting = find (answers_request message) waiting
 -- what still waits for an answer behind a message
 abbrev pub still_waiting : Message → List ClientRequest → List ClientRequest
 still_waiting message waiting = filter (λ asked. not (answers_request message asked)) waiting
-
--- the answer that a message is to what waits, if it is one
-abbrev pub own_answer : Message → List ClientRequest → List Message
-own_answer message waiting = if list_any (answers_request message) waiting then message ∷ [] else []
 
 -- the token is of the run with this first serial: it has the first 8 digits of that one, of which a million have them
 abbrev pub is_own_token : ℕ → Option Token → Bool
@@ -73,14 +37,24 @@ shown_answer form moment is_watching answer (Some (ClientRequest.Order order)) =
 shown_answer form moment is_watching answer None = if is_watching then Some (earlier_answer_line form moment answer) else None
 
 -- what a client shows of itself: how it writes lines, the first serial of its run, the next one, what waits for an answer,
--- whether it watches, and its status
+-- the several Kills of one command, whether it watches, and its status
 pub record ClientState : Type 0 where
   pub form : Form
   pub first : ℕ
   pub next : ℕ
   pub waiting : List ClientRequest
+  pub round : KillRoundData
   pub is_watching : Bool
   pub status : ℕ
+
+-- the message answers what waits, and none of several Kills: these have a status of their own
+abbrev pub is_counted : Message → ClientState → Bool
+is_counted message run =
+    list_any (answers_request message) run.waiting && not (list_any (answers_request message) run.round.kills)
+
+-- the answer that counts for the status, if the message is one
+abbrev pub own_answer : Message → ClientState → List Message
+own_answer message run = if is_counted message run then message ∷ [] else []
 
 -- the line that is shown of a message of this moment, if one is: of answers_request to what waits, of orders of the run's own, and
 -- of all others for who watches

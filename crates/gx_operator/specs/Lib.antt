@@ -1,2 +1,4 @@
+pub mod Answering
 pub mod Asking
 pub mod Hearing
+pub mod Kills

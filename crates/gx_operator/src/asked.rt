@@ -1,7 +1,7 @@
 //! What is asked of the gate, and what answers it.
 
 ghost use Rattle.std.specs.Prelude.{◌≡◌, IfOk};
-ghost use Rattle.gx_operator.specs.{Asking.{Carries, request_wished, kill_of, kills_of}, Hearing.{decides, cancels, answers_order, answers_request}};
+ghost use Rattle.gx_operator.specs.{Asking.{Carries, request_wished, kill_of, kills_of, killed_account}, Answering.{decides, cancels, answers_order, answers_request}};
 
 use crate::serial::serial;
 use gx_client::{command_packet, inbound_packet};
@@ -63,6 +63,21 @@ pub(crate) fn kills_of(
 }
 
 impl ClientRequest {
+    /// The account that it asks to kill, if it is a Kill.
+    pub fn killed_account(&self) -> Option<AccountName>
+        ensures { result ≡ killed_account self.now }
+    {
+        match self {
+            ClientRequest::Command(
+                Command {
+                    action: Action::Kill(account),
+                    ..
+                },
+            ) => Some(*account),
+            _ => None,
+        }
+    }
+
     /// The packet that carries it.
     pub(crate) fn packet(&self, alloc: Global) -> Result<Vec<u8>, OutOfMemory>
         ensures { IfOk result (λ bytes. Carries bytes.items self.now) }

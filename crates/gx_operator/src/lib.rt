@@ -6,10 +6,12 @@
 #![tactic(auto)]
 
 mod asked;
+mod kills;
 mod operator;
 mod serial;
 mod telling;
 
 pub use asked::ClientRequest;
+pub use kills::{KillOutcome, KillRound};
 pub use operator::Operator;
 pub use telling::read_message;

@@ -3,9 +3,10 @@
 ghost use Rattle.std.specs.{Prelude.{◌≡◌, ◌∷◌, ◌++◌, ◌+◌, [], List, option_map, IfOk, OnOk, OnErr, true, false}, List.list_any};
 ghost use Rattle.gx_history.specs.declared.report.Message.{Message};
 ghost use Rattle.gx_terminal.specs.Statuses.{status_of};
-ghost use Rattle.gx_operator.specs.{Asking.{Carries, request_wished, next_serial, first_of, kills_of}, Hearing.{answers_request, answered_by, still_waiting, own_answer, shown_line}};
+ghost use Rattle.gx_operator.specs.{Asking.{Carries, request_wished, next_serial, first_of, kills_of}, Answering.{answers_request}, Hearing.{answered_by, still_waiting, is_counted, own_answer, shown_line}, Kills.{round_behind}};
 
 use crate::asked::{ClientRequest, answers, asked_of, kills_of};
+use crate::kills::KillRound;
 use crate::telling::{is_of_run, shown_answer, shown_copy, shown_order};
 use gx_history::report::Message;
 use gx_terminal::{Status, Wish};
@@ -22,6 +23,7 @@ pub struct Operator {
     first: u64,
     next: u64,
     waiting: Vec<ClientRequest>,
+    round: KillRound,
     is_watching: bool,
     status: Status,
 }
@@ -36,6 +38,7 @@ impl Model for Operator {
       first = o.first;
       next = o.next;
       waiting = o.waiting.items;
+      round = o.round;
       is_watching = o.is_watching;
       status = o.status;
     } };
@@ -49,6 +52,7 @@ impl Operator {
           first = first_of start;
           next = first_of start;
           waiting = [];
+          round = record { kills = []; heard = [] };
           is_watching = false;
           status = status_of [];
         } }
@@ -60,6 +64,7 @@ impl Operator {
             first,
             next: first,
             waiting: Vec::new(alloc),
+            round: KillRound::new(alloc, Vec::new(alloc)),
             is_watching: false,
             status: Status::new(),
         }
@@ -81,6 +86,22 @@ impl Operator {
         ensures { IfOk result (λ kills. kills.items ≡ kills_of self.now.next accounts.now) }
     {
         kills_of(self.alloc, self.next, accounts)
+    }
+
+    /// From now on it is these Kills of one command whose answers are counted: none is asked yet.
+    pub fn begin_kills(&mut self, kills: Vec<ClientRequest>)
+        ensures { self.new ≡ record self.old {
+          round = record { kills = kills.items; heard = [] };
+        } }
+    {
+        self.round = KillRound::new(self.alloc, kills);
+    }
+
+    /// The Kills of the last command that asked for several, and what became of them.
+    pub fn round(&self) -> &KillRound
+        ensures { result.now ≡ self.now.round }
+    {
+        &self.round
     }
 
     /// The packet that asks this. From now on its answer is waited for, and the next serial is the one behind.
@@ -138,7 +159,7 @@ impl Operator {
     }
 
     /// Hears a message of this moment: the line that is shown of it, if one is. What it answers waits no longer, and counts
-    /// for the status.
+    /// for the status; of one of several Kills the round is told, which has a status of its own.
     ///
     /// # Errors
     ///
@@ -152,13 +173,15 @@ impl Operator {
             ≡ shown_line self.old moment message.now) }
         ensures waiting { OnOk result (self.new ≡ record self.old {
           waiting = still_waiting message.now self.old.waiting;
+          round = round_behind message.now self.old.round;
           status = self.new.status;
         }) }
         ensures status { OnOk result ((told : List Message) → self.old.status ≡ status_of told
-            → self.new.status ≡ status_of (told ++ own_answer message.now self.old.waiting)) }
+            → self.new.status ≡ status_of (told ++ own_answer message.now self.old)) }
         ensures unchanged { OnErr result (self.new ≡ self.old) }
     {
         let line = self.line_of(moment, message)?;
+        self.round.hear(message)?;
         self.note(message);
         Ok(line)
     }
@@ -232,19 +255,26 @@ impl Operator {
           status = self.new.status;
         } }
         ensures status { (told : List Message) → self.old.status ≡ status_of told
-            → self.new.status ≡ status_of (told ++ own_answer message.now self.old.waiting) }
+            → self.new.status ≡ status_of (told ++ own_answer message.now self.old) }
     {
         self.count(message);
         remove_answered(&mut self.waiting, message);
     }
 
-    /// Counts what answers anything.
+    /// Whether the message answers anything that waits, and none of several Kills.
+    fn is_counted(&self, message: &Message) -> bool
+        ensures { result ≡ is_counted message.now self.now }
+    {
+        self.is_answer(message) && !self.round.is_answered_by(message)
+    }
+
+    /// Counts what answers anything but one of several Kills.
     fn count(&mut self, message: &Message)
         ensures others { self.new ≡ record self.old { status = self.new.status } }
         ensures status { (told : List Message) → self.old.status ≡ status_of told
-            → self.new.status ≡ status_of (told ++ own_answer message.now self.old.waiting) }
+            → self.new.status ≡ status_of (told ++ own_answer message.now self.old) }
     {
-        if self.is_answer(message) {
+        if self.is_counted(message) {
             self.status.note(message);
         }
     }

@@ -3,8 +3,8 @@
 use crate::notice::Notice;
 use crate::response::notice_response;
 use crate::visit::{Gulp, Incoming, Outgoing, Sent};
-use gx_http::{Request, RequestFault};
-use gx_units::OutOfMemory;
+use gx_http::{Request, RequestFault, RequestTarget};
+use gx_units::{OutOfMemory, UserName};
 use std::alloc::Global;
 use std::io::Read;
 use std::net::{IpAddr, Shutdown, TcpStream};
@@ -15,6 +15,9 @@ const REQUEST_TIMEOUT_SECONDS: u64 = 5;
 
 /// So many milliseconds what still comes is let go behind an answer, so that the peer reads it before the connection is closed.
 const CLOSE_LINGER_MILLIS: u64 = 1_000;
+
+/// Who has just come is not hung up on for another for so many milliseconds, while his request may be under way.
+const GRACE_MILLIS: u64 = 50;
 
 /// A wrong password that is one too many is answered so many milliseconds later.
 const WRONG_PASSWORD_DELAY_MILLIS: u64 = 1_000;
@@ -70,9 +73,28 @@ impl Guest {
         self.stage == GuestStage::Over
     }
 
-    /// Whether nothing is owed to it: it has not asked for anything yet, or its answer is out.
-    pub(crate) fn is_owed_nothing(&self) -> bool {
-        matches!(self.stage, GuestStage::Reading | GuestStage::Parting)
+    /// Whether nothing is owed to it: it has not asked for anything yet, though it has had a moment for that, or its answer is
+    /// out.
+    pub(crate) fn is_owed_nothing(&self, now: Duration) -> bool {
+        let asks_by = self
+            .from
+            .saturating_add(Duration::from_millis(GRACE_MILLIS));
+        match self.stage {
+            GuestStage::Reading => now >= asks_by,
+            GuestStage::Parting => true,
+            GuestStage::Asking | GuestStage::Writing | GuestStage::Over => false,
+        }
+    }
+
+    /// The user in whose name it asks, if it waits for an answer and names one.
+    pub(crate) fn claims(&self) -> Option<UserName> {
+        let who = self.asks()?.caller?;
+        Some(who.user.folded())
+    }
+
+    /// Whether its answer is held back for a while.
+    pub(crate) fn is_late(&self, now: Duration) -> bool {
+        self.stage == GuestStage::Writing && now < self.from
     }
 
     /// Hangs up on it.
@@ -86,6 +108,14 @@ impl Guest {
             self.request
         } else {
             None
+        }
+    }
+
+    /// Whether it is to be told whether the gate takes orders.
+    pub(crate) fn asks_for_health(&self) -> bool {
+        match self.asks() {
+            Some(request) => matches!(request.asked, RequestTarget::Health),
+            None => false,
         }
     }
 

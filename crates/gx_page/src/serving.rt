@@ -13,7 +13,7 @@ use gx_lookout::{Board, Lookout};
 use gx_policy::Policy;
 use gx_serve::Announces;
 use gx_status::ServerFigures;
-use gx_units::OutOfMemory;
+use gx_units::{OutOfMemory, UserName};
 use std::alloc::Global;
 use std::net::TcpListener;
 use std::sync::Wait;
@@ -21,13 +21,22 @@ use std::thread;
 use std::time::{Clock, Duration};
 
 /// So many connections are served at once.
-const AT_ONCE: usize = 32;
+const AT_ONCE: usize = 64;
+
+/// So many of them may wait for an answer in one user's name.
+const WAITING_FOR_ONE: usize = 8;
+
+/// Who has shown his password comes before others for so many seconds.
+const SHOWN_LASTS_SECONDS: u64 = 60;
 
 /// So many are taken at a look, so that whoever connects over and over keeps nobody from the processor.
 const AT_A_LOOK: usize = 4;
 
 /// So many milliseconds lie at least between two answers, so that whoever asks all the time keeps nobody from the gate.
 const BETWEEN_ANSWERS_MILLIS: u64 = 20;
+
+/// So many milliseconds an answer to `/healthz` is given to whoever asks for it, before the gate is looked at for it again.
+const HEALTH_LASTS_MILLIS: u64 = 500;
 
 /// So many milliseconds the thread rests where nobody is connected, and nobody comes.
 const EMPTY_POLL_MILLIS: u64 = 20;
@@ -74,11 +83,30 @@ impl<'x, T: Drop, D: Door<Pass = T>, L: Lookout<Pass = T>> PageServer<'x, T, D, 
     }
 }
 
-/// Who is connected, and when somebody was answered last.
+/// The last answer to `/healthz`, and when it was made.
+#[derive(Drop)]
+struct HealthAnswer {
+    text: Vec<u8>,
+    made: Duration,
+}
+
+/// An officer or a reader who has shown his password: when he did last, and when somebody was answered last in his name.
+#[derive(Clone, Copy)]
+struct ShownUser {
+    user: UserName,
+    shown: Duration,
+    answered: Duration,
+}
+
+/// Who is connected, when somebody was answered last, and who has shown his password of late.
 #[derive(Drop)]
 struct Guests {
     all: Vec<Guest>,
     answered: Duration,
+    shown: Vec<ShownUser>,
+    /// When somebody was answered last in a name that is none of these.
+    others_answered: Duration,
+    health: Option<HealthAnswer>,
 }
 
 /// The time now; none where the clock can't be read.
@@ -90,27 +118,50 @@ fn time<R: Clock>(rt: &R) -> Duration {
 }
 
 impl Guests {
-    /// Makes room for one more: where there is none, it hangs up on him who came first of those to whom nothing is owed.
-    fn make_room(&mut self) {
-        if self.all.len() < AT_ONCE {
-            return;
-        }
-        for guest in &mut self.all {
-            if guest.is_owed_nothing() {
-                guest.hang_up();
-                break;
-            }
+    /// Hangs up on the one at this place.
+    fn hang_up(&mut self, place: usize) {
+        if let Some(guest) = self.all.get_mut(place) {
+            guest.hang_up();
         }
         self.all.retain(|guest| !guest.is_over());
     }
 
-    /// Takes one who comes, if there is one, and room for him. Answers whether one came.
+    /// Whether it may be hung up on for another though an answer is owed to it: one to somebody in whose name no password was shown
+    /// of late, which has yet to be made, or is late.
+    fn gives_way(&self, guest: &Guest, now: Duration) -> bool {
+        guest.is_late(now) || (guest.asks().is_some() && self.answered_for(guest, now).is_none())
+    }
+
+    /// The place of the one to hang up on for one more: of those to whom nothing is owed the first, else the last of those who
+    /// give way.
+    fn place_to_clear(&self, now: Duration) -> Option<usize> {
+        let mut last_to_give_way = None;
+        for (place, guest) in self.all.iter().enumerate() {
+            if guest.is_owed_nothing(now) {
+                return Some(place);
+            }
+            if self.gives_way(guest, now) {
+                last_to_give_way = Some(place);
+            }
+        }
+        last_to_give_way
+    }
+
+    /// Takes one who comes, if there is one, and room for him: where there is none he stays in the listener's queue. Answers
+    /// whether one came.
     fn take(&mut self, alloc: Global, listener: &TcpListener, now: Duration) -> bool {
+        let is_full = self.all.len() >= AT_ONCE;
+        let to_clear = self.place_to_clear(now);
+        if is_full && to_clear.is_none() {
+            return false;
+        }
         let Ok((stream, address)) = listener.accept() else {
             return false;
         };
-        self.make_room();
-        if self.all.len() < AT_ONCE && stream.set_nonblocking(true).is_ok() {
+        if let (true, Some(place)) = (is_full, to_clear) {
+            self.hang_up(place);
+        }
+        if stream.set_nonblocking(true).is_ok() {
             let _ = self.all.push(Guest::new(alloc, stream, address.ip(), now));
         }
         true
@@ -137,14 +188,99 @@ impl Guests {
         moved
     }
 
-    /// The place of the first who is to be answered, and what he asks for.
-    fn next(&self) -> Option<(usize, Request)> {
+    /// How many wait for an answer in this user's name.
+    fn count_of(&self, user: UserName) -> usize {
+        self.all
+            .iter()
+            .filter(|guest| guest.claims() == Some(user))
+            .count()
+    }
+
+    /// The place of the last who waits in the name of a user in whose name too many do.
+    fn crowded(&self) -> Option<usize> {
+        let mut found = None;
         for (place, guest) in self.all.iter().enumerate() {
-            if let Some(request) = guest.asks() {
-                return Some((place, request));
+            if let Some(user) = guest.claims() {
+                if self.count_of(user) > WAITING_FOR_ONE {
+                    found = Some(place);
+                }
             }
         }
-        None
+        found
+    }
+
+    /// Hangs up on those who wait in the name of a user in whose name too many do, as many as may have come at a look.
+    fn thin_out(&mut self) {
+        for _ in 0..AT_A_LOOK {
+            match self.crowded() {
+                Some(place) => self.hang_up(place),
+                None => return,
+            }
+        }
+    }
+
+    /// When somebody was answered last in the name in which this one asks, if its user has shown his password of late.
+    fn answered_for(&self, guest: &Guest, now: Duration) -> Option<Duration> {
+        let user = guest.claims()?;
+        let known = self.shown.iter().find(|known| known.user == user)?;
+        let until = known
+            .shown
+            .saturating_add(Duration::from_secs(SHOWN_LASTS_SECONDS));
+        if now < until {
+            Some(known.answered)
+        } else {
+            None
+        }
+    }
+
+    /// The place of the one whose turn it is of those who are to be answered, and what he asks for. Each name in which a password
+    /// was shown of late has a turn, and all others together have one: the first who waits of those who have had none for
+    /// longest.
+    fn next(&self, now: Duration) -> Option<(usize, Request)> {
+        let mut found: Option<(usize, Request)> = None;
+        let mut longest = Duration::MAX;
+        for (place, guest) in self.all.iter().enumerate() {
+            if let Some(request) = guest.asks() {
+                let since = self
+                    .answered_for(guest, now)
+                    .unwrap_or(self.others_answered);
+                if found.is_none() || since < longest {
+                    found = Some((place, request));
+                    longest = since;
+                }
+            }
+        }
+        found
+    }
+
+    /// Notes that this one is answered in his turn.
+    fn note_turn(&mut self, place: usize, now: Duration) {
+        let Some(guest) = self.all.get(place) else {
+            return;
+        };
+        if self.answered_for(guest, now).is_none() {
+            self.others_answered = now;
+        }
+    }
+
+    /// Notes that somebody was answered in a user's name, and whether he has shown that user's password.
+    fn note(&mut self, user: UserName, has_shown: bool, now: Duration) {
+        for known in &mut self.shown {
+            if known.user == user {
+                known.answered = now;
+                if has_shown {
+                    known.shown = now;
+                }
+                return;
+            }
+        }
+        if has_shown {
+            let _ = self.shown.push(ShownUser {
+                user,
+                shown: now,
+                answered: now,
+            });
+        }
     }
 
     /// Whether somebody may be answered by now; always where the clock can't be read.
@@ -167,6 +303,11 @@ impl Guests {
     ) {
         let now = time(rt);
         self.answered = now;
+        self.note_turn(place, now);
+        if let (Some(who), Ok(answer)) = (request.caller, &answer) {
+            let has_shown = !answer.is_stranger && is_for_staff(request);
+            self.note(who.user.folded(), has_shown, now);
+        }
         let Some(guest) = self.all.get_mut(place) else {
             return;
         };
@@ -178,6 +319,42 @@ impl Guests {
             Err(refused) => guest.answer(Err(refused), false, now),
         }
     }
+}
+
+/// Whether a request asks for what officers and readers alone are shown.
+fn is_for_staff(request: &Request) -> bool {
+    !matches!(
+        request.asked,
+        RequestTarget::Health | RequestTarget::Kill(_)
+    )
+}
+
+/// Gives all who ask whether the gate takes orders the last answer to that, while it is fresh.
+fn answer_health(guests: &mut Guests, alloc: Global, now: Duration) {
+    let Some(health) = &guests.health else {
+        return;
+    };
+    if now
+        >= health
+            .made
+            .saturating_add(Duration::from_millis(HEALTH_LASTS_MILLIS))
+    {
+        return;
+    }
+    for guest in &mut guests.all {
+        if guest.asks_for_health() {
+            let text = Vec::from_slice(alloc, health.text.as_slice());
+            guest.answer(text.map_err(OutOfMemory::from), false, now);
+        }
+    }
+}
+
+/// Keeps an answer to `/healthz` for those who ask next.
+fn keep_health(guests: &mut Guests, alloc: Global, now: Duration, answer: &HttpAnswer) {
+    guests.health = match Vec::from_slice(alloc, answer.text.as_slice()) {
+        Ok(text) => Some(HealthAnswer { text, made: now }),
+        Err(_) => None,
+    };
 }
 
 /// Whether a password was given that is one too many of those that were wrong.
@@ -215,10 +392,11 @@ fn answer_next<
     board: Board<L, Summary>,
     guests: &mut Guests,
 ) -> Board<L, Summary> {
-    if !guests.may_answer(time(rt)) {
+    let now = time(rt);
+    if !guests.may_answer(now) {
         return board;
     }
-    let Some((place, request)) = guests.next() else {
+    let Some((place, request)) = guests.next(now) else {
         return board;
     };
     let about = ServerFigures {
@@ -239,6 +417,9 @@ fn answer_next<
         &request,
     );
     tell_others(rt, server.control, &request);
+    if let (RequestTarget::Health, Ok(answer)) = (request.asked, &answer) {
+        keep_health(guests, alloc, time(rt), answer);
+    }
     guests.give(rt, server.control, place, &request, answer);
     board
 }
@@ -255,8 +436,9 @@ fn rest<R: Clock>(rt: &R, guests: &Guests, moved: bool) {
     }
 }
 
-/// Serves the page on this listener until the end is asked for, 32 connections at once, each with five seconds for its request
-/// and five for its answer. No connection is waited for, and no lock is held while anything is read from one or written to one;
+/// Serves the page on this listener until the end is asked for, 64 connections at once, each with five seconds for its request
+/// and five for its answer. Each officer and reader who has shown his password within the minute has a turn, and all others together
+/// have one, and nobody has more than eight wait in one name; whether the gate takes orders is told to all by one look at it. No connection is waited for, and no lock is held while anything is read from one or written to one;
 /// what is waited for are the gate's lock and, where there is a journal, that what was done is kept.
 pub fn serve_page<
     T: Drop,
@@ -278,6 +460,9 @@ pub fn serve_page<
     let mut guests = Guests {
         all: Vec::new(alloc),
         answered: Duration::ZERO,
+        shown: Vec::new(alloc),
+        others_answered: Duration::ZERO,
+        health: None,
     };
     for _ in rt.forever() {
         if closing.is_requested().is_yes() {
@@ -286,6 +471,8 @@ pub fn serve_page<
         let now = time(rt);
         guests.take_all(alloc, listener, now);
         let moved = guests.go_on(alloc, now);
+        guests.thin_out();
+        answer_health(&mut guests, alloc, now);
         board = answer_next(rt, alloc, server, board, &mut guests);
         rest(rt, &guests, moved);
     }

@@ -1,11 +1,11 @@
 -- Two files that say the same mean the same policy.
-use Rattle.std.proofs.Common.{◌≡◌, ℕ, Bool, true, false, cond, nat_lt, List, [], ◌∷◌, ◌++◌, length, codes, bytes_eq, Option, Some, None, Result, Ok, Err, IsOk, if◌then◌else◌, sym, ap, ◌∙◌}
+use Rattle.std.proofs.Common.{◌≡◌, ℕ, Bool, true, false, cond, nat_lt, List, [], ◌∷◌, ◌++◌, length, codes, bytes_eq, Option, Some, None, Result, Ok, Err, IsOk, if◌then◌else◌, refl, sym, ap, ◌∙◌}
 use Rattle.std.specs.Option.{ok_or, option_and_then, option_map_or}
 use Rattle.toml.specs.Data.{Data, Members, as_array, as_str, get_member}
 use Rattle.gx_units.specs.Names.{same_rule}
 use Rattle.gx_policy.specs.{Kinds.{first_kind_words, later_kind_words}, declared.{kinds.KindName.KindName, policy.{PolicyData.PolicyData, Lifters.Lifters, Account.Account, Stock.Stock, User.User, FileRule.FileRule}}}
 use Rattle.gx_policyvalues.specs.{declared.fault.{FaultKind.{FaultKind, TheVariants.{BadValue, DuplicateName, MissingKey, TooMany}}, Letters.TheVariants.Visible}, Field.{◌>>=◌, choice, choice_at, field, field_at, only_keys, value_at, word_at, word_in}}
-use Rattle.gx_policyfile.specs.{declared.version.FileVersion.{FileVersion, TheVariants.{One, Two}}, Known.scope, Place.{each, is_taken, next}, Rules.{keys_of_rule, kind, kinds_of_version, rule, rule_keys, rule_name}, Version.version, Policies.{accounts, stocks, users, rules, policy}, Reads.{tables_in, entries_at}, Migrating.{say_the_same, lift_alike}}
+use Rattle.gx_policyfile.specs.{declared.version.FileVersion.{FileVersion, TheVariants.{One, Two}}, Known.scope, Place.{each, is_taken, next}, Rules.{keys_of_rule, kind, kinds_of_version, rule, rule_keys, rule_name}, Version.version, Policies.{accounts, stocks, users, rules, policy}, Reads.{tables_in, entries_at}, Migrating.{say_the_same, lift_alike, without_users}}
 use Rattle.gx_policyfile.proofs.{Step_parts.bind_ok, Policy_parts.{WasRead, was_read, ok_of}}
 
 -- what two equal results hold
@@ -95,19 +95,37 @@ rules_later One xs ss entries rs h = by (nat_lt 128 (length entries)) h
     by true h = cc
     by false h = each_later (λ (a b : FileRule). same_rule a.name b.name) (rule One xs ss) (rule Two xs ss) (rule_later xs ss) [] entries rs h
 
+same_accounts : (one other : Members) {p q : PolicyData} → WasRead one p → WasRead other q → say_the_same (codes "account") one other → p.accounts ≡ q.accounts
+same_accounts one other {p} {q} w v accounts_same =
+    both_ok _ _ p.accounts q.accounts (ap accounts (same_entries (codes "account") one other accounts_same)) w.of_accounts v.of_accounts
+
+-- but for the users
+same_beside : (one other : Members) {p q : PolicyData} → WasRead one p → WasRead other q → lift_alike one other
+    → say_the_same (codes "session") one other → say_the_same (codes "account") one other → say_the_same (codes "stock") one other
+    → say_the_same (codes "rule") one other → (us : List User) → us ≡ q.users
+    → data_of p.session.bytes p.lifters p.accounts p.stocks us p.rules ≡ q
+same_beside one other {p} {q} w v lifting session accounts_same stocks_same rules_same us u =
+    let s = both_ok _ _ p.session.bytes q.session.bytes (same_session one other session) w.session v.session in
+    let l = both_ok _ _ p.lifters q.lifters lifting w.lifting v.lifting in
+    let a = same_accounts one other w v accounts_same in
+    let k = both_ok _ _ p.stocks q.stocks (ap stocks (same_entries (codes "stock") one other stocks_same)) w.of_stocks v.of_stocks in
+    let r = both_ok _ _ p.rules q.rules
+    (ap (λ x. rules Two x p.stocks (entries_at (codes "rule") one)) a ∙ ap (λ x. rules Two q.accounts x (entries_at (codes "rule") one)) k ∙ ap (rules Two q.accounts q.stocks) (same_entries (codes "rule") one other rules_same))
+    (rules_later (version one) p.accounts p.stocks _ p.rules w.of_rules) (rules_later (version other) q.accounts q.stocks _ q.rules v.of_rules) in
+    same_data p.session.bytes q.session.bytes p.lifters q.lifters p.accounts q.accounts p.stocks q.stocks us q.users p.rules q.rules s l a k u r
+
 same_read : (one other : Members) {p q : PolicyData} → WasRead one p → WasRead other q → lift_alike one other
     → say_the_same (codes "session") one other → say_the_same (codes "account") one other → say_the_same (codes "stock") one other
     → say_the_same (codes "user") one other → say_the_same (codes "rule") one other → p ≡ q
 same_read one other {p} {q} w v lifting session accounts_same stocks_same users_same rules_same =
-    let s = both_ok _ _ p.session.bytes q.session.bytes (same_session one other session) w.session v.session in
-    let l = both_ok _ _ p.lifters q.lifters lifting w.lifting v.lifting in
-    let a = both_ok _ _ p.accounts q.accounts (ap accounts (same_entries (codes "account") one other accounts_same)) w.of_accounts v.of_accounts in
-    let k = both_ok _ _ p.stocks q.stocks (ap stocks (same_entries (codes "stock") one other stocks_same)) w.of_stocks v.of_stocks in
-    let u = both_ok _ _ p.users q.users (ap (λ x. users x (entries_at (codes "user") one)) a ∙ ap (users q.accounts) (same_entries (codes "user") one other users_same)) w.of_users v.of_users in
-    let r = both_ok _ _ p.rules q.rules
-    (ap (λ x. rules Two x p.stocks (entries_at (codes "rule") one)) a ∙ ap (λ x. rules Two q.accounts x (entries_at (codes "rule") one)) k ∙ ap (rules Two q.accounts q.stocks) (same_entries (codes "rule") one other rules_same))
-    (rules_later (version one) p.accounts p.stocks _ p.rules w.of_rules) (rules_later (version other) q.accounts q.stocks _ q.rules v.of_rules) in
-    same_data p.session.bytes q.session.bytes p.lifters q.lifters p.accounts q.accounts p.stocks q.stocks p.users q.users p.rules q.rules s l a k u r
+    same_beside one other w v lifting session accounts_same stocks_same rules_same p.users
+    (both_ok _ _ p.users q.users (ap (λ x. users x (entries_at (codes "user") one)) (same_accounts one other w v accounts_same) ∙ ap (users q.accounts) (same_entries (codes "user") one other users_same)) w.of_users v.of_users)
+
+-- a file that names no user has none
+no_users : (other : Members) {q : PolicyData} → WasRead other q → get_member (codes "user") other ≡ None → [] ≡ q.users
+unfolding users
+no_users other {q} v none =
+    both_ok (users q.accounts []) _ [] q.users (ap (λ o. users q.accounts (option_map_or tables_in (option_and_then as_array o) [])) (sym none)) refl v.of_users
 
 -- files that are policies and say the same mean the same
 pub same_policy : (one other : Members) → IsOk (policy one) → IsOk (policy other) → lift_alike one other
@@ -117,3 +135,14 @@ same_policy one other h g lifting session accounts_same stocks_same users_same r
     let (p, p_is) = ok_of (policy one) h in
     let (q, q_is) = ok_of (policy other) g in
     q_is ∙ ap Ok (sym (same_read one other (was_read one p p_is) (was_read other q q_is) lifting session accounts_same stocks_same users_same rules_same)) ∙ sym p_is
+
+-- a file that says the same but names no user means the same policy without users
+pub policy_without_users : (one other : Members) → IsOk (policy one) → IsOk (policy other) → lift_alike one other
+    → say_the_same (codes "session") one other → say_the_same (codes "account") one other → say_the_same (codes "stock") one other
+    → get_member (codes "user") other ≡ None → say_the_same (codes "rule") one other → policy other ≡ without_users (policy one)
+policy_without_users one other h g lifting session accounts_same stocks_same none rules_same =
+    let (p, p_is) = ok_of (policy one) h in
+    let (q, q_is) = ok_of (policy other) g in
+    let w = was_read one p p_is in
+    let v = was_read other q q_is in
+    q_is ∙ ap Ok (sym (same_beside one other w v lifting session accounts_same stocks_same rules_same [] (no_users other v none))) ∙ ap without_users (sym p_is)

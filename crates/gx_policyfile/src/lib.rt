@@ -2,6 +2,7 @@
 #![tactic(auto)]
 
 mod account;
+mod desk;
 mod known;
 mod laws;
 mod migrating;
@@ -13,6 +14,7 @@ mod stock;
 mod user;
 mod version;
 
+pub use desk::policy_for_desk;
 pub use laws::{
     each_is_sound, keys_are_known, names_in_places_differ, order_is_kept, places_are_short,
 };

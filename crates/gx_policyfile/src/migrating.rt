@@ -38,7 +38,7 @@ fn are_equal(one: Lifters, other: Lifters) -> bool
 }
 
 /// Whether as many officers have to lift in the one file as in the other.
-fn lift_alike(one: &Table, other: &Table) -> bool
+pub(crate) fn lift_alike(one: &Table, other: &Table) -> bool
     ensures { IsTrue result → lift_alike (table_view one.now) (table_view other.now) }
 {
     match lifters(version(one), one) {
@@ -50,23 +50,20 @@ fn lift_alike(one: &Table, other: &Table) -> bool
     }
 }
 
-/// Whether the files say the same of the session, the accounts, the stocks, the users and the rules.
-fn have_same_parts(alloc: Global, one: &Table, other: &Table) -> bool
+/// Whether the files say the same of the session, the accounts, the stocks and the rules.
+pub(crate) fn have_same_parts(alloc: Global, one: &Table, other: &Table) -> bool
     ensures session { IsTrue result
         → say_the_same (codes "session") (table_view one.now) (table_view other.now) }
     ensures accounts { IsTrue result
         → say_the_same (codes "account") (table_view one.now) (table_view other.now) }
     ensures stocks { IsTrue result
         → say_the_same (codes "stock") (table_view one.now) (table_view other.now) }
-    ensures users { IsTrue result
-        → say_the_same (codes "user") (table_view one.now) (table_view other.now) }
     ensures rules { IsTrue result
         → say_the_same (codes "rule") (table_view one.now) (table_view other.now) }
 {
     is_same_at(alloc, "session", one, other)
         && is_same_at(alloc, "account", one, other)
         && is_same_at(alloc, "stock", one, other)
-        && is_same_at(alloc, "user", one, other)
         && is_same_at(alloc, "rule", one, other)
 }
 
@@ -81,6 +78,9 @@ fn is_migrated(alloc: Global, top: &Table, migrated: &Table) -> bool
         return false;
     }
     if !lift_alike(top, migrated) || !have_same_parts(alloc, top, migrated) {
+        return false;
+    }
+    if !is_same_at(alloc, "user", top, migrated) {
         return false;
     }
     match accepted(alloc, migrated) {
@@ -102,7 +102,7 @@ fn reads_as(alloc: Global, top: &Table, text: &[u8]) -> bool
     }
 }
 
-fn number_of(lifters: Lifters) -> i64 {
+pub(crate) fn number_of(lifters: Lifters) -> i64 {
     match lifters {
         Lifters::One => 1,
         Lifters::Two => 2,

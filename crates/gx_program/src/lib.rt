@@ -25,5 +25,5 @@ pub use files::{
 };
 pub use growing::{MOVED, PIECE, go_to, length_named, read_once};
 pub use output::held_back;
-pub use policies::{policy_file, policy_of, print_migrated, tell_policy};
+pub use policies::{policy_file, policy_of, print_for_desk, print_migrated, tell_policy};
 pub use streams::{NULL, StandIns};

@@ -3,7 +3,7 @@
 use crate::ending::{Failure, print};
 use crate::files::{Content, bytes_of};
 use gx_policy::Policy;
-use gx_server::{migrated_policy, policy_for, told_of_policy};
+use gx_server::{desk_policy, migrated_policy, policy_for, told_of_policy};
 
 /// The bytes of the policy file that was asked for, if one was.
 pub fn policy_file<'a>(
@@ -33,5 +33,12 @@ pub fn tell_policy<'a>(rt: &HostRuntime, path: &'a str) -> Result<(), Failure<'a
 pub fn print_migrated<'a>(rt: &HostRuntime, path: &'a str) -> Result<(), Failure<'a>> {
     let bytes = bytes_of(rt, path, Content::Policy)?;
     let text = migrated_policy(rt.alloc(), bytes.as_slice())?;
+    print(rt, text.as_slice())
+}
+
+/// Prints a policy file without its users.
+pub fn print_for_desk<'a>(rt: &HostRuntime, path: &'a str) -> Result<(), Failure<'a>> {
+    let bytes = bytes_of(rt, path, Content::Policy)?;
+    let text = desk_policy(rt.alloc(), bytes.as_slice())?;
     print(rt, text.as_slice())
 }

@@ -1,6 +1,7 @@
 //! The day's lines.
 
-ghost use Rattle.std.specs.Prelude.{◌≡◌, ◌+◌, ◌≤◌, ◌<◌, [], IfErr, IfNone, IfOk, IfSome, OnErr, OnOk};
+ghost use Rattle.std.specs.Prelude.{◌≡◌, ◌+◌, ◌≤◌, ◌<◌, [], IfErr, IfNone, IfOk, IfSome, IsFalse, IsTrue, OnErr, OnOk};
+ghost use Rattle.gx_policy.specs.People.{is_officer, role_in};
 ghost use Rattle.gx_history.specs.Verdicts.{IsLegal};
 ghost use Rattle.gx_pass.specs.declared.pass.PassFault.TheVariants as pass_faults;
 ghost use Rattle.gx_pass.specs.Views.{mine};
@@ -8,8 +9,10 @@ ghost use Rattle.gx_door.specs.declared.caller.Caller.TheVariants as callers;
 ghost use Rattle.gx_reception.specs.declared.lines.LineFault.TheVariants as line_faults;
 
 use crate::reserve::{LAST_TRADERS_LINE, LAST_TRADERS_RECORD};
-use gx_door::{Caller, Door, Issuer};
+use gx_door::{Caller, Door, Issuer, is_officer};
 use gx_pass::PassFault;
+use gx_policy::Policy;
+use gx_units::UserName;
 use std::marker::{Model, PhantomData};
 use std::sync::Wait;
 
@@ -18,12 +21,14 @@ use std::sync::Wait;
 pub enum LineFault {
     /// He is a trader, and the lines or the records that are left are kept for officers and readers.
     Kept,
+    /// He is no officer, and officers alone are taken: the server has taken as many connections as it was to.
+    NoOfficer,
     /// No pass was issued.
     Unissued(PassFault),
 }
 
-/// That somebody with a right password is given no line: only [`Lines::give`] makes one, and [`NoLine::for_records`].
-/// Contracts see why.
+/// That somebody with a right password is given no line: only [`Lines::give`] makes one, [`NoLine::for_records`],
+/// and, of whom the policy has as no officer, [`OfficersAlone`](crate::OfficersAlone). Contracts see why.
 #[derive(Clone, Copy)]
 pub struct NoLine {
     why: LineFault,
@@ -51,6 +56,21 @@ impl NoLine {
         }
         Some(NoLine {
             why: LineFault::Kept,
+        })
+    }
+
+    /// That this user is given none where officers alone are taken, since the policy has no officer of this name; `None` where
+    /// it has one.
+    pub(crate) fn for_no_officer(policy: &Policy, user: UserName) -> Option<NoLine>
+        ensures some { IfSome result (λ n. (n ≡ line_faults.NoOfficer)
+            × IsFalse (is_officer (role_in policy.now.users user))) }
+        ensures none { IfNone result (IsTrue (is_officer (role_in policy.now.users user))) }
+    {
+        if is_officer(policy, user) {
+            return None;
+        }
+        Some(NoLine {
+            why: LineFault::NoOfficer,
         })
     }
 

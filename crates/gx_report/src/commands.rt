@@ -27,24 +27,24 @@ fn names_of(action: &Action) -> [Cell; 2] {
     }
 }
 
-/// Whether the rule's limit is a value, or a part of the reference price: ten-thousandths.
-fn counts_ten_thousandths(policy: &Policy, name: RuleId) -> bool {
-    match policy.rule(name) {
-        Some(rule) => matches!(
-            rule.kind,
-            RuleKind::Order(OrderLimit::Value | OrderLimit::Collar, _)
-                | RuleKind::Exposure(ExposureLimit::GrossValue, _, _)
-        ),
-        None => false,
+/// A limit of a rule of this kind, in its unit.
+fn cell_of_limit(kind: &RuleKind, limit: u64) -> Cell {
+    match kind {
+        RuleKind::Order(OrderLimit::Value, _)
+        | RuleKind::Exposure(ExposureLimit::GrossValue, _, _) => Cell::Dollars(u128::from(limit)),
+        RuleKind::Order(OrderLimit::Collar, _) => Cell::Parts(limit),
+        _ => Cell::Count(limit),
     }
 }
 
 /// A limit of the rule.
 pub(crate) fn limit_cell(policy: &Policy, rule: RuleId, limit: Option<u64>) -> Cell {
-    match limit {
-        Some(limit) if counts_ten_thousandths(policy, rule) => Cell::Dollars(u128::from(limit)),
-        Some(limit) => Cell::Count(limit),
-        None => Cell::Empty,
+    let Some(limit) = limit else {
+        return Cell::Empty;
+    };
+    match policy.rule(rule) {
+        Some(rule) => cell_of_limit(&rule.kind, limit),
+        None => Cell::Count(limit),
     }
 }
 

@@ -1,14 +1,14 @@
 //! The gate that a run opens, and what is told of a policy file.
 
 ghost use Rattle.std.specs.Prelude.{◌≡◌, [], None, Ok, option_copied, IfOk, IfErr};
-ghost use Rattle.gx_policyfile.specs.Policies.{means, version_of};
+ghost use Rattle.gx_policyfile.specs.{Policies.{means, version_of}, Migrating.without_users};
 ghost use Rattle.gx_server.specs.{Opening.{policy_for, line_for, IsFaultOf}, Telling.out_of_memory};
 
 use crate::policies::{policy_line, sample_policy};
 use crate::program_fault::ProgramFault;
 use gx_access_gate::AccessGate;
 use gx_policy::Policy;
-use gx_policyfile::{migrate, read_policy, read_version};
+use gx_policyfile::{migrate, policy_for_desk, read_policy, read_version};
 use std::alloc::Global;
 
 /// The policy that a file means.
@@ -86,4 +86,16 @@ pub fn migrated_policy(alloc: Global, file: &[u8]) -> Result<Vec<u8>, ProgramFau
     ensures fault { IfErr result (IsFaultOf (means file.now)) }
 {
     Ok(migrate(alloc, file)?)
+}
+
+/// The file in version 2 without its users, and so without a password.
+///
+/// # Errors
+///
+/// The fault of the file, or that memory was refused.
+pub fn desk_policy(alloc: Global, file: &[u8]) -> Result<Vec<u8>, ProgramFault>
+    ensures policy { IfOk result (λ text. means text.items ≡ without_users (means file.now)) }
+    ensures fault { IfErr result (IsFaultOf (means file.now)) }
+{
+    Ok(policy_for_desk(alloc, file)?)
 }

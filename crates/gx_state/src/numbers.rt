@@ -1,5 +1,6 @@
 //! Numbers and marks, as both forms show them.
 
+use gx_money::append_dollars;
 use gx_overview::commands::GrantedCommand;
 use gx_policy::{ExposureLimit, OrderLimit, RuleKind};
 use gx_text::{Decimals, append, append_moment, append_name, append_number, append_with_zeros};
@@ -41,7 +42,7 @@ pub(crate) fn append_integer<I: Integer>(text: &mut Vec<u8>, number: I) -> Resul
     append(text, digits.format(number).as_bytes())
 }
 
-/// Puts ten-thousandths at the end of the text, as `2500.0000`.
+/// Puts ten-thousandths, of a price or a part of one, at the end of the text, as `25.0000`.
 pub(crate) fn append_decimal(text: &mut Vec<u8>, value: u128) -> Result<(), OutOfMemory> {
     append_integer(text, value / 10_000)?;
     append(text, b".")?;
@@ -56,7 +57,8 @@ pub(crate) fn append_amount(
 ) -> Result<(), OutOfMemory> {
     match unit {
         Unit::Shares => append_integer(text, amount),
-        Unit::Value | Unit::Parts => append_decimal(text, amount),
+        Unit::Value => append_dollars(text, amount),
+        Unit::Parts => append_decimal(text, amount),
     }
 }
 

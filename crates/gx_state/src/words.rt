@@ -3,10 +3,9 @@
 ghost use Rattle.std.specs.Prelude.{◌≡◌};
 ghost use Rattle.gx_overview.specs.Commands.{granted_commands};
 
-use crate::numbers::{
-    Unit, append_amount, append_command, append_decimal, append_integer, append_padded, unit_of,
-};
+use crate::numbers::{Unit, append_amount, append_command, append_integer, append_padded, unit_of};
 use crate::orders::append_order_lines;
+use gx_money::append_dollars;
 use gx_overview::accounts::{AccountRow, account_rows};
 use gx_overview::commands::{GrantedCommand, granted_commands};
 use gx_overview::day::{DayRow, UserRow, day_row, lines_left, user_rows};
@@ -64,7 +63,7 @@ fn append_users(text: &mut Vec<u8>, rows: &[UserRow]) -> Result<(), OutOfMemory>
 fn append_executed(text: &mut Vec<u8>, done: &ExecutedTotals) -> Result<(), OutOfMemory> {
     append_integer(text, done.shares)?;
     append(text, b" for ")?;
-    append_decimal(text, done.value)
+    append_dollars(text, done.value)
 }
 
 /// What an account has executed on both sides.

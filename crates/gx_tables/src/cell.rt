@@ -1,5 +1,6 @@
 //! What stands in a place of a table.
 
+use gx_money::append_dollars;
 use gx_text::{Decimals, append, append_moment, append_name, append_number, append_with_zeros};
 use gx_units::{Moment, OutOfMemory};
 use itoa::{Buffer, Integer};
@@ -38,6 +39,8 @@ pub enum Cell {
     Difference(i128),
     /// Ten-thousandths of a dollar.
     Dollars(u128),
+    /// Ten-thousandths of the reference price.
+    Parts(u64),
     /// Nanoseconds past midnight.
     Moment(Moment),
     /// Tenths of a percent.
@@ -54,12 +57,12 @@ pub fn append_integer<I: Integer>(text: &mut Vec<u8>, number: I) -> Result<(), O
     append(text, digits.format(number).as_bytes())
 }
 
-/// Puts ten-thousandths at the end of the text, as `2500.0000`.
+/// Puts ten-thousandths with all four digits at the end of the text, as `2500.0000`.
 ///
 /// # Errors
 ///
 /// `OutOfMemory` where memory was refused; then a part of it may stand at the end of the text.
-pub fn append_dollars(text: &mut Vec<u8>, value: u128) -> Result<(), OutOfMemory> {
+pub(crate) fn append_decimal(text: &mut Vec<u8>, value: u128) -> Result<(), OutOfMemory> {
     append_integer(text, value / 10_000)?;
     append(text, b".")?;
     append_with_zeros(text, 4, (value % 10_000) as u64)
@@ -72,8 +75,8 @@ fn append_tenths(text: &mut Vec<u8>, tenths: u128) -> Result<(), OutOfMemory> {
     append_integer(text, tenths % 10)
 }
 
-/// Puts what a person reads in the place at the end of the text: nothing where it is empty, a value in dollars, a moment as a
-/// clock shows it.
+/// Puts what a person reads in the place at the end of the text: nothing where it is empty, a value in dollars as
+/// `$2,500.00`, a moment as a clock shows it.
 ///
 /// # Errors
 ///
@@ -86,6 +89,7 @@ pub fn append_cell(text: &mut Vec<u8>, cell: Cell) -> Result<(), OutOfMemory> {
         Cell::Sum(sum) => append_integer(text, sum),
         Cell::Difference(difference) => append_integer(text, difference),
         Cell::Dollars(value) => append_dollars(text, value),
+        Cell::Parts(parts) => append_decimal(text, u128::from(parts)),
         Cell::Moment(moment) => append_moment(text, moment, Decimals::Six),
         Cell::Tenths(tenths) => append_tenths(text, tenths),
     }
@@ -100,6 +104,7 @@ impl Cell {
             | Cell::Sum(_)
             | Cell::Difference(_)
             | Cell::Dollars(_)
+            | Cell::Parts(_)
             | Cell::Moment(_)
             | Cell::Tenths(_) => true,
         }

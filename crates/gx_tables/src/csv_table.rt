@@ -1,6 +1,6 @@
 //! A table as CSV.
 
-use crate::cell::append_cell;
+use crate::cell::{Cell, append_cell, append_decimal};
 use crate::table::Table;
 use csv::{ByteRecord, WriterBuilder};
 use gx_text::append;
@@ -29,6 +29,14 @@ fn heads_of(alloc: Global, table: &Table) -> Result<ByteRecord, OutOfMemory> {
     Ok(line)
 }
 
+/// What a program reads in the place: a value in dollars with four digits behind the point, and nothing else in it.
+fn append_plain_cell(text: &mut Vec<u8>, cell: Cell) -> Result<(), OutOfMemory> {
+    match cell {
+        Cell::Dollars(value) => append_decimal(text, value),
+        _ => append_cell(text, cell),
+    }
+}
+
 fn push_cells(
     line: &mut ByteRecord,
     alloc: Global,
@@ -37,7 +45,7 @@ fn push_cells(
 ) -> Result<(), OutOfMemory> {
     for column in 0..table.width() {
         let mut shown = Vec::new(alloc);
-        append_cell(&mut shown, table.cell(row, column))?;
+        append_plain_cell(&mut shown, table.cell(row, column))?;
         line.push_field(shown.as_slice())?;
     }
     Ok(())

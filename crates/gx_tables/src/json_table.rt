@@ -13,12 +13,14 @@ fn append_comma(text: &mut Vec<u8>, place: usize) -> Result<(), OutOfMemory> {
     Ok(())
 }
 
-/// A number as one, a value in ten-thousandths of a dollar; a name or a moment as a string; `null` where there is none.
+/// A number as one, a value in ten-thousandths of a dollar, a part in those of the reference price; a name or a moment as a
+/// string; `null` where there is none.
 fn append_value(text: &mut Vec<u8>, cell: Cell) -> Result<(), OutOfMemory> {
     match cell {
         Cell::Empty => append(text, b"null"),
         Cell::Name(name) => append_json_name(text, &name.bytes),
         Cell::Dollars(value) => append_integer(text, value),
+        Cell::Parts(parts) => append_integer(text, parts),
         Cell::Moment(_) => append_quoted(text, cell),
         _ => append_cell(text, cell),
     }

@@ -14,7 +14,7 @@ mod json_table;
 mod kind;
 mod table;
 
-pub use cell::{Cell, Name, append_cell, append_dollars, append_integer, name_of};
+pub use cell::{Cell, Name, append_cell, append_integer, name_of};
 pub use columns::append_columns;
 pub use csv_table::append_csv;
 pub use html_table::{append_escaped, append_html};

@@ -1,2 +1,3 @@
 pub mod Words_cut
 pub mod Price_read
+pub mod Accounts_read

@@ -1,23 +1,43 @@
 -- What the words of a line ask for.
-use Rattle.std.specs.Prelude.{ℕ, Bool, ◌==◌, if◌then◌else◌, List, [], ◌∷◌, codes, bytes_eq, slice_index, Option, Some, None, option_map, Result, Ok, Err}
+use Rattle.std.specs.Prelude.{ℕ, ◌+◌, Bool, ◌==◌, if◌then◌else◌, List, [], ◌∷◌, ◌++◌, drop, codes, bytes_eq, slice_index, Option, Some, None, is_some, Result, Ok, Err}
 use Rattle.gx_units.specs.declared.names.{AccountName.AccountName, RuleId.RuleId, Symbol.Symbol, Token.Token}
 use Rattle.gx_desk.specs.declared.{Action.Action, Command.Command, Tag.Tag, WrittenName.WrittenName}
 use Rattle.gx_ouch.specs.declared.inbound.{EnterOrder.EnterOrder, ReplaceOrder.ReplaceOrder, Inbound.Inbound}
 use Rattle.gx_history.specs.OuchValues.{side_buy, side_sell, immediate_or_cancel, system_hours}
-use Rattle.gx_script_text.specs.{Words.{padded_name, number_of_bits}, ScriptLines.{without_cr, plain_order, plain_replace}}
-use Rattle.gx_terminal.specs.{declared.{wrong.{ExpectedInput.ExpectedInput, WrongWord.WrongWord}, wish.{Side.Side, Lifetime.Lifetime, NewOrder.NewOrder, NewTerms.NewTerms, Wish.Wish}}, Cursor.{Left, left_of, words_between, wrong_at, ◌>>=◌, next_word, next_or, value_at_end}, Prices.price_of}
+use Rattle.gx_script_text.specs.{Words.{padded_name, number_of_bits, itself}, ScriptLines.{without_cr, plain_order, plain_replace}}
+use Rattle.gx_terminal.specs.{declared.{wrong.{ExpectedInput.ExpectedInput, WrongWord.WrongWord}, wish.{Side.Side, Lifetime.Lifetime, NewOrder.NewOrder, NewTerms.NewTerms, Wish.Wish}}, Cursor.{Left, left_of, words_between, wrong_at, ◌>>=◌, word_meaning, next_word, next_or, value_at_end}, Prices.price_of}
 
--- `--all`, or an account
-abbrev pub killed_of : List ℕ → Option Wish
-killed_of word =
-    if bytes_eq word (codes "--all") then Some Wish.KillAll
-    else option_map (λ bytes. Wish.Ask (Action.Kill (record { bytes = bytes }))) (padded_name 8 word)
+-- the wish, where no word is left; else a Kill of each account, where each word that is left is one
+unfoldable pub with_more : Wish → ℕ → List (List ℕ) → Result Wish WrongWord
+with_more kill taken [] = Ok kill
+with_more kill taken (word ∷ words) =
+    if is_some (padded_name 8 word) then with_more Wish.KillEach (taken + 1) words
+    else Err (wrong_at (taken + 1) ExpectedInput.Account)
 
--- `ACCOUNT`, or `--all`
+-- a Kill of the account that the word taken is, and of those behind it
+abbrev pub accounts_wish : List ℕ → Left → Result Wish WrongWord
+accounts_wish word left = do
+  account ← word_meaning ExpectedInput.AccountOrAll (padded_name 8 word) left
+  with_more (Wish.Ask (Action.Kill (record { bytes = account.0 }))) account.1.taken account.1.words
+
+-- `ACCOUNT`, `ACCOUNT ACCOUNT ..`, or `--all`
 unfoldable pub kill_wish : Left → Result Wish WrongWord
 kill_wish left = do
-  kill ← next_word ExpectedInput.AccountOrAll killed_of left
-  value_at_end kill.0 kill.1
+  word ← next_word ExpectedInput.AccountOrAll itself left
+  if bytes_eq word.0 (codes "--all") then value_at_end Wish.KillAll word.1 else accounts_wish word.0 word.1
+
+-- the account that a word is, if it is one
+abbrev pub account_in : Option (List ℕ) → List AccountName
+account_in None = []
+account_in (Some bytes) = record { bytes = bytes } ∷ []
+
+unfoldable pub accounts_in : List (List ℕ) → List AccountName
+accounts_in [] = []
+accounts_in (word ∷ words) = account_in (padded_name 8 word) ++ accounts_in words
+
+-- the accounts that a line names behind its first word
+abbrev pub accounts_named : List ℕ → List AccountName
+accounts_named line = accounts_in (drop 1 (words_between (without_cr line)))
 
 -- `ACCOUNT`
 unfoldable pub lift_wish : Left → Result Wish WrongWord
@@ -136,6 +156,7 @@ abbrev pub command_wished : Tag → Wish → Option Command
 command_wished tag (Wish.Ask action) = Some (record { tag = tag; action = action })
 command_wished tag Wish.Nothing = None
 command_wished tag Wish.KillAll = None
+command_wished tag Wish.KillEach = None
 command_wished tag (Wish.Enter order) = None
 command_wished tag (Wish.Replace order) = None
 command_wished tag (Wish.Cancel order) = None
@@ -171,6 +192,7 @@ order_of token (Wish.Cancel order) = Some (Inbound.Cancel order)
 order_of token (Wish.Ask action) = None
 order_of token Wish.Nothing = None
 order_of token Wish.KillAll = None
+order_of token Wish.KillEach = None
 order_of token Wish.Watch = None
 order_of token Wish.Help = None
 order_of token Wish.Quit = None

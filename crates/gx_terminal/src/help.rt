@@ -6,6 +6,7 @@ A line has one of these forms. Its words are separated by spaces, and names are 
 
 officers:
   kill ACCOUNT                          end its live orders, and take no more of it
+  kill ACCOUNT ACCOUNT ..               so too of each of these
   kill --all                            so too of every account
   lift ACCOUNT                          take its orders again, once as many officers have lifted it as the policy asks for
   limit RULE VALUE                      give the rule this limit from now on

@@ -1,6 +1,7 @@
 //! What a user asks for at a terminal, a line each, and the status of his run. Nothing here opens a connection.
 #![tactic(auto)]
 
+mod accounts;
 mod help;
 mod laws;
 mod price;
@@ -10,6 +11,7 @@ mod wish;
 mod words;
 mod wrong;
 
+pub use accounts::accounts_named;
 pub use help::HELP;
 pub use laws::prices_are_read_back;
 pub use status::Status;

@@ -1,8 +1,8 @@
 //! A line of a terminal, read.
 
-ghost use Rattle.std.specs.Prelude.{◌≡◌, ◌+◌, [], bytes_eq, MatchResult};
+ghost use Rattle.std.specs.Prelude.{◌≡◌, ◌+◌, [], bytes_eq, is_some, MatchResult};
 ghost use Rattle.gx_script_text.specs.{ScriptLines.without_cr, Words.{padded_name, number_of_bits, itself}};
-ghost use Rattle.gx_terminal.specs.{Cursor.{Reads, next_word, next_or, value_at_end, wrong_at, word_meaning}, Prices.price_of, Wishes.{killed_of, kill_wish, lift_wish, limit_wish, stock_wish, reader_wish, close_confirmed, close_wish, command_wish, lifetime_of, enter_wish, replace_wish, cancel_wish, order_form, wish_form, is_comment, wish_of}, declared.wish.Lifetime.TheVariants.Day};
+ghost use Rattle.gx_terminal.specs.{Cursor.{Reads, next_word, next_or, value_at_end, wrong_at, word_meaning}, Prices.price_of, Wishes.{with_more, accounts_wish, kill_wish, lift_wish, limit_wish, stock_wish, reader_wish, close_confirmed, close_wish, command_wish, lifetime_of, enter_wish, replace_wish, cancel_wish, order_form, wish_form, is_comment, wish_of}, declared.wish.Lifetime.TheVariants.Day};
 ghost use Rattle.gx_terminal.specs.declared.wrong.ExpectedInput.TheVariants as places;
 
 use crate::price::price;
@@ -91,15 +91,36 @@ fn is(word: &[u8], name: &[u8]) -> bool
     word == name
 }
 
-/// A Kill of the account, or of each one.
-fn killed(word: &[u8]) -> Option<Wish>
-    ensures { result ≡ killed_of word.now }
+/// Whether a word can be the name of an account.
+fn is_account(word: &[u8]) -> bool
+    ensures { result ≡ is_some (padded_name 8 word.now) }
 {
-    if is(word, b"--all") {
-        return Some(Wish::KillAll);
+    name::<8>(word).is_some()
+}
+
+/// The wish, where no word is left; else a Kill of each account, where each word that is left is one.
+fn with_more(words: &mut LineWords, kill: Wish) -> Result<Wish, WrongWord>
+    ensures { result ≡ with_more kill words.old.taken words.old.words }
+{
+    let mut wish = kill;
+    while let Some(word) = words.next() {
+        if !is_account(word) {
+            return Err(WrongWord {
+                word: words.taken(),
+                wanted: ExpectedInput::Account,
+            });
+        }
+        wish = Wish::KillEach;
     }
-    let bytes = name(word)?;
-    Some(Wish::Ask(Action::Kill(AccountName { bytes })))
+    Ok(wish)
+}
+
+/// A Kill of the account that the word taken is, and of those behind it.
+fn accounts_wish(word: &[u8], words: &mut LineWords) -> Result<Wish, WrongWord>
+    ensures { result ≡ accounts_wish word.now words.old }
+{
+    let bytes = standing(words, name(word), ExpectedInput::AccountOrAll)?;
+    with_more(words, Wish::Ask(Action::Kill(AccountName { bytes })))
 }
 
 #[tactic(auto, unfolding(crate::specs::Wishes::kill_wish))]
@@ -107,8 +128,10 @@ fn kill_wish(words: &mut LineWords) -> Result<Wish, WrongWord>
     ensures { result ≡ kill_wish words.old }
 {
     let word = take_word(words, ExpectedInput::AccountOrAll)?;
-    let kill = standing(words, killed(word), ExpectedInput::AccountOrAll)?;
-    ended(words, kill)
+    if is(word, b"--all") {
+        return ended(words, Wish::KillAll);
+    }
+    accounts_wish(word, words)
 }
 
 #[tactic(auto, unfolding(crate::specs::Wishes::lift_wish))]
@@ -335,7 +358,7 @@ fn is_comment(word: &[u8]) -> bool
 }
 
 /// The line without the CR that may stand at its end.
-fn without_cr(line: &[u8]) -> &[u8]
+pub(crate) fn without_cr(line: &[u8]) -> &[u8]
     ensures { result.now ≡ without_cr line.now }
 {
     match line {

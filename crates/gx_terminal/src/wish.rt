@@ -87,6 +87,8 @@ pub enum Wish {
     Ask(Action),
     /// `kill --all`: a Kill of each account.
     KillAll,
+    /// `kill ACCOUNT ACCOUNT ..`: a Kill of each of these, which `accounts_named` tells.
+    KillEach,
     /// `buy SHARES STOCK PRICE [day|ioc]` or `sell SHARES STOCK PRICE [day|ioc]`.
     Enter(NewOrder),
     /// `replace TOKEN SHARES PRICE [day|ioc]`.

@@ -9,6 +9,7 @@ use gx_ouch::{
 };
 use gx_terminal::{
     ExpectedInput, HELP, Lifetime, NewOrder, NewTerms, Side, Status, Wish, WrongWord,
+    accounts_named,
 };
 use gx_text::Form;
 use gx_units::{AccountName, Firm, OutOfMemory, RuleId, Symbol, Token};
@@ -17,6 +18,10 @@ const MOMENT: u64 = 37_783_698_373_000;
 
 const ALFA: AccountName = AccountName {
     bytes: *b"ALFA    ",
+};
+
+const BETA: AccountName = AccountName {
+    bytes: *b"BETA    ",
 };
 
 const TEST: Symbol = Symbol {
@@ -112,6 +117,18 @@ fn orders_are_read(rt: HostRuntime) {
         && is_read(b"quit", Wish::Quit);
     assert!(rt; buy && sell && least && most && replace && nothing && plain);
     assert!(rt; is_read(b"kill --all", Wish::KillAll));
+}
+
+#[test]
+fn several_accounts_are_read(rt: HostRuntime) {
+    let wish = is_read(b"kill ALFA  BETA", Wish::KillEach);
+    let named = match accounts_named(rt.alloc(), b"kill ALFA  BETA\r") {
+        Ok(names) => names.as_slice() == [ALFA, BETA].as_slice(),
+        Err(_) => false,
+    };
+    let wrong = is_wrong(b"kill ALFA BETABETAB", 3, ExpectedInput::Account)
+        && is_wrong(b"kill --all ALFA", 3, ExpectedInput::End);
+    assert!(rt; wish && named && wrong);
 }
 
 #[test]

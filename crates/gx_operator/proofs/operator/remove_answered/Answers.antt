@@ -1,5 +1,5 @@
 use Rattle.std.proofs.{Common.{rules, not}, lemmas.Fn.filter_same}
-use Rattle.gx_operator.specs.Hearing.{answers_request}
+use Rattle.gx_operator.specs.Answering.{answers_request}
 use Rattle.gx_operator.proofs.operator.remove_answered.Goals as goal
 
 pub returns : goal.returns
