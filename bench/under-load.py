@@ -7,12 +7,14 @@
 #
 # GATE: the built program; where none is named, crates/gate/out/gate of this repository.
 """Lets native traders (load.c beside this file) enter orders, and looks at what that does to everybody else: how long others'
-orders and an officer's kill take, also beside 64 users who are denied in silence, what 256 silent users cost, and whether any
-of 40 who send heartbeats is taken for silent where the server is held up for 17 seconds.
+orders and an officer's kill take, also beside 64 users who are denied in silence and beside a browser, what 256 silent users
+cost, and whether any of 40 who send heartbeats is taken for silent where the server is held up for 17 seconds.
 
 - 64 traders with 20 orders in flight each: how many orders wait to be matched, how long an order does, how long a pair of
   others takes whose orders cross in another stock, and how long an officer's kill takes.
 - 64 users whose requests are denied in silence, beside a journal: how long an officer's kill takes.
+- A browser that asks for the page's state all the time, under as many accounts, stocks, users and rules as a policy may have:
+  how much longer an officer's kill takes than without it.
 - 256 users who do nothing: how much of a processor the server takes.
 - 40 users who send heartbeats, while the whole server is held up: none is taken for silent.
 
@@ -23,6 +25,7 @@ longer than it should.
 """
 
 import argparse
+import base64
 import os
 import resource
 import signal
@@ -33,14 +36,18 @@ import sys
 import tempfile
 import threading
 import time
+import urllib.request
 from collections.abc import Callable, Iterator
 from contextlib import contextmanager
+from itertools import count
 from pathlib import Path
 
 GATE = Path(__file__).resolve().parents[1] / "crates" / "gate" / "out" / "gate"
 ACCOUNTS = 64
 USERS = 255
 STOCKS = 5
+MOST_STOCKS = 1024
+MOST_RULES = 128
 HERE = Path(__file__).resolve().parent
 ENTER = struct.Struct(">HcB14scI8sII4s3sI2s")
 RECORD = struct.Struct(">4sQQ10x6sc58xc8xQQ8x")
@@ -63,14 +70,25 @@ def policy_text() -> str:
     return "".join(parts)
 
 
+def widest_policy() -> str:
+    """A policy of as many accounts, stocks, users and rules as a file may have: each rule counts each account in each stock."""
+    parts = ['version = 2\nsession = "LOAD"\nlifters = 1\n']
+    parts += [f'[[rule]]\nname = "N{i:03d}"\nkind = "net_shares"\nlimit = 1000000\ncount = "each"\n' for i in range(MOST_RULES)]
+    parts += [f'[[stock]]\nname = "S{i:04d}"\nreference = 100000\n' for i in range(MOST_STOCKS - STOCKS)]
+    return "".join(parts) + policy_text().split("\n", 2)[2]
+
+
+TAGS = count(1)
+
+
 class Line:
     """A connection of somebody who is logged in."""
 
-    def __init__(self, port: int, user: str, password: str) -> None:
+    def __init__(self, port: int, user: str, password: str, first: int = 1) -> None:
         self.line = socket.create_connection(("127.0.0.1", port), timeout=60)
         self.line.setsockopt(socket.IPPROTO_TCP, socket.TCP_NODELAY, 1)
         self.held, self.number = b"", 0
-        self.line.sendall(b"\0\x2fL%-6s%-10s%10s%20d" % (user.encode(), password.encode(), b"", 1))
+        self.line.sendall(b"\0\x2fL%-6s%-10s%10s%20d" % (user.encode(), password.encode(), b"", first))
         if self.packet()[2:3] != b"A":
             raise RuntimeError(f"{user} is not logged in")
 
@@ -104,12 +122,17 @@ class Line:
         self.report()
 
 
-@contextmanager
-def server(gate: str, folder: Path, *more: str) -> Iterator[tuple[int, int]]:
-    """A server on a free port, ended by the end of its standard input: its port, and its process."""
-    (folder / "policy.toml").write_text(policy_text())
+def free_port() -> int:
+    """A port that nobody has."""
     with socket.create_server(("127.0.0.1", 0)) as free:
-        port = free.getsockname()[1]
+        return free.getsockname()[1]
+
+
+@contextmanager
+def server(gate: str, folder: Path, *more: str, policy: str = "") -> Iterator[tuple[int, int]]:
+    """A server on a free port, ended by the end of its standard input: its port, and its process."""
+    (folder / "policy.toml").write_text(policy or policy_text())
+    port = free_port()
     words = [gate, "serve", "--port", str(port), "--until-input-ends", "--policy", str(folder / "policy.toml"), *more]
     with subprocess.Popen(words, stdin=subprocess.PIPE, stdout=subprocess.PIPE) as running:
         try:
@@ -146,16 +169,15 @@ def command_bytes(kind: bytes, number: int) -> bytes:
     return kind + b"%-14d" % number + b"A63     "
 
 
-def time_commands(port: int, until: Callable[[], bool], pause: float) -> list[float]:
-    """How many milliseconds each kill takes until it is answered; a lift stands behind each."""
-    line, times = Line(port, "OLGA", "orange"), []
-    number = 0
+def time_commands(port: int, until: Callable[[], bool], pause: float, timed: bytes = KILL) -> list[float]:
+    """How many milliseconds each kill, or each of the commands of these kinds, takes until it is answered; a lift stands behind
+    each kill."""
+    line, times = Line(port, "OLGA", "orange", 0), []
     while not until():
         for kind in (KILL, LIFT):
-            number += 1
             begun = time.monotonic()
-            line.command(command_bytes(kind, number))
-            if kind == KILL:
+            line.command(command_bytes(kind, next(TAGS)))
+            if kind in timed:
                 times.append((time.monotonic() - begun) * 1000)
         time.sleep(pause)
     return times
@@ -278,6 +300,52 @@ def run_flood(port: int, seconds: float) -> None:
         thread.join(seconds + 10)
 
 
+@contextmanager
+def browsing(gate: str, page: int) -> Iterator[None]:
+    """A browser, in a process of its own, that has seen the page's state once, and asks for it over and over."""
+    with subprocess.Popen([sys.executable, __file__, gate, "--browse", str(page)], stdout=subprocess.PIPE) as browser:
+        try:
+            if browser.stdout.readline() != b"seen\n":
+                raise RuntimeError("the page does not answer")
+            yield
+        finally:
+            browser.kill()
+
+
+def browse(page: int) -> None:
+    """Asks for the page's state, and says when it has seen it."""
+    who = base64.b64encode(b"OLGA:orange").decode()
+    asked = urllib.request.Request(f"http://127.0.0.1:{page}/state.json", headers={"Authorization": f"Basic {who}"})
+    while True:
+        with urllib.request.urlopen(asked, timeout=60) as answer:
+            answer.read()
+        print("seen", flush=True)
+
+
+def look_at_page(gate: str, seconds: float, judge: Judge) -> None:
+    """An officer's kills under the widest policy, without a browser and beside one."""
+    print(f"{ACCOUNTS} accounts, {MOST_STOCKS} stocks, {USERS + 1} users and {MOST_RULES} net rules:")
+    page = free_port()
+    with tempfile.TemporaryDirectory() as name:
+        with server(gate, Path(name), "--status-port", str(page), policy=widest_policy()) as (port, _):
+            trader = Line(port, "T00", "P00")
+            for i in range(STOCKS):
+                trader.enter(b"B", b"TEST%d   " % i)
+                trader.report(b"A")
+            alone = time_commands_for(port, seconds)
+            with browsing(gate, page):
+                beside = time_commands_for(port, seconds)
+    longer = share(beside, 99) - share(alone, 99)
+    print(f"{len(alone)} commands without a browser, the longest {max(alone):.2f} ms; beside one {len(beside)}, {max(beside):.2f} ms")
+    judge.say("a kill or a lift takes longer beside a browser, p99", longer, 1, "ms")
+
+
+def time_commands_for(port: int, seconds: float) -> list[float]:
+    """How many milliseconds each kill and each lift takes, for so many seconds."""
+    end = time.monotonic() + seconds
+    return time_commands(port, lambda: time.monotonic() > end, 0.002, KILL + LIFT)
+
+
 def processor_seconds(process: int) -> float:
     """The processor time that a process has taken."""
     fields = Path(f"/proc/{process}/stat").read_text().rsplit(")", 1)[1].split()
@@ -347,8 +415,7 @@ def started(gate: str, load: str, folder: Path) -> Iterator[int]:
         with server(gate, folder) as (port, _):
             yield port
         return
-    with socket.create_server(("127.0.0.1", 0)) as free:
-        port = free.getsockname()[1]
+    port = free_port()
     words = [load, "echo", str(port)] + ([str(WORK)] if gate == WORKING_ECHO else [])
     with subprocess.Popen(words, stdout=subprocess.PIPE) as running:
         running.stdout.readline()
@@ -364,10 +431,13 @@ def main() -> int:
     parser.add_argument("--slack", type=float, default=1, help="how many times as long things may take (1)")
     parser.add_argument("--before", help="another version, to compare with")
     parser.add_argument("--flood", type=int, help=argparse.SUPPRESS)
+    parser.add_argument("--browse", type=int, help=argparse.SUPPRESS)
     asked = parser.parse_args()
     if asked.flood:
         run_flood(asked.flood, asked.seconds)
         return 0
+    if asked.browse:
+        browse(asked.browse)
     resource.setrlimit(resource.RLIMIT_NOFILE, (4096, 4096))
     judge = Judge(asked.slack)
     with tempfile.TemporaryDirectory() as name:
@@ -379,6 +449,7 @@ def main() -> int:
         look_at_pause(asked.gate, judge)
         look_at_orders(asked.gate, load, asked.seconds, judge)
         look_at_flood(asked.gate, asked.seconds, judge)
+        look_at_page(asked.gate, asked.seconds, judge)
     return int(judge.bad > 0)
 
 

@@ -4,3 +4,5 @@ mod View_owner
 pub mod Summary_call
 mod LiveOrders_call
 pub mod Record_call
+mod Records_repeated
+pub mod Replica_next

@@ -1,5 +1,5 @@
--- A summary that follows a gate's records a portion at a time.
-use Rattle.std.proofs.{Common.{◌≡◌, ℕ, ◌+◌, ◌<◌, ◌≤◌, ◌^◌, ◌⊎◌, inl, inr, List, [], length, take, drop, min, sym, ap, ◌∙◌, subst, arith}, Math.Seq.{take-add, take-length}, lemmas.List.{length-take, take_all}}
+-- A summary that follows a gate's records.
+use Rattle.std.proofs.{Common.{◌≡◌, ℕ, ◌<◌, ◌^◌, List, [], length, take, drop, min, sym, ap, subst, arith}, lemmas.List.{length-take, take-append-drop, take_all}}
 use Rattle.gx_policy.specs.declared.policy.PolicyData.{PolicyData}
 use Rattle.gx_history.specs.declared.record.RecordData.{RecordData}
 use Rattle.gx_overview.specs.Accounts.{capped_count}
@@ -16,46 +16,30 @@ count_is records m d small is =
     let told : d.counts.records ≡ capped_count (length (take m records)) = ap counted_records is.counted.counts in
     omega (arith, long, told)
 
-either : (m n : ℕ) → (m ≤ n) ⊎ (n ≤ m)
-either m n = grind arith
+-- with all that come behind them
+pub all_followed : {policy : PolicyData} {records : List RecordData} (old new : Summary) → IsSummaryBehind policy records old → FollowsSummary (drop old.counts.records records) old new → IsSummary policy records new
+all_followed {policy} {records} old new was follows =
+    subst (λ (some : List RecordData). IsSummary policy some new) (take-append-drop old.counts.records records) (follows policy (take old.counts.records records) was.first)
 
--- and they are the first of that number
-first_are : (records : List RecordData) (m : ℕ) → take (min m (length records)) records ≡ take m records
-first_are records m = elim (either m (length records)) [
-  | inl few ↦ ap (λ (k : ℕ). take k records) (omega arith)
-  | inr many ↦ take_all (min m (length records)) records (omega arith) ∙ sym (take_all m records many)
-]
-
-behind_at : {policy : PolicyData} (records : List RecordData) (m : ℕ) (d : Summary) → length records < 2 ^ 63 → IsSummary policy (take m records) d → IsSummaryBehind policy records d
-behind_at {policy} records m d small is =
-    let count = count_is records m d small is in
+-- one of all of them is behind them
+pub behind_whole : {policy : PolicyData} {records : List RecordData} (d : Summary) → length records < 2 ^ 63 → IsSummary policy records d → IsSummaryBehind policy records d
+unfolding counted_records
+behind_whole {policy} {records} d small is =
+    let told : d.counts.records ≡ capped_count (length records) = ap counted_records is.counted.counts in
     record {
-      few = omega (arith, count);
-      first = subst (λ (some : List RecordData). IsSummary policy some d) (sym (first_are records m) ∙ ap (λ (k : ℕ). take k records) (sym count)) is;
+      few = omega (arith, told, small);
+      first = subst (λ (some : List RecordData). IsSummary policy some d) (sym (take_all d.counts.records records (omega (arith, told, small)))) is;
     }
 
--- with so many more, or all that there are
-more_followed : {policy : PolicyData} {records : List RecordData} (most : ℕ) (old new : Summary) → IsSummaryBehind policy records old → FollowsSummary (take most (drop old.counts.records records)) old new
-    → IsSummary policy (take (old.counts.records + most) records) new
-more_followed {policy} {records} most old new was follows =
-    subst (λ (some : List RecordData). IsSummary policy some new) (sym (take-add old.counts.records most records)) (follows policy (take old.counts.records records) was.first)
-
-pub behind_more : {policy : PolicyData} {records : List RecordData} (most : ℕ) (old new : Summary) → length records < 2 ^ 63 → IsSummaryBehind policy records old
-    → FollowsSummary (take most (drop old.counts.records records)) old new → IsSummaryBehind policy records new
-behind_more {records} most old new small was follows =
-    behind_at records (old.counts.records + most) new small (more_followed most old new was follows)
-
-pub counts_more : {policy : PolicyData} {records : List RecordData} (most : ℕ) (old new : Summary) → length records < 2 ^ 63 → IsSummaryBehind policy records old
-    → FollowsSummary (take most (drop old.counts.records records)) old new → new.counts.records ≡ min (old.counts.records + most) (length records)
-counts_more {records} most old new small was follows =
-    count_is records (old.counts.records + most) new small (more_followed most old new was follows)
-
+-- and one that stays is behind the same
 pub behind_still : {policy : PolicyData} {records : List RecordData} (old new : Summary) → length records < 2 ^ 63 → IsSummaryBehind policy records old → Stays old new → IsSummaryBehind policy records new
-behind_still {policy} {records} old new small was stays = behind_at records old.counts.records new small (stays policy (take old.counts.records records) was.first)
-
--- one that counts as many as there are is that of all
-pub all_there : {policy : PolicyData} {records : List RecordData} (d : Summary) → IsSummaryBehind policy records d → d.counts.records ≡ length records → IsSummary policy records d
-all_there {policy} {records} d behind all = subst (λ (some : List RecordData). IsSummary policy some d) (ap (λ (k : ℕ). take k records) all ∙ take-length records) behind.first
+behind_still {policy} {records} old new small was stays =
+    let is = stays policy (take old.counts.records records) was.first in
+    let same : new.counts.records ≡ old.counts.records = omega (arith, count_is records old.counts.records new small is, was.few) in
+    record {
+      few = omega (arith, same, was.few);
+      first = subst (λ (some : List RecordData). IsSummary policy some new) (ap (λ (k : ℕ). take k records) (sym same)) is;
+    }
 
 -- one of no record is behind none
 pub begins : (policy : PolicyData) (d : Summary) → IsSummary policy [] d → IsSummaryBehind policy [] d

@@ -4,3 +4,4 @@ pub mod Sight
 pub mod Accounts
 pub mod Views
 pub mod Laws
+pub mod Replicas

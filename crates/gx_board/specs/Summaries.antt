@@ -1,10 +1,9 @@
 -- What is kept of the records that were followed.
-use Rattle.std.specs.Prelude.{◌≡◌, ℕ, Bool, List, [], ◌∷◌, ◌++◌, map, filter, Option, IfSome, if◌then◌else◌}
+use Rattle.std.specs.Prelude.{◌≡◌, ◌≤◌, ℕ, length, take, Bool, List, [], ◌∷◌, ◌++◌, map, filter, Option, IfSome, if◌then◌else◌}
 use Rattle.circular_buffer.specs.Buffer.{Buffer, buffer, keep_last}
 use Rattle.gx_policy.specs.declared.policy.PolicyData.{PolicyData}
 use Rattle.gx_history.specs.declared.record.RecordData.{RecordData}
 use Rattle.gx_overview.specs.Commands.{granted_commands}
-use Rattle.gx_lookout.specs.Observers.{IsBehind}
 use Rattle.gx_board.specs.{declared.summary.Summary.Summary, Counting.{commands, counts_with, counts_of, denied_rows, denies, row_counted}}
 
 -- so many denials are shown, and so many commands
@@ -56,5 +55,6 @@ abbrev pub Stays : Summary → Summary → Type 0
 Stays old new = (policy : PolicyData) (records : List RecordData) → IsSummary policy records old → IsSummary policy records new
 
 -- the summary is that of the first of these records, as many as it counts
-abbrev pub IsSummaryBehind : PolicyData → List RecordData → Summary → Type 0
-IsSummaryBehind = IsBehind (λ (d : Summary). d.counts.records) (λ (d : Summary) policy records. IsSummary policy records d)
+pub record IsSummaryBehind (policy : PolicyData) (records : List RecordData) (d : Summary) : Type 0 where
+  pub few : d.counts.records ≤ length records
+  pub first : IsSummary policy (take d.counts.records records) d

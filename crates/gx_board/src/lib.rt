@@ -9,26 +9,29 @@
 //! - `counts`, `denied`: how many records there are, and what they say;
 //! - `summary`: what is kept of the records, so that no view walks the day;
 //! - `sight`: which accounts are a viewer's, and what concerns them;
-//! - `observing`: a summary as an [`Observer`](gx_lookout::Observer) of a gate that threads share;
 //! - `uses`: what is used of the limits of gross and net rules;
 //! - `laws`: that no row of a view names another's account, and that no denial and no command in it concerns one;
 //! - `view`: what a viewer is shown, each figure an equation with its definition.
 #![tactic(auto)]
 
 mod accounts;
+mod board;
 mod counts;
 mod denied;
 mod laws;
-mod observing;
+mod repeating;
+mod replica;
 mod sight;
 mod summary;
 mod uses;
 mod view;
 
 pub use accounts::AccountState;
+pub use board::Board;
 pub use counts::Counts;
 pub use denied::DeniedRow;
 pub use laws::views_are_his;
+pub use replica::Replica;
 pub use sight::is_shown;
 pub use summary::Summary;
 pub use uses::{GrossUse, NetUse};

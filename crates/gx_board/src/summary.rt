@@ -1,6 +1,6 @@
 //! What is kept of a day's records, so that no view walks them.
 
-ghost use Rattle.std.specs.Prelude.{◌≡◌, ◌+◌, ◌<◌, [], length, slice_get, IfOk, IsFalse, IsTrue, OnErr, OnOk};
+ghost use Rattle.std.specs.Prelude.{◌≡◌, ◌<◌, [], length, slice_get, IfOk, OnErr, OnOk};
 ghost use Rattle.gx_board.specs.{Counting.counts_with, Summaries.{Counted, FollowsSummary, IsNoted, IsSummary, IsSummaryBehind, Notes, pushed_if, recent_records, Stays}};
 
 use crate::counts::{Counts, commands, denies, is_kept};
@@ -125,32 +125,24 @@ impl Summary {
         Ok(())
     }
 
-    /// Follows the gate's records behind those that it has followed, but no more than so many. Answers whether it has followed
-    /// all that there are.
+    /// Follows all the gate's records behind those that it has followed.
     ///
     /// # Errors
     ///
     /// `OutOfMemory` where memory was refused; then it has followed none of them.
-    pub fn catch_up<G: ShowsRecords>(
-        &mut self,
-        alloc: Global,
-        gate: &G,
-        most: usize,
-    ) -> Result<bool, OutOfMemory>
+    pub fn catch_up<G: ShowsRecords>(&mut self, alloc: Global, gate: &G) -> Result<(), OutOfMemory>
         requires behind { IsSummaryBehind
             (G.state gate.now).policy (G.state gate.now).records self.old }
         ensures behind { IsSummaryBehind
             (G.state gate.now).policy (G.state gate.now).records self.new }
-        ensures all { IfOk result (λ all. IsTrue all
-            → IsSummary (G.state gate.now).policy (G.state gate.now).records self.new) }
-        ensures further { IfOk result (λ all. IsFalse all
-            → self.new.counts.records ≡ self.old.counts.records + most) }
+        ensures all { OnOk result
+            (IsSummary (G.state gate.now).policy (G.state gate.now).records self.new) }
     {
         // The records are fewer than 2^63, so that no count stops.
         gate.length();
         let records = gate.shown_records();
-        let more = records.part(self.counts.records as usize, most);
+        let more = records.past(self.counts.records as usize);
         self.follow(alloc, &more)?;
-        Ok(self.counts.records == records.len() as u64)
+        Ok(())
     }
 }

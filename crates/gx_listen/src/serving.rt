@@ -16,7 +16,6 @@ use gx_control::{ConnectionSlot, Mishap, Peer, ServerControl, ShutdownFlag};
 use gx_door::{Door, Issuer};
 use gx_events::EventLog;
 use gx_logging::RecordLog;
-use gx_lookout::Lookout;
 use gx_pass::PassFault;
 use gx_policy::Policy;
 use gx_reception::{Admits, OfficersAlone, Reception};
@@ -403,8 +402,8 @@ fn run_accompanied<
 /// whom it serves until then. All threads have ended at its end.
 ///
 /// A connection has a line from its login on, if its user has the right password. The log of the records, if one is asked
-/// for, is told in the server's. The companion, if there is one, is served beside it, of this gate and by this policy: it has a
-/// line of the day.
+/// for, is told in the server's. The companion, if there is one, is served beside it, by this policy: it has a line of
+/// the day.
 ///
 /// Gives back a pass, and how the server ended.
 ///
@@ -414,7 +413,6 @@ fn run_accompanied<
 /// taken.
 pub fn serve_door<
     T: Drop + Send,
-    L: Lookout<Pass = T> + Sync,
     D: Door<Pass = T> + Sync,
     I: Issuer<D> + Drop + Send,
     C: Companion + Send,
@@ -422,7 +420,6 @@ pub fn serve_door<
 >(
     rt: &R,
     alloc: Global,
-    gate: &L,
     door: &D,
     policy: &Policy,
     issuer: I,
@@ -433,10 +430,7 @@ pub fn serve_door<
     connections: u64,
 ) -> Result<(T, Ending), Unserved>
     requires known { IfSome log (λ l. l.events.known ≡ known_of D.policy []) }
-    requires policies { L.policy ≡ D.policy }
-    requires held { L.observed ≡ D.observed }
     requires policy { policy.now ≡ D.policy }
-    requires made { IfSome companion (λ c. C.is_for c D.policy) }
 {
     let mut issuer = issuer;
     let pass = match issuer.issue(rt) {
@@ -447,7 +441,7 @@ pub fn serve_door<
         Ok(telling) => telling,
         Err(fault) => return Err(Unserved::of_fault(fault.into())),
     };
-    let companion = match accompany(rt, gate, door, policy, &mut issuer, companion) {
+    let companion = match accompany(rt, door, policy, &mut issuer, companion) {
         Ok(companion) => companion,
         Err(fault) => return Err(Unserved::of_fault(fault)),
     };

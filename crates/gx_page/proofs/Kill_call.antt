@@ -24,20 +24,18 @@ pub goes_on : {P : Type 0} (held : P → LineView) (policy : PolicyData) (pass b
 goes_on held policy pass back (Ok deed) later same = later.front
 goes_on held policy pass back (Err why) later same = ([], append-nil (held pass).front ∙ ap (λ p. (held p).front) (sym same))
 
--- the same of a board, whose pass is seen by the lookout as by the door
-pub board_goes_on : {P : Type 0} (seen held : P → LineView) (policy : PolicyData) (board : LineView) (pass back : P) (done : Result Deed Refusal) → seen ≡ held → seen pass ≡ board
-    → OnOk done (IsLater policy (held pass) (held back)) → OnErr done (back ≡ pass) → IsPrefix board.front (seen back).front
-board_goes_on {P} seen held policy board pass back done same is later kept =
-    subst (λ (f : P → LineView). IsPrefix board.front (f back).front) (sym same)
-    (subst (λ (h : LineView). IsPrefix h.front (held back).front) (ap (λ (f : P → LineView). f pass) (sym same) ∙ is) (goes_on held policy pass back done later kept))
+-- the same of a board that had this pass
+pub board_goes_on : {P : Type 0} (held : P → LineView) (policy : PolicyData) (board : LineView) (pass back : P) (done : Result Deed Refusal) → held pass ≡ board → OnOk done (IsLater policy (held pass) (held back)) → OnErr done (back ≡ pass)
+    → IsPrefix board.front (held back).front
+board_goes_on held policy board pass back done is later kept = subst (λ (h : LineView). IsPrefix h.front (held back).front) is (goes_on held policy pass back done later kept)
 
 -- and what was done for a kill
-pub told_so : {P : Type 0} (seen held : P → LineView) (policy : PolicyData) (secret : List ℕ) (board after : LineView) (pass back : P) (caller : Option Credentials) (form : KillForm) (done : Result Deed Refusal)
-    (announced : Option EndedOrders) → seen ≡ held → seen pass ≡ board → after ≡ seen back → IsKill policy secret (held pass) (held back) caller form done → announced ≡ kill_announced caller form done
+pub told_so : {P : Type 0} (held : P → LineView) (policy : PolicyData) (secret : List ℕ) (board after : LineView) (pass back : P) (caller : Option Credentials) (form : KillForm) (done : Result Deed Refusal)
+    (announced : Option EndedOrders) → held pass ≡ board → after ≡ held back → IsKill policy secret (held pass) (held back) caller form done → announced ≡ kill_announced caller form done
     → IsKillTold policy secret board after caller form done announced
-told_so {P} seen held policy secret board after pass back caller form done announced same is then kill tells = record {
+told_so held policy secret board after pass back caller form done announced is then kill tells = record {
   kill =
-      subst (λ (h : LineView). IsKill policy secret h after caller form done) (ap (λ (f : P → LineView). f pass) (sym same) ∙ is)
-      (subst (λ (h : LineView). IsKill policy secret (held pass) h caller form done) (ap (λ (f : P → LineView). f back) (sym same) ∙ sym then) kill);
+      subst (λ (h : LineView). IsKill policy secret h after caller form done) is
+      (subst (λ (h : LineView). IsKill policy secret (held pass) h caller form done) (sym then) kill);
   tells = tells;
 }

@@ -27,7 +27,7 @@ IsTold true policy secret about reply text = IsResponse policy secret about repl
 IsTold false policy secret about reply text = text ≡ notice_bytes Notice.Unkept
 
 -- what becomes of the request, and what is told of it
-pub record IsAnswer (policy : PolicyData) (secret : List ℕ) (about : ServerFigures) (was is : LineView) (q : Request) (a : HttpAnswer) : Type 0 where
+pub record IsAnswered (policy : PolicyData) (secret : List ℕ) (about : ServerFigures) (was is : LineView) (q : Request) (a : HttpAnswer) : Type 0 where
   pub reply : PageReply
   pub is_kept : Bool
   pub becomes : IsReply policy secret was is q reply

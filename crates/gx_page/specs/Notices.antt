@@ -50,16 +50,16 @@ notice_status Notice.Killed = Status.SeePage
 notice_status Notice.Unkept = Status.Unavailable
 notice_status (Notice.Fault fault) = fault_status fault
 
-abbrev pub words_of : Notice → List ℕ
-words_of Notice.Well = codes "the gate takes orders\n"
-words_of Notice.Closed = codes "the day is closed\n"
-words_of Notice.Full = codes "the day has as many records as it may have\n"
-words_of Notice.Stranger = codes "the name and the password of an officer or a reader are wanted\n"
-words_of Notice.NoToken = codes "the page is of an earlier run of the server: try again\n"
-words_of Notice.NoPower = codes "you may not kill this account\n"
-words_of Notice.Elsewhere = codes "you are logged in elsewhere: kill from there, or log out there\n"
-words_of Notice.Denied = codes "the gate denied the kill: the last commands say why\n"
-words_of Notice.Refused = codes "there is no memory or no record left for the kill: try again\n"
-words_of Notice.Killed = codes "the account is killed\n"
-words_of Notice.Unkept = codes "the journal can't be written: nothing more is told\n"
-words_of (Notice.Fault fault) = codes "this is no request that is served here\n"
+abbrev pub notice_words : Notice → List ℕ
+notice_words Notice.Well = codes "the gate takes orders\n"
+notice_words Notice.Closed = codes "the day is closed\n"
+notice_words Notice.Full = codes "the day has as many records as it may have\n"
+notice_words Notice.Stranger = codes "the name and the password of an officer or a reader are wanted\n"
+notice_words Notice.NoToken = codes "the page is of an earlier run of the server: try again\n"
+notice_words Notice.NoPower = codes "you may not kill this account\n"
+notice_words Notice.Elsewhere = codes "you are logged in elsewhere: kill from there, or log out there\n"
+notice_words Notice.Denied = codes "the gate denied the kill: the last commands say why\n"
+notice_words Notice.Refused = codes "there is no memory or no record left for the kill: try again\n"
+notice_words Notice.Killed = codes "the account is killed\n"
+notice_words Notice.Unkept = codes "the journal can't be written: nothing more is told\n"
+notice_words (Notice.Fault fault) = codes "this is no request that is served here\n"

@@ -6,11 +6,11 @@ use Rattle.gx_policy.specs.declared.policy.PolicyData.{PolicyData}
 use Rattle.gx_http.specs.{declared.response.{Content.Content, Status.Status}, Responses.response_bytes}
 use Rattle.gx_status.specs.{declared.{server.ServerFigures.ServerFigures, viewer.Viewer.Viewer}, Metrics.{server_figures, view_figures}, Viewers.page_text}
 use Rattle.gx_button.specs.{Permission.has_kill_power, Tokens.page_token}
-use Rattle.gx_page.specs.{declared.{notice.Notice.Notice, reply.PageReply.PageReply}, Notices.{notice_of_health, notice_of_kill, notice_status, words_of}}
+use Rattle.gx_page.specs.{declared.{notice.Notice.Notice, reply.PageReply.PageReply}, Notices.{notice_of_health, notice_of_kill, notice_status, notice_words}}
 
 -- a line of text, as a response
 abbrev pub notice_bytes : Notice → List ℕ
-notice_bytes notice = response_bytes (notice_status notice) Content.Text (words_of notice)
+notice_bytes notice = response_bytes (notice_status notice) Content.Text (notice_words notice)
 
 -- what a page is told of this user, and of its server
 abbrev pub viewer_told : PolicyData → List ℕ → ServerFigures → UserName → Viewer

@@ -2,17 +2,17 @@
 
 ghost use Rattle.std.specs.Prelude.{◌≡◌, IfOk};
 ghost use mathlib.Core.List.{IsPrefix};
-ghost use Rattle.gx_page.specs.Answers.{is_stranger, IsAnswer, IsTold};
+ghost use Rattle.gx_page.specs.Answers.{is_stranger, IsAnswered, IsTold};
 
 use crate::notice::Notice;
 use crate::reply::{PageReply, reply_to};
 use crate::response::{notice_response, response};
-use gx_board::Summary;
+use gx_board::Board;
 use gx_button::{Refusal, Secret};
 use gx_door::{Dial, Door};
 use gx_http::Request;
-use gx_lookout::{Board, Lookout};
 use gx_policy::Policy;
+use gx_records::{ShowsRecords, ShowsState};
 use gx_serve::Announces;
 use gx_status::ServerFigures;
 use gx_units::OutOfMemory;
@@ -66,27 +66,24 @@ fn response_if_kept(
 pub(crate) fn answer_to<
     T: Drop,
     D: Door<Pass = T>,
-    L: Lookout<Pass = T>,
+    G: ShowsRecords + ShowsState,
     R: Wait + Dial + Announces,
 >(
     rt: &R,
     alloc: Global,
     door: &D,
-    gate: &L,
     policy: &Policy,
     secret: &Secret,
     about: ServerFigures,
-    board: Board<L, Summary>,
+    board: Board<D, G>,
     request: &Request,
-) -> (Board<L, Summary>, Result<HttpAnswer, OutOfMemory>)
-    requires policies { L.policy ≡ D.policy }
-    requires held { L.observed ≡ D.observed }
+) -> (Board<D, G>, Result<HttpAnswer, OutOfMemory>)
     requires policy { policy.now ≡ D.policy }
     ensures later { IsPrefix board.front result.0.front }
     ensures answer { IfOk result.1
-        (IsAnswer D.policy secret.now.bytes about board result.0 request.now) }
+        (IsAnswered D.policy secret.now.bytes about board result.0 request.now) }
 {
-    let (board, reply) = reply_to(rt, alloc, door, gate, policy, secret, board, request);
+    let (board, reply) = reply_to(rt, alloc, door, policy, secret, board, request);
     let reply = match reply {
         Ok(reply) => reply,
         Err(refused) => return (board, Err(refused)),

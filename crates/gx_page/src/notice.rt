@@ -1,7 +1,7 @@
 //! What is said in a line of text.
 
 ghost use Rattle.std.specs.Prelude.{◌≡◌};
-ghost use Rattle.gx_page.specs.Notices.{notice_of_deed, notice_of_health, notice_of_kill, notice_of_refusal, notice_of_verdict, notice_status, words_of};
+ghost use Rattle.gx_page.specs.Notices.{notice_of_deed, notice_of_health, notice_of_kill, notice_of_refusal, notice_of_verdict, notice_status, notice_words};
 
 use crate::reply::Health;
 use gx_button::{Deed, Refusal};
@@ -111,7 +111,7 @@ impl Notice {
 
     /// The words of it, a line.
     pub(crate) fn words(self) -> &'static [u8]
-        ensures { result.now ≡ words_of self }
+        ensures { result.now ≡ notice_words self }
     {
         match self {
             Notice::Well => b"the gate takes orders\n",

@@ -4,17 +4,17 @@ ghost use Rattle.std.specs.Prelude.{◌≡◌, Err, IfOk, MatchResult, Ok, OnErr
 ghost use Rattle.gx_page.specs.declared.reply.PageReply.TheVariants as replies;
 ghost use mathlib.Core.List.{IsPrefix};
 ghost use Rattle.gx_pass.specs.Views.{mine};
-ghost use Rattle.gx_page.specs.Replies.{kill_announced, health_of, IsKillTold, IsReply, IsSeen};
+ghost use Rattle.gx_page.specs.Replies.{kill_announced, health_of, IsKillTold, IsReply};
 
 use crate::viewer::viewer;
-use gx_board::{BoardView, Summary};
+use gx_board::{Board, BoardView};
 use gx_button::{Deed, Refusal, Secret, kill};
 use gx_desk::Action;
 use gx_door::{Dial, Door};
 use gx_http::{Credentials, KillForm, Request, RequestTarget};
-use gx_lookout::{Board, Lookout};
 use gx_overview::day::DayRow;
 use gx_policy::Policy;
+use gx_records::{ShowsRecords, ShowsState};
 use gx_serve::{Announced, Announces, EndedOrders, announce, announced_by};
 use gx_units::{OutOfMemory, UserName};
 use std::alloc::Global;
@@ -68,21 +68,6 @@ impl Health {
             Health::Well
         }
     }
-}
-
-/// What the viewer is shown of the gate's day.
-fn see<L: Lookout, R: Wait>(
-    rt: &R,
-    alloc: Global,
-    gate: &L,
-    board: Board<L, Summary>,
-    user: UserName,
-) -> (Board<L, Summary>, Result<BoardView, OutOfMemory>)
-    ensures later { IsPrefix board.front result.0.front }
-    ensures own { mine result.0 ≡ mine board }
-    ensures seen { IfOk result.1 (IsSeen L.policy result.0.front user) }
-{
-    board.view(rt, gate, alloc, user)
 }
 
 /// Whether the gate takes orders, by what is shown of it.
@@ -142,26 +127,24 @@ fn ended_of(
 }
 
 /// What is done for a kill that the caller asks for, or why nothing is. What it ended is announced.
-fn kill_for<T: Drop, D: Door<Pass = T>, L: Lookout<Pass = T>, R: Wait + Dial + Announces>(
+fn kill_for<T: Drop, D: Door<Pass = T>, G: ShowsRecords + ShowsState, R: Wait + Dial + Announces>(
     rt: &R,
     door: &D,
     policy: &Policy,
     secret: &Secret,
-    board: Board<L, Summary>,
+    board: Board<D, G>,
     caller: Option<Credentials>,
     form: &KillForm,
-) -> (Board<L, Summary>, Result<Deed, Refusal>, Announced)
-    requires policies { L.policy ≡ D.policy }
-    requires held { L.observed ≡ D.observed }
+) -> (Board<D, G>, Result<Deed, Refusal>, Announced)
     requires policy { policy.now ≡ D.policy }
     ensures kill { IsKillTold D.policy secret.now.bytes board result.0
         caller form.now result.1 result.2 }
     ensures later { IsPrefix board.front result.0.front }
 {
-    let (pass, summary) = board.into_parts();
+    let (pass, replica) = board.into_parts();
     let (pass, done) = kill(door, rt, policy, secret, pass, caller, form);
     let announced = announce(rt, ended_of(caller, form, &done));
-    (Board::new(pass, summary), done, announced)
+    (Board::new(pass, replica), done, announced)
 }
 
 /// What becomes of a request. A kill makes steps on the line of the board's pass; nothing else makes any. What is shown is of
@@ -173,20 +156,17 @@ fn kill_for<T: Drop, D: Door<Pass = T>, L: Lookout<Pass = T>, R: Wait + Dial + A
 pub(crate) fn reply_to<
     T: Drop,
     D: Door<Pass = T>,
-    L: Lookout<Pass = T>,
+    G: ShowsRecords + ShowsState,
     R: Wait + Dial + Announces,
 >(
     rt: &R,
     alloc: Global,
     door: &D,
-    gate: &L,
     policy: &Policy,
     secret: &Secret,
-    board: Board<L, Summary>,
+    board: Board<D, G>,
     request: &Request,
-) -> (Board<L, Summary>, Result<PageReply, OutOfMemory>)
-    requires policies { L.policy ≡ D.policy }
-    requires held { L.observed ≡ D.observed }
+) -> (Board<D, G>, Result<PageReply, OutOfMemory>)
     requires policy { policy.now ≡ D.policy }
     ensures reply { IfOk result.1
         (IsReply D.policy secret.now.bytes board result.0 request.now) }
@@ -201,15 +181,15 @@ pub(crate) fn reply_to<
             (board, Ok(PageReply::Kill(done, announced)))
         }
         (RequestTarget::Health, _) => {
-            let (board, seen) = see(rt, alloc, gate, board, NOBODY);
+            let (board, seen) = board.view(rt, door, policy, alloc, NOBODY);
             (board, told_health(seen))
         }
         (RequestTarget::State, Some(user)) => {
-            let (board, seen) = see(rt, alloc, gate, board, user);
+            let (board, seen) = board.view(rt, door, policy, alloc, user);
             (board, told_state(user, seen))
         }
         (RequestTarget::Metrics, Some(user)) => {
-            let (board, seen) = see(rt, alloc, gate, board, user);
+            let (board, seen) = board.view(rt, door, policy, alloc, user);
             (board, told_metrics(user, seen))
         }
         (RequestTarget::Page, Some(_)) => (board, Ok(PageReply::Page)),

@@ -4,13 +4,13 @@ ghost use Rattle.std.specs.Prelude.{◌≡◌};
 
 use crate::answer::{HttpAnswer, answer_to};
 use crate::guest::Guest;
-use gx_board::Summary;
+use gx_board::Board;
 use gx_button::Secret;
 use gx_control::{ServerControl, ShutdownFlag};
 use gx_door::{Dial, Door};
 use gx_http::{Request, RequestTarget};
-use gx_lookout::{Board, Lookout};
 use gx_policy::Policy;
+use gx_records::{ShowsRecords, ShowsState};
 use gx_serve::Announces;
 use gx_status::ServerFigures;
 use gx_units::{OutOfMemory, UserName};
@@ -38,6 +38,12 @@ const BETWEEN_ANSWERS_MILLIS: u64 = 20;
 /// So many milliseconds an answer to `/healthz` is given to whoever asks for it, before the gate is looked at for it again.
 const HEALTH_LASTS_MILLIS: u64 = 500;
 
+/// So many portions of the gate's records are followed at a look, so that whoever is connected does not wait for more.
+const PORTIONS_AT_A_LOOK: usize = 8;
+
+/// So many milliseconds later it is looked whether there are records to follow, once there were none.
+const BETWEEN_PORTIONS_MILLIS: u64 = 2;
+
 /// So many milliseconds the thread rests where nobody is connected, and nobody comes.
 const EMPTY_POLL_MILLIS: u64 = 20;
 
@@ -46,35 +52,28 @@ const GUESTS_POLL_MILLIS: u64 = 2;
 
 /// What the page is served from. It stays the same for a run.
 #[derive(Drop)]
-pub struct PageServer<'x, T: Drop, D: Door<Pass = T>, L: Lookout<Pass = T>> {
+pub struct PageServer<'x, T: Drop, D: Door<Pass = T>> {
     door: &'x D,
-    gate: &'x L,
     policy: &'x Policy,
     secret: Secret,
     is_journaled: bool,
     control: &'x ServerControl,
-    ghost policies: { L.policy ≡ D.policy },
-    ghost observed: { L.observed ≡ D.observed },
     ghost same: { policy.now ≡ D.policy },
 }
 
-impl<'x, T: Drop, D: Door<Pass = T>, L: Lookout<Pass = T>> PageServer<'x, T, D, L> {
-    /// A page of this gate, whose kills are made at this door: both judge by this policy. Its tokens are made of the secret.
+impl<'x, T: Drop, D: Door<Pass = T>> PageServer<'x, T, D> {
+    /// A page of the gate at this door, which judges by this policy. Its tokens are made of the secret.
     pub fn new(
         door: &'x D,
-        gate: &'x L,
         policy: &'x Policy,
         secret: Secret,
         is_journaled: bool,
         control: &'x ServerControl,
-    ) -> PageServer<'x, T, D, L>
-        requires policies { L.policy ≡ D.policy }
-        requires held { L.observed ≡ D.observed }
+    ) -> PageServer<'x, T, D>
         requires policy { policy.now ≡ D.policy }
     {
         PageServer {
             door,
-            gate,
             policy,
             secret,
             is_journaled,
@@ -383,15 +382,15 @@ fn tell_others<R: Wait>(rt: &R, control: &ServerControl, request: &Request) {
 fn answer_next<
     T: Drop,
     D: Door<Pass = T>,
-    L: Lookout<Pass = T>,
+    G: ShowsRecords + ShowsState,
     R: Wait + Clock + Dial + Announces,
 >(
     rt: &R,
     alloc: Global,
-    server: &PageServer<'_, T, D, L>,
-    board: Board<L, Summary>,
+    server: &PageServer<'_, T, D>,
+    board: Board<D, G>,
     guests: &mut Guests,
-) -> Board<L, Summary> {
+) -> Board<D, G> {
     let now = time(rt);
     if !guests.may_answer(now) {
         return board;
@@ -409,7 +408,6 @@ fn answer_next<
         rt,
         alloc,
         server.door,
-        server.gate,
         server.policy,
         &server.secret,
         about,
@@ -422,6 +420,33 @@ fn answer_next<
     }
     guests.give(rt, server.control, place, &request, answer);
     board
+}
+
+/// Lets the board follow some of the records that came since somebody looked last. Answers whether there may be more.
+fn follow_some<D: Door, G: ShowsRecords + ShowsState, R: Wait>(
+    rt: &R,
+    alloc: Global,
+    door: &D,
+    board: Board<D, G>,
+) -> (Board<D, G>, bool) {
+    let mut board = board;
+    for _ in 0..PORTIONS_AT_A_LOOK {
+        let (back, is_more) = board.follow(rt, door, alloc);
+        board = back;
+        if !is_more {
+            return (board, false);
+        }
+    }
+    (board, true)
+}
+
+/// When it is looked for records to follow again.
+fn next_follow(now: Duration, is_more: bool) -> Duration {
+    if is_more {
+        now
+    } else {
+        now.saturating_add(Duration::from_millis(BETWEEN_PORTIONS_MILLIS))
+    }
 }
 
 /// Rests where nothing has come of a look.
@@ -443,20 +468,21 @@ fn rest<R: Clock>(rt: &R, guests: &Guests, moved: bool) {
 pub fn serve_page<
     T: Drop,
     D: Door<Pass = T>,
-    L: Lookout<Pass = T>,
+    G: ShowsRecords + ShowsState,
     R: Wait + Clock + Dial + Announces,
 >(
     rt: &R,
     alloc: Global,
-    server: &PageServer<'_, T, D, L>,
-    board: Board<L, Summary>,
+    server: &PageServer<'_, T, D>,
+    board: Board<D, G>,
     listener: &TcpListener,
     closing: &ShutdownFlag,
 ) {
     if listener.set_nonblocking(true).is_err() {
-        return;
+        return board.close();
     }
     let mut board = board;
+    let mut follows_from = Duration::ZERO;
     let mut guests = Guests {
         all: Vec::new(alloc),
         answered: Duration::ZERO,
@@ -466,7 +492,7 @@ pub fn serve_page<
     };
     for _ in rt.forever() {
         if closing.is_requested().is_yes() {
-            return;
+            break;
         }
         let now = time(rt);
         guests.take_all(alloc, listener, now);
@@ -474,6 +500,12 @@ pub fn serve_page<
         guests.thin_out();
         answer_health(&mut guests, alloc, now);
         board = answer_next(rt, alloc, server, board, &mut guests);
-        rest(rt, &guests, moved);
+        if now >= follows_from {
+            let (back, is_more) = follow_some(rt, alloc, server.door, board);
+            board = back;
+            follows_from = next_follow(now, is_more);
+        }
+        rest(rt, &guests, moved || follows_from <= now);
     }
+    board.close();
 }

@@ -32,14 +32,14 @@ fn serve_on<'a, G: ShowsRecords + ShowsState + Send, R: ServerRuntime>(
         page,
         control,
         announcer,
-    } = open_lobby(rt, host, serving, policy, start, NO_MOMENT, log)?;
+    } = open_lobby(rt, host, serving, start, NO_MOMENT, log)?;
     let connections = connections_of(serving.ends);
-    let served = serve::<G, RiskPage, R>(
+    let served = serve::<G, RiskPage<G>, R>(
         rt,
         host.alloc(),
         policy,
         &control,
-        page,
+        RiskPage::behind(page),
         listener,
         connections,
     );

@@ -1,18 +1,14 @@
 //! Where connections come in.
 
-ghost use Rattle.std.specs.Prelude.{[], IfOk, IfSome};
-ghost use Rattle.gx_board.specs.Summaries.{IsSummaryBehind};
-
 use crate::announcing::Announcer;
 use crate::limits::places_for;
-use crate::page::{RiskPage, listen, open_page};
+use crate::page::{PageEntrance, listen, open_page};
 use crate::runtime::ServerRuntime;
 use gx_clock::DayClock;
 use gx_command_line::Serving;
 use gx_control::ServerControl;
 use gx_listen::{Ending, ServeFault};
 use gx_log::Log;
-use gx_policy::Policy;
 use gx_program::Failure;
 use gx_runs::{Start, await_ends};
 use gx_server::ProgramFault;
@@ -26,7 +22,7 @@ use std::sync::Arc;
 #[derive(Drop)]
 pub(crate) struct ServerEntrance {
     pub(crate) listener: TcpListener,
-    pub(crate) page: Option<RiskPage>,
+    pub(crate) page: Option<PageEntrance>,
     pub(crate) control: Arc<ServerControl, Global>,
     pub(crate) announcer: Announcer,
 }
@@ -52,36 +48,28 @@ fn open_control<'a, R: ServerRuntime>(
     Ok(control)
 }
 
-/// Who listens for connections, and the page of a gate that judges by this policy, if it is to be served.
+/// Who listens for connections, and for browsers, if the page is to be served.
 fn open_ports<'a, R: ServerRuntime>(
     rt: &R,
     host: &HostRuntime,
     serving: &Serving<'a>,
-    policy: &Policy,
-) -> Result<(TcpListener, Option<RiskPage>), Failure<'a>>
-    ensures { IfOk result (λ ports. IfSome ports.1
-        (λ page. IsSummaryBehind policy.now [] page.summary)) }
-{
+) -> Result<(TcpListener, Option<PageEntrance>), Failure<'a>> {
     let listener = listen(rt, serving.port)?;
-    let page = open_page(rt, host, serving, policy)?;
+    let page = open_page(rt, host, serving)?;
     Ok((listener, page))
 }
 
-/// Listens for connections to a gate that judges by this policy, which is told once they are taken. The server ends as was
+/// Listens for connections, which is told once they are taken. The server ends as was
 /// asked for, and its clock has begun at the start, no earlier than at the moment `last`.
 pub(crate) fn open_lobby<'a, R: ServerRuntime>(
     rt: &R,
     host: &HostRuntime,
     serving: &Serving<'a>,
-    policy: &Policy,
     start: Start,
     last: Moment,
     log: &Arc<Log, Global>,
-) -> Result<ServerEntrance, Failure<'a>>
-    ensures { IfOk result (λ entrance. IfSome entrance.page
-        (λ page. IsSummaryBehind policy.now [] page.summary)) }
-{
-    let (listener, page) = open_ports(rt, host, serving, policy)?;
+) -> Result<ServerEntrance, Failure<'a>> {
+    let (listener, page) = open_ports(rt, host, serving)?;
     let places = places_for(rt, host, log, serving.at_once, page.is_some());
     let clock = start.clock(serving.midnight, last);
     let control = open_control(rt, host, serving, clock, places, log)?;

@@ -1,6 +1,7 @@
 //! A server of the day that a journal holds.
 
 use crate::entrance::{ServerEntrance, open_lobby, served, unserved};
+use crate::page::RiskPage;
 use crate::runtime::ServerRuntime;
 use gx_access_gate::AccessGate;
 use gx_audit_bytes::AuditVersion;
@@ -45,7 +46,7 @@ fn go_on<'a, G: ShowsRecords + ShowsState + Send, R: ServerRuntime>(
         device,
     } = day;
     let last = gate.moment_of_last();
-    match open_lobby(rt, host, serving, gate.policy(), start, last, log) {
+    match open_lobby(rt, host, serving, start, last, log) {
         Ok(
             ServerEntrance {
                 listener,
@@ -66,7 +67,7 @@ fn go_on<'a, G: ShowsRecords + ShowsState + Send, R: ServerRuntime>(
                 count,
                 device,
                 &control,
-                page,
+                RiskPage::<G>::behind(page),
                 listener,
                 connections,
             );

@@ -1,71 +1,71 @@
 //! The risk desk's page beside a server.
 
-ghost use Rattle.std.specs.Prelude.{[], IfOk, IfSome};
-ghost use Rattle.gx_board.specs.Summaries.{IsSummaryBehind};
 
-use gx_board::Summary;
+use gx_board::Board;
 use gx_button::Secret;
 use gx_command_line::Serving;
 use gx_control::{ServerControl, ShutdownFlag};
 use gx_door::{Dial, Door};
 use gx_listen::Companion;
-use gx_lookout::{Board, Lookout};
 use gx_page::{PageServer, serve_page};
 use gx_policy::Policy;
 use gx_program::Failure;
+use gx_records::{ShowsRecords, ShowsState};
 use gx_serve::Announces;
 use std::alloc::Global;
+use std::marker::PhantomData;
 use std::net::{Ipv4Addr, Net, SocketAddr, TcpListener, TcpStream};
 use std::random::RandomSource;
 use std::sync::Wait;
 use std::time::Clock;
 
-/// The page, as it is served beside a server.
+/// Where browsers come in.
 #[derive(Drop)]
-pub(crate) struct RiskPage {
-    /// Browsers come in there.
-    pub(crate) listener: TcpListener,
+pub(crate) struct PageEntrance {
+    listener: TcpListener,
     /// What the page's tokens are made of, which nobody else knows.
-    pub(crate) secret: Secret,
+    secret: Secret,
     /// Whether there is a journal, which the page says.
-    pub(crate) is_journaled: bool,
-    /// What follows the day's records for it: none of them yet.
-    pub(crate) summary: Summary,
+    is_journaled: bool,
 }
 
-impl Companion for RiskPage {
-    ghost use Rattle.std.specs.Prelude.{[]};
-    ghost use Rattle.gx_board.specs.Summaries.{IsSummaryBehind};
+/// The page, as it is served beside a server: what it shows is made of a gate of its own, of this kind.
+#[derive(Drop)]
+pub(crate) struct RiskPage<G> {
+    entrance: PageEntrance,
+    shown_from: PhantomData<G>,
+}
 
-    ghost is_for = { λ page policy. IsSummaryBehind policy [] page.summary };
+impl<G> RiskPage<G> {
+    /// The page behind this entrance, if there is one.
+    pub(crate) fn behind(entrance: Option<PageEntrance>) -> Option<RiskPage<G>> {
+        let entrance = entrance?;
+        Some(RiskPage {
+            entrance,
+            shown_from: PhantomData,
+        })
+    }
+}
 
-    #[tactic(auto, using(gx_lookout::proofs::Observer_behind::behind_any))]
-    fn go_on<T: Drop, D: Door<Pass = T>, L: Lookout<Pass = T>, R: Wait + Clock + Dial + Announces>(
+impl<G: ShowsRecords + ShowsState> Companion for RiskPage<G> {
+    fn go_on<T: Drop, D: Door<Pass = T>, R: Wait + Clock + Dial + Announces>(
         self,
         rt: &R,
         alloc: Global,
-        gate: &L,
         door: &D,
         pass: T,
         policy: &Policy,
         control: &ServerControl,
         closing: &ShutdownFlag,
     ) {
-        let RiskPage {
+        let PageEntrance {
             listener,
             secret,
             is_journaled,
-            summary,
-        } = self;
-        let server = PageServer::new(door, gate, policy, secret, is_journaled, control);
-        serve_page(
-            rt,
-            alloc,
-            &server,
-            Board::new(pass, summary),
-            &listener,
-            closing,
-        );
+        } = self.entrance;
+        let server = PageServer::new(door, policy, secret, is_journaled, control);
+        let board: Board<D, G> = Board::new(pass, None);
+        serve_page(rt, alloc, &server, board, &listener, closing);
     }
 }
 
@@ -90,25 +90,20 @@ pub(crate) fn listen<'a, R: Net<Listener = TcpListener, Stream = TcpStream>>(
     }
 }
 
-/// The page of a gate that judges by this policy, if it is to be served.
+/// Listens for browsers, if the page is to be served.
 pub(crate) fn open_page<'a, R: Net<Listener = TcpListener, Stream = TcpStream>>(
     rt: &R,
     host: &HostRuntime,
     serving: &Serving<'a>,
-    policy: &Policy,
-) -> Result<Option<RiskPage>, Failure<'a>>
-    ensures { IfOk result (λ found. IfSome found
-        (λ page. IsSummaryBehind policy.now [] page.summary)) }
-{
+) -> Result<Option<PageEntrance>, Failure<'a>> {
     let Some(port) = serving.status_port else {
         return Ok(None);
     };
     let listener = listen(rt, port)?;
     let secret = secret(host)?;
-    Ok(Some(RiskPage {
+    Ok(Some(PageEntrance {
         listener,
         secret,
         is_journaled: serving.journal.is_some(),
-        summary: Summary::new(host.alloc(), policy)?,
     }))
 }

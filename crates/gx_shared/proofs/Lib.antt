@@ -1,5 +1,4 @@
 pub mod Command_call
-pub mod Observer_next
 pub mod Match_idle
 pub mod Match_next
 pub mod Pass_met

@@ -10,7 +10,6 @@ ghost use Rattle.gx_pass.specs.declared.pass.PassFault.TheVariants as pass_fault
 ghost use Rattle.gx_pass.specs.Views.{highest_line, mine, of_line};
 ghost use Rattle.gx_door.specs.declared.fault.PullFault.TheVariants as pull_faults;
 ghost use Rattle.gx_door.specs.{Acts.{asked_on, gate_at, login_on, AddsOwn, EndsWith, IsLater, IsPulled, IsToldFull, LogsIn, MayBeRefused}, Callers.caller_of, Matching.{EndsSo, MatchesBehind, Turns}};
-ghost use Rattle.gx_lookout.specs.Observers.{IsBehind};
 ghost use Rattle.gx_shared.specs.Permits.{all_parts};
 
 use crate::counted_pass::CountedPass;
@@ -21,10 +20,9 @@ use crate::steps::{asked_on, leave, match_and_note, match_some, pull, step_and_n
 use gx_access_gate::{AccessGate, LoginAnswer, Outcome, Pulled, StepFault};
 use gx_door::{Caller, Matched, PullFault, Turned};
 use gx_history::record::{Record, Request};
-use gx_lookout::Observer;
 use gx_pass::{Blank, GateName, Keeper, Pass, PassFault};
 use gx_policy::Policy;
-use gx_records::{ShowsRecords, ShowsState};
+use gx_records::ShowsState;
 use gx_units::{Moment, OutOfMemory, Password, SessionName, UserName};
 use std::alloc::Global;
 use std::marker::Model;
@@ -393,33 +391,5 @@ impl<G: ShowsState, N: GateName> GuardedGate<G, N> {
         let asked = asked_on(line, user, request, moment);
         let result = turn(&mut self.gate, &mut self.keeper, share, asked, most);
         (leave(&self.gate, &mut self.keeper, entered), result)
-    }
-}
-
-impl<G: ShowsRecords + ShowsState, N: GateName> GuardedGate<G, N> {
-    /// Lets the observer follow at most so many records behind those that it has followed, which the pass had met, and once
-    /// it has followed all, see what it is asked for.
-    #[tactic(auto, using(crate::proofs::Observer_next::behind_gate))]
-    pub fn look<O: Observer>(
-        &mut self,
-        alloc: Global,
-        pass: Pass<N>,
-        observer: &mut O,
-        asked: O::Asked,
-        most: usize,
-    ) -> (Pass<N>, Result<Option<O::Seen>, OutOfMemory>)
-        requires behind { IsBehind O.followed O.follows N.policy pass.front observer.old }
-        ensures same { self.new ≡ self.old }
-        ensures front { result.0.front ≡ self.new }
-        ensures later { IsLater N.policy pass result.0 }
-        ensures own { mine result.0 ≡ mine pass }
-        ensures behind { IsBehind O.followed O.follows N.policy self.new observer.new }
-        ensures view { IfOk result.1 (λ found. IfSome found (O.sees N.policy self.new asked)) }
-        ensures further { IfOk result.1 (λ found. IfNone found
-            (O.followed observer.new ≡ O.followed observer.old + most)) }
-    {
-        let entered = self.keeper.enter(pass);
-        let found = observer.observe(alloc, &self.gate, asked, most);
-        (leave(&self.gate, &mut self.keeper, entered), found)
     }
 }

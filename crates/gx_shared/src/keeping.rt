@@ -21,7 +21,7 @@ use gx_leaving::log_out_at_last;
 use gx_listen::{Companion, DayLog, Ending, serve_door};
 use gx_pass::{Blank, GateName, PassFault};
 use gx_policy::Policy;
-use gx_records::{ShowsRecords, ShowsState};
+use gx_records::ShowsState;
 use std::alloc::Global;
 use std::io::Write;
 use std::marker::Brand;
@@ -89,7 +89,7 @@ fn untallied<G, W>(kept: KeptDay<G, Tallied<'_, W>>) -> KeptDay<G, W>
 /// written on it is counted in what the threads share. Gives a pass too, which has met all that was done, how many records that are, and how
 /// the server ended.
 fn serve_kept<
-    G: ShowsRecords + ShowsState + Send,
+    G: ShowsState + Send,
     N: GateName + Send + Sync,
     J: JournalName + Send + Sync,
     W: Write + Drop + Send,
@@ -119,7 +119,6 @@ fn serve_kept<
     requires met { pass.held.front ≡ J.earlier }
     requires none_added { pass.added ≡ 0 }
     requires within { count ≤ length J.earlier }
-    requires made { IfSome companion (λ c. C.is_for c N.policy) }
     ensures policy { (G.state result.0.gate).policy ≡ N.policy }
     ensures legal { IsLegal N.policy (G.state result.0.gate).records }
     ensures front { IsPrefix J.earlier (G.state result.0.gate).records }
@@ -136,7 +135,6 @@ fn serve_kept<
     let served = serve_door(
         rt,
         alloc,
-        &shared,
         &door,
         policy,
         entrance,
@@ -156,7 +154,7 @@ fn serve_kept<
 }
 
 fn serve_named<
-    G: ShowsRecords + ShowsState + Send,
+    G: ShowsState + Send,
     N: GateName + Send + Sync,
     J: JournalName + Send + Sync,
     W: Write + Drop + Send,
@@ -188,7 +186,6 @@ fn serve_named<
     requires count { count ≡ J.count }
     requires earlier { (G.state gate).records ≡ J.earlier }
     requires within { count ≤ length J.earlier }
-    requires made { IfSome companion (λ c. C.is_for c N.policy) }
     ensures policy { IfOk result (λ left. (G.state left.0.gate).policy ≡ N.policy) }
     ensures legal { IfOk result (λ left. IsLegal N.policy (G.state left.0.gate).records) }
     ensures front { IfOk result (λ left. IsPrefix J.earlier (G.state left.0.gate).records) }
@@ -235,7 +232,7 @@ fn serve_named<
 ///
 /// `NoLines` where the records have the last line that there is. The gate is closed then, as it is where memory is refused.
 pub fn serve_journaled<
-    G: ShowsRecords + ShowsState + Send,
+    G: ShowsState + Send,
     W: Write + Drop + Send,
     C: Companion + Send,
     R: Threads + Wait + Clock + Sync,
@@ -252,7 +249,6 @@ pub fn serve_journaled<
     connections: u64,
 ) -> Result<(KeptDay<G, W>, Ending), PassFault>
     requires count { count ≤ length (G.state gate).records }
-    requires made { IfSome companion (λ c. C.is_for c (G.state gate).policy) }
     ensures policy { IfOk result
         (λ left. (G.state left.0.gate).policy ≡ (G.state gate).policy) }
     ensures legal { IfOk result

@@ -9,7 +9,7 @@
 //!
 //! # Modules
 //!
-//! - `shared`: the gate that threads share, a [`Door`](gx_door::Door) and a [`Lookout`](gx_lookout::Lookout), behind its lock;
+//! - `shared`: the gate that threads share, a [`Door`](gx_door::Door), behind its lock;
 //! - `guarded_gate`: what lies under the lock, a gate and the keeper of its history, whose records are the same;
 //! - `entrance`: where passes are issued, an [`Issuer`](gx_door::Issuer);
 //! - `permit`: what passes are issued for, each with a part of a ledger, and how many lines were issued;

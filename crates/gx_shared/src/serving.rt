@@ -1,6 +1,6 @@
 //! A server whose day begins with it.
 
-ghost use Rattle.std.specs.Prelude.{◌≡◌, length, IfOk, IfSome};
+ghost use Rattle.std.specs.Prelude.{◌≡◌, length, IfOk};
 ghost use Rattle.gx_history.specs.Verdicts.{IsLegal};
 ghost use Rattle.gx_shared.specs.Permits.{all_parts};
 
@@ -13,7 +13,7 @@ use gx_control::ServerControl;
 use gx_listen::{Companion, Ending, ServeFault, serve_door};
 use gx_pass::{Blank, GateName};
 use gx_policy::Policy;
-use gx_records::{ShowsRecords, ShowsState};
+use gx_records::ShowsState;
 use std::alloc::Global;
 use std::marker::Brand;
 use std::net::TcpListener;
@@ -32,7 +32,7 @@ pub struct Served<G> {
 
 /// Serves at a gate of this name. Gives a pass too, which has met all that was done, and how many records that are.
 fn serve_shared<
-    G: ShowsRecords + ShowsState + Send,
+    G: ShowsState + Send,
     N: GateName + Send + Sync,
     C: Companion + Send,
     R: Threads + Wait + Clock + Sync,
@@ -52,7 +52,6 @@ fn serve_shared<
     requires records { ledgers.records ≡ N.name }
     requires lines { ledgers.lines ≡ N.lines }
     requires parts { N.parts ≡ all_parts }
-    requires made { IfSome companion (λ c. C.is_for c N.policy) }
     ensures policy { IfOk result (λ left. (G.state left.0.gate).policy ≡ N.policy) }
     ensures legal { IfOk result (λ left. IsLegal N.policy (G.state left.0.gate).records) }
     ensures met { IfOk result (λ left. left.1.held.front ≡ (G.state left.0.gate).records) }
@@ -65,7 +64,6 @@ fn serve_shared<
     let served = serve_door(
         rt,
         alloc,
-        &door,
         &door,
         policy,
         entrance,
@@ -89,7 +87,7 @@ fn serve_shared<
 
 /// Serves at a gate of this name.
 fn serve_named<
-    G: ShowsRecords + ShowsState + Send,
+    G: ShowsState + Send,
     N: GateName + Send + Sync,
     C: Companion + Send,
     R: Threads + Wait + Clock + Sync,
@@ -109,7 +107,6 @@ fn serve_named<
     requires records { ledgers.records ≡ N.name }
     requires lines { ledgers.lines ≡ N.lines }
     requires parts { N.parts ≡ all_parts }
-    requires made { IfSome companion (λ c. C.is_for c N.policy) }
     ensures policy { IfOk result (λ served. (G.state served.gate).policy ≡ N.policy) }
     ensures legal { IfOk result (λ served. IsLegal N.policy (G.state served.gate).records) }
 {
@@ -132,11 +129,7 @@ fn serve_named<
 /// Takes connections under the policy, and serves each until it ends: so many of them, or
 /// fewer where the server is asked to end. The companion, if there is one, is served beside them. Gives the gate back, also
 /// where it gave up.
-pub fn serve<
-    G: ShowsRecords + ShowsState + Send,
-    C: Companion + Send,
-    R: Threads + Wait + Clock + Sync,
->(
+pub fn serve<G: ShowsState + Send, C: Companion + Send, R: Threads + Wait + Clock + Sync>(
     rt: &R,
     alloc: Global,
     policy: &Policy,
@@ -145,7 +138,6 @@ pub fn serve<
     listener: TcpListener,
     connections: u64,
 ) -> Result<Served<G>, ServeFault>
-    requires { IfSome companion (λ c. C.is_for c policy.now) }
     ensures policy { IfOk result (λ served. (G.state served.gate).policy ≡ policy.now) }
     ensures legal { IfOk result (λ served. IsLegal policy.now (G.state served.gate).records) }
 {

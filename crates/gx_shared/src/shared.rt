@@ -13,10 +13,9 @@ use crate::permit::{BlankLedgers, Permits};
 use gx_access_gate::{AccessGate, LoginAnswer, Outcome, Pulled, StepFault};
 use gx_door::{Caller, Dial, Door, Matched, PullFault, Turned};
 use gx_history::record::{Record, Request};
-use gx_lookout::{Lookout, Observer};
 use gx_pass::{Blank, GateName, PassFault};
 use gx_policy::Policy;
-use gx_records::{ShowsRecords, ShowsState};
+use gx_records::ShowsState;
 use gx_units::{Moment, OutOfMemory, Password, SessionName, UserName};
 use std::alloc::Global;
 use std::hint::spin_loop;
@@ -331,27 +330,5 @@ impl<G: ShowsState, N: GateName> Door for SharedGate<G, N> {
 
     fn length(&self, pass: &mut CountedPass<N>) -> u64 {
         pass.length()
-    }
-}
-
-impl<G: ShowsRecords + ShowsState, N: GateName> Lookout for SharedGate<G, N> {
-    type Pass = CountedPass<N>;
-
-    ghost policy = { N.policy };
-
-    ghost observed = { λ p. p.held };
-
-    fn look<O: Observer, R: Wait>(
-        &self,
-        rt: &R,
-        alloc: Global,
-        pass: CountedPass<N>,
-        observer: &mut O,
-        asked: O::Asked,
-        most: usize,
-    ) -> (CountedPass<N>, Result<Option<O::Seen>, OutOfMemory>) {
-        let CountedPass { pass, share } = pass;
-        let (pass, found) = self.guarded(rt).look(alloc, pass, observer, asked, most);
-        (CountedPass { pass, share }, found)
     }
 }
