@@ -129,12 +129,14 @@ def free_port() -> int:
 
 
 @contextmanager
-def server(gate: str, folder: Path, *more: str, policy: str = "") -> Iterator[tuple[int, int]]:
+def server(
+    gate: str, folder: Path, *more: str, policy: str = "", environment: dict[str, str] | None = None
+) -> Iterator[tuple[int, int]]:
     """A server on a free port, ended by the end of its standard input: its port, and its process."""
     (folder / "policy.toml").write_text(policy or policy_text())
     port = free_port()
     words = [gate, "serve", "--port", str(port), "--until-input-ends", "--policy", str(folder / "policy.toml"), *more]
-    with subprocess.Popen(words, stdin=subprocess.PIPE, stdout=subprocess.PIPE) as running:
+    with subprocess.Popen(words, stdin=subprocess.PIPE, stdout=subprocess.PIPE, env=environment) as running:
         try:
             if b"listening" not in running.stdout.readline():
                 raise RuntimeError("the server does not listen")

@@ -8,7 +8,7 @@ ghost use Rattle.gx_policy.specs.Lists.{slice};
 ghost use Rattle.gx_access_gate.specs.{Gates.{left_by, matched_by}, Matches.matching_of};
 ghost use Rattle.gx_pass.specs.Views.{mine, with_told};
 ghost use Rattle.gx_door.specs.declared.fault.PullFault.TheVariants as pull_faults;
-ghost use Rattle.gx_door.specs.{Acts.{asked_on, gate_met, login_on, AddsOwn, EndsWith, IsLater, IsPulled, IsToldFull, LogsIn, MayBeRefused}, Callers.caller_of, Matching.{EndsSo, MatchesBehind, Turns}};
+ghost use Rattle.gx_door.specs.{Acts.{asked_on, gate_met, login_on, AddsOwn, EndsWith, IsLater, IsPulled, IsToldFull, LogsIn, MayBeRefused}, Callers.caller_of, Keeping.ShowsKept, Matching.{EndsSo, MatchesBehind, Turns}};
 
 use crate::caller::Caller;
 use crate::dial::Dial;
@@ -42,6 +42,12 @@ pub trait Door {
 
     // How many records were added with the pass.
     ghost added: { Self.Pass → ℕ };
+
+    // What shows that records are kept: whoever speaks of any door has it of the door alone.
+    ghost Kept: { Type 0 };
+
+    // How many of the day's first records it shows as kept.
+    ghost kept: { Self.Kept → ℕ };
 
     /// The number of the connection that holds the pass.
     fn line_of(&self, pass: &Self::Pass) -> u16
@@ -213,9 +219,14 @@ pub trait Door {
             (λ v. v.items ≡ slice (observed result.0).front from most) }
         ensures adds_none { added result.0 ≡ added pass };
 
-    /// Whether what was done so far may be told: a door that keeps its records elsewhere keeps all that there are by
-    /// now, and answers false where it can't, and from then on. Whoever tells of records asks before.
-    fn keep<R: Wait>(&self, rt: &R) -> bool;
+    /// Whether so many of the day's first records may be told: a door that keeps its records elsewhere has them all there. Answers
+    /// false where they are not and can't be kept any more, or where there are fewer. Whoever tells of records asks before, with
+    /// the length of what his pass has met.
+    fn keep<R: Wait>(&self, rt: &R, count: u64) -> bool
+        ensures kept { IsTrue result → ShowsKept kept count };
+
+    /// Keeps all that there are by now, for whoever tells nobody of them. Answers false where it can't, and from then on.
+    fn keep_all<R: Wait>(&self, rt: &R) -> bool;
 
     /// Both passes have met the same records.
     fn meet<R: Wait>(&self, rt: &R, one: Self::Pass, other: Self::Pass) -> (Self::Pass, Self::Pass)

@@ -1,6 +1,6 @@
 //! A journal of a day.
 
-ghost use Rattle.std.specs.Prelude.{◌≡◌, ◌+◌, ◌<◌, ◌≤◌, ◌^◌, drop, length, take, IfOk, IsFalse, IsTrue, None, Some};
+ghost use Rattle.std.specs.Prelude.{◌≡◌, ◌+◌, ◌<◌, ◌≤◌, ◌^◌, drop, length, take, IfNone, IfOk, IfSome, IsFalse, IsTrue, None, Some};
 ghost use mathlib.Core.List.{IsPrefix};
 ghost use Rattle.gx_policy.specs.Lists.{slice};
 ghost use Rattle.gx_pass.specs.Views.{with_told};
@@ -21,6 +21,41 @@ use std::sync::Wait;
 
 /// How many records are written at a time.
 const PIECE: u64 = 4_096;
+
+/// That so many of the day's first records are on a journal's device. A [`Journal`] alone makes one, and no call of it takes
+/// a record away that was done.
+#[derive(Drop)]
+pub struct KeptRecords<J: JournalName> {
+    count: u64,
+    of: PhantomData<J>,
+}
+
+impl<J: JournalName> Model for KeptRecords<J> {
+    ghost use Rattle.std.specs.Prelude.{ℕ};
+
+    ghost Value = { ℕ };
+
+    ghost view = { λ k. k.count };
+}
+
+impl<J: JournalName> KeptRecords<J> {
+    /// How many they are.
+    pub fn count(&self) -> u64
+        ensures { result ≡ self.now }
+    {
+        self.count
+    }
+
+    /// The same once more, for another who waited.
+    pub fn again(&self) -> KeptRecords<J>
+        ensures { result ≡ self.now }
+    {
+        KeptRecords {
+            count: self.count,
+            of: PhantomData,
+        }
+    }
+}
 
 /// Writes the records of a day behind those that were on its device at first, each once and in order. Contracts see
 /// what its pass has met, what the device holds, how many records are on it, and why no more are put there.
@@ -72,18 +107,34 @@ impl<D: Door, W: Write, J: JournalName> Journal<D, W, J> {
         }
     }
 
-    /// Writes what records there are, and answers whether they are all on the device: at least as many as the pass has
-    /// met, or was told of. Once it is broken it writes nothing, and the answer is no.
-    pub fn keep<R: Wait>(&mut self, rt: &R, door: &D) -> bool
-        ensures kept { IsTrue result → known_length self.old.met ≤ self.new.writer.done }
-        ensures sound { IsTrue result → self.new.writer.fault ≡ None }
-        ensures broken { IsFalse result → IsTrue (is_broken self.new.writer) }
+    /// How many of the day's first records are on the device.
+    pub fn kept(&self) -> KeptRecords<J>
+        ensures { result ≡ self.now.writer.done }
+    {
+        KeptRecords {
+            count: self.writer.done(),
+            of: PhantomData,
+        }
+    }
+
+    /// Writes what records there are, and answers how many are on the device: at least as many as the pass has met, or was
+    /// told of. Once it is broken it writes nothing, and answers none.
+    #[tactic(auto, using(crate::proofs::Journal_call::all_known))]
+    pub fn keep<R: Wait>(&mut self, rt: &R, door: &D) -> Option<KeptRecords<J>>
+        ensures kept { IfSome result (λ k. k ≡ self.new.writer.done) }
+        ensures all { IfSome result (λ k. known_length self.old.met ≤ k) }
+        ensures sound { IfSome result (λ _. self.new.writer.fault ≡ None) }
+        ensures broken { IfNone result (IsTrue (is_broken self.new.writer)) }
+        ensures grows { self.old.writer.done ≤ self.new.writer.done }
         ensures met { IsPrefix self.old.met.front self.new.met.front }
-        ensures refused { IsTrue (is_broken self.old.writer) → IsFalse result }
+        ensures refused { IsTrue (is_broken self.old.writer) → result ≡ None }
         ensures over { IsTrue (is_broken self.old.writer) → self.new.writer ≡ self.old.writer }
     {
         let count = self.length(door);
-        self.write_up_to(rt, door, count)
+        if !self.write_up_to(rt, door, count) {
+            return None;
+        }
+        Some(self.kept())
     }
 
     /// How many records there are: at least as many as the pass has met.
@@ -105,6 +156,7 @@ impl<D: Door, W: Write, J: JournalName> Journal<D, W, J> {
     fn write_up_to<R: Wait>(&mut self, rt: &R, door: &D, count: u64) -> bool
         requires known { count ≤ known_length self.old.met }
         ensures written { IsTrue result → count ≤ self.new.writer.done }
+        ensures grows { self.old.writer.done ≤ self.new.writer.done }
         ensures sound { IsTrue result → self.new.writer.fault ≡ None }
         ensures broken { IsFalse result → IsTrue (is_broken self.new.writer) }
         ensures met { IsPrefix self.old.met.front self.new.met.front }
@@ -130,6 +182,7 @@ impl<D: Door, W: Write, J: JournalName> Journal<D, W, J> {
         ensures known { count ≤ known_length self.new.met }
         ensures met { IsPrefix self.old.met.front self.new.met.front }
         ensures more { IsTrue result → self.old.writer.done < self.new.writer.done }
+        ensures stays { IsFalse result → self.new.writer.done ≡ self.old.writer.done }
         ensures sound { IsTrue result → IsFalse (is_broken self.new.writer) }
         ensures broken { IsFalse result → IsTrue (is_broken self.new.writer) }
     {
@@ -167,6 +220,7 @@ impl<D: Door, W: Write, J: JournalName> Journal<D, W, J> {
         ensures met { self.new.met ≡ self.old.met }
         ensures done { IsTrue result
             → self.new.writer.done ≡ self.old.writer.done + length records.now }
+        ensures stays { IsFalse result → self.new.writer.done ≡ self.old.writer.done }
         ensures sound { IsTrue result → IsFalse (is_broken self.new.writer) }
         ensures broken { IsFalse result → IsTrue (is_broken self.new.writer) }
     {
@@ -177,6 +231,7 @@ impl<D: Door, W: Write, J: JournalName> Journal<D, W, J> {
     fn give_up(&mut self, fault: WriteFault) -> bool
         requires sound { IsFalse (is_broken self.old.writer) }
         ensures answer { IsFalse result }
+        ensures stays { self.new.writer.done ≡ self.old.writer.done }
         ensures met { self.new.met ≡ self.old.met }
         ensures broken { IsTrue (is_broken self.new.writer) }
     {

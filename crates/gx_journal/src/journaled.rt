@@ -1,9 +1,10 @@
 //! A door whose records are kept.
 
-ghost use Rattle.std.specs.Prelude.{◌≡◌, ◌≤◌, length};
+ghost use Rattle.std.specs.Prelude.{◌≡◌, ◌≤◌, length, IfOk, IfSome};
 
-use crate::journal::Journal;
+use crate::journal::{Journal, KeptRecords};
 use crate::name::JournalName;
+use crate::progress::{NotKept, Progress};
 use gx_access_gate::{LoginAnswer, Outcome, Pulled, StepFault};
 use gx_audit_bytes::AuditVersion;
 use gx_door::{Caller, Dial, Door, Matched, PullFault, Turned};
@@ -11,14 +12,18 @@ use gx_history::record::{Record, Request};
 use gx_units::{Moment, OutOfMemory, Password, SessionName, UserName};
 use std::alloc::Global;
 use std::io::Write;
-use std::sync::{Mutex, Wait};
+use std::sync::{Condvar, Mutex, Wait};
 
 /// A door over another one: what was done at it may be told once its records are in the journal.
 ///
-/// The journal has a lock of its own, which nobody holds who holds that of the gate.
+/// The journal has a lock of its own, which nobody holds who holds that of the gate. How far it is kept lies under another,
+/// which nobody holds while records are written: one at a time writes all that there is, and whoever comes meanwhile waits
+/// for that write, and is answered at once where his records are done.
 pub struct Journaled<'x, D: Door, W: Write, J: JournalName> {
     door: &'x D,
     journal: Mutex<Journal<D, W, J>>,
+    progress: Mutex<Progress<J>>,
+    moved: Condvar,
 }
 
 impl<'x, D: Door, W: Write, J: JournalName> Journaled<'x, D, W, J> {
@@ -39,20 +44,67 @@ impl<'x, D: Door, W: Write, J: JournalName> Journaled<'x, D, W, J> {
         requires none_added { D.added pass ≡ 0 }
         requires within { count ≤ length J.earlier }
     {
+        let journal = Journal::new(alloc, version, pass, count, device);
+        let progress = Progress::new(journal.kept());
         Journaled {
             door,
-            journal: Mutex::new(Journal::new(alloc, version, pass, count, device)),
+            journal: Mutex::new(journal),
+            progress: Mutex::new(progress),
+            moved: Condvar::new(),
         }
     }
 
     /// The journal, which no thread shares any more.
     pub fn into_journal(self) -> Journal<D, W, J> {
-        let Journaled { door: _, journal } = self;
+        let Journaled {
+            door: _,
+            journal,
+            progress: _,
+            moved: _,
+        } = self;
         journal.into_inner()
+    }
+
+    /// Waits while somebody writes, unless so many records are kept before he is through. Whose turn it is then writes.
+    fn await_turn<R: Wait>(&self, rt: &R, count: u64) -> Result<KeptRecords<J>, NotKept>
+        ensures { IfOk result (λ k. count ≤ k) }
+    {
+        let mut progress = self
+            .moved
+            .wait_while(rt, self.progress.lock(rt), |p| p.is_awaited(count));
+        progress.take_turn(count)
+    }
+
+    /// That so many of the day's first records are on the journal's device; `None` where they are not and nothing is written any
+    /// more, or where there are fewer.
+    pub fn kept<R: Wait>(&self, rt: &R, count: u64) -> Option<KeptRecords<J>>
+        ensures kept { IfSome result (λ k. count ≤ k) }
+    {
+        match self.await_turn(rt, count) {
+            Ok(kept) => Some(kept),
+            Err(NotKept::Broken) => None,
+            Err(NotKept::Turn) => {
+                let kept = self.write_in_turn(rt)?;
+                if kept.count() < count {
+                    return None;
+                }
+                Some(kept)
+            }
+        }
+    }
+
+    /// Writes all that there is, in one's turn, and tells those who wait how far it is kept now.
+    fn write_in_turn<R: Wait>(&self, rt: &R) -> Option<KeptRecords<J>> {
+        let kept = self.journal.lock(rt).keep(rt, self.door);
+        self.progress.lock(rt).note(&kept);
+        self.moved.notify_all();
+        kept
     }
 }
 
 impl<D: Door, W: Write, J: JournalName> Door for Journaled<'_, D, W, J> {
+    ghost use Rattle.std.specs.Prelude.{ℕ};
+
     type Pass = D::Pass;
 
     ghost policy = { D.policy };
@@ -60,6 +112,10 @@ impl<D: Door, W: Write, J: JournalName> Door for Journaled<'_, D, W, J> {
     ghost observed = { D.observed };
 
     ghost added = { D.added };
+
+    ghost Kept = { ℕ };
+
+    ghost kept = { λ k. k };
 
     fn line_of(&self, pass: &D::Pass) -> u16 {
         self.door.line_of(pass)
@@ -164,7 +220,15 @@ impl<D: Door, W: Write, J: JournalName> Door for Journaled<'_, D, W, J> {
         self.door.records(rt, pass, from, most)
     }
 
-    fn keep<R: Wait>(&self, rt: &R) -> bool {
-        self.journal.lock(rt).keep(rt, self.door)
+    fn keep<R: Wait>(&self, rt: &R, count: u64) -> bool {
+        self.kept(rt, count).is_some()
+    }
+
+    fn keep_all<R: Wait>(&self, rt: &R) -> bool {
+        match self.await_turn(rt, u64::MAX) {
+            Ok(_) => true,
+            Err(NotKept::Broken) => false,
+            Err(NotKept::Turn) => self.write_in_turn(rt).is_some(),
+        }
     }
 }

@@ -9,9 +9,10 @@
 mod journal;
 mod journaled;
 mod name;
+mod progress;
 mod writer;
 
-pub use journal::Journal;
+pub use journal::{Journal, KeptRecords};
 pub use journaled::Journaled;
 pub use name::JournalName;
 pub use writer::JournalWriter;

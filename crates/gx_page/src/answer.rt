@@ -88,7 +88,7 @@ pub(crate) fn answer_to<
         Ok(reply) => reply,
         Err(refused) => return (board, Err(refused)),
     };
-    let is_kept = door.keep(rt);
+    let is_kept = door.keep_all(rt);
     match response_if_kept(alloc, is_kept, policy, secret, about, &reply) {
         Ok(text) => {
             let is_stranger = is_stranger(&reply);

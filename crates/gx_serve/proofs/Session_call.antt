@@ -1,16 +1,16 @@
 -- What becomes of a session and its pass under the lock.
 use Rattle.std.proofs.Common.{◌≡◌, ◌≢◌, ℕ, ◌-◌, Bool, true, false, cond, Option, Some, None, inl, inr, refl, sym, ap, subst, ◌∙◌}
-use Rattle.std.specs.Prelude.{nat_le}
+use Rattle.std.specs.Prelude.{nat_le, ◌≤◌, length, Ok}
 use Rattle.gx_units.specs.{declared.names.UserName.UserName, Spelling.folded_user}
 use Rattle.gx_policy.specs.declared.policy.PolicyData.{PolicyData}
 use Rattle.gx_history.specs.{declared.record.Asked.Asked, InForce.line_of}
-use Rattle.gx_access_gate.specs.{declared.{outcome.{Outcome.Outcome, StepFault.StepFault}, pulled.Pulled.Pulled}, Gates.left_by}
+use Rattle.gx_access_gate.specs.{declared.{outcome.{LoginAnswer.LoginAnswer, Outcome.Outcome, StepFault.StepFault}, pulled.Pulled.Pulled}, Gates.left_by}
 use Rattle.gx_pass.specs.{declared.view.LineView.LineView, Views.{mine, with_told}}
 use Rattle.gx_session.specs.Happenings as happens
 use Rattle.gx_session.specs.{declared.{session.Phase.{Phase, TheVariants.{Fresh, Waiting, On, Abandoned, Done}}, event.Sign.Sign, outbox.Outbox.Outbox}, Outboxes.left_after, Table.{row_in, turn, SessionData}, Events.{is_phase_on, is_over}}
 use Rattle.gx_door.specs.{Acts.IsLater, declared.ended.EndedTotals.EndedTotals, Matching.Turns}
 use Rattle.gx_control.specs.PullCursors.{may_have_more, PullCursorData}
-use Rattle.gx_serve.specs.{declared.{announcing.EndedOrders.EndedOrders, state.outgoing.NextWrite.NextWrite}, Announcements.{announced_of, WasAnnounced}, Marks.{fetched_data, FetchedData, SentMark}, States.{HasMetMore, WasTold, WasToldRefusal}, Seeking.{due_of, is_bare, cursor_after, DueElse, IsOver, LooksWhere, Seeks, WasPulled, WasSought, WasWatched}, Speech.{IsDue, AreReportsShown}}
+use Rattle.gx_serve.specs.{declared.{announcing.EndedOrders.EndedOrders, state.outgoing.NextWrite.NextWrite}, Announcements.{announced_of, WasAnnounced}, Marks.{fetched_data, given_login, FetchedData, SentMark}, States.{HasMetMore, WasTold, WasToldRefusal}, Seeking.{due_of, is_bare, cursor_after, DueElse, IsOver, LooksWhere, Seeks, WasHandedOut, WasPulled, WasSought, WasWatched}, Speech.{IsDue, AreReportsShown}}
 
 -- a step was made, and what belongs to it is announced
 pub was_announced : {policy : PolicyData} (a : Asked) (was is : LineView) (o : Outcome) (ended : EndedTotals) (made : ℕ) (told : Option EndedOrders) → IsLater policy was is → Turns policy was is (left_by a o) ended a.handed made
@@ -34,13 +34,19 @@ own_told was mid is count told looked = record {
   own = looked.own ∙ ap mine told;
 }
 
+-- the answer that is left is handed out
+pub was_handed_out : (answer : LoginAnswer) (user : UserName) (login : ℕ) (session : SessionData) (was is : LineView) (known : ℕ) → is ≡ with_told was known → length was.front ≤ known
+    → WasHandedOut answer user login session was session is (Some (Ok (given_login user login answer known)))
+was_handed_out answer user login session was is known told few = record { known = known; told = told; within = few; same = refl; handed = refl }
+
 -- the user's reports were pulled
-pub was_fetched : (policy : PolicyData) (user : UserName) (m : SentMark) (moment : ℕ) (session : SessionData) (was mid is : LineView) (cursor : PullCursorData) (pulled : Pulled) (count : ℕ)
-    → mid ≡ with_told was count → may_have_more cursor count ≡ true → IsLater policy mid is → HasMetMore mid is → AreReportsShown policy m.user m.next pulled
-    → WasPulled policy user m moment session was cursor session is (cursor_after cursor (fetched_data pulled count)) (due_of (fetched_data pulled count))
-was_fetched policy user m moment session was mid is cursor pulled count told news later looked shown = inr (inl (record {
+pub was_fetched : (policy : PolicyData) (user : UserName) (m : SentMark) (moment : ℕ) (session : SessionData) (was mid is : LineView) (cursor : PullCursorData) (pulled : Pulled) (count known : ℕ)
+    → mid ≡ with_told was count → may_have_more cursor count ≡ true → IsLater policy mid is → HasMetMore mid is → AreReportsShown policy m.user m.next known pulled
+    → WasPulled policy user m moment session was cursor session is (cursor_after cursor (fetched_data pulled count known)) (due_of (fetched_data pulled count known))
+was_fetched policy user m moment session was mid is cursor pulled count known told news later looked shown = inr (inl (record {
   pulled = pulled;
   count = count;
+  known = known;
   news = news;
   later = subst (λ h. IsLater policy h is) told later;
   looked = own_told was mid is count told looked;
@@ -82,7 +88,7 @@ was_watched left left' policy user m moment session ticked session' was between 
 
 -- What is due are the user's reports from the mark on.
 
-fetched_due : {policy : PolicyData} (user : UserName) (from : ℕ) (f : FetchedData) → AreReportsShown policy user from f.pulled → (bare : Bool) → IsDue policy user from (cond bare NextWrite.Nothing (NextWrite.Reports f))
+fetched_due : {policy : PolicyData} (user : UserName) (from : ℕ) (f : FetchedData) → AreReportsShown policy user from f.known f.pulled → (bare : Bool) → IsDue policy user from (cond bare NextWrite.Nothing (NextWrite.Reports f))
 fetched_due user from f shown true = tt
 fetched_due user from f shown false = shown
 
@@ -93,7 +99,7 @@ pulled_due : (policy : PolicyData) (user : UserName) (m : SentMark) (moment : �
     → WasPulled policy user m moment session was cursor session' is cursor' due → IsDue policy m.user m.next due
 pulled_due policy user m moment session was cursor session' is cursor' due (inl idle) = due_so policy m.user m.next NextWrite.Nothing due idle.nothing tt
 pulled_due policy user m moment session was cursor session' is cursor' due (inr (inl found)) =
-    due_so policy m.user m.next (due_of (fetched_data found.pulled found.count)) due found.brought (fetched_due m.user m.next (fetched_data found.pulled found.count) found.shown (is_bare (fetched_data found.pulled found.count)))
+    due_so policy m.user m.next (due_of (fetched_data found.pulled found.count found.known)) due found.brought (fetched_due m.user m.next (fetched_data found.pulled found.count found.known) found.shown (is_bare (fetched_data found.pulled found.count found.known)))
 pulled_due policy user m moment session was cursor session' is cursor' due (inr (inr refused)) = due_so policy m.user m.next NextWrite.Nothing due refused.nothing tt
 
 over_due : (policy : PolicyData) (user : UserName) (from : ℕ) (due : NextWrite) → IsOver due → IsDue policy user from due

@@ -13,22 +13,24 @@ pub record SentMark : Type 0 where
 abbrev pub mark : UserName → ℕ → ℕ → SentMark
 mark user login next = record { user = user; login = login; next = next }
 
--- the answer to a user's login, and when he asked for it
+-- the answer to a user's login, when he asked for it, and of how many records it may tell
 pub record Given : Type 0 where
   pub user : UserName
   pub login : ℕ
   pub answer : LoginAnswer
+  pub known : ℕ
 
-abbrev pub given_login : UserName → ℕ → LoginAnswer → Given
-given_login user login answer = record { user = user; login = login; answer = answer }
+abbrev pub given_login : UserName → ℕ → LoginAnswer → ℕ → Given
+given_login user login answer known = record { user = user; login = login; answer = answer; known = known }
 
--- reports that were pulled, and how many records there were before
+-- reports that were pulled, how many records there were before, and of how many these may tell
 pub record FetchedData : Type 0 where
   pub pulled : Pulled
   pub count : ℕ
+  pub known : ℕ
 
-abbrev pub fetched_data : Pulled → ℕ → FetchedData
-fetched_data pulled count = record { pulled = pulled; count = count }
+abbrev pub fetched_data : Pulled → ℕ → ℕ → FetchedData
+fetched_data pulled count known = record { pulled = pulled; count = count; known = known }
 
 -- once they were sent, the next report is the one behind them
 abbrev pub mark_sent : SentMark → FetchedData → SentMark

@@ -1,5 +1,5 @@
 -- What a writer is given to do: the answer to a login, and then what is due to its user.
-use Rattle.std.specs.Prelude.{◌≡◌, ◌≢◌, ◌==◌, ℕ, ◌⊎◌, Bool, true, false, ◌&&◌, not, cond, IsFalse, IsTrue, Option, Some, None, Result, Ok, Err, length}
+use Rattle.std.specs.Prelude.{◌≡◌, ◌≢◌, ◌≤◌, ◌==◌, ℕ, ◌⊎◌, Bool, true, false, ◌&&◌, not, cond, IsFalse, IsTrue, Option, Some, None, Result, Ok, Err, length}
 use Rattle.gx_units.specs.{declared.names.UserName.UserName, Spelling.folded_user}
 use Rattle.gx_policy.specs.declared.policy.PolicyData.{PolicyData}
 use Rattle.gx_history.specs.InForce.{line_of}
@@ -22,11 +22,19 @@ abbrev pub Ticks : Bool → PolicyData → UserName → ℕ → SessionData → 
 Ticks true policy user moment session was session' is = (session' ≡ session) × (is ≡ was)
 Ticks false policy user moment session was session' is = WasTold policy user happens.Tick moment session was session' is
 
+-- the answer that is left is sent, which tells of no more than so many records
+pub record WasHandedOut (answer : LoginAnswer) (user : UserName) (login : ℕ) (session : SessionData) (was : LineView) (session' : SessionData) (is : LineView) (greeting : Option (Result Given Finished)) : Type 0 where
+  pub known : ℕ
+  pub told : is ≡ with_told was known
+  pub within : length was.front ≤ known
+  pub same : session' ≡ session
+  pub handed : greeting ≡ Some (Ok (given_login user login answer known))
+
 -- what the writer does before the login is answered: he sends the answer that is left; else the time is told, and there is
 -- nothing, for good once the session is over
 abbrev pub WasGreeted : Option LoginAnswer → PolicyData → UserName → ℕ → ℕ → SessionData → LineView → SessionData → LineView → Option (Result Given Finished) → Type 0
 WasGreeted (Some answer) policy user login moment session was session' is greeting =
-    ((session' ≡ session) × (is ≡ was)) × (greeting ≡ Some (Ok (given_login user login answer)))
+    WasHandedOut answer user login session was session' is greeting
 WasGreeted None policy user login moment session was session' is greeting =
     Ticks (is_over session.phase) policy user moment session was session' is × IsQuiet (is_over session'.phase) greeting
 
@@ -61,13 +69,14 @@ pub record WasIdle (session : SessionData) (was : LineView) (cursor : PullCursor
 pub record WasFetched (policy : PolicyData) (m : SentMark) (session : SessionData) (was : LineView) (cursor : PullCursorData) (session' : SessionData) (is : LineView) (cursor' : PullCursorData) (due : NextWrite) : Type 0 where
   pub pulled : Pulled
   pub count : ℕ
+  pub known : ℕ
   pub news : IsTrue (may_have_more cursor count)
   pub later : IsLater policy (with_told was count) is
   pub looked : HasMetMore was is
-  pub shown : AreReportsShown policy m.user m.next pulled
+  pub shown : AreReportsShown policy m.user m.next known pulled
   pub same : session' ≡ session
-  pub seen : cursor' ≡ cursor_after cursor (fetched_data pulled count)
-  pub brought : due ≡ due_of (fetched_data pulled count)
+  pub seen : cursor' ≡ cursor_after cursor (fetched_data pulled count known)
+  pub brought : due ≡ due_of (fetched_data pulled count known)
 
 -- the pull was refused, and the session was told so: for want of memory, or since the user is not logged in on the line
 pub record WasUnfetched (policy : PolicyData) (user : UserName) (m : SentMark) (moment : ℕ) (session : SessionData) (was : LineView) (cursor : PullCursorData) (session' : SessionData) (is : LineView) (cursor' : PullCursorData) (due : NextWrite) : Type 0 where

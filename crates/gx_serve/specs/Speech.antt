@@ -1,12 +1,12 @@
 -- What a connection is sent.
-use Rattle.std.specs.{Prelude.{◌≡◌, ◌⊎◌, ℕ, Bool, true, false, IsTrue, is_some, Option, List, [], ◌∷◌, ◌++◌}, List.flat_map, Io.KnownBytes.Appends}
+use Rattle.std.specs.{Prelude.{◌≡◌, ◌≤◌, ◌⊎◌, ℕ, Bool, true, false, IsTrue, is_some, length, Option, List, [], ◌∷◌, ◌++◌}, List.flat_map, Io.KnownBytes.Appends}
 use Rattle.gx_units.specs.{declared.names.{LoginRejection.LoginRejection, SessionName.SessionName, UserName.UserName}, Spelling.folded_user}
 use Rattle.gx_policy.specs.declared.policy.PolicyData.{PolicyData}
 use Rattle.gx_history.specs.{declared.record.RecordData.RecordData, InForce.line_of, Verdicts.IsLegal}
 use Rattle.gx_access_gate.specs.declared.{outcome.LoginAnswer.LoginAnswer, pulled.Pulled.Pulled}
 use Rattle.gx_devices.specs.Devices.{IsFront}
 use Rattle.gx_session.specs.{declared.event.{Control.Control, Sign.Sign}, Sending.{control_bytes, reports_text}}
-use Rattle.gx_door.specs.Acts.{gate_at, most_pulled, IsPulled}
+use Rattle.gx_door.specs.{Acts.{gate_at, most_pulled, IsPulled}, Keeping.ShowsKept}
 use Rattle.gx_serve.specs.{declared.state.outgoing.{NextWrite.NextWrite, LoginOutcome.LoginOutcome}, Marks.mark}
 
 -- what is written of what is due: a packet of the session's own, or one for each report
@@ -16,9 +16,11 @@ due_text (NextWrite.Reports fetched) = reports_text fetched.pulled.reports
 due_text NextWrite.Nothing = []
 due_text (NextWrite.Over finished) = []
 
--- the user's reports from this number on, as the records of a legal day owe them to him, in which he is logged in
-pub record AreReportsShown (policy : PolicyData) (user : UserName) (from : ℕ) (pulled : Pulled) : Type 0 where
+-- the user's reports from this number on, as the records of a legal day owe them to him, in which he is logged in: no more
+-- records than so many
+pub record AreReportsShown (policy : PolicyData) (user : UserName) (from known : ℕ) (pulled : Pulled) : Type 0 where
   pub records : List RecordData
+  pub few : length records ≤ known
   pub legal : IsLegal policy records
   pub on : IsTrue (is_some (line_of records (folded_user user)))
   pub shown : IsPulled (gate_at policy records) (folded_user user) from most_pulled pulled
@@ -26,9 +28,22 @@ pub record AreReportsShown (policy : PolicyData) (user : UserName) (from : ℕ) 
 -- where reports are due, they are the user's from this number on
 abbrev pub IsDue : PolicyData → UserName → ℕ → NextWrite → Type 0
 IsDue policy user from (NextWrite.Sign sign) = Unit {0}
-IsDue policy user from (NextWrite.Reports fetched) = AreReportsShown policy user from fetched.pulled
+IsDue policy user from (NextWrite.Reports fetched) = AreReportsShown policy user from fetched.known fetched.pulled
 IsDue policy user from NextWrite.Nothing = Unit {0}
 IsDue policy user from (NextWrite.Over finished) = Unit {0}
+
+-- where reports are due, as many records are kept as they may tell of
+abbrev pub IsDueKept : {K : Type 0} → (K → ℕ) → NextWrite → Type 0
+IsDueKept kept (NextWrite.Sign sign) = Unit {0}
+IsDueKept kept (NextWrite.Reports fetched) = ShowsKept kept fetched.known
+IsDueKept kept NextWrite.Nothing = Unit {0}
+IsDueKept kept (NextWrite.Over finished) = Unit {0}
+
+-- the reports, each of records that are kept
+pub record AreReportsKept {K : Type 0} (kept : K → ℕ) (policy : PolicyData) (user : UserName) (from : ℕ) (pulled : Pulled) : Type 0 where
+  pub known : ℕ
+  pub shown : AreReportsShown policy user from known pulled
+  pub are_kept : ShowsKept kept known
 
 -- it ends the session
 abbrev pub is_ending : Sign → Bool
@@ -58,16 +73,17 @@ abbrev pub part_text : Part → List ℕ
 part_text Beat = control_bytes (Control.Sign Sign.Heartbeat)
 part_text (Shown pulled) = reports_text pulled.reports
 
--- the parts are heartbeats, and the user's reports from this number on, each once and in order, up to that number
-abbrev pub GoOn : PolicyData → UserName → ℕ → List Part → ℕ → Type 0
-GoOn policy user from [] to = to ≡ from
-GoOn policy user from (Beat ∷ parts) to = GoOn policy user from parts to
-GoOn policy user from (Shown pulled ∷ parts) to = AreReportsShown policy user from pulled × GoOn policy user pulled.next parts to
+-- the parts are heartbeats, and the user's reports from this number on, each once and in order, up to that number, all of
+-- records that are kept
+abbrev pub GoOn : {K : Type 0} → (K → ℕ) → PolicyData → UserName → ℕ → List Part → ℕ → Type 0
+GoOn kept policy user from [] to = to ≡ from
+GoOn kept policy user from (Beat ∷ parts) to = GoOn kept policy user from parts to
+GoOn kept policy user from (Shown pulled ∷ parts) to = AreReportsKept kept policy user from pulled × GoOn kept policy user pulled.next parts to
 
 -- to a user who is on such parts were sent
-pub record IsSpoken (policy : PolicyData) (user : UserName) (from : ℕ) (text : List ℕ) (to : ℕ) : Type 0 where
+pub record IsSpoken {K : Type 0} (kept : K → ℕ) (policy : PolicyData) (user : UserName) (from : ℕ) (text : List ℕ) (to : ℕ) : Type 0 where
   pub parts : List Part
-  pub go_on : GoOn policy user from parts to
+  pub go_on : GoOn kept policy user from parts to
   pub whole : text ≡ flat_map part_text parts
 
 -- the end of the session was written, or nothing
@@ -76,21 +92,21 @@ IsEnding text = (text ≡ []) ⊎ (text ≡ control_bytes (Control.Sign Sign.End
 
 -- a login that was accepted: its answer, its user's reports from the number that it names on, and perhaps the end of the
 -- session
-pub record IsWelcome (policy : PolicyData) (text : List ℕ) : Type 0 where
+pub record IsWelcome {K : Type 0} (kept : K → ℕ) (policy : PolicyData) (text : List ℕ) : Type 0 where
   pub user : UserName
   pub session : SessionName
   pub first : ℕ
   pub to : ℕ
   pub spoken : List ℕ
-  pub speech : IsSpoken policy user first spoken to
+  pub speech : IsSpoken kept policy user first spoken to
   pub ending : List ℕ
   pub ends : IsEnding ending
   pub whole : text ≡ (control_bytes (Control.Answer (LoginAnswer.Accepted session first)) ++ spoken) ++ ending
 
 -- what a connection is sent: nothing, the rejection of its login, or its acceptance and what follows
-abbrev pub IsConversation : PolicyData → List ℕ → Type 0
-IsConversation policy text =
-    (text ≡ []) ⊎ (((reason : LoginRejection) × (text ≡ control_bytes (Control.Answer (LoginAnswer.Rejected reason)))) ⊎ IsWelcome policy text)
+abbrev pub IsConversation : {K : Type 0} → (K → ℕ) → PolicyData → List ℕ → Type 0
+IsConversation kept policy text =
+    (text ≡ []) ⊎ (((reason : LoginRejection) × (text ≡ control_bytes (Control.Answer (LoginAnswer.Rejected reason)))) ⊎ IsWelcome kept policy text)
 
 -- the text was written whole, or a front of it
 abbrev pub Writes : Bool → Option (List ℕ) → Option (List ℕ) → List ℕ → Type 0
@@ -98,19 +114,23 @@ Writes true before after text = Appends before after text
 Writes false before after text = IsFront before after text
 
 -- it was written whole, or a front of it
-pub record WasSaid (whole : Bool) (policy : PolicyData) (before after : Option (List ℕ)) : Type 0 where
+pub record WasSaid {K : Type 0} (whole : Bool) (kept : K → ℕ) (policy : PolicyData) (before after : Option (List ℕ)) : Type 0 where
   pub text : List ℕ
-  pub said : IsConversation policy text
+  pub said : IsConversation kept policy text
   pub written : Writes whole before after text
 
 -- to this user such parts were written, and perhaps the end of the session, whole or a front of them
-pub record WasSpoken (whole : Bool) (policy : PolicyData) (user : UserName) (from : ℕ) (before after : Option (List ℕ)) : Type 0 where
+pub record WasSpoken {K : Type 0} (whole : Bool) (kept : K → ℕ) (policy : PolicyData) (user : UserName) (from : ℕ) (before after : Option (List ℕ)) : Type 0 where
   pub to : ℕ
   pub spoken : List ℕ
-  pub speech : IsSpoken policy user from spoken to
+  pub speech : IsSpoken kept policy user from spoken to
   pub ending : List ℕ
   pub ends : IsEnding ending
   pub written : Writes whole before after (spoken ++ ending)
+
+-- what is due was not written, or a front of it, where the records are kept of which it may tell
+abbrev pub IsCut : {K : Type 0} → (K → ℕ) → NextWrite → Option (List ℕ) → Option (List ℕ) → Type 0
+IsCut kept due before after = (after ≡ before) ⊎ (IsDueKept kept due × IsFront before after (due_text due))
 
 -- the answer to a login was written, or a front of it
 abbrev pub IsGreeted : Option (List ℕ) → Option (List ℕ) → LoginOutcome → Type 0

@@ -1,6 +1,6 @@
 //! What is done is kept, whether anybody is told of it or not.
 
-use crate::writing::is_kept;
+use crate::writing::is_all_kept;
 use gx_control::ServerControl;
 use gx_door::Door;
 use std::sync::Wait;
@@ -15,7 +15,7 @@ const PAUSE_MILLIS: u64 = 5;
 pub fn keep_on<D: Door, R: Wait + Clock>(rt: &R, door: &D, control: &ServerControl) -> bool {
     for _ in rt.forever() {
         let woken = control.keeper.wait(rt, false);
-        if !is_kept(rt, door, &control.shutdown) {
+        if !is_all_kept(rt, door, &control.shutdown) {
             return false;
         }
         if woken.closed {

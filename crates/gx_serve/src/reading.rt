@@ -186,7 +186,7 @@ fn take_packets<D: Door, R: Wait + Clock + Dial + Announces>(
             left => return left,
         }
         if taken % PORTION == 0 {
-            door.keep(rt);
+            door.keep_all(rt);
         }
     }
     Left::Open

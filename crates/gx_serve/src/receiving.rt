@@ -8,13 +8,14 @@ ghost use Rattle.gx_door.specs.declared.caller.Caller.TheVariants as callers;
 ghost use Rattle.gx_serve.specs.Receptions.{WasReceived, WasTurnedAway, WasTurnedOff};
 
 use crate::reading::Cut;
-use crate::writing::send_answer;
+use crate::writing::is_all_kept;
 use gx_control::ShutdownFlag;
 use gx_devices::CallCounter;
 use gx_door::{Caller, Dial, Door};
 use gx_reception::{
     Admission, Admits, Denial, Knock, NoLine, Opening, Undenied, await_login, read_piece,
 };
+use gx_session::{Control, send_control};
 use gx_soup::LoginRequest;
 use std::alloc::Global;
 use std::io::{Read, Write};
@@ -95,7 +96,9 @@ fn turn_off<D: Door, O: Write, R: Wait>(
     ensures { WasTurnedOff (answers.Rejected rejections.NotAuthorized)
         (O.contents writer.old.device) (O.contents writer.new.device) }
 {
-    let _ = send_answer(rt, alloc, door, shutdown, denial.answer(), writer);
+    if is_all_kept(rt, door, shutdown) {
+        let _ = send_control(alloc, Control::Answer(denial.answer()), writer);
+    }
 }
 
 /// Denies the login of somebody who has no user's password, and answers it, once the record of it is kept. Nobody else writes

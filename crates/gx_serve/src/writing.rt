@@ -1,15 +1,16 @@
 //! The writer of a connection.
 
 ghost use Rattle.gx_devices.specs.{Blaming.IsBlamed, Devices.IsFront};
-ghost use Rattle.std.specs.{Prelude.{◌≡◌, ◌-◌, ◌^◌, ◌<◌, is_some, IfErr, OnOk, OnErr}, Io.KnownBytes.Appends};
+ghost use Rattle.std.specs.{Prelude.{◌≡◌, ◌-◌, ◌^◌, ◌<◌, is_some, IfErr, IsTrue, OnOk, OnErr}, Io.KnownBytes.Appends};
+ghost use Rattle.gx_door.specs.Keeping.{ShowsKept};
 ghost use Rattle.gx_session.specs.{Sending.control_bytes};
-ghost use Rattle.gx_serve.specs.{Speech.{due_text, is_last_write, next_after, IfOn, IsGreeted, WasSaid, WasSpoken}, Tellings.event_of_write_fault, Timings.AreTimes, Breaks.break_of};
+ghost use Rattle.gx_serve.specs.{Speech.{due_text, is_last_write, next_after, IfOn, IsCut, IsDueKept, IsGreeted, WasSaid, WasSpoken}, Tellings.event_of_write_fault, Timings.AreTimes, Breaks.break_of};
 
 use crate::shared_connection::SharedConnection;
 use crate::state::Break;
-use crate::state::outgoing::{Bookmark, Fetched, Finished, LoginOutcome, NextWrite};
+use crate::state::outgoing::{Answered, Bookmark, Fetched, Finished, LoginOutcome, NextWrite};
 use crate::timing::times_of;
-use gx_access_gate::{LoginAnswer, StepFault};
+use gx_access_gate::StepFault;
 use gx_control::{AnswerTimes, AnswersNoted, ShutdownFlag, WriterWakeup};
 use gx_devices::{CallCounter, WriteFault};
 use gx_door::{Dial, Door};
@@ -51,25 +52,40 @@ fn send<O: Write>(
     }
 }
 
-/// Whether what was done so far may be told. Where it may not, no more is to be done: the server is asked to end.
-pub(crate) fn is_kept<D: Door, R: Wait>(rt: &R, door: &D, shutdown: &ShutdownFlag) -> bool {
-    let kept = door.keep(rt);
+/// Whether so many of the day's first records may be told. Where they may not, no more is to be done: the server is asked to
+/// end.
+fn is_kept<D: Door, R: Wait>(rt: &R, door: &D, shutdown: &ShutdownFlag, count: u64) -> bool
+    ensures { IsTrue result → ShowsKept D.kept count }
+{
+    let kept = door.keep(rt, count);
     if !kept {
         shutdown.request();
     }
     kept
 }
 
-/// Whether what is due may be sent: reports tell of what was done.
-fn may_send<D: Door, R: Wait>(rt: &R, door: &D, shutdown: &ShutdownFlag, due: &NextWrite) -> bool {
+/// Whether all that was done so far may be told. Where it may not, no more is to be done: the server is asked to end.
+pub(crate) fn is_all_kept<D: Door, R: Wait>(rt: &R, door: &D, shutdown: &ShutdownFlag) -> bool {
+    let kept = door.keep_all(rt);
+    if !kept {
+        shutdown.request();
+    }
+    kept
+}
+
+/// Whether what is due may be sent: reports tell of records.
+fn may_send<D: Door, R: Wait>(rt: &R, door: &D, shutdown: &ShutdownFlag, due: &NextWrite) -> bool
+    ensures { IsTrue result → IsDueKept D.kept due.now }
+{
     match due {
-        NextWrite::Reports(_) => is_kept(rt, door, shutdown),
+        NextWrite::Reports(fetched) => is_kept(rt, door, shutdown, fetched.known()),
         NextWrite::Sign(_) | NextWrite::Nothing | NextWrite::Over(_) => true,
     }
 }
 
-/// Sends what is due, reports once all that was done is kept. At `Err` it answers what breaks the session off.
-#[tactic(auto, using(crate::proofs::Writer_next::nothing_sent))]
+/// Sends what is due, reports once the records are kept of which they may tell. At `Err` it answers what breaks the session
+/// off.
+#[tactic(auto, using(crate::proofs::Writer_next::none_written, crate::proofs::Writer_next::front_written))]
 fn send_kept<D: Door, O: Write, R: Wait>(
     rt: &R,
     alloc: Global,
@@ -81,8 +97,9 @@ fn send_kept<D: Door, O: Write, R: Wait>(
     requires { writer.old.failed < 2 ^ 64 - 1 }
     ensures sent { OnOk result (Appends
         (O.contents writer.old.device) (O.contents writer.new.device) (due_text due.now)) }
-    ensures front { OnErr result (IsFront
-        (O.contents writer.old.device) (O.contents writer.new.device) (due_text due.now)) }
+    ensures told { OnOk result (IsDueKept D.kept due.now) }
+    ensures cut { OnErr result (IsCut D.kept due.now
+        (O.contents writer.old.device) (O.contents writer.new.device)) }
     ensures kept { OnOk result (writer.new.failed ≡ writer.old.failed) }
 {
     if !may_send(rt, door, shutdown, due) {
@@ -94,27 +111,29 @@ fn send_kept<D: Door, O: Write, R: Wait>(
     }
 }
 
-/// Sends the answer to a login, once all that was done is kept. At `Err` it answers what breaks the session off.
+/// Sends the answer to a login, once so many of the day's first records are kept. At `Err` it answers what breaks the session
+/// off.
 #[tactic(auto, using(crate::proofs::Writer_next::nothing_sent))]
-pub(crate) fn send_answer<D: Door, O: Write, R: Wait>(
+fn send_answer<D: Door, O: Write, R: Wait>(
     rt: &R,
     alloc: Global,
     door: &D,
     shutdown: &ShutdownFlag,
-    answer: LoginAnswer,
+    answered: &Answered,
     writer: &mut CallCounter<O>,
 ) -> Result<(), Break>
     requires { writer.old.failed < 2 ^ 64 - 1 }
     ensures sent { OnOk result (Appends (O.contents writer.old.device)
-        (O.contents writer.new.device) (control_bytes (Control.Answer answer))) }
+        (O.contents writer.new.device) (control_bytes (Control.Answer answered.now.answer))) }
+    ensures told { OnOk result (ShowsKept D.kept answered.now.known) }
     ensures front { OnErr result (IsFront (O.contents writer.old.device)
-        (O.contents writer.new.device) (control_bytes (Control.Answer answer))) }
+        (O.contents writer.new.device) (control_bytes (Control.Answer answered.now.answer))) }
     ensures kept { OnOk result (writer.new.failed ≡ writer.old.failed) }
 {
-    if !is_kept(rt, door, shutdown) {
+    if !is_kept(rt, door, shutdown, answered.known()) {
         return Err(Break::Fault);
     }
-    match send_control(alloc, Control::Answer(answer), writer) {
+    match send_control(alloc, Control::Answer(answered.answer()), writer) {
         Ok(()) => Ok(()),
         Err(fault) => Err(cause_of(fault)),
     }
@@ -163,7 +182,7 @@ fn go_on<D: Door, R: Wait + Clock + Dial>(
     }
 }
 
-/// Waits for the answer to the login, and sends it once all that was done is kept.
+/// Waits for the answer to the login, and sends it once the records are kept of which it may tell.
 #[tactic(auto, using(crate::proofs::Writer_next::is_greeted))]
 fn write_answer<D: Door, O: Write, R: Wait + Clock + Dial>(
     rt: &R,
@@ -183,7 +202,7 @@ fn write_answer<D: Door, O: Write, R: Wait + Clock + Dial>(
         Ok(answered) => answered,
         Err(finished) => return LoginOutcome::Over(finished),
     };
-    match send_answer(rt, alloc, door, shutdown, answered.answer(), writer) {
+    match send_answer(rt, alloc, door, shutdown, &answered, writer) {
         Ok(()) => answered.sent(),
         Err(cause) => {
             shared.break_off(rt, door, cause);
@@ -206,7 +225,7 @@ fn write_reports<D: Door, O: Write, R: Wait + Clock + Dial>(
     writer: &mut CallCounter<O>,
 ) -> Option<Finished>
     requires { writer.old.failed < 2 ^ 64 - 1 }
-    ensures spoken { WasSpoken (is_some result) D.policy bookmark.user bookmark.next
+    ensures spoken { WasSpoken (is_some result) D.kept D.policy bookmark.user bookmark.next
         (O.contents writer.old.device) (O.contents writer.new.device) }
 {
     let mut bookmark = bookmark;
@@ -225,8 +244,8 @@ fn write_reports<D: Door, O: Write, R: Wait + Clock + Dial>(
 
 /// Writes the answer to a connection's login, and then, where it was accepted, its user's reports from the
 /// number that the answer names on, each once and in order, heartbeats between them, until the
-/// session is over or the writer fails. The answer and the reports are sent once the door keeps all that was done; where
-/// it can't, nothing more is sent, and the server is asked to end. How long reports took until they were sent is counted there.
+/// session is over or the writer fails. The answer and the reports are sent once the door keeps all records of which they may
+/// tell; where it can't, nothing more is sent, and the server is asked to end. How long reports took until they were sent is counted there.
 /// Answers that the session is over and all was written, if so.
 pub fn write_on<D: Door, O: Write, R: Wait + Clock + Dial>(
     rt: &R,
@@ -239,7 +258,7 @@ pub fn write_on<D: Door, O: Write, R: Wait + Clock + Dial>(
     writer: &mut CallCounter<O>,
 ) -> Option<Finished>
     requires { writer.old.failed < 2 ^ 64 - 1 }
-    ensures said { WasSaid (is_some result) D.policy
+    ensures said { WasSaid (is_some result) D.kept D.policy
         (O.contents writer.old.device) (O.contents writer.new.device) }
 {
     match write_answer(rt, alloc, door, shutdown, wakeup, shared, writer) {

@@ -182,6 +182,8 @@ impl<G: AccessGate, N: GateName> SharedGate<G, N> {
 }
 
 impl<G: ShowsState, N: GateName> Door for SharedGate<G, N> {
+    ghost use Rattle.std.specs.Prelude.{ℕ};
+
     type Pass = CountedPass<N>;
 
     ghost policy = { N.policy };
@@ -189,6 +191,10 @@ impl<G: ShowsState, N: GateName> Door for SharedGate<G, N> {
     ghost observed = { λ p. p.held };
 
     ghost added = { λ p. p.added };
+
+    ghost Kept = { ℕ };
+
+    ghost kept = { λ n. n };
 
     fn line_of(&self, pass: &CountedPass<N>) -> u16 {
         pass.line()
@@ -304,7 +310,11 @@ impl<G: ShowsState, N: GateName> Door for SharedGate<G, N> {
         (CountedPass { pass, share }, result)
     }
 
-    fn keep<R: Wait>(&self, _rt: &R) -> bool {
+    fn keep<R: Wait>(&self, _rt: &R, _count: u64) -> bool {
+        true
+    }
+
+    fn keep_all<R: Wait>(&self, _rt: &R) -> bool {
         true
     }
 

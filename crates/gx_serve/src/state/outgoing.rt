@@ -1,6 +1,6 @@
 //! What a connection's state gives its writer.
 
-ghost use Rattle.std.specs.Prelude.{◌≡◌, ◌≢◌, ◌↔◌, IfErr, IfOk, Some, None, is_some};
+ghost use Rattle.std.specs.Prelude.{◌≡◌, ◌≢◌, ◌≤◌, ◌↔◌, length, IfErr, IfOk, Some, None, is_some};
 ghost use Rattle.gx_units.specs.Spelling.{folded_user};
 ghost use Rattle.gx_history.specs.InForce.{line_of};
 ghost use Rattle.gx_pass.specs.Views.{with_told};
@@ -61,6 +61,8 @@ pub struct Answered {
     answer: LoginAnswer,
     /// When he asked for it.
     login: Moment,
+    /// Of so many of the day's first records it may tell.
+    known: u64,
 }
 
 impl Model for Answered {
@@ -68,7 +70,7 @@ impl Model for Answered {
 
     ghost Value = { Given };
 
-    ghost view = { λ a. given_login a.user a.login a.answer };
+    ghost view = { λ a. given_login a.user a.login a.answer a.known };
 }
 
 impl Answered {
@@ -77,6 +79,13 @@ impl Answered {
         ensures { result ≡ self.now.answer }
     {
         self.answer
+    }
+
+    /// Of how many of the day's first records it may tell.
+    pub fn known(&self) -> u64
+        ensures { result ≡ self.now.known }
+    {
+        self.known
     }
 
     /// What becomes of the login, once the answer was sent.
@@ -133,6 +142,8 @@ impl Signed {
 pub struct Fetched {
     pulled: Pulled,
     count: u64,
+    /// Of so many of the day's first records they may tell.
+    known: u64,
 }
 
 impl Model for Fetched {
@@ -140,7 +151,7 @@ impl Model for Fetched {
 
     ghost Value = { FetchedData };
 
-    ghost view = { λ f. fetched_data f.pulled f.count };
+    ghost view = { λ f. fetched_data f.pulled f.count f.known };
 }
 
 impl Fetched {
@@ -149,6 +160,13 @@ impl Fetched {
         ensures { result.now ≡ self.now.pulled }
     {
         &self.pulled
+    }
+
+    /// Of how many of the day's first records they may tell.
+    pub fn known(&self) -> u64
+        ensures { result ≡ self.now.known }
+    {
+        self.known
     }
 
     /// Whether they are all that there were, and the day goes on behind them.
@@ -222,6 +240,7 @@ impl<T: Drop> ConnectionState<T> {
     /// What the writer does before the login is answered: it answers it, or looks at the time. Answers what it is to send,
     /// or that the session is over; `None` for nothing for now. The session was told of the server's end, where that was
     /// asked for.
+    #[tactic(auto, using(crate::proofs::Session_call::was_handed_out))]
     pub fn greet<D: Door<Pass = T>, R: Wait + Dial>(
         &mut self,
         rt: &R,
@@ -242,6 +261,7 @@ impl<T: Drop> ConnectionState<T> {
                 user: self.user,
                 answer,
                 login: self.login,
+                known: self.length(door),
             })),
             None => {
                 if self.session.is_over() {
@@ -257,6 +277,7 @@ impl<T: Drop> ConnectionState<T> {
     pub(super) fn length<D: Door<Pass = T>>(&mut self, door: &D) -> u64
         ensures told { history_met D.observed self.new.pass
             ≡ with_told (history_met D.observed self.old.pass) result }
+        ensures front { length (history_met D.observed self.old.pass).front ≤ result }
         ensures user { self.new.user ≡ self.old.user }
         ensures session { self.new.session ≡ self.old.session }
         ensures outbox { self.new.outbox ≡ self.old.outbox }
@@ -270,14 +291,15 @@ impl<T: Drop> ConnectionState<T> {
         length
     }
 
-    /// The user's reports from the bookmark on.
+    /// The user's reports from the bookmark on, and of how many of the day's first records they may tell.
     fn reports<D: Door<Pass = T>, R: Wait + Dial>(
         &mut self,
         rt: &R,
         door: &D,
         bookmark: &Bookmark,
-    ) -> Result<Pulled, PullFault>
-        ensures shown { IfOk result (AreReportsShown D.policy bookmark.now.user bookmark.now.next) }
+    ) -> Result<(Pulled, u64), PullFault>
+        ensures shown { IfOk result (λ found.
+            AreReportsShown D.policy bookmark.now.user bookmark.now.next found.1 found.0) }
         ensures not_on { IfErr result (λ e. e ≡ pull_faults.NotOn
             ↔ line_of (history_met D.observed self.new.pass).front (folded_user bookmark.now.user)
             ≢ Some (history_met D.observed self.old.pass).line) }
@@ -293,9 +315,13 @@ impl<T: Drop> ConnectionState<T> {
         let Some(pass) = self.pass.take() else {
             unreachable!()
         };
-        let (pass, answer) = door.pull(rt, pass, bookmark.user, bookmark.next, BATCH);
+        let (mut pass, answer) = door.pull(rt, pass, bookmark.user, bookmark.next, BATCH);
+        let known = door.length(&mut pass);
         self.pass = Some(pass);
-        answer
+        match answer {
+            Ok(pulled) => Ok((pulled, known)),
+            Err(fault) => Err(fault),
+        }
     }
 
     /// The user's reports from the bookmark on, where there are more records than were seen.
@@ -319,9 +345,14 @@ impl<T: Drop> ConnectionState<T> {
             return NextWrite::Nothing;
         }
         match self.reports(rt, door, bookmark) {
-            Ok(pulled) => {
+            Ok((pulled, known)) => {
                 self.drained = (pulled.reports.as_slice().len() as u64) < BATCH;
-                due_of(Fetched { pulled, count }, &mut self.cursor)
+                let fetched = Fetched {
+                    pulled,
+                    count,
+                    known,
+                };
+                due_of(fetched, &mut self.cursor)
             }
             Err(PullFault::OutOfMemory) => {
                 self.refuse(rt, door, StepFault::OutOfMemory, moment);

@@ -8,5 +8,5 @@ invariant-loop g l = record {
   finite : (goal.iterator-loop g).is_finite l.iterator';
   kept : l.writer.failed ≡ l.fn.writer.failed;
   user : l.bookmark.user ≡ l.fn.bookmark.user;
-  says : Says g.D.Door.policy l.fn.bookmark.user l.fn.bookmark.next l.bookmark.next (g.O.Write.contents l.fn.writer.device) (g.O.Write.contents l.writer.device);
+  says : Says g.D.Door.kept g.D.Door.policy l.fn.bookmark.user l.fn.bookmark.next l.bookmark.next (g.O.Write.contents l.fn.writer.device) (g.O.Write.contents l.writer.device);
 }

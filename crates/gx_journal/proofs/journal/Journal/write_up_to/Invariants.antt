@@ -7,6 +7,7 @@ abbrev pub invariant-loop-self : goal.invariant-loop-self
 invariant-loop-self g l = record {
   known : l.count ≤ known_length l.self.met;
   met : IsPrefix l.fn.self.met.front l.self.met.front;
+  grows : l.fn.self.writer.done ≤ l.self.writer.done;
   sound : IsFalse (is_broken l.self.writer);
 }
 
