@@ -5,17 +5,17 @@ statuses, JSON, `--reconnect`, Wireshark's dissectors; and a kill in a flood of 
 An officer kills an account from the shell while 64 traders flood the server: how long that takes, and that the audit has no
 order and no fill of the account behind the kill. Each refusal of a command, of a login and of a line has its text and its
 status. Each command prints what it has done; commands come as arguments or on standard input, and the password in the
-variable, in a file or in front of them. `kill --all` and `kill` of several accounts say of each account what became of it:
-killed before, denied, not answered, and behind a line that is cut after three and a half kills, with and without `--reconnect`. Two traders trade, and a reader watches. A report that is told again at a login
-answers nothing, and whatever bytes are in it, only visible characters are shown. What `--json` prints is JSON. A run that
-says nothing for longer than a server waits stays logged in. With `--reconnect` it goes on behind a server that was killed.
-Where there is tshark, it reads the traffic without a malformed packet. A line is printed for each point, and behind one that
-is not as wanted what was told. The status is 1 where there is such a one. Run as
+variable, in a file or in front of them. Kills of several accounts say of each what became of it: killed before, denied, not
+answered, and behind a line that is cut, with and without `--reconnect` (beside a page: pages.py; money: limits.py). Two
+traders trade, and a reader watches. A report that is told again at a login answers nothing, and whatever bytes are in it,
+only visible characters are shown. What `--json` prints is JSON. A run that is silent for longer than a server waits stays
+logged in. With `--reconnect` it goes on behind a server that was killed. tshark, where it is there, reads no malformed
+packet. A line is printed for each point, and behind one that is not as wanted what was told. The status is 1 where there is
+such a one. Run as
 
   tests/desk/try.py [GATE]
   tests/desk/try.py [GATE] --slack 5            a kill may take five times as long
-  tests/desk/try.py [GATE] --leave-out reconnect,tshark
-  tests/desk/try.py [GATE] --only orders
+  tests/desk/try.py [GATE] --leave-out reconnect,tshark     or --only orders
 
 GATE: the built program; where none is named, crates/gate/out/gate of this repository.
 """
@@ -40,6 +40,8 @@ sys.path[:0] = [str(Path(__file__).resolve().parent), str(TOP / "examples")]
 
 from client import Packets, packet  # noqa: E402  (in the folder above)
 from desks import HOST, PASSWORDS, POLICIES, Server, Session, Told, flooding, serving  # noqa: E402  (beside this file)
+from limits import limits_of_money, questions  # noqa: E402  (beside this file)
+from pages import kills_of_the_page  # noqa: E402  (beside this file)
 
 TRADERS = 64
 TURNS = 10
@@ -750,6 +752,7 @@ PARTS: dict[str, Callable[[str, Path, Points], None]] = {
     "settings": settings_that_are_so,
     "two-officers": two_officers,
     "all": kills_all,
+    "page": kills_of_the_page, "money": limits_of_money, "questions": questions,
     "several": kills_several,
     "cut": cut_kills,
     "input": standard_input,

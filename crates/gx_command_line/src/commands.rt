@@ -578,14 +578,20 @@ pub(crate) const DESK: Subcommand = Subcommand {
         Argument {
             name: "accounts",
             value: "A,B,C",
-            kind: Kind::TextInPlaceOf(&["policy"]),
+            kind: Kind::TextInPlaceOf(&["policy", "status-port"]),
             help: "The accounts that `kill --all` kills, with commas between them",
+        },
+        Argument {
+            name: "status-port",
+            value: "P",
+            kind: Kind::Port,
+            help: "The port of the server's page, which tells the accounts of `kill --all`, and the limits in force",
         },
         Argument {
             name: "policy",
             value: "FILE",
-            kind: Kind::Text,
-            help: "The policy file whose accounts `kill --all` kills; this or --accounts is needed for that alone",
+            kind: Kind::TextInPlaceOf(&["status-port"]),
+            help: "The policy file that tells the accounts of `kill --all`, and what limits are counted in",
         },
         Argument {
             name: JSON,

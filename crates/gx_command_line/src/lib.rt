@@ -188,6 +188,8 @@ pub struct Desk<'a> {
     pub password_file: Option<&'a str>,
     /// The accounts that `kill --all` kills, with commas between them, if they are given.
     pub accounts: Option<&'a str>,
+    /// The port of the server's page, if that tells them.
+    pub status_port: Option<u16>,
     /// The policy whose accounts are known, if one is named.
     pub policy: Option<&'a str>,
     /// Whether answers are written as JSON.
@@ -399,6 +401,7 @@ fn asked_of_desk<'a>(given: &ArgMatches<'a>, words: &'a [String]) -> Option<Invo
         user: given.get_str("user")?,
         password_file: given.get_str("password-file"),
         accounts: given.get_str("accounts"),
+        status_port: given.get_one::<u16>("status-port"),
         policy: given.get_str("policy"),
         is_json: given.get_flag(JSON),
         reconnects: given.get_flag("reconnect"),

@@ -13,7 +13,8 @@ use std::sync::Wait;
 use std::time::Clock;
 
 /// What is told of `kill --all` where no accounts are known.
-pub const NO_ACCOUNTS: &str = "kill --all wants --accounts A,B,C, or --policy FILE, which has them";
+pub const NO_ACCOUNTS: &str =
+    "kill --all wants --accounts A,B,C, or --status-port P or --policy FILE, which have them";
 
 impl<S: Read + Write + Drop, O: Write + Drop, E: Write + Drop> Run<S, O, E> {
     /// Obeys the command or the next line, if nothing waits for an answer.
@@ -27,6 +28,7 @@ impl<S: Read + Write + Drop, O: Write + Drop, E: Write + Drop> Run<S, O, E> {
         }
         match self.command.take() {
             Some(line) => self.obey(rt, line.as_slice()),
+            None if self.unconfirmed.is_some() => self.confirm(rt, lines),
             None => self.obey_line(rt, lines),
         }
     }
@@ -65,12 +67,22 @@ impl<S: Read + Write + Drop, O: Write + Drop, E: Write + Drop> Run<S, O, E> {
 
     fn obey<R: Clock>(&mut self, rt: &R, line: &[u8]) -> Result<(), Fault> {
         match Wish::read(line) {
-            Ok(Wish::KillEach) => self.kill_named(rt, line),
-            Ok(wish) => self.do_wish(rt, &wish),
+            Ok(wish) => self.obey_wish(rt, &wish, line),
             Err(wrong) => {
                 self.tell_wrong(wrong);
                 Ok(())
             }
+        }
+    }
+
+    /// Does what the line asks for, once the page was asked where that is needed.
+    fn obey_wish<R: Clock>(&mut self, rt: &R, wish: &Wish, line: &[u8]) -> Result<(), Fault> {
+        if self.puts_off(wish, line)? {
+            return Ok(());
+        }
+        match wish {
+            Wish::KillEach => self.kill_named(rt, line),
+            _ => self.do_wish(rt, wish),
         }
     }
 
@@ -89,6 +101,7 @@ impl<S: Read + Write + Drop, O: Write + Drop, E: Write + Drop> Run<S, O, E> {
             Wish::Help => self.show(HELP.as_bytes()),
             Wish::Quit => self.leave(rt),
             Wish::KillAll => self.kill_all(rt),
+            Wish::Limit(rule, limit) => self.set_limit(rt, wish, *rule, *limit),
             Wish::Ask(_) | Wish::Enter(_) | Wish::Replace(_) | Wish::Cancel(_) => {
                 self.ask(rt, wish)
             }
@@ -96,7 +109,7 @@ impl<S: Read + Write + Drop, O: Write + Drop, E: Write + Drop> Run<S, O, E> {
     }
 
     /// Asks for a single command or order.
-    fn ask<R: Clock>(&mut self, rt: &R, wish: &Wish) -> Result<(), Fault> {
+    pub(crate) fn ask<R: Clock>(&mut self, rt: &R, wish: &Wish) -> Result<(), Fault> {
         match self.operator.asked(wish) {
             Some(asked) => self.send_asked(rt, &asked),
             None => Ok(()),

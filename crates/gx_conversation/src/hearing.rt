@@ -76,12 +76,17 @@ impl<S: Read + Write + Drop, O: Write + Drop, E: Write + Drop> Run<S, O, E> {
         self.repeated = if self.is_taken_up { None } else { Some(next) };
     }
 
+    /// Whether anything was not asked yet, or not answered.
+    fn has_more_to_ask(&self) -> bool {
+        self.command.is_some() || self.unconfirmed.is_some() || !self.operator.waiting().is_empty()
+    }
+
     /// The server has ended the session.
     fn end(&mut self) -> Result<(), Fault> {
         if self.phase == Phase::Leaving {
             return Ok(());
         }
-        if self.command.is_some() || !self.operator.waiting().is_empty() {
+        if self.has_more_to_ask() {
             return Err(Fault::SessionEnded);
         }
         self.phase = if self.is_single || self.operator.is_watching() {

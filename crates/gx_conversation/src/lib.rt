@@ -5,11 +5,14 @@
 mod commands;
 mod fault;
 mod hearing;
+mod limits;
 mod named;
+mod page;
 mod run;
 mod summary;
 mod timer;
 
 pub use commands::NO_ACCOUNTS;
 pub use fault::Fault;
+pub use page::Pause;
 pub use run::{Run, Setup};

@@ -2,11 +2,13 @@
 
 use crate::fault::Fault;
 use crate::named::{all_name_orders, named_order};
+use crate::page::{PageUse, Pause};
 use crate::timer::Timer;
 use crossbeam_channel::Receiver;
 use gx_client::{ClientSession, ServerFeeder, heartbeat_packet, logout_packet};
 use gx_operator::Operator;
 use gx_soup::LoginRequest;
+use gx_terminal::{KnownLimit, Wish};
 use gx_text::Form;
 use gx_units::{AccountName, unpadded};
 use std::alloc::Global;
@@ -62,6 +64,12 @@ pub struct Setup {
     pub start: u32,
     /// The accounts that `kill --all` kills, where they are known.
     pub accounts: Option<Vec<AccountName>>,
+    /// The limits of rules, where they are known.
+    pub limits: Vec<KnownLimit>,
+    /// Whether the server's page tells accounts and limits, each time that a line needs them.
+    pub asks_page: bool,
+    /// Whether a limit of a value that is under a tenth of the one before is sent only once a line says yes.
+    pub asks_first: bool,
     /// The name of the file that alone tells these accounts, if one does.
     pub file: Option<Vec<u8>>,
     /// The one command, where there is but one; behind `watch` lines come all the same.
@@ -80,6 +88,11 @@ pub struct Run<S: Drop, O: Drop, E: Drop> {
     pub(crate) operator: Operator,
     pub(crate) form: Form,
     pub(crate) accounts: Option<Vec<AccountName>>,
+    pub(crate) limits: Vec<KnownLimit>,
+    pub(crate) page: PageUse,
+    pub(crate) asks_first: bool,
+    /// What waits for a yes.
+    pub(crate) unconfirmed: Option<Wish>,
     pub(crate) file: Option<Vec<u8>>,
     /// Whether several Kills of one command were asked for of which is not told yet what became of them.
     pub(crate) has_kills: bool,
@@ -129,6 +142,10 @@ impl<S: Read + Write + Drop, O: Write + Drop, E: Write + Drop> Run<S, O, E> {
             operator: Operator::new(alloc, setup.form, setup.start),
             form: setup.form,
             accounts: setup.accounts,
+            limits: setup.limits,
+            page: PageUse::new(setup.asks_page),
+            asks_first: setup.asks_first,
+            unconfirmed: None,
             file: setup.file,
             has_kills: false,
             is_of_all: false,
@@ -190,7 +207,8 @@ impl<S: Read + Write + Drop, O: Write + Drop, E: Write + Drop> Run<S, O, E> {
     }
 
     /// Obeys the one command, or the lines that come, each once the one before is answered, until a None comes or nobody
-    /// sends any more; then it logs out.
+    /// sends any more; then it logs out. Where a line needs what the server's page tells it pauses before, and goes on once it
+    /// is called again, behind `take_page` or `miss_page`.
     ///
     /// # Errors
     ///
@@ -199,21 +217,28 @@ impl<S: Read + Write + Drop, O: Write + Drop, E: Write + Drop> Run<S, O, E> {
         &mut self,
         rt: &R,
         lines: &Receiver<Option<Vec<u8>>, Global>,
-    ) -> Result<(), Fault> {
+    ) -> Result<Pause, Fault> {
         for _ in rt.forever() {
             if self.phase == Phase::Over {
                 break;
             }
+            if self.page.is_wanted {
+                return Ok(Pause::WantsPage);
+            }
             self.turn(rt, lines)?;
         }
-        Ok(())
+        Ok(Pause::Over)
     }
 
-    /// The status of what was answered so far: 0; 1 where something was lost with a line; 2 where a line could not be read;
+    /// The status of what was answered so far: 0; 1 where something was lost with a line, or the page told nothing; 2 where a line could not be read;
     /// 5 where anything was denied or rejected, or not answered since there was no such order; 7 where one of several Kills was
     /// not answered. The highest of them holds.
     pub fn status(&self) -> u8 {
-        let lost = if self.is_lost { 1 } else { 0 };
+        let lost = if self.is_lost || self.page.was_missed {
+            1
+        } else {
+            0
+        };
         let words = if self.has_bad_words { 2 } else { 0 };
         let unmet = if self.is_unmet { 5 } else { 0 };
         let told = self.operator.status().max(self.kills_status);

@@ -1,18 +1,19 @@
 //! `gate desk`: a terminal of a gate.
 
+use crate::known::{KnownBefore, known_in_file};
+use crate::page::known_on_page;
 use crossbeam_channel::{Receiver, Sender, bounded};
 use gx_clock::{DayClock, UtcOffset};
 use gx_command_line::Desk;
-use gx_conversation::{Fault, NO_ACCOUNTS, Run, Setup};
-use gx_policy::Policy;
-use gx_program::{Content, Failure, bytes_of, policy_of, tell};
+use gx_conversation::{Fault, NO_ACCOUNTS, Pause, Run, Setup};
+use gx_program::{Content, Failure, bytes_of, tell};
 use gx_soup::LoginRequest;
 use gx_terminal::{Wish, accounts_named};
 use gx_text::Form;
 use gx_units::{AccountName, OutOfMemory, Password, SessionName, UserName, padded};
 use std::alloc::Global;
 use std::env::VarError;
-use std::io::{BufRead, Write};
+use std::io::{BufRead, IsTerminal, Write};
 use std::net::{Net, TcpStream};
 use std::process::ExitCode;
 use std::sync::Wait;
@@ -84,27 +85,6 @@ fn command_of(alloc: Global, words: &[String]) -> Result<Option<Vec<u8>>, OutOfM
     Ok(Some(line))
 }
 
-/// The names of the accounts.
-fn names_of(alloc: Global, policy: &Policy) -> Result<Vec<AccountName>, OutOfMemory> {
-    let mut names = Vec::new(alloc);
-    for account in policy.accounts() {
-        names.push(account.name)?;
-    }
-    Ok(names)
-}
-
-/// The accounts of the policy that is named, if one is.
-fn accounts_in_file<'a>(
-    host: &HostRuntime,
-    path: Option<&'a str>,
-) -> Result<Option<Vec<AccountName>>, Failure<'a>> {
-    if path.is_none() {
-        return Ok(None);
-    }
-    let policy = policy_of(host, path)?;
-    Ok(Some(names_of(host.alloc(), &policy)?))
-}
-
 /// The line that kills the accounts of a list with commas between them.
 fn line_of(alloc: Global, list: &str) -> Result<Vec<u8>, OutOfMemory> {
     let mut line = Vec::from_slice(alloc, b"kill ")?;
@@ -125,14 +105,14 @@ fn accounts_listed<'a>(alloc: Global, list: &str) -> Result<Vec<AccountName>, De
     }
 }
 
-/// The accounts that `kill --all` kills, if they are known.
-fn accounts_of<'a>(
-    host: &HostRuntime,
-    desk: &Desk<'a>,
-) -> Result<Option<Vec<AccountName>>, DeskError<'a>> {
+/// The accounts that `kill --all` kills, and the limits of rules, as far as they are known before the run.
+fn known_before<'a>(host: &HostRuntime, desk: &Desk<'a>) -> Result<KnownBefore, DeskError<'a>> {
     match desk.accounts {
-        Some(list) => Ok(Some(accounts_listed(host.alloc(), list)?)),
-        None => Ok(accounts_in_file(host, desk.policy)?),
+        Some(list) => Ok(KnownBefore {
+            accounts: Some(accounts_listed(host.alloc(), list)?),
+            limits: Vec::new(host.alloc()),
+        }),
+        None => Ok(known_in_file(host, desk.policy)?),
     }
 }
 
@@ -317,10 +297,34 @@ where
     Err(Fault::LineBroke)
 }
 
+/// Tells the run what the server's page tells, or tells why that is nothing.
+fn ask_page<R, O: Write + Drop, E: Write + Drop>(
+    rt: &R,
+    host: &HostRuntime,
+    desk: &Desk,
+    login: &LoginRequest,
+    run: &mut Run<TcpStream, O, E>,
+)
+where
+    R: Net<Stream = TcpStream> + Clock,
+{
+    let address = desk.host.unwrap_or(OWN_ADDRESS);
+    let port = desk.status_port.unwrap_or(0);
+    match known_on_page(rt, host.alloc(), address, port, login) {
+        Ok((accounts, limits)) => run.take_page(accounts, limits),
+        Err(error) => {
+            let _ = eprintln!(host; "gate: the server's page tells nothing: {error}");
+            run.miss_page();
+        }
+    }
+}
+
 /// Obeys the lines, over new lines to the gate where that is asked for.
 fn follow<R, O: Write + Drop, E: Write + Drop>(
     rt: &R,
+    host: &HostRuntime,
     desk: &Desk,
+    login: &LoginRequest,
     run: &mut Run<TcpStream, O, E>,
     lines: &Lines,
 ) -> Result<(), Fault>
@@ -330,8 +334,10 @@ where
     run.log_in(rt)?;
     for _ in rt.forever() {
         match run.follow(rt, lines) {
+            Ok(Pause::Over) => break,
+            Ok(Pause::WantsPage) => ask_page(rt, host, desk, login, run),
             Err(Fault::LineBroke) if desk.reconnects => call_again(rt, desk, run)?,
-            ended => return ended,
+            Err(fault) => return Err(fault),
         }
     }
     Ok(())
@@ -351,6 +357,7 @@ where
     let stream = call(rt, desk)?;
     let alloc = host.alloc();
     let streams = host.stderr();
+    let login = setup.login;
     let mut run = Run::new(
         rt,
         alloc,
@@ -359,7 +366,7 @@ where
         io::writer(host),
         io::writer(&streams),
     );
-    let ended = follow(rt, desk, &mut run, lines);
+    let ended = follow(rt, host, desk, &login, &mut run, lines);
     match ended.and(run.tell_kills()) {
         Ok(()) => Ok(run.status()),
         Err(fault) => Err(DeskError::Fault(fault, run.status())),
@@ -371,12 +378,17 @@ fn form_of(desk: &Desk) -> Form {
     if desk.is_json { Form::Json } else { Form::Text }
 }
 
-/// Whether lines come behind the one command; where it can't be meant, what is told of that.
+/// Whether anything tells the accounts that `kill --all` kills.
+fn tells_accounts(desk: &Desk) -> bool {
+    desk.accounts.or(desk.policy).is_some() || desk.status_port.is_some()
+}
+
+/// Whether standard input is read behind the one command, for lines or for a yes; where the command can't be meant, what is
+/// told of that.
 fn goes_on<'a>(host: &HostRuntime, desk: &Desk, command: &[u8]) -> Result<bool, DeskError<'a>> {
     match Wish::read(command) {
-        Ok(Wish::KillAll) if desk.accounts.or(desk.policy).is_none() => {
-            Err(DeskError::Words(NO_ACCOUNTS))
-        }
+        Ok(Wish::KillAll) if !tells_accounts(desk) => Err(DeskError::Words(NO_ACCOUNTS)),
+        Ok(Wish::Limit(_, _)) => Ok(host.stdin().is_terminal()),
         Ok(wish) => Ok(wish == Wish::Watch),
         Err(wrong) => {
             let _ = eprintln!(host; "gate: {wrong}");
@@ -417,7 +429,7 @@ where
     let command = command_of(host.alloc(), desk.words)?;
     let kept = kept_password(host, desk.password_file)?;
     let is_wanted = wants_input(host, &desk, &command, kept.is_some())?;
-    let accounts = accounts_of(host, &desk)?;
+    let known = known_before(host, &desk)?;
     let file = file_of(host.alloc(), &desk)?;
     let lines = lines_of(*rt, *host, is_wanted)?;
     let password = password_of(rt, kept, &lines)?;
@@ -425,7 +437,10 @@ where
         login: login_of(user, password),
         form: form_of(&desk),
         start: start_of(rt),
-        accounts,
+        accounts: known.accounts,
+        limits: known.limits,
+        asks_page: desk.status_port.is_some(),
+        asks_first: host.stdin().is_terminal(),
         file,
         command,
     };

@@ -2,5 +2,7 @@
 #![tactic(auto)]
 
 mod desk;
+mod known;
+mod page;
 
 pub use desk::desk_told;

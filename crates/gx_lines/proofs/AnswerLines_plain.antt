@@ -3,8 +3,8 @@ use Rattle.std.proofs.Common.{◌≡◌, ℕ, ◌^◌, ◌<◌, Bool, true, fals
 use Rattle.std.specs.Prelude.{◌==◌, codes, None, unwrap_or}
 use Rattle.gx_desk.specs.{declared.{Action.Action, Answer.Answer, AnswerCode.AnswerCode}, Messages.{kill, lift, set_limit, restrict, unrestrict, grant, revoke, close_day}, Writing.answer_code, Names.command_word}
 use Rattle.gx_text.specs.{Laws.{JsonIsPrinted, ShownIsVisible}, Shown.{shown_text, shown_name}, declared.form.Form.TheVariants.{Text, Json}}
-use Rattle.gx_lines.specs.{NameLaws.IsBytes, AnswerLines.{done_text, partly_text, capitals_hint, unknown_text, power_word, powerless_text, foreign_text, unchanged_text, record_text, denied_text, answered_text, account_field, stock_field, rule_field, reader_field, named_fields, answer_fields, type_word, type_text, type_field, earlier_text, earlier_fields}, LineLaws.{IsActionInRange, IsAnswerInRange, AnswersAreOneLine, EarlierAnswersAreOneLine}}
-use Rattle.gx_lines.proofs.Text_plain.{are_plain, joined, numbered, moment_plain, IsPlain, ◌&◌, plain, chosen, or_plain, or_bytes, one_byte, decimal_field, shown_plain, named, text_field_plain, name_field_plain, word_field, json_is_line}
+use Rattle.gx_lines.specs.{NameLaws.IsBytes, AnswerLines.{limit_is_text, limit_set_text, done_text, partly_text, capitals_hint, unknown_text, power_word, powerless_text, foreign_text, unchanged_text, record_text, denied_text, answered_text, account_field, stock_field, rule_field, reader_field, named_fields, answer_fields, type_word, type_text, type_field, earlier_text, earlier_fields}, declared.limits.LimitForm.LimitForm, LineLaws.{IsActionInRange, IsFormInRange, IsAnswerInRange, AnswersAreOneLine, EarlierAnswersAreOneLine}}
+use Rattle.gx_lines.proofs.Text_plain.{are_plain, dollars_plain, joined, numbered, moment_plain, IsPlain, ◌&◌, plain, chosen, or_plain, or_bytes, one_byte, decimal_field, shown_plain, named, text_field_plain, name_field_plain, word_field, json_is_line}
 
 hint_plain : (in_capitals : Bool) → are_plain (capitals_hint in_capitals) ≡ true
 unfolding capitals_hint
@@ -55,27 +55,38 @@ type_word_plain kind =
     (chosen (kind == revoke.kind) _ _ refl (chosen (kind == close_day.kind) _ None refl refl)))))))
 
 module _ (seen : ShownIsVisible) where
-  done_plain : (asked : Action) → IsActionInRange asked → are_plain (done_text asked) ≡ true
-  unfolding done_text
-  done_plain (Action.Kill account) h = search (joined, named seen, h)
-  done_plain (Action.Lift account) h = search (joined, named seen, h)
-  done_plain (Action.SetLimit rule limit) h = search (joined, named seen, numbered, h)
-  done_plain (Action.Restrict rule stock) h = search (joined, named seen, h)
-  done_plain (Action.Unrestrict rule stock) h = search (joined, named seen, h)
-  done_plain (Action.Grant reader account) h = search (joined, named seen, h)
-  done_plain (Action.Revoke reader account) h = search (joined, named seen, h)
-  done_plain Action.CloseDay h = refl
+  is_plain : (told : LimitForm) (rule : List ℕ) (limit : ℕ) → IsBytes rule → limit < 2 ^ 64 → are_plain (limit_is_text told rule limit) ≡ true
+  is_plain LimitForm.Number rule limit r h = search (joined, named seen, numbered, r, h)
+  is_plain LimitForm.Dollars rule limit r h = search (joined, named seen, dollars_plain, r, h)
+  is_plain (LimitForm.DollarsFrom before) rule limit r h = search (joined, named seen, dollars_plain, r, h)
 
-  partly_plain : (asked : Action) → IsActionInRange asked → are_plain (partly_text asked) ≡ true
+  set_plain : (told : LimitForm) (rule : List ℕ) (limit : ℕ) → IsFormInRange told → IsBytes rule → limit < 2 ^ 64
+      → are_plain (limit_set_text told rule limit) ≡ true
+  set_plain LimitForm.Number rule limit f r h = is_plain LimitForm.Number rule limit r h
+  set_plain LimitForm.Dollars rule limit f r h = is_plain LimitForm.Dollars rule limit r h
+  set_plain (LimitForm.DollarsFrom before) rule limit f r h = search (joined, named seen, dollars_plain, f, r, h)
+
+  done_plain : (told : LimitForm) (asked : Action) → IsFormInRange told → IsActionInRange asked → are_plain (done_text told asked) ≡ true
+  unfolding done_text
+  done_plain told (Action.Kill account) f h = search (joined, named seen, h)
+  done_plain told (Action.Lift account) f h = search (joined, named seen, h)
+  done_plain told (Action.SetLimit rule limit) f h = set_plain told rule.bytes limit f h.0 h.1
+  done_plain told (Action.Restrict rule stock) f h = search (joined, named seen, h)
+  done_plain told (Action.Unrestrict rule stock) f h = search (joined, named seen, h)
+  done_plain told (Action.Grant reader account) f h = search (joined, named seen, h)
+  done_plain told (Action.Revoke reader account) f h = search (joined, named seen, h)
+  done_plain told Action.CloseDay f h = refl
+
+  partly_plain : (told : LimitForm) (asked : Action) → IsFormInRange told → IsActionInRange asked → are_plain (partly_text told asked) ≡ true
   unfolding partly_text
-  partly_plain (Action.Lift account) h = search (joined, named seen, h)
-  partly_plain (Action.Kill account) h = joined (done_text (Action.Kill account)) (codes " in part") (done_plain _ h) refl
-  partly_plain (Action.SetLimit rule limit) h = joined (done_text (Action.SetLimit rule limit)) (codes " in part") (done_plain _ h) refl
-  partly_plain (Action.Restrict rule stock) h = joined (done_text (Action.Restrict rule stock)) (codes " in part") (done_plain _ h) refl
-  partly_plain (Action.Unrestrict rule stock) h = joined (done_text (Action.Unrestrict rule stock)) (codes " in part") (done_plain _ h) refl
-  partly_plain (Action.Grant reader account) h = joined (done_text (Action.Grant reader account)) (codes " in part") (done_plain _ h) refl
-  partly_plain (Action.Revoke reader account) h = joined (done_text (Action.Revoke reader account)) (codes " in part") (done_plain _ h) refl
-  partly_plain Action.CloseDay h = joined (done_text Action.CloseDay) (codes " in part") (done_plain Action.CloseDay h) refl
+  partly_plain told (Action.Lift account) f h = search (joined, named seen, h)
+  partly_plain told (Action.Kill account) f h = joined (done_text told (Action.Kill account)) (codes " in part") (done_plain told _ f h) refl
+  partly_plain told (Action.SetLimit rule limit) f h = joined (done_text told (Action.SetLimit rule limit)) (codes " in part") (done_plain told _ f h) refl
+  partly_plain told (Action.Restrict rule stock) f h = joined (done_text told (Action.Restrict rule stock)) (codes " in part") (done_plain told _ f h) refl
+  partly_plain told (Action.Unrestrict rule stock) f h = joined (done_text told (Action.Unrestrict rule stock)) (codes " in part") (done_plain told _ f h) refl
+  partly_plain told (Action.Grant reader account) f h = joined (done_text told (Action.Grant reader account)) (codes " in part") (done_plain told _ f h) refl
+  partly_plain told (Action.Revoke reader account) f h = joined (done_text told (Action.Revoke reader account)) (codes " in part") (done_plain told _ f h) refl
+  partly_plain told Action.CloseDay f h = joined (done_text told Action.CloseDay) (codes " in part") (done_plain told Action.CloseDay f h) refl
 
   unknown_plain : (asked : Action) → IsActionInRange asked → are_plain (unknown_text asked) ≡ true
   unfolding unknown_text
@@ -99,38 +110,40 @@ module _ (seen : ShownIsVisible) where
   foreign_plain (Action.Revoke reader account) h = search (joined, named seen, h)
   foreign_plain Action.CloseDay h = refl
 
-  unchanged_plain : (asked : Action) → IsActionInRange asked → are_plain (unchanged_text asked) ≡ true
+  unchanged_plain : (told : LimitForm) (asked : Action) → IsFormInRange told → IsActionInRange asked → are_plain (unchanged_text told asked) ≡ true
   unfolding unchanged_text
-  unchanged_plain (Action.Kill account) h = search (joined, named seen, h)
-  unchanged_plain (Action.Lift account) h = search (joined, named seen, h)
-  unchanged_plain (Action.SetLimit rule limit) h = search (joined, named seen, numbered, h)
-  unchanged_plain (Action.Restrict rule stock) h = search (joined, named seen, h)
-  unchanged_plain (Action.Unrestrict rule stock) h = search (joined, named seen, h)
-  unchanged_plain (Action.Grant reader account) h = search (joined, named seen, h)
-  unchanged_plain (Action.Revoke reader account) h = search (joined, named seen, h)
-  unchanged_plain Action.CloseDay h = refl
+  unchanged_plain told (Action.Kill account) f h = search (joined, named seen, h)
+  unchanged_plain told (Action.Lift account) f h = search (joined, named seen, h)
+  unchanged_plain told (Action.SetLimit rule limit) f h =
+      joined (limit_is_text told rule.bytes limit) (codes " already") (is_plain told rule.bytes limit h.0 h.1) refl
+  unchanged_plain told (Action.Restrict rule stock) f h = search (joined, named seen, h)
+  unchanged_plain told (Action.Unrestrict rule stock) f h = search (joined, named seen, h)
+  unchanged_plain told (Action.Grant reader account) f h = search (joined, named seen, h)
+  unchanged_plain told (Action.Revoke reader account) f h = search (joined, named seen, h)
+  unchanged_plain told Action.CloseDay f h = refl
 
-  denied_plain : (asked : Action) (code : AnswerCode) → IsActionInRange asked → are_plain (denied_text asked code) ≡ true
+  denied_plain : (told : LimitForm) (asked : Action) (code : AnswerCode) → IsFormInRange told → IsActionInRange asked
+      → are_plain (denied_text told asked code) ≡ true
   unfolding denied_text
-  denied_plain asked AnswerCode.Done h = refl
-  denied_plain asked AnswerCode.PartlyLifted h = refl
-  denied_plain asked AnswerCode.UnknownName h = search (unknown_plain, h)
-  denied_plain asked AnswerCode.NoPower h = search powerless_plain
-  denied_plain asked AnswerCode.NotHisAccount h = search (foreign_plain, h)
-  denied_plain asked AnswerCode.NoChange h = search (unchanged_plain, h)
+  denied_plain told asked AnswerCode.Done f h = refl
+  denied_plain told asked AnswerCode.PartlyLifted f h = refl
+  denied_plain told asked AnswerCode.UnknownName f h = search (unknown_plain, h)
+  denied_plain told asked AnswerCode.NoPower f h = search powerless_plain
+  denied_plain told asked AnswerCode.NotHisAccount f h = search (foreign_plain, h)
+  denied_plain told asked AnswerCode.NoChange f h = search (unchanged_plain, f, h)
 
-  answered_plain : (moment : ℕ) (asked : Action) (number : ℕ) (code : AnswerCode) → moment < 2 ^ 64 → IsActionInRange asked → number < 2 ^ 64
-      → are_plain (answered_text moment asked number code) ≡ true
+  answered_plain : (told : LimitForm) (moment : ℕ) (asked : Action) (number : ℕ) (code : AnswerCode) → moment < 2 ^ 64 → IsFormInRange told
+      → IsActionInRange asked → number < 2 ^ 64 → are_plain (answered_text told moment asked number code) ≡ true
   unfolding answered_text
-  answered_plain moment asked number AnswerCode.Done m h n =
-      joined (done_text asked) (record_text moment number) (done_plain asked h) (record_plain moment number m n)
-  answered_plain moment asked number AnswerCode.PartlyLifted m h n =
-      (plain (partly_text asked) (partly_plain asked h) & plain (record_text moment number) (record_plain moment number m n)
+  answered_plain told moment asked number AnswerCode.Done m f h n =
+      joined (done_text told asked) (record_text moment number) (done_plain told asked f h) (record_plain moment number m n)
+  answered_plain told moment asked number AnswerCode.PartlyLifted m f h n =
+      (plain (partly_text told asked) (partly_plain told asked f h) & plain (record_text moment number) (record_plain moment number m n)
       & plain (codes "; another officer has to lift it too") refl).is
-  answered_plain moment asked number AnswerCode.UnknownName m h n = denied_plain asked AnswerCode.UnknownName h
-  answered_plain moment asked number AnswerCode.NoPower m h n = denied_plain asked AnswerCode.NoPower h
-  answered_plain moment asked number AnswerCode.NotHisAccount m h n = denied_plain asked AnswerCode.NotHisAccount h
-  answered_plain moment asked number AnswerCode.NoChange m h n = denied_plain asked AnswerCode.NoChange h
+  answered_plain told moment asked number AnswerCode.UnknownName m f h n = denied_plain told asked AnswerCode.UnknownName f h
+  answered_plain told moment asked number AnswerCode.NoPower m f h n = denied_plain told asked AnswerCode.NoPower f h
+  answered_plain told moment asked number AnswerCode.NotHisAccount m f h n = denied_plain told asked AnswerCode.NotHisAccount f h
+  answered_plain told moment asked number AnswerCode.NoChange m f h n = denied_plain told asked AnswerCode.NoChange f h
 
   type_plain : (kind : ℕ) → kind < 256 → are_plain (type_text kind) ≡ true
   type_plain kind h =
@@ -190,12 +203,12 @@ module _ (printed : JsonIsPrinted) where
 
 module _ (seen : ShownIsVisible) (printed : JsonIsPrinted) where
   pub answers_are_one_line : AnswersAreOneLine
-  answers_are_one_line Text moment asked answer m h r = record {
-    text = answered_text moment asked answer.record_number answer.code;
+  answers_are_one_line Text told moment asked answer m f h r = record {
+    text = answered_text told moment asked answer.record_number answer.code;
     ends = refl;
-    plain = answered_plain seen moment asked answer.record_number answer.code m h r.record_number;
+    plain = answered_plain seen told moment asked answer.record_number answer.code m f h r.record_number;
   }
-  answers_are_one_line Json moment asked answer m h r =
+  answers_are_one_line Json told moment asked answer m f h r =
       json_is_line printed moment (codes "answer") (answer_fields asked answer) m refl (answer_fields_plain printed asked answer h r)
 
   pub earlier_answers_are_one_line : EarlierAnswersAreOneLine

@@ -1,6 +1,7 @@
 -- What is printed: spaces and visible characters.
-use Rattle.std.proofs.{Common.{◌≡◌, ℕ, zero, suc, ◌+◌, ◌-◌, ◌/◌, ◌%◌, ◌^◌, ◌<◌, Bool, true, false, cond, List, [], ◌∷◌, ◌++◌, length, replicate, refl, ◌∙◌, arith, decimal}, lemmas.{Bool.{and_parts, and_from, Decides.nat_tests}, Fmt.decimal_by_steps, List.Folds.list_all-append}}
+use Rattle.std.proofs.{Common.{◌≡◌, ℕ, zero, suc, ◌+◌, ◌-◌, ◌/◌, ◌%◌, ◌^◌, ◌<◌, Bool, true, false, ◌&&◌, cond, List, [], ◌∷◌, ◌++◌, length, replicate, refl, ◌∙◌, arith, decimal}, lemmas.{Bool.{and_parts, and_from, Decides.nat_tests}, Fmt.decimal_by_steps, List.Folds.list_all-append}}
 use Rattle.std.specs.{Prelude.{◌==◌, nat_lt, codes, Option, Some, None, unwrap_or}, List.list_all}
+use Rattle.gx_money.specs.Amounts.{cents_text, comma, dollars_text, grouped}
 use Rattle.gx_units.specs.Spelling.{without_right_spaces, is_visible}
 use Rattle.gx_text.specs.{Laws.{JsonIsPrinted, ShownIsVisible}, Moments.{minute_text, moment_text, with_zeros}, Shown.{is_printed, json_string, shown_text, shown_name}, declared.moments.Decimals.TheVariants.Nine}
 use Rattle.gx_lines.specs.{Showing.{price_decimals_text, price_text, key_text, text_field, name_field, json_number_field, json_front, json_line}, NameLaws.IsBytes, LineLaws.IsOneLine}
@@ -90,6 +91,28 @@ moment_plain moment h =
     let seconds = digits 2 (moment / 1000000000 % 60) (omega arith) in
     let parts = digits 9 (moment % 1000000000) (omega arith) in
     (hours & colon & minutes & colon & seconds & plain (codes ".") refl & parts).is
+
+comma_plain : (due : Bool) → are_plain (cond due (codes ",") []) ≡ true
+comma_plain true = refl
+comma_plain false = refl
+
+grouped_plain : (ds : List ℕ) → are_plain ds ≡ true → are_plain (grouped ds) ≡ true
+grouped_plain [] h = refl
+grouped_plain (d ∷ ds) h =
+    let parts = and_parts (is_printed d) (are_plain ds) h in
+    and_from _ _ parts.0 (joined (comma (length ds)) (grouped ds) (comma_plain (nat_lt 0 (length ds) && length ds % 3 == 0)) (grouped_plain ds parts.1))
+
+cents_plain : (part : ℕ) (cents : Bool) → part < 10000 → are_plain (cond cents (with_zeros 2 (part / 100)) (with_zeros 4 part)) ≡ true
+cents_plain part true h = with_zeros_plain 2 (part / 100) (omega (arith, h))
+cents_plain part false h = with_zeros_plain 4 part (omega (arith, h))
+
+pub dollars_plain : (amount : ℕ) → amount < 2 ^ 64 → are_plain (dollars_text amount) ≡ true
+unfolding dollars_text
+dollars_plain amount h =
+    let whole = grouped_plain (decimal (amount / 10000)) (numbered (amount / 10000) (omega (arith, h))) in
+    let cents = cents_plain (amount % 10000) (amount % 10000 % 100 == 0) (omega arith) in
+    (plain (codes "$") refl & plain (grouped (decimal (amount / 10000))) whole & plain (codes ".") refl
+    & plain (cents_text (amount % 10000)) cents).is
 
 part_plain : (part : ℕ) (two three : Bool) → part < 2 ^ 64
     → are_plain (cond two (with_zeros 2 (part / 100)) (cond three (with_zeros 3 (part / 10)) (with_zeros 4 part))) ≡ true

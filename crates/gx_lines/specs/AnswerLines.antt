@@ -4,25 +4,45 @@ use Rattle.std.specs.Prelude.{ℕ, Bool, ◌&&◌, ◌==◌, if◌then◌else◌
 use Rattle.gx_units.specs.Names.{has_no_lower_case}
 use Rattle.gx_script_text.specs.Printing.{line_end}
 use Rattle.gx_text.specs.{declared.{form.Form.{Form, TheVariants.{Text, Json}}, moments.Decimals.TheVariants.Nine}, Moments.moment_text, Shown.{shown_text, shown_name}}
-use Rattle.gx_lines.specs.Showing.{text_field, name_field, json_number_field, json_line}
+use Rattle.gx_money.specs.Amounts.{dollars_text}
+use Rattle.gx_lines.specs.{Showing.{text_field, name_field, json_number_field, json_line}, declared.limits.LimitForm.LimitForm}
+
+-- a limit, as it is told
+abbrev pub limit_text : LimitForm → ℕ → List ℕ
+limit_text LimitForm.Number limit = decimal limit
+limit_text LimitForm.Dollars limit = dollars_text limit
+limit_text (LimitForm.DollarsFrom before) limit = dollars_text limit
+
+-- an amount of money in the place of another
+abbrev pub change_text : ℕ → ℕ → List ℕ
+change_text before limit = dollars_text before ++ codes " -> " ++ dollars_text limit
+
+abbrev pub limit_is_text : LimitForm → List ℕ → ℕ → List ℕ
+limit_is_text told rule limit = shown_name rule ++ codes " limit is " ++ limit_text told limit
+
+-- which limit a rule has now, and where it is told, which it had
+abbrev pub limit_set_text : LimitForm → List ℕ → ℕ → List ℕ
+limit_set_text LimitForm.Number rule limit = limit_is_text LimitForm.Number rule limit
+limit_set_text LimitForm.Dollars rule limit = limit_is_text LimitForm.Dollars rule limit
+limit_set_text (LimitForm.DollarsFrom before) rule limit = shown_name rule ++ codes " " ++ change_text before limit
 
 -- what a granted command has done
-unfoldable pub done_text : Action → List ℕ
-done_text (Action.Kill account) = shown_name account.bytes ++ codes " killed"
-done_text (Action.Lift account) = shown_name account.bytes ++ codes " lifted"
-done_text (Action.SetLimit rule limit) = shown_name rule.bytes ++ codes " limit is " ++ decimal limit
-done_text (Action.Restrict rule stock) = shown_name rule.bytes ++ codes " lists " ++ shown_name stock.bytes
-done_text (Action.Unrestrict rule stock) =
+unfoldable pub done_text : LimitForm → Action → List ℕ
+done_text told (Action.Kill account) = shown_name account.bytes ++ codes " killed"
+done_text told (Action.Lift account) = shown_name account.bytes ++ codes " lifted"
+done_text told (Action.SetLimit rule limit) = limit_set_text told rule.bytes limit
+done_text told (Action.Restrict rule stock) = shown_name rule.bytes ++ codes " lists " ++ shown_name stock.bytes
+done_text told (Action.Unrestrict rule stock) =
     shown_name rule.bytes ++ codes " lists " ++ shown_name stock.bytes ++ codes " no longer"
-done_text (Action.Grant reader account) = shown_name reader.bytes ++ codes " sees " ++ shown_name account.bytes
-done_text (Action.Revoke reader account) =
+done_text told (Action.Grant reader account) = shown_name reader.bytes ++ codes " sees " ++ shown_name account.bytes
+done_text told (Action.Revoke reader account) =
     shown_name reader.bytes ++ codes " sees " ++ shown_name account.bytes ++ codes " no longer"
-done_text Action.CloseDay = codes "day closed"
+done_text told Action.CloseDay = codes "day closed"
 
 -- what a Lift has done that leaves its account killed: no other command is answered so
-unfoldable pub partly_text : Action → List ℕ
-partly_text (Action.Lift account) = shown_name account.bytes ++ codes " partly lifted"
-partly_text other = done_text other ++ codes " in part"
+unfoldable pub partly_text : LimitForm → Action → List ℕ
+partly_text told (Action.Lift account) = shown_name account.bytes ++ codes " partly lifted"
+partly_text told other = done_text told other ++ codes " in part"
 
 -- a hint for who wrote a name of the policy in small letters
 unfoldable pub capitals_hint : Bool → List ℕ
@@ -77,47 +97,47 @@ foreign_text (Action.Revoke reader account) = shown_name account.bytes ++ codes 
 foreign_text Action.CloseDay = codes "an account is not yours"
 
 -- Q4: what is so already
-unfoldable pub unchanged_text : Action → List ℕ
-unchanged_text (Action.Kill account) = shown_name account.bytes ++ codes " is killed already"
-unchanged_text (Action.Lift account) =
+unfoldable pub unchanged_text : LimitForm → Action → List ℕ
+unchanged_text told (Action.Kill account) = shown_name account.bytes ++ codes " is killed already"
+unchanged_text told (Action.Lift account) =
     shown_name account.bytes ++ codes " is not killed, or you have lifted it already"
-unchanged_text (Action.SetLimit rule limit) = shown_name rule.bytes ++ codes " limit is " ++ decimal limit ++ codes " already"
-unchanged_text (Action.Restrict rule stock) =
+unchanged_text told (Action.SetLimit rule limit) = limit_is_text told rule.bytes limit ++ codes " already"
+unchanged_text told (Action.Restrict rule stock) =
     shown_name rule.bytes ++ codes " lists " ++ shown_name stock.bytes ++ codes " already"
-unchanged_text (Action.Unrestrict rule stock) =
+unchanged_text told (Action.Unrestrict rule stock) =
     shown_name rule.bytes ++ codes " does not list " ++ shown_name stock.bytes
-unchanged_text (Action.Grant reader account) =
+unchanged_text told (Action.Grant reader account) =
     shown_name reader.bytes ++ codes " sees " ++ shown_name account.bytes ++ codes " already"
-unchanged_text (Action.Revoke reader account) =
+unchanged_text told (Action.Revoke reader account) =
     shown_name reader.bytes ++ codes " does not see " ++ shown_name account.bytes
-unchanged_text Action.CloseDay = codes "the day is closed already"
+unchanged_text told Action.CloseDay = codes "the day is closed already"
 
 -- where a granted command stands in the day's history
 abbrev pub record_text : ℕ → ℕ → List ℕ
 record_text moment number = codes ": record " ++ decimal number ++ codes " at " ++ moment_text Nine moment
 
 -- why a command was denied
-abbrev pub reason_text : Action → AnswerCode → List ℕ
-reason_text action AnswerCode.Done = []
-reason_text action AnswerCode.PartlyLifted = []
-reason_text action AnswerCode.UnknownName = unknown_text action
-reason_text action AnswerCode.NoPower = powerless_text action
-reason_text action AnswerCode.NotHisAccount = foreign_text action
-reason_text action AnswerCode.NoChange = unchanged_text action
+abbrev pub reason_text : LimitForm → Action → AnswerCode → List ℕ
+reason_text told action AnswerCode.Done = []
+reason_text told action AnswerCode.PartlyLifted = []
+reason_text told action AnswerCode.UnknownName = unknown_text action
+reason_text told action AnswerCode.NoPower = powerless_text action
+reason_text told action AnswerCode.NotHisAccount = foreign_text action
+reason_text told action AnswerCode.NoChange = unchanged_text told action
 
 -- that a command was denied, and why
-unfoldable pub denied_text : Action → AnswerCode → List ℕ
-denied_text action code = codes "gate: denied " ++ answer_code code ++ codes ": " ++ reason_text action code
+unfoldable pub denied_text : LimitForm → Action → AnswerCode → List ℕ
+denied_text told action code = codes "gate: denied " ++ answer_code code ++ codes ": " ++ reason_text told action code
 
 -- what an answer of this moment says, with the number of the command's record
-unfoldable pub answered_text : ℕ → Action → ℕ → AnswerCode → List ℕ
-answered_text moment action number AnswerCode.Done = done_text action ++ record_text moment number
-answered_text moment action number AnswerCode.PartlyLifted =
-    partly_text action ++ record_text moment number ++ codes "; another officer has to lift it too"
-answered_text moment action number AnswerCode.UnknownName = denied_text action AnswerCode.UnknownName
-answered_text moment action number AnswerCode.NoPower = denied_text action AnswerCode.NoPower
-answered_text moment action number AnswerCode.NotHisAccount = denied_text action AnswerCode.NotHisAccount
-answered_text moment action number AnswerCode.NoChange = denied_text action AnswerCode.NoChange
+unfoldable pub answered_text : LimitForm → ℕ → Action → ℕ → AnswerCode → List ℕ
+answered_text told moment action number AnswerCode.Done = done_text told action ++ record_text moment number
+answered_text told moment action number AnswerCode.PartlyLifted =
+    partly_text told action ++ record_text moment number ++ codes "; another officer has to lift it too"
+answered_text told moment action number AnswerCode.UnknownName = denied_text told action AnswerCode.UnknownName
+answered_text told moment action number AnswerCode.NoPower = denied_text told action AnswerCode.NoPower
+answered_text told moment action number AnswerCode.NotHisAccount = denied_text told action AnswerCode.NotHisAccount
+answered_text told moment action number AnswerCode.NoChange = denied_text told action AnswerCode.NoChange
 
 -- the names of a command, each a field of a JSON line
 abbrev pub account_field : List ℕ → List ℕ
@@ -150,9 +170,9 @@ answer_fields action answer =
     ++ name_field (codes "tag") answer.tag.bytes ++ json_number_field (codes "record") (decimal answer.record_number)
 
 -- the line of an answer of this moment to a command that asked for this
-abbrev pub answer_line : Form → ℕ → Action → Answer → List ℕ
-answer_line Text moment action answer = answered_text moment action answer.record_number answer.code ++ line_end
-answer_line Json moment action answer = json_line moment (codes "answer") (answer_fields action answer)
+abbrev pub answer_line : Form → LimitForm → ℕ → Action → Answer → List ℕ
+answer_line Text told moment action answer = answered_text told moment action answer.record_number answer.code ++ line_end
+answer_line Json told moment action answer = json_line moment (codes "answer") (answer_fields action answer)
 
 -- the word of a command by its type byte, where there is such a command
 unfoldable pub type_word : ℕ → Option (List ℕ)

@@ -4,7 +4,7 @@ use Rattle.gx_desk.specs.declared.{Action.Action, Answer.Answer, DropCopy.DropCo
 use Rattle.gx_ouch.specs.declared.outbound.{OrderTerms.OrderTerms, Executed.Executed, Outbound.Outbound}
 use Rattle.gx_text.specs.{declared.form.Form.Form, Shown.is_printed}
 use Rattle.gx_script_text.specs.Printing.{line_end}
-use Rattle.gx_lines.specs.{NameLaws.IsBytes, AnswerLines.{answer_line, earlier_answer_line}, OrderLines.{order_line, copy_line}}
+use Rattle.gx_lines.specs.{declared.limits.LimitForm.LimitForm, NameLaws.IsBytes, AnswerLines.{answer_line, earlier_answer_line}, OrderLines.{order_line, copy_line}}
 
 -- spaces and visible characters, and an LF behind them
 pub record IsOneLine (line : List ℕ) : Type 0 where
@@ -22,6 +22,11 @@ IsActionInRange (Action.Unrestrict rule stock) = IsBytes rule.bytes × IsBytes s
 IsActionInRange (Action.Grant reader account) = IsBytes reader.bytes × IsBytes account.bytes
 IsActionInRange (Action.Revoke reader account) = IsBytes reader.bytes × IsBytes account.bytes
 IsActionInRange Action.CloseDay = Unit {0}
+
+abbrev pub IsFormInRange : LimitForm → Type 0
+IsFormInRange LimitForm.Number = Unit {0}
+IsFormInRange LimitForm.Dollars = Unit {0}
+IsFormInRange (LimitForm.DollarsFrom before) = before < 2 ^ 64
 
 pub record IsAnswerInRange (answer : Answer) : Type 0 where
   pub tag : IsBytes answer.tag.bytes
@@ -56,8 +61,8 @@ pub record IsCopyInRange (copy : DropCopy) : Type 0 where
   pub side : copy.side < 256
 
 abbrev pub AnswersAreOneLine : Type 0
-AnswersAreOneLine = (form : Form) (moment : ℕ) (asked : Action) (answer : Answer) → moment < 2 ^ 64
-    → IsActionInRange asked → IsAnswerInRange answer → IsOneLine (answer_line form moment asked answer)
+AnswersAreOneLine = (form : Form) (told : LimitForm) (moment : ℕ) (asked : Action) (answer : Answer) → moment < 2 ^ 64
+    → IsFormInRange told → IsActionInRange asked → IsAnswerInRange answer → IsOneLine (answer_line form told moment asked answer)
 
 abbrev pub EarlierAnswersAreOneLine : Type 0
 EarlierAnswersAreOneLine = (form : Form) (moment : ℕ) (answer : Answer) → moment < 2 ^ 64

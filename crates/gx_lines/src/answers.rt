@@ -1,11 +1,12 @@
 //! Answers to commands, as lines.
 
-ghost use Rattle.std.specs.Prelude.{◌≡◌, ◌++◌, ◌&&◌, IfOk, OnOk, codes, decimal};
+ghost use Rattle.std.specs.Prelude.{◌≡◌, ◌++◌, ◌&&◌, IfOk, OnOk, codes};
 ghost use Rattle.gx_units.specs.Names.{has_no_lower_case};
 ghost use Rattle.gx_text.specs.{Shown.shown_name, declared.form.Form.TheVariants.{Text, Json}};
 ghost use Rattle.gx_lines.specs.AnswerLines.{done_text, partly_text, capitals_hint, unknown_text, power_word, powerless_text, foreign_text, unchanged_text, record_text, reason_text, denied_text, answered_text, named_fields, answer_fields, answer_line};
 
 use crate::json::{append_front, append_name_field, append_number_field, append_text_field};
+use crate::limits::{LimitForm, append_limit_is, append_limit_set};
 use crate::showing::LINE_ROOM;
 use gx_desk::{Action, Answer, AnswerCode};
 use gx_text::{Decimals, Form, append, append_moment, append_name, append_number};
@@ -13,7 +14,7 @@ use gx_units::{Moment, OutOfMemory};
 use std::alloc::Global;
 
 /// Puts a name between these words at the end of the text.
-fn append_named(
+pub(crate) fn append_named(
     text: &mut Vec<u8>,
     front: &[u8],
     name: &[u8],
@@ -25,15 +26,6 @@ fn append_named(
     append(text, front)?;
     append_name(text, name)?;
     append(text, behind)
-}
-
-/// Puts a name, and words with a number behind it, at the end of the text.
-fn append_limit(text: &mut Vec<u8>, rule: &[u8], limit: u64) -> Result<(), OutOfMemory>
-    ensures { OnOk result (text.new.items
-        ≡ text.old.items ++ (shown_name rule.now ++ codes " limit is " ++ decimal limit)) }
-{
-    append_named(text, b"", rule, b" limit is ")?;
-    append_number(text, limit)
 }
 
 /// Puts words, and two names with words between them, at the end of the text.
@@ -53,13 +45,13 @@ fn append_pair(
 
 /// Puts what a granted command has done at the end of the text.
 #[tactic(auto, unfolding(crate::specs::AnswerLines::done_text))]
-fn append_done(text: &mut Vec<u8>, asked: &Action) -> Result<(), OutOfMemory>
-    ensures { OnOk result (text.new.items ≡ text.old.items ++ done_text asked.now) }
+fn append_done(text: &mut Vec<u8>, told: LimitForm, asked: &Action) -> Result<(), OutOfMemory>
+    ensures { OnOk result (text.new.items ≡ text.old.items ++ done_text told asked.now) }
 {
     match asked {
         Action::Kill(account) => append_named(text, b"", &account.bytes, b" killed"),
         Action::Lift(account) => append_named(text, b"", &account.bytes, b" lifted"),
-        Action::SetLimit(rule, limit) => append_limit(text, &rule.bytes, *limit),
+        Action::SetLimit(rule, limit) => append_limit_set(text, told, &rule.bytes, *limit),
         Action::Restrict(rule, stock) => append_pair(
             text,
             b"",
@@ -84,13 +76,13 @@ fn append_done(text: &mut Vec<u8>, asked: &Action) -> Result<(), OutOfMemory>
 
 /// Puts what a partly granted command has done at the end of the text.
 #[tactic(auto, unfolding(crate::specs::AnswerLines::partly_text))]
-fn append_partly(text: &mut Vec<u8>, asked: &Action) -> Result<(), OutOfMemory>
-    ensures { OnOk result (text.new.items ≡ text.old.items ++ partly_text asked.now) }
+fn append_partly(text: &mut Vec<u8>, told: LimitForm, asked: &Action) -> Result<(), OutOfMemory>
+    ensures { OnOk result (text.new.items ≡ text.old.items ++ partly_text told asked.now) }
 {
     match asked {
         Action::Lift(account) => append_named(text, b"", &account.bytes, b" partly lifted"),
         other => {
-            append_done(text, other)?;
+            append_done(text, told, other)?;
             append(text, b" in part")
         }
     }
@@ -263,8 +255,8 @@ fn append_foreign(text: &mut Vec<u8>, asked: &Action) -> Result<(), OutOfMemory>
 
 /// Puts what is so already at the end of the text.
 #[tactic(auto, unfolding(crate::specs::AnswerLines::unchanged_text))]
-fn append_unchanged(text: &mut Vec<u8>, asked: &Action) -> Result<(), OutOfMemory>
-    ensures { OnOk result (text.new.items ≡ text.old.items ++ unchanged_text asked.now) }
+fn append_unchanged(text: &mut Vec<u8>, told: LimitForm, asked: &Action) -> Result<(), OutOfMemory>
+    ensures { OnOk result (text.new.items ≡ text.old.items ++ unchanged_text told asked.now) }
 {
     match asked {
         Action::Kill(account) => append_named(text, b"", &account.bytes, b" is killed already"),
@@ -273,7 +265,7 @@ fn append_unchanged(text: &mut Vec<u8>, asked: &Action) -> Result<(), OutOfMemor
             append_named(text, b"", &account.bytes, behind)
         }
         Action::SetLimit(rule, limit) => {
-            append_limit(text, &rule.bytes, *limit)?;
+            append_limit_is(text, told, &rule.bytes, *limit)?;
             append(text, b" already")
         }
         Action::Restrict(rule, stock) => {
@@ -332,55 +324,66 @@ fn append_powerless(text: &mut Vec<u8>, asked: &Action) -> Result<(), OutOfMemor
 }
 
 /// Puts why a command was denied at the end of the text.
-fn append_reason(text: &mut Vec<u8>, asked: &Action, code: AnswerCode) -> Result<(), OutOfMemory>
-    ensures { OnOk result (text.new.items ≡ text.old.items ++ reason_text asked.now code) }
+fn append_reason(
+    text: &mut Vec<u8>,
+    told: LimitForm,
+    asked: &Action,
+    code: AnswerCode,
+) -> Result<(), OutOfMemory>
+    ensures { OnOk result (text.new.items ≡ text.old.items ++ reason_text told asked.now code) }
 {
     match code {
         AnswerCode::Done | AnswerCode::PartlyLifted => Ok(()),
         AnswerCode::UnknownName => append_unknown(text, asked),
         AnswerCode::NoPower => append_powerless(text, asked),
         AnswerCode::NotHisAccount => append_foreign(text, asked),
-        AnswerCode::NoChange => append_unchanged(text, asked),
+        AnswerCode::NoChange => append_unchanged(text, told, asked),
     }
 }
 
 /// Puts that a command was denied, and why, at the end of the text.
 #[tactic(auto, unfolding(crate::specs::AnswerLines::denied_text))]
-fn append_denied(text: &mut Vec<u8>, asked: &Action, code: AnswerCode) -> Result<(), OutOfMemory>
-    ensures { OnOk result (text.new.items ≡ text.old.items ++ denied_text asked.now code) }
+fn append_denied(
+    text: &mut Vec<u8>,
+    told: LimitForm,
+    asked: &Action,
+    code: AnswerCode,
+) -> Result<(), OutOfMemory>
+    ensures { OnOk result (text.new.items ≡ text.old.items ++ denied_text told asked.now code) }
 {
     append(text, b"gate: denied ")?;
     append(text, &code.code())?;
     append(text, b": ")?;
-    append_reason(text, asked, code)
+    append_reason(text, told, asked, code)
 }
 
 /// Puts what an answer says at the end of the text.
 #[tactic(auto, unfolding(crate::specs::AnswerLines::answered_text))]
 fn append_answered(
     text: &mut Vec<u8>,
+    told: LimitForm,
     moment: Moment,
     asked: &Action,
     number: u64,
     code: AnswerCode,
 ) -> Result<(), OutOfMemory>
     ensures { OnOk result (text.new.items
-        ≡ text.old.items ++ answered_text moment asked.now number code) }
+        ≡ text.old.items ++ answered_text told moment asked.now number code) }
 {
     match code {
         AnswerCode::Done => {
-            append_done(text, asked)?;
+            append_done(text, told, asked)?;
             append_record(text, moment, number)
         }
         AnswerCode::PartlyLifted => {
-            append_partly(text, asked)?;
+            append_partly(text, told, asked)?;
             append_record(text, moment, number)?;
             append(text, b"; another officer has to lift it too")
         }
         AnswerCode::UnknownName
         | AnswerCode::NoPower
         | AnswerCode::NotHisAccount
-        | AnswerCode::NoChange => append_denied(text, asked, code),
+        | AnswerCode::NoChange => append_denied(text, told, asked, code),
     }
 }
 
@@ -428,14 +431,23 @@ fn append_answer_fields(
 
 fn answer_text(
     alloc: Global,
+    told: LimitForm,
     moment: Moment,
     asked: &Action,
     answer: &Answer,
 ) -> Result<Vec<u8>, OutOfMemory>
-    ensures { IfOk result (λ line. line.items ≡ answer_line Text moment asked.now answer.now) }
+    ensures { IfOk result
+        (λ line. line.items ≡ answer_line Text told moment asked.now answer.now) }
 {
     let mut line = Vec::with_capacity(alloc, LINE_ROOM)?;
-    append_answered(&mut line, moment, asked, answer.record_number, answer.code)?;
+    append_answered(
+        &mut line,
+        told,
+        moment,
+        asked,
+        answer.record_number,
+        answer.code,
+    )?;
     append(&mut line, b"\n")?;
     Ok(line)
 }
@@ -443,11 +455,13 @@ fn answer_text(
 #[tactic(auto, unfolding(crate::specs::Showing::json_line))]
 fn answer_json(
     alloc: Global,
+    told: LimitForm,
     moment: Moment,
     asked: &Action,
     answer: &Answer,
 ) -> Result<Vec<u8>, OutOfMemory>
-    ensures { IfOk result (λ line. line.items ≡ answer_line Json moment asked.now answer.now) }
+    ensures { IfOk result
+        (λ line. line.items ≡ answer_line Json told moment asked.now answer.now) }
 {
     let mut line = Vec::with_capacity(alloc, LINE_ROOM)?;
     append_front(&mut line, moment, b"answer")?;
@@ -456,7 +470,8 @@ fn answer_json(
     Ok(line)
 }
 
-/// The line of an answer of this moment, with the LF at its end. `asked` is what its command asked for.
+/// The line of an answer of this moment, with the LF at its end. `asked` is what its command asked for, and `told` how a text
+/// tells its limit, if that was a Set Limit.
 ///
 /// # Errors
 ///
@@ -464,14 +479,16 @@ fn answer_json(
 pub fn answer_line(
     alloc: Global,
     form: Form,
+    told: LimitForm,
     moment: Moment,
     asked: &Action,
     answer: &Answer,
 ) -> Result<Vec<u8>, OutOfMemory>
-    ensures { IfOk result (λ line. line.items ≡ answer_line form moment asked.now answer.now) }
+    ensures { IfOk result
+        (λ line. line.items ≡ answer_line form told moment asked.now answer.now) }
 {
     match form {
-        Form::Text => answer_text(alloc, moment, asked, answer),
-        Form::Json => answer_json(alloc, moment, asked, answer),
+        Form::Text => answer_text(alloc, told, moment, asked, answer),
+        Form::Json => answer_json(alloc, told, moment, asked, answer),
     }
 }

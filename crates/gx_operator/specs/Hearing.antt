@@ -5,7 +5,7 @@ use Rattle.gx_desk.specs.declared.Answer.{Answer}
 use Rattle.gx_ouch.specs.declared.outbound.Outbound.{Outbound}
 use Rattle.gx_history.specs.declared.report.Message.{Message}
 use Rattle.gx_text.specs.declared.form.Form.{Form}
-use Rattle.gx_lines.specs.{AnswerLines.{answer_line, earlier_answer_line}, OrderLines.{order_line, copy_line}}
+use Rattle.gx_lines.specs.{declared.limits.LimitForm.LimitForm, AnswerLines.{answer_line, earlier_answer_line}, OrderLines.{order_line, copy_line}}
 use Rattle.gx_operator.specs.{declared.asked.ClientRequest.ClientRequest, Asking.serial_of, Answering.answers_request, Kills.{KillRoundData}}
 
 -- the token of the order that a message is on
@@ -31,15 +31,16 @@ is_own_token first None = false
 is_own_token first (Some token) = bytes_eq (take 8 token.bytes) (take 8 (serial_of first))
 
 -- the line of an answer: with what was asked, where that waits; else only for who watches
-abbrev pub shown_answer : Form → ℕ → Bool → Answer → Option ClientRequest → Option (List ℕ)
-shown_answer form moment is_watching answer (Some (ClientRequest.Command command)) = Some (answer_line form moment command.action answer)
-shown_answer form moment is_watching answer (Some (ClientRequest.Order order)) = if is_watching then Some (earlier_answer_line form moment answer) else None
-shown_answer form moment is_watching answer None = if is_watching then Some (earlier_answer_line form moment answer) else None
+abbrev pub shown_answer : Form → LimitForm → ℕ → Bool → Answer → Option ClientRequest → Option (List ℕ)
+shown_answer form told moment is_watching answer (Some (ClientRequest.Command command)) = Some (answer_line form told moment command.action answer)
+shown_answer form told moment is_watching answer (Some (ClientRequest.Order order)) = if is_watching then Some (earlier_answer_line form moment answer) else None
+shown_answer form told moment is_watching answer None = if is_watching then Some (earlier_answer_line form moment answer) else None
 
--- what a client shows of itself: how it writes lines, the first serial of its run, the next one, what waits for an answer,
+-- what a client shows of itself: how it writes lines, and in them the limit of a Set Limit, the first serial of its run, the next one, what waits for an answer,
 -- the several Kills of one command, whether it watches, and its status
 pub record ClientState : Type 0 where
   pub form : Form
+  pub limit_form : LimitForm
   pub first : ℕ
   pub next : ℕ
   pub waiting : List ClientRequest
@@ -60,7 +61,7 @@ own_answer message run = if is_counted message run then message ∷ [] else []
 -- of all others for who watches
 abbrev pub shown_line : ClientState → ℕ → Message → Option (List ℕ)
 shown_line run moment (Message.Answer answer) =
-    shown_answer run.form moment run.is_watching answer (answered_by (Message.Answer answer) run.waiting)
+    shown_answer run.form run.limit_form moment run.is_watching answer (answered_by (Message.Answer answer) run.waiting)
 shown_line run moment (Message.Order message) =
     if run.is_watching || is_own_token run.first (message_token message) || list_any (answers_request (Message.Order message)) run.waiting
     then Some (order_line run.form moment message) else None

@@ -2,6 +2,7 @@
 
 ghost use Rattle.std.specs.{Prelude.{◌≡◌, ◌∷◌, ◌++◌, ◌+◌, [], List, option_map, IfOk, OnOk, OnErr, true, false}, List.list_any};
 ghost use Rattle.gx_history.specs.declared.report.Message.{Message};
+ghost use Rattle.gx_lines.specs.declared.limits.LimitForm.TheVariants.{Number};
 ghost use Rattle.gx_terminal.specs.Statuses.{status_of};
 ghost use Rattle.gx_operator.specs.{Asking.{Carries, request_wished, next_serial, first_of, kills_of}, Answering.{answers_request}, Hearing.{answered_by, still_waiting, is_counted, own_answer, shown_line}, Kills.{round_behind}};
 
@@ -9,6 +10,7 @@ use crate::asked::{ClientRequest, answers, asked_of, kills_of};
 use crate::kills::KillRound;
 use crate::telling::{is_of_run, shown_answer, shown_copy, shown_order};
 use gx_history::report::Message;
+use gx_lines::LimitForm;
 use gx_terminal::{Status, Wish};
 use gx_text::Form;
 use gx_units::{AccountName, Moment, OutOfMemory};
@@ -20,6 +22,7 @@ use std::marker::Model;
 pub struct Operator {
     alloc: Global,
     form: Form,
+    limit_form: LimitForm,
     first: u64,
     next: u64,
     waiting: Vec<ClientRequest>,
@@ -35,6 +38,7 @@ impl Model for Operator {
 
     ghost view = { λ o. record {
       form = o.form;
+      limit_form = o.limit_form;
       first = o.first;
       next = o.next;
       waiting = o.waiting.items;
@@ -49,6 +53,7 @@ impl Operator {
     pub fn new(alloc: Global, form: Form, start: u32) -> Operator
         ensures { result ≡ record {
           form = form;
+          limit_form = Number;
           first = first_of start;
           next = first_of start;
           waiting = [];
@@ -61,6 +66,7 @@ impl Operator {
         Operator {
             alloc,
             form,
+            limit_form: LimitForm::Number,
             first,
             next: first,
             waiting: Vec::new(alloc),
@@ -128,6 +134,13 @@ impl Operator {
         ensures { self.new ≡ record self.old { is_watching = true } }
     {
         self.is_watching = true;
+    }
+
+    /// From now on the limit of a Set Limit is told so.
+    pub fn tell_limits(&mut self, told: LimitForm)
+        ensures { self.new ≡ record self.old { limit_form = told } }
+    {
+        self.limit_form = told;
     }
 
     /// Whether all that comes is shown.
@@ -202,7 +215,15 @@ impl Operator {
         let (alloc, form, is_watching) = (self.alloc, self.form, self.is_watching);
         match message {
             Message::Answer(answer) => {
-                shown_answer(alloc, form, moment, is_watching, answer, None)
+                shown_answer(
+                    alloc,
+                    form,
+                    self.limit_form,
+                    moment,
+                    is_watching,
+                    answer,
+                    None,
+                )
             }
             Message::Order(order) => {
                 let is_shown = is_watching || is_of_run(self.first, order);
@@ -237,7 +258,15 @@ impl Operator {
         match message {
             Message::Answer(answer) => {
                 let asked = self.answered_by(message);
-                shown_answer(alloc, form, moment, is_watching, answer, asked)
+                shown_answer(
+                    alloc,
+                    form,
+                    self.limit_form,
+                    moment,
+                    is_watching,
+                    answer,
+                    asked,
+                )
             }
             Message::Order(order) => {
                 let is_shown = is_watching

@@ -11,7 +11,7 @@ use crate::serial::serial;
 use gx_client::{Report as ServerReport, Stamped, read_report};
 use gx_desk::{Answer, DropCopy};
 use gx_history::report::{Message, Report};
-use gx_lines::{answer_line, copy_line, earlier_answer_line, order_line};
+use gx_lines::{LimitForm, answer_line, copy_line, earlier_answer_line, order_line};
 use gx_ouch::Outbound;
 use gx_text::Form;
 use gx_units::{Moment, OutOfMemory, Token};
@@ -84,22 +84,24 @@ fn watched_answer(
     Ok(Some(earlier_answer_line(alloc, form, moment, answer)?))
 }
 
-/// The line of an answer to this.
+/// The line of an answer to this; `told` is how it tells a limit.
 pub(crate) fn shown_answer(
     alloc: Global,
     form: Form,
+    told: LimitForm,
     moment: Moment,
     is_watching: bool,
     answer: &Answer,
     asked: Option<ClientRequest>,
 ) -> Result<Option<Vec<u8>>, OutOfMemory>
     ensures { IfOk result (λ line. option_map (λ l. l.items) line
-        ≡ shown_answer form moment is_watching answer.now asked) }
+        ≡ shown_answer form told moment is_watching answer.now asked) }
 {
     match asked {
         Some(ClientRequest::Command(command)) => Ok(Some(answer_line(
             alloc,
             form,
+            told,
             moment,
             &command.action,
             answer,

@@ -1,5 +1,6 @@
 pub mod Cursor
 pub mod Prices
+pub mod Amounts
 pub mod Wishes
 pub mod Statuses
 pub mod PriceLaws

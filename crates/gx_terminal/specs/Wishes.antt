@@ -5,7 +5,7 @@ use Rattle.gx_desk.specs.declared.{Action.Action, Command.Command, Tag.Tag, Writ
 use Rattle.gx_ouch.specs.declared.inbound.{EnterOrder.EnterOrder, ReplaceOrder.ReplaceOrder, Inbound.Inbound}
 use Rattle.gx_history.specs.OuchValues.{side_buy, side_sell, immediate_or_cancel, system_hours}
 use Rattle.gx_script_text.specs.{Words.{padded_name, number_of_bits, itself}, ScriptLines.{without_cr, plain_order, plain_replace}}
-use Rattle.gx_terminal.specs.{declared.{wrong.{ExpectedInput.ExpectedInput, WrongWord.WrongWord}, wish.{Side.Side, Lifetime.Lifetime, NewOrder.NewOrder, NewTerms.NewTerms, Wish.Wish}}, Cursor.{Left, left_of, words_between, wrong_at, ◌>>=◌, word_meaning, next_word, next_or, value_at_end}, Prices.price_of}
+use Rattle.gx_terminal.specs.{declared.{wrong.{ExpectedInput.ExpectedInput, WrongWord.WrongWord}, wish.{Side.Side, Lifetime.Lifetime, NewOrder.NewOrder, NewTerms.NewTerms, Wish.Wish}}, Cursor.{Left, left_of, words_between, wrong_at, ◌>>=◌, word_meaning, next_word, next_or, value_at_end}, Prices.price_of, Amounts.limit_typed}
 
 -- the wish, where no word is left; else a Kill of each account, where each word that is left is one
 unfoldable pub with_more : Wish → ℕ → List (List ℕ) → Result Wish WrongWord
@@ -49,8 +49,8 @@ lift_wish left = do
 unfoldable pub limit_wish : Left → Result Wish WrongWord
 limit_wish left = do
   rule ← next_word ExpectedInput.Rule (padded_name 8) left
-  limit ← next_word ExpectedInput.Value (number_of_bits 64) rule.1
-  value_at_end (Wish.Ask (Action.SetLimit (record { bytes = rule.0 }) limit.0)) limit.1
+  limit ← next_word ExpectedInput.Value limit_typed rule.1
+  value_at_end (Wish.Limit (record { bytes = rule.0 }) limit.0) limit.1
 
 -- `RULE STOCK`
 unfoldable pub stock_wish : Left → Result (RuleId × Symbol) WrongWord
@@ -154,6 +154,7 @@ wish_of line = wish_of_words (words_between (without_cr line))
 -- the command that is wished, under this tag
 abbrev pub command_wished : Tag → Wish → Option Command
 command_wished tag (Wish.Ask action) = Some (record { tag = tag; action = action })
+command_wished tag (Wish.Limit rule limit) = Some (record { tag = tag; action = Action.SetLimit rule limit.amount })
 command_wished tag Wish.Nothing = None
 command_wished tag Wish.KillAll = None
 command_wished tag Wish.KillEach = None
@@ -190,6 +191,7 @@ order_of token (Wish.Enter order) = Some (Inbound.Enter (wished_order token orde
 order_of token (Wish.Replace terms) = Some (Inbound.Replace (wished_replace token terms))
 order_of token (Wish.Cancel order) = Some (Inbound.Cancel order)
 order_of token (Wish.Ask action) = None
+order_of token (Wish.Limit rule limit) = None
 order_of token Wish.Nothing = None
 order_of token Wish.KillAll = None
 order_of token Wish.KillEach = None

@@ -25,7 +25,7 @@ anybody:
   help                                  show this page
   quit                                  log out
 
-PRICE is in dollars, with at most four decimals: 10, 10.5 or 0.0001. VALUE is in shares; of a rule on a value it is in
-ten-thousandths of a dollar, of a collar in ten-thousandths of the reference price. A line whose first word begins with
-# is a comment.
+PRICE is in dollars, with at most four decimals: 10, 10.5 or 0.0001. VALUE is in shares; of a rule on a value it is money,
+as $30,000 or 30000.00, with a dollar sign or a point; of a collar it is in ten-thousandths of the reference price. A line
+whose first word begins with # is a comment.
 ";

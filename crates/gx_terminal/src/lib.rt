@@ -4,6 +4,7 @@
 mod accounts;
 mod help;
 mod laws;
+mod limits;
 mod price;
 mod reading;
 mod status;
@@ -14,6 +15,7 @@ mod wrong;
 pub use accounts::accounts_named;
 pub use help::HELP;
 pub use laws::prices_are_read_back;
+pub use limits::{KnownLimit, LimitFault, LimitUnit, TypedLimit};
 pub use status::Status;
 pub use wish::{Lifetime, NewOrder, NewTerms, Side, Wish};
 pub use wrong::{ExpectedInput, WrongWord};

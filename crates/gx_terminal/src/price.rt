@@ -33,7 +33,7 @@ fn worth_of_last(count: usize) -> Option<u64>
 }
 
 /// One to four decimals, in ten-thousandths.
-fn decimals(text: &[u8]) -> Option<u64>
+pub(crate) fn decimals(text: &[u8]) -> Option<u64>
     ensures exact { result ≡ decimals_of text.now }
     ensures small { IfSome result (λ part. part < 2 ^ 46) }
 {
@@ -69,7 +69,7 @@ pub(crate) fn price(word: &[u8]) -> Option<u32>
 }
 
 /// Where the point stands.
-fn point_of(word: &[u8]) -> Option<usize>
+pub(crate) fn point_of(word: &[u8]) -> Option<usize>
     ensures { result ≡ position is_point word.now }
 {
     word.iter().position(|byte| *byte == b'.')

@@ -2,12 +2,13 @@
 
 ghost use Rattle.std.specs.Prelude.{◌≡◌, ◌+◌, [], bytes_eq, is_some, MatchResult};
 ghost use Rattle.gx_script_text.specs.{ScriptLines.without_cr, Words.{padded_name, number_of_bits, itself}};
-ghost use Rattle.gx_terminal.specs.{Cursor.{Reads, next_word, next_or, value_at_end, wrong_at, word_meaning}, Prices.price_of, Wishes.{with_more, accounts_wish, kill_wish, lift_wish, limit_wish, stock_wish, reader_wish, close_confirmed, close_wish, command_wish, lifetime_of, enter_wish, replace_wish, cancel_wish, order_form, wish_form, is_comment, wish_of}, declared.wish.Lifetime.TheVariants.Day};
+ghost use Rattle.gx_terminal.specs.{Cursor.{Reads, next_word, next_or, value_at_end, wrong_at, word_meaning}, Prices.price_of, Amounts.limit_typed, Wishes.{with_more, accounts_wish, kill_wish, lift_wish, limit_wish, stock_wish, reader_wish, close_confirmed, close_wish, command_wish, lifetime_of, enter_wish, replace_wish, cancel_wish, order_form, wish_form, is_comment, wish_of}, declared.wish.Lifetime.TheVariants.Day};
 ghost use Rattle.gx_terminal.specs.declared.wrong.ExpectedInput.TheVariants as places;
 
+use crate::limits::{TypedLimit, typed_limit};
 use crate::price::price;
 use crate::wish::{Lifetime, NewOrder, NewTerms, Side, Wish};
-use crate::words::{LineWords, name, number32, number64};
+use crate::words::{LineWords, name, number32};
 use crate::wrong::{ExpectedInput, WrongWord};
 use gx_desk::{Action, WrittenName};
 use gx_ouch::CancelOrder;
@@ -51,11 +52,11 @@ fn take_name<const N: usize>(
     standing(words, name(word), wanted)
 }
 
-fn take_number64(words: &mut LineWords, wanted: ExpectedInput) -> Result<u64, WrongWord>
-    ensures { Reads (next_word wanted (number_of_bits 64) words.old) words.new result }
+fn take_limit(words: &mut LineWords) -> Result<TypedLimit, WrongWord>
+    ensures { Reads (next_word places.Value limit_typed words.old) words.new result }
 {
-    let word = take_word(words, wanted)?;
-    standing(words, number64(word), wanted)
+    let word = take_word(words, ExpectedInput::Value)?;
+    standing(words, typed_limit(word), ExpectedInput::Value)
 }
 
 fn take_number32(words: &mut LineWords, wanted: ExpectedInput) -> Result<u32, WrongWord>
@@ -147,8 +148,8 @@ fn limit_wish(words: &mut LineWords) -> Result<Wish, WrongWord>
     ensures { result ≡ limit_wish words.old }
 {
     let bytes = take_name(words, ExpectedInput::Rule)?;
-    let limit = take_number64(words, ExpectedInput::Value)?;
-    ended(words, Wish::Ask(Action::SetLimit(RuleId { bytes }, limit)))
+    let limit = take_limit(words)?;
+    ended(words, Wish::Limit(RuleId { bytes }, limit))
 }
 
 /// A rule and a stock.

@@ -3,9 +3,10 @@
 ghost use Rattle.std.specs.Prelude.{◌≡◌};
 ghost use Rattle.gx_terminal.specs.Wishes.{command_wished, indicator_of, time_in_force_of, wished_order, wished_replace, order_of};
 
+use crate::limits::TypedLimit;
 use gx_desk::{Action, Command, Tag};
 use gx_ouch::{CancelOrder, EnterOrder, Inbound, ReplaceOrder};
-use gx_units::{Firm, Symbol, Token};
+use gx_units::{Firm, RuleId, Symbol, Token};
 
 /// Which way an order trades.
 #[derive(Clone, Copy, PartialEq, Eq)]
@@ -82,9 +83,11 @@ pub struct NewTerms {
 pub enum Wish {
     /// A line without words, or a comment, whose first word begins with `#`.
     Nothing,
-    /// A command of an officer: `kill ACCOUNT`, `lift ACCOUNT`, `limit RULE VALUE`, `restrict RULE STOCK`,
-    /// `unrestrict RULE STOCK`, `grant READER ACCOUNT`, `revoke READER ACCOUNT` or `close --yes`.
+    /// A command of an officer: `kill ACCOUNT`, `lift ACCOUNT`, `restrict RULE STOCK`, `unrestrict RULE STOCK`,
+    /// `grant READER ACCOUNT`, `revoke READER ACCOUNT` or `close --yes`.
     Ask(Action),
+    /// `limit RULE VALUE`.
+    Limit(RuleId, TypedLimit),
     /// `kill --all`: a Kill of each account.
     KillAll,
     /// `kill ACCOUNT ACCOUNT ..`: a Kill of each of these, which `accounts_named` tells.
@@ -153,6 +156,10 @@ impl Wish {
             Wish::Ask(action) => Some(Command {
                 tag,
                 action: *action,
+            }),
+            Wish::Limit(rule, limit) => Some(Command {
+                tag,
+                action: Action::SetLimit(*rule, limit.amount),
             }),
             _ => None,
         }

@@ -42,7 +42,9 @@ impl ExpectedInput {
             ExpectedInput::Account => "ACCOUNT, 1 to 8 of the characters ! to ~",
             ExpectedInput::AccountOrAll => "ACCOUNT, 1 to 8 of the characters ! to ~, or --all",
             ExpectedInput::Rule => "RULE, 1 to 8 of the characters ! to ~",
-            ExpectedInput::Value => "VALUE, a number below 2^64",
+            ExpectedInput::Value => {
+                "VALUE, a number below 2^64, or money as $30,000 or 30000.00, at most $922,337,203,685,477.5807"
+            }
             ExpectedInput::Stock => "STOCK, 1 to 8 of the characters ! to ~",
             ExpectedInput::Reader => "READER, 1 to 6 of the characters ! to ~",
             ExpectedInput::Yes =>

@@ -2,13 +2,13 @@
 
 use gx_desk::{Action, Answer, AnswerCode, Command, DropCopy, Tag, WrittenName};
 use gx_history::report::Message;
-use gx_lines::{answer_line, copy_line, earlier_answer_line, order_line};
+use gx_lines::{LimitForm, answer_line, copy_line, earlier_answer_line, order_line};
 use gx_ouch::{
     Accepted, CancelReason, Canceled, EventCode, Executed, Inbound, Liquidity, OrderTerms,
     Outbound, RejectReason, Rejected, Replaced,
 };
 use gx_terminal::{
-    ExpectedInput, HELP, Lifetime, NewOrder, NewTerms, Side, Status, Wish, WrongWord,
+    ExpectedInput, HELP, Lifetime, NewOrder, NewTerms, Side, Status, TypedLimit, Wish, WrongWord,
     accounts_named,
 };
 use gx_text::Form;
@@ -73,7 +73,13 @@ fn commands_are_read(rt: HostRuntime) {
     let lift = is_read(b"  lift   ALFA  \r", Wish::Ask(Action::Lift(ALFA)));
     let limit = is_read(
         b"limit HALT 18446744073709551615",
-        Wish::Ask(Action::SetLimit(halt, u64::MAX)),
+        Wish::Limit(
+            halt,
+            TypedLimit {
+                amount: u64::MAX,
+                is_money: false,
+            },
+        ),
     );
     let restrict = is_read(
         b"restrict HALT TEST",
@@ -190,13 +196,21 @@ fn answer(code: AnswerCode) -> Answer {
 fn answers_are_shown(rt: HostRuntime) {
     let alloc = rt.alloc();
     let kill = Action::Kill(ALFA);
-    let done = answer_line(alloc, Form::Text, MOMENT, &kill, &answer(AnswerCode::Done));
+    let done = answer_line(
+        alloc,
+        Form::Text,
+        LimitForm::Number,
+        MOMENT,
+        &kill,
+        &answer(AnswerCode::Done),
+    );
     let small = Action::Lift(AccountName {
         bytes: *b"alfa    ",
     });
     let unknown = answer_line(
         alloc,
         Form::Text,
+        LimitForm::Number,
         MOMENT,
         &small,
         &answer(AnswerCode::UnknownName),
@@ -204,6 +218,7 @@ fn answers_are_shown(rt: HostRuntime) {
     let json = answer_line(
         alloc,
         Form::Json,
+        LimitForm::Number,
         MOMENT,
         &kill,
         &answer(AnswerCode::NoChange),
