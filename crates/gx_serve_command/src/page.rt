@@ -1,6 +1,5 @@
 //! The risk desk's page beside a server.
 
-
 use gx_board::Board;
 use gx_button::Secret;
 use gx_command_line::Serving;
