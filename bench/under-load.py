@@ -12,6 +12,8 @@ cost, and whether any of 40 who send heartbeats is taken for silent where the se
 
 - 64 traders with 20 orders in flight each: how many orders wait to be matched, how long an order does, how long a pair of
   others takes whose orders cross in another stock, and how long an officer's kill takes.
+- 60 traders with 300 orders in flight each, also beside a journal, with 1,000, and who read nothing: how long it is until an
+  officer's kill has its effect and until it is answered, and how long the traders wait.
 - 64 users whose requests are denied in silence, beside a journal: how long an officer's kill takes.
 - A browser that asks for the page's state all the time, under as many accounts, stocks, users and rules as a policy may have:
   how much longer an officer's kill takes than without it.
@@ -28,6 +30,7 @@ import argparse
 import base64
 import os
 import resource
+import select
 import signal
 import socket
 import struct
@@ -53,6 +56,7 @@ ENTER = struct.Struct(">HcB14scI8sII4s3sI2s")
 RECORD = struct.Struct(">4sQQ10x6sc58xc8xQQ8x")
 SILENT = b"\0\2U?"
 HEARTBEAT = b"\0\1R"
+QUARTER = 900 * 10**9
 KILL, LIFT = b"K", b"L"
 WORK = 3000
 ECHO = "an echo"
@@ -110,11 +114,19 @@ class Line:
             if packet[2:3] == b"S" and packet[3:4].startswith(kind):
                 return packet[3:]
 
-    def enter(self, side: bytes, stock: bytes) -> None:
-        """Enters an order of 100 shares at 10 dollars."""
+    def order(self, side: bytes, stock: bytes) -> bytes:
+        """The next order, of 100 shares at 10 dollars."""
         self.number += 1
         token = b"%-14d" % self.number
-        self.line.sendall(ENTER.pack(50, b"U", 0x4F, token, side, 100, stock, 100_000, 99999, b"    ", b"YAN", 0, b"NN"))
+        return ENTER.pack(50, b"U", 0x4F, token, side, 100, stock, 100_000, 99999, b"    ", b"YAN", 0, b"NN")
+
+    def orders(self, count: int) -> bytes:
+        """The next orders, so many of each side in turn."""
+        return b"".join(self.order(b"BS"[i % 2 : i % 2 + 1], b"TEST%d   " % (i // 2 % 4)) for i in range(count))
+
+    def enter(self, side: bytes, stock: bytes) -> None:
+        """Enters an order."""
+        self.line.sendall(self.order(side, stock))
 
     def command(self, text: bytes) -> None:
         """Gives an officer's command, and waits for its answer."""
@@ -263,6 +275,76 @@ def look_at_orders(gate: str, load: str, seconds: float, judge: Judge) -> None:
     judge.say("from an order to its matching step, p99", share(waits, 99), 20, "ms")
     judge.say(f"a pair in another stock, p99 of {len(pairs)}", share(pairs, 99), 20, "ms")
     judge.say(f"a kill, p99 of {len(kills)}", share(kills, 99), 20, "ms")
+
+
+def kills_on(port: int, until: Callable[[], bool]) -> tuple[list[int], list[float]]:
+    """Kills, each lifted: at which nanosecond of the wall clock each was sent, and how many milliseconds it was until it was
+    answered."""
+    line, sent, answered = Line(port, "OLGA", "orange", 0), [], []
+    while not until():
+        sent.append(time.time_ns())
+        begun = time.monotonic()
+        line.command(command_bytes(KILL, next(TAGS)))
+        answered.append((time.monotonic() - begun) * 1000)
+        line.command(command_bytes(LIFT, next(TAGS)))
+        time.sleep(0.01)
+    return sent, answered
+
+
+def effects_of(records: bytes, sent: list[int]) -> list[float]:
+    """How many milliseconds behind its sending each kill's record has its moment. An audit counts from midnight, wherever that
+    was: only what is within a quarter of an hour is told."""
+    moments = [r[2] for r in RECORD.iter_unpack(records[RECORD.size:]) if r[4] == KILL and r[5] == b"G"]
+    return [((moment - at + QUARTER // 2) % QUARTER - QUARTER // 2) / 1e6 for moment, at in zip(moments, sent)]
+
+
+def look_at_kills(gate: str, load: str, seconds: float, judge: Judge) -> None:
+    """An officer's kills beside nobody, and beside 60 traders with so many orders in flight each, who read their reports or not."""
+    none, read, mute = 0, 1, 2
+    cases = (("nobody", none, 0, "--audit"), ("300 in flight", read, 300, "--audit"), ("300 in flight, a journal", read, 300, "--journal"),
+             ("1,000 in flight", read, 1000, "--audit"), ("who read nothing", mute, 0, "--audit"))
+    alone = 0.0
+    for title, how, window, kept in cases:
+        with tempfile.TemporaryDirectory() as name:
+            folder = Path(name)
+            with server(gate, folder, kept, str(folder / "kept"), "--connections-at-once", "1000") as (port, _):
+                end = time.monotonic() + seconds
+                words = [sys.executable, __file__, gate, "--unread", str(port), "--seconds", str(seconds)]
+                run = Run(load, port, 60, window, seconds, "cross") if how == read else None
+                unread = subprocess.Popen(words) if how == mute else None
+                time.sleep(0.5)
+                sent, answered = kills_on(port, run.over if run else lambda: time.monotonic() > end)
+                figures = run.figures() if run else None
+                if unread:
+                    unread.wait(60)
+            effects = effects_of((folder / "kept").read_bytes(), sent)
+        alone = alone or share(effects, 99)
+        print(f"60 traders, {title}: {len(effects)} kills, effect p50 {share(effects, 50):.2f} ms, longest {max(effects):.2f} ms,"
+              f" answer p50 {share(answered, 50):.2f} ms, longest {max(answered):.2f} ms")
+        judge.say("until a kill has its effect, p99, beside that without traders", share(effects, 99) - alone, 5, "ms")
+        judge.say("until it is answered, p99", share(answered, 99), 15, "ms")
+        if figures:
+            _, _, rate, _, p99, _ = figures
+            judge.say(f"a trader's wait, p99, beside the mean at {rate:.0f} orders a second", p99 * rate / (60 * window * 1e6), 5, "")
+
+
+def enter_unread(port: int, seconds: float) -> None:
+    """60 traders who enter orders as fast as they are taken, and read nothing."""
+    end, looks = time.monotonic() + seconds, select.poll()
+    lines = {line.line.fileno(): line for line in (Line(port, f"T{i:02d}", f"P{i:02d}") for i in range(60))}
+    left = {number: b"" for number in lines}
+    for number, line in lines.items():
+        line.line.setblocking(False)
+        looks.register(number, select.POLLOUT)
+    while time.monotonic() < end:
+        for number, _ in looks.poll(50):
+            try:
+                left[number] = left[number] or lines[number].orders(100)
+                left[number] = left[number][lines[number].line.send(left[number]):]
+            except BlockingIOError:
+                pass
+            except OSError:
+                looks.unregister(number)
 
 
 def flood(line: socket.socket, until: Callable[[], bool]) -> None:
@@ -434,12 +516,16 @@ def main() -> int:
     parser.add_argument("--before", help="another version, to compare with")
     parser.add_argument("--flood", type=int, help=argparse.SUPPRESS)
     parser.add_argument("--browse", type=int, help=argparse.SUPPRESS)
+    parser.add_argument("--unread", type=int, help=argparse.SUPPRESS)
     asked = parser.parse_args()
     if asked.flood:
         run_flood(asked.flood, asked.seconds)
         return 0
     if asked.browse:
         browse(asked.browse)
+    if asked.unread:
+        enter_unread(asked.unread, asked.seconds)
+        return 0
     resource.setrlimit(resource.RLIMIT_NOFILE, (4096, 4096))
     judge = Judge(asked.slack)
     with tempfile.TemporaryDirectory() as name:
@@ -450,6 +536,7 @@ def main() -> int:
         look_at_silence(asked.gate, asked.seconds, judge)
         look_at_pause(asked.gate, judge)
         look_at_orders(asked.gate, load, asked.seconds, judge)
+        look_at_kills(asked.gate, load, asked.seconds, judge)
         look_at_flood(asked.gate, asked.seconds, judge)
         look_at_page(asked.gate, asked.seconds, judge)
     return int(judge.bad > 0)

@@ -3,10 +3,11 @@
 
 Each day at random is made by `gate script`: orders, fills, kills, lifts and limits that go up and down. From the lines of
 `gate show` it is worked out here behind which record each figure first used each share of its limit, and which commands there
-were; `gate follow --once` has to tell exactly these. Then a server keeps a journal that is followed before it is there: each
-warning, kill, lift and limit is told within a second of its answer, and at the day's close it ends with status 0. A journal in
-which a record is forged ends it with status 4; one whose cut-off record is replaced does not; one that loses whole records,
-or its name, ends it with status 1. Run as
+were; `gate follow --once` has to tell exactly these, as text with what is used of a value and its limit in dollars. Then a
+server keeps a journal that is followed before it is there: each warning, kill, lift and limit is told within a second of its
+answer, as text those of a value in dollars, and at the day's close it ends with status 0. A journal in which a record is forged
+ends it with status 4; one whose cut-off record is replaced does not; one that loses whole records, or its name, ends it with
+status 1. Run as
 
   tests/follow.py [GATE [DAYS]]
 
@@ -31,6 +32,20 @@ DAYS = 4
 RECORD = 128
 PATIENCE_SECONDS = 30
 AT_ONCE_SECONDS = 1.0
+# What is told as text of the limits that are set beside a server, and of their shares that are used, worked out by hand: GROSS
+# counts a value, SHARES and NET do not.
+LIMITS_TOLD = [
+    "limit of SHARES set from 9000 to 600 by OLGA",
+    "limit of GROSS set from $900,000.00 to $450,000.50 by OLGA",
+    "Set Limit of GROSS to $450,000.50 by OLGA denied by Q4",
+]
+WARNINGS_TOLD = [
+    "10 % of the limit of NET are used by ALFA for buys of TEST: 500 of 3000",
+    "10 % of the limit of SHARES are used by ALFA: 500 of 600",
+    "5 % of the limit of GROSS are used by all its accounts: $40,000.00 of $450,000.50",
+    "5 % of the limit of NET are used by ALFA for buys of TEST: 500 of 3000",
+    "5 % of the limit of SHARES are used by ALFA: 500 of 9000",
+]
 COMMANDS = ("kill", "lift", "limit", "restrict", "unrestrict", "grant", "revoke", "close")
 
 STATE = script("state")
@@ -86,10 +101,11 @@ def warning_in(told: dict) -> tuple:
 
 
 def sentence(key: tuple, told: tuple) -> str:
-    """A warning as text, without its moment."""
+    """A warning as text, without its moment; GROSS alone counts a value."""
     share, rule, account, stock, side = key
-    record, used, limit = told
+    record, *counted = told
     where = f" for {side} of {stock}" if stock else ""
+    used, limit = map(STATE.dollars if rule == "GROSS" else str, counted)
     return f"{share} % of the limit of {rule} are used by {account or 'all its accounts'}{where}: {used} of {limit}, record {record}"
 
 
@@ -181,6 +197,14 @@ def desk(gate, port: int, user: str, words: str) -> None:
     subprocess.run(asked, capture_output=True, timeout=PATIENCE_SECONDS, check=False)
 
 
+def limits_told(gate, journal: Path) -> tuple:
+    """What is told as text of limits that are set, and, sorted, of those that are used, without moments and records."""
+    _, lines, _ = follow(gate.program, journal, gate.policy, "--warn", "5,10", "--once")
+    said = [line.split(" ", 1)[1].rpartition(", record ")[0] for line in lines]
+    are_set = [words for words in said if words.startswith(("limit of", "Set Limit of"))]
+    return are_set, sorted(words for words in said if "% of the limit of" in words)
+
+
 def look_at_server(gate, folder: Path) -> bool:
     """Whether each warning and command of a running server's day is told within a second."""
     journal = folder / "journal.gxh"
@@ -190,7 +214,7 @@ def look_at_server(gate, folder: Path) -> bool:
     server = LOG.Server(gate.program, "text", folder, "--journal", str(journal), "--policy", str(gate.policy))
     net = {"event": "limit_used", "rule": "NET", "account": "ALFA", "stock": "TEST", "side": "buys", "used": 500, "limit": 3000}
     steps = [
-        ("ALICE", "buy 500 TEST 10.00", [
+        ("ALICE", "buy 500 TEST 80.00", [
             {"event": "limit_used", "rule": "SHARES", "percent": 5, "account": "ALFA", "used": 500, "limit": 9000},
             {**net, "percent": 5}, {**net, "percent": 10},
         ]),
@@ -198,6 +222,11 @@ def look_at_server(gate, folder: Path) -> bool:
             {"event": "limit", "rule": "SHARES", "from": 9000, "to": 600},
             {"event": "limit_used", "rule": "SHARES", "percent": 10, "account": "ALFA", "used": 500, "limit": 600},
         ]),
+        ("OLGA", "limit GROSS $450,000.50", [
+            {"event": "limit", "rule": "GROSS", "from": 9_000_000_000, "to": 4_500_005_000},
+            {"event": "limit_used", "rule": "GROSS", "percent": 5, "account": None, "used": 400_000_000, "limit": 4_500_005_000},
+        ]),
+        ("OLGA", "limit GROSS $450,000.50", [{"event": "limit_denied", "rule": "GROSS", "to": 4_500_005_000, "denied_by": "Q4"}]),
         ("OLGA", "kill BETA", [{"event": "kill", "account": "BETA", "user": "OLGA"}]),
         ("OLGA", "lift BETA", [{"event": "lift", "account": "BETA", "user": "OLGA"}]),
         ("OLGA", "lift BETA", [{"event": "lift_denied", "account": "BETA", "user": "OLGA"}]),
@@ -211,6 +240,7 @@ def look_at_server(gate, folder: Path) -> bool:
     is_right &= told == commands_of(shown)
     found = dict(warning_in(event) for event in follower.told if event["event"] == "limit_used")
     is_right &= found == warnings_of(shown, [5, 10])
+    is_right &= limits_told(gate, journal) == (LIMITS_TOLD, WARNINGS_TOLD)
     desk(gate, server.port, "OLGA", "close --yes")
     is_right &= follower.has_told({"event": "close"}) and follower.ends(0)
     server.end()

@@ -2,9 +2,11 @@
 """The log of a server: a line an event, at once, and none of a record left out.
 
 A server with `--log text`, one with `--log json`: officers and a trader log in, a stranger asks three times, an account is
-killed, a lift is denied, a limit is set twice, an order is entered, somebody logs out, and the server ends. Each record that is to be
-told is told within a second, in the order of records, with the words and the numbers that are wanted; orders are not told,
-and of three wrong logins within a minute the first alone, and how many more there were at the end. Connections are told with their addresses and why they ended.
+killed, a lift is denied, limits of a value and of shares are set, and some denied, an order is entered, somebody logs out, and
+the server ends. Each record that is to be told is told within a second, in the order of records, with the words and the numbers
+that are wanted: a limit of a value in dollars, in JSON in their ten-thousandths. Orders are not told, and of three wrong logins
+within a minute the first alone, and how many more there were at the end. Connections are told with their addresses and why they
+ended.
 Of a Kill and of a Close Day it is told too how many orders they ended, and how many shares: those that were live in front of
 them, less what was executed, and of a Kill those of its account alone.
 With a journal a second run tells what is new, and nothing of the first. Run as
@@ -45,10 +47,13 @@ RECORDS = [
     "ALFA killed by OLGA, record 5",
     "OTTO logged in on line 5, record 6",
     "Lift of ALFA by OTTO denied by Q2, record 7",
-    "limit of GROSS set from 10000000 to 20000000 by OLGA, record 8",
-    "limit of GROSS set from 20000000 to 5 by OLGA, record 9",
-    "BOB logged in on line 6, record 10",
-    "OTTO logged out on line 5, record 12",
+    "limit of GROSS set from $1,000.00 to $2,000.00 by OLGA, record 8",
+    "limit of GROSS set from $2,000.00 to $0.0005 by OLGA, record 9",
+    "limit of SIZE set from 500000 to 400000 by OLGA, record 10",
+    "Set Limit of CREDIT to 30000 by OLGA denied by Q1, record 11",
+    "Set Limit of GROSS to $3.00 by OTTO denied by Q2, record 12",
+    "BOB logged in on line 6, record 13",
+    "OTTO logged out on line 5, record 15",
 ]
 OBJECTS = [
     {"event": "login", "user": "OLGA", "line": 4, "record": 1},
@@ -58,8 +63,11 @@ OBJECTS = [
     {"event": "lift_denied", "user": "OTTO", "account": "ALFA", "denied_by": "Q2", "record": 7},
     {"event": "limit", "user": "OLGA", "rule": "GROSS", "from": 10_000_000, "to": 20_000_000, "record": 8},
     {"event": "limit", "user": "OLGA", "rule": "GROSS", "from": 20_000_000, "to": 5, "record": 9},
-    {"event": "login", "user": "BOB", "line": 6, "record": 10},
-    {"event": "logout", "user": "OTTO", "line": 5, "record": 12},
+    {"event": "limit", "user": "OLGA", "rule": "SIZE", "from": 500_000, "to": 400_000, "record": 10},
+    {"event": "limit_denied", "user": "OLGA", "rule": "CREDIT", "to": 30_000, "denied_by": "Q1", "record": 11},
+    {"event": "limit_denied", "user": "OTTO", "rule": "GROSS", "to": 30_000, "denied_by": "Q2", "record": 12},
+    {"event": "login", "user": "BOB", "line": 6, "record": 13},
+    {"event": "logout", "user": "OTTO", "line": 5, "record": 15},
 ]
 # What is told of the orders that the Kill above ended: there were none.
 NONE_ENDED = "Kill of ALFA by OLGA (record 5) ended 0 orders, 0 shares"
@@ -94,6 +102,11 @@ def order(token: bytes = b"S1", side: bytes = b"S", shares: int = 1) -> bytes:
         b"O" + token.ljust(14) + side + shares.to_bytes(4, "big") + b"TEST    " + (100_000).to_bytes(4, "big")
         + (99_999).to_bytes(4, "big") + b"    YAN" + bytes(4) + b"NN"
     )
+
+
+def limit_set(rule: bytes, limit: int) -> bytes:
+    """Sets the limit of a rule."""
+    return data(b"M" + b"M1".ljust(14) + rule.ljust(8) + limit.to_bytes(8, "big"))
 
 
 def free_port() -> int:
@@ -186,16 +199,22 @@ def play(server: Server, parts: list[str]) -> list[bool]:
             told(parts[3])
             otto.sendall(data(b"L" + b"L1".ljust(14) + b"ALFA    "))
             told(parts[4])
-            for place, limit in ((5, 20_000_000), (6, 5)):
-                olga.sendall(data(b"M" + b"M1".ljust(14) + b"GROSS   " + limit.to_bytes(8, "big")))
+            for place, (officer, rule, limit) in enumerate(
+                (
+                    (olga, b"GROSS", 20_000_000), (olga, b"GROSS", 5), (olga, b"SIZE", 400_000), (olga, b"CREDIT", 30_000),
+                    (otto, b"GROSS", 30_000),
+                ),
+                5,
+            ):
+                officer.sendall(limit_set(rule, limit))
                 told(parts[place])
             with client(server, b"BOB", b"banana") as bob:
-                told(parts[7])
+                told(parts[10])
                 bob.sendall(order())
                 bob.recv(3)
                 time.sleep(0.1)
                 otto.sendall(LOGOUT)
-                told(parts[8])
+                told(parts[11])
                 server.end()
     return at_once
 
@@ -281,11 +300,11 @@ def goes_on(gate: str, folder: Path) -> bool:
     second = Server(gate, "text", folder, *journal)
     with client(second, b"OLGA", b"orange") as olga:
         is_on = second.await_told("OLGA logged in on line ", time.monotonic())
-        olga.sendall(data(b"M" + b"M1".ljust(14) + b"GROSS   " + (7).to_bytes(8, "big")))
-        is_set = second.await_told("limit of GROSS set from 5 to 7 by OLGA, record 16", time.monotonic())
+        olga.sendall(limit_set(b"GROSS", 7))
+        is_set = second.await_told("limit of GROSS set from $0.0005 to $0.0007 by OLGA, record 19", time.monotonic())
         is_ended = second.end()
     told = [found[2] for line in second.lines() if (found := OF_RECORD.fullmatch(line))]
-    return is_on and is_set and is_ended and [line.rpartition(" ")[2] for line in told] == ["15", "16", "17"]
+    return is_on and is_set and is_ended and [line.rpartition(" ")[2] for line in told] == ["18", "19", "20"]
 
 
 def main() -> int:

@@ -7,7 +7,8 @@ the server ends behind him with status 0. Without `--connections` it ends once 6
 and not before. With `--until-input-ends` it takes more, and ends with its standard input; with `--until` when it is that
 time, and with `--stop-file` once there is such a file: each time a user who is on is logged out, the audit is written and
 legal, the status is 0, and the log says why. Where it is allowed too few threads it says `listening P` not before it has
-those that it needs: it ends with status 1 without that line, or serves. Run as
+those that it needs: it ends with status 1 without that line, or serves. Where it is to wait for a file that can never be,
+it is not started. Run as
 
   tests/starts.py [GATE]
 
@@ -16,6 +17,7 @@ GATE: the built program; where none is named, crates/gate/out/gate of this repos
 
 import os
 import pty
+import resource
 import shutil
 import signal
 import socket
@@ -189,6 +191,30 @@ def tells_that_it_listens_once_it_does(gate: str) -> bool:
     return seen == {False, True}
 
 
+def page_gives_way(gate: str) -> bool:
+    """Whether a server that may open few descriptors serves the trading port, and the page only where there are enough for
+    both; what is not served is told."""
+    is_right = True
+    for limit, has_page in ((20, False), (74, False), (76, True)):
+        port, page = free_port(), free_port()
+        words = [gate, "serve", "--connections", "1", "--port", str(port), "--status-port", str(page)]
+        with subprocess.Popen(
+            words, stdin=subprocess.DEVNULL, stdout=subprocess.PIPE, stderr=subprocess.PIPE,
+            preexec_fn=lambda limit=limit: resource.setrlimit(resource.RLIMIT_NOFILE, (limit, limit)),
+        ) as server:
+            is_right &= server.stdout.readline() == b"listening %d\n" % port
+            silent = [socket.create_connection(("127.0.0.1", page)) for _ in range(40)] if has_page else []
+            with socket.socket() as line:
+                is_right &= (line.connect_ex(("127.0.0.1", page)) == 0) == has_page
+            is_right &= log_in_and_out(port)
+            for line in silent:
+                line.close()
+            is_right &= server.wait(PATIENCE_SECONDS) == 0
+            told = server.stderr.read()
+            is_right &= (b"and the page is not\n" in told) != has_page and b"%d descriptors may be open" % limit in told
+    return is_right
+
+
 def ends_at_a_time(gate: str) -> bool:
     """Whether a server ends at the time of day that it is told."""
     at = time.strftime("%H:%M:%S", time.gmtime(time.time() + TIME_OF_DAY_SECONDS))
@@ -205,6 +231,29 @@ def ends_with_a_file(gate: str) -> bool:
         return ends_for(gate, Path(folder), words, stop.touch, f"there is the file {stop}")
 
 
+def refuses_what_can_never_be(gate: str) -> bool:
+    """Whether a server is not started that waits for a file that can never be, and one is whose file's folder is there."""
+    with tempfile.TemporaryDirectory() as name:
+        folder = Path(name)
+        file, journal, port = folder / "file", folder / "journal", str(free_port())
+        file.touch()
+        wanted = {
+            "": "a file has a name", str(folder / "nowhere" / "stop"): "No such file or directory (os error 2)",
+            str(file / "stop"): "Not a directory (os error 20)", "x" * 5_000: "File name too long (os error 36)",
+            str(folder / ("x" * 300)): "File name too long (os error 36)",
+        }
+        are_right = True
+        for stop, why in wanted.items():
+            for words in (["--stop-file", stop], ["--standby", str(journal), "--takeover-file", stop]):
+                call = [gate, "serve", "--port", port, *words]
+                told = subprocess.run(
+                    call, stdin=subprocess.DEVNULL, capture_output=True, text=True, timeout=PATIENCE_SECONDS, check=False
+                )
+                is_told = told.stderr.startswith("gate: read failed\n") and told.stderr.endswith(f": {why}\n")
+                are_right &= told.returncode == 1 and told.stdout == "" and is_told and not journal.exists()
+    return are_right
+
+
 def main() -> int:
     """Starts them all. Answers the status: 1 where one of them does something else."""
     gate = sys.argv[1] if len(sys.argv) > 1 else str(GATE)
@@ -215,8 +264,10 @@ def main() -> int:
     runs["without a number of connections"] = lambda: ends_behind_the_default(gate)
     runs["with few threads"] = lambda: tells_that_it_listens_once_it_does(gate)
     runs["until its input ends"] = lambda: ends_with_its_input(gate)
+    runs["with few descriptors"] = lambda: page_gives_way(gate)
     runs["until a time of day"] = lambda: ends_at_a_time(gate)
     runs["until there is a file"] = lambda: ends_with_a_file(gate)
+    runs["until there is a file that can never be"] = lambda: refuses_what_can_never_be(gate)
     are_right = True
     for what, run in runs.items():
         signal.alarm(3 * PATIENCE_SECONDS)

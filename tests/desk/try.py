@@ -6,12 +6,12 @@ An officer kills an account from the shell while 64 traders flood the server: ho
 order and no fill of the account behind the kill. Each refusal of a command, of a login and of a line has its text and its
 status. Each command prints what it has done; commands come as arguments or on standard input, and the password in the
 variable, in a file or in front of them. Kills of several accounts say of each what became of it: killed before, denied, not
-answered, and behind a line that is cut, with and without `--reconnect` (beside a page: pages.py; money: limits.py). Two
-traders trade, and a reader watches. A report that is told again at a login answers nothing, and whatever bytes are in it,
-only visible characters are shown. What `--json` prints is JSON. A run that is silent for longer than a server waits stays
-logged in. With `--reconnect` it goes on behind a server that was killed. tshark, where it is there, reads no malformed
-packet. A line is printed for each point, and behind one that is not as wanted what was told. The status is 1 where there is
-such a one. Run as
+answered, and behind a line that is cut, with and without `--reconnect` (beside a page: pages.py; money: limits.py; how long
+a run takes: waits.py). Two traders trade, and a reader watches. A report that is told again at a login answers nothing, and
+whatever bytes are in it, only visible characters are shown. What `--json` prints is JSON. A run that is silent for longer
+than a server waits stays logged in. With `--reconnect` it goes on behind a server that was killed. tshark, where it is
+there, reads no malformed packet. A line is printed for each point, and behind one that is not as wanted what was told. The
+status is 1 where there is such a one. Run as
 
   tests/desk/try.py [GATE]
   tests/desk/try.py [GATE] --slack 5            a kill may take five times as long
@@ -42,6 +42,7 @@ from client import Packets, packet  # noqa: E402  (in the folder above)
 from desks import HOST, PASSWORDS, POLICIES, Server, Session, Told, flooding, serving  # noqa: E402  (beside this file)
 from limits import limits_of_money, questions  # noqa: E402  (beside this file)
 from pages import kills_of_the_page  # noqa: E402  (beside this file)
+from waits import lines_that_ask_nothing, peer_that_hangs_up  # noqa: E402  (beside this file)
 
 TRADERS = 64
 TURNS = 10
@@ -745,9 +746,7 @@ def wireshark(gate: str, folder: Path, points: Points) -> None:
 
 PARTS: dict[str, Callable[[str, Path, Points], None]] = {
     "flood": kills_in_a_flood,
-    "denials": denials,
-    "failures": failures,
-    "words": wrong_words,
+    "denials": denials, "failures": failures, "words": wrong_words,
     "commands": commands,
     "settings": settings_that_are_so,
     "two-officers": two_officers,
@@ -755,7 +754,7 @@ PARTS: dict[str, Callable[[str, Path, Points], None]] = {
     "page": kills_of_the_page, "money": limits_of_money, "questions": questions,
     "several": kills_several,
     "cut": cut_kills,
-    "input": standard_input,
+    "input": standard_input, "nothing": lines_that_ask_nothing, "hanging-up": peer_that_hangs_up,
     "orders": orders,
     "shell": orders_from_the_shell,
     "old-reports": old_reports,

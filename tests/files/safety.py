@@ -5,8 +5,9 @@ a password.
 A server whose standard streams are closed keeps a legal journal beside a peer who sends garbage, and a second start goes
 on with it. Two options that name one file are refused, whatever names it has, before anything is written. An audit takes
 its place when it is whole: until then what stood there stays, and nobody else gets it. It is written where memory has
-ended. What is no regular file or is too long is refused before it is read. A journal that is made shorter or longer under
-a running server ends it. No fault shows a password, or a long value whole. Run as
+ended. What is no regular file or is too long is refused before it is read. A journal that is made shorter or longer, renamed or
+removed under a running server ends it, and the reason stands in the place of its audit; so does one that has reached
+the length that a file may have. No fault shows a password, or a long value whole. Run as
 
   tests/files/safety.py [GATE]
 
@@ -15,6 +16,7 @@ GATE: the built program; where none is named, crates/gate/out/gate of this repos
 
 import os
 import re
+import resource
 import shutil
 import signal
 import socket
@@ -49,6 +51,8 @@ SCRIPT = b"""1 ALICE login apple 1
 """
 STEPS = 5
 CHANGED = b"another program has made the file longer or shorter"
+MOVED = b"another file has its name, or none"
+TOO_LONG = b"it would be longer than a file may be (ulimit -f)"
 
 
 def order(token: bytes) -> bytes:
@@ -344,9 +348,10 @@ def syncs_folder(gate: Gate) -> bool:
     return seen == [False, True]
 
 
-def notices_change(gate: Gate, change: Callable[[Path], None]) -> bool:
-    """Whether a server ends that finds its journal changed, and says why."""
-    with gate.server("--connections", "1", "--journal", "J") as (server, port):
+def notices_change(gate: Gate, change: Callable[[Path], None], why: bytes = CHANGED) -> bool:
+    """Whether a server ends that finds its journal changed, and says why, also in the place of its audit."""
+    told = b"gate: write failed\nJ: " + why + b"\n"
+    with gate.server("--connections", "1", "--journal", "J", "--audit", "A") as (server, port):
         with connected(port) as line:
             line.sendall(LOGIN + order(b"A1"))
             is_right = heard(line, b"SA")
@@ -356,7 +361,9 @@ def notices_change(gate: Gate, change: Callable[[Path], None]) -> bool:
             line.sendall(order(b"A2"))
             is_right &= not heard(line, b"SA")
         is_right &= server.wait(PATIENCE_SECONDS) == 1
-        return is_right and server.stderr.read().endswith(b"gate: write failed\nJ: " + CHANGED + b"\n")
+        is_right &= server.stderr.read().endswith(told)
+    is_right &= gate.bytes_of("A") == told and gate.run("check", "A").returncode != 0
+    return is_right and not list(gate.folder.glob("*.tmp"))
 
 
 def notices_change_at_end(gate: Gate) -> bool:
@@ -380,6 +387,57 @@ def add_byte(journal: Path) -> None:
     """Makes a journal a byte longer."""
     with journal.open("ab") as file:
         file.write(b"x")
+
+
+def rename(journal: Path) -> None:
+    """Gives a journal another name, as who rotates files does."""
+    journal.rename(journal.with_name("J.1"))
+
+
+def remove(journal: Path) -> None:
+    """Takes a journal's name away."""
+    journal.unlink()
+
+
+def copy_over(journal: Path) -> None:
+    """Puts a copy of a journal in its place."""
+    shutil.copy(journal, journal.with_name("copy"))
+    journal.with_name("copy").rename(journal)
+
+
+def goes_on_behind_limit(gate: Gate) -> bool:
+    """Whether a server whose journal has reached the length that a file may have ends with its reason, and not by a signal, and
+    the next one goes on with all that was told; and an audit that would be too long is told."""
+    most, port, accepted = RECORD * 5 + 60, free_port(), 0
+
+    def limit() -> None:
+        """No file may be longer, in the program that is started."""
+        resource.setrlimit(resource.RLIMIT_FSIZE, (most, most))
+
+    words = [gate.gate, "serve", "--port", str(port), "--connections", "1", "--journal", "J"]
+    with subprocess.Popen(
+        words, cwd=gate.folder, preexec_fn=limit, stdout=subprocess.PIPE, stderr=subprocess.PIPE
+    ) as server:
+        with connected(port) as line:
+            line.sendall(LOGIN)
+            for number in range(8):
+                try:
+                    line.sendall(order(b"A%d" % number))
+                    accepted += heard(line, b"SA")
+                except ConnectionError:
+                    break
+        status, told = server.wait(PATIENCE_SECONDS), server.stderr.read()
+    is_right = status == 1 and 1 <= accepted < 8 and told.endswith(b"gate: write failed\nJ: " + TOO_LONG + b"\n")
+    is_right &= b"journal: a file may have %d bytes (ulimit -f), so this one has room for 4 records\n" % most in told
+    kept = gate.count("J")
+    with gate.server("--connections", "1", "--journal", "J") as (server, port):
+        is_right &= trade(port, b"B1") and server.wait(PATIENCE_SECONDS) == 0
+    is_right &= kept is not None and accepted < kept <= 4 and kept + 4 <= gate.count("J")
+    audited = subprocess.run(
+        [gate.gate, "script", "--audit", "A"], input=SCRIPT, capture_output=True, cwd=gate.folder, preexec_fn=limit, check=False
+    )
+    is_right &= (audited.returncode, audited.stderr) == (1, b"gate: write failed\nA: " + TOO_LONG + b"\n")
+    return is_right and gate.bytes_of("A") is None
 
 
 def hides_values(gate: Gate) -> bool:
@@ -428,7 +486,11 @@ def main() -> int:
     runs["the folder of a journal"] = syncs_folder
     runs["a journal that is cut"] = lambda gate: notices_change(gate, cut_last)
     runs["a journal that grows"] = lambda gate: notices_change(gate, add_byte)
+    runs["a journal that is renamed"] = lambda gate: notices_change(gate, rename, MOVED)
+    runs["a journal that is removed"] = lambda gate: notices_change(gate, remove, MOVED)
+    runs["a journal with a copy in its place"] = lambda gate: notices_change(gate, copy_over, MOVED)
     runs["a journal that is cut before the end"] = notices_change_at_end
+    runs["a journal as long as a file may be"] = goes_on_behind_limit
     runs["passwords and long values"] = hides_values
     are_right = True
     for what, run in runs.items():

@@ -2,15 +2,15 @@
 """The risk desk's page, seen by those who ask for it: over raw sockets, beside traders, and in a browser.
 
 A server with a page (`gate serve --status-port`) is asked for each of its paths: who gets in and who does not, what an officer
-of two accounts and a reader are shown, what is refused and makes no record, what becomes of bytes that are no request and of
-half a request, of wrong passwords and of more connections than it serves at once, and whether the figures are what a Prometheus
-server reads, with the times of a trader's reports in buckets, and with a journal what was written to it. Then a kill in a flood
-of 64 traders, and what a thousand idle connections to the page, and one that asks ten times a second, cost a trader. Last a
-browser opens the page with an officer's password, presses Kill by keyboard, and has to show the account as killed within two
-seconds, also in a flood; without a server its banner has to be in front of a narrow page, and no Kill button to be live, nor
-while the officer is logged in elsewhere; and amounts are shown to the last ten-thousandth of a dollar. Where no browser can be
-had that is told, and nothing fails. A line is printed for each point, and behind one that is not as wanted what was seen. The
-status is 1 where there is such a one. Run as
+of two accounts and a reader are shown, what is refused and makes no record, what becomes of bytes that are no request, of
+those that name a foreign host, and of half a request, of wrong passwords and of more connections than it serves at once, and
+whether the figures are what a Prometheus server reads, with the times of a trader's reports in buckets, and with a journal
+what was written to it. Then a kill in a flood of 64 traders, and what a thousand idle connections to the page, and one that
+asks ten times a second, cost a trader. Last a browser opens the page with an officer's password, presses Kill by keyboard, and
+has to show the account as killed within two seconds, also in a flood; without a server its banner has to be in front of a
+narrow page, and no Kill button to be live, nor while the officer is logged in elsewhere; and amounts are shown to the last
+ten-thousandth of a dollar. Where no browser can be had that is told, and nothing fails. A line is printed for each point, and
+behind one that is not as wanted what was seen. The status is 1 where there is such a one. Run as
 
   tests/page/try.py [GATE]
   tests/page/try.py [GATE] --slack 5                    costs may be five times as high
@@ -66,6 +66,7 @@ REFUSED = b"HTTP/1.1 401 Unauthorized\r\nContent-Type: text/plain; charset=utf-8
     b"X-Content-Type-Options: nosniff\r\nReferrer-Policy: no-referrer\r\n" \
     b'WWW-Authenticate: Basic realm="Boskurige", charset="UTF-8"\r\n\r\n' + STRANGER.encode() + b"\n"
 NO_REQUEST = "this is no request that is served here"
+FOREIGN = "the page is served by the names 127.0.0.1, localhost and [::1] alone"
 NO_TOKEN = "the page is of an earlier run of the server: try again"
 NO_POWER = "you may not kill this account"
 ELSEWHERE = "you are logged in elsewhere: kill from there, or log out there"
@@ -154,6 +155,32 @@ def bad_bytes(server: Server, points: Points) -> None:
             pieces.append(piece)
     answer = Answer(b"".join(pieces))
     points.look("a request that comes a byte at a time is answered", answer.status == 200 and answer.is_whole, answer)
+
+
+def hosts(server: Server, points: Points) -> None:
+    """Requests by the names of the machine itself, with a port and without one, and by others: those are shown nothing, and kill
+    nobody, whoever's password is with them."""
+    state, kill = request_for("/state.json", OLGA), f"account=ALFA&token={server.state()['token']}"
+    host = f"Host: {HOST}\r\n".encode()
+    for name in ("localhost", "LOCALHOST", "127.0.0.1", "127.8.9.255", "[::1]"):
+        answers = [Answer(exchanged(server.page, state.replace(host, f"Host: {name}{port}\r\n".encode())))
+                   for port in ("", f":{server.page}", ":1", ":")]
+        points.look(f"a request by the name {name} is answered", all(one.status == 200 for one in answers), *answers)
+    records = server.state()["record"]
+    for name in (
+        "evil.example", "localhost.evil.example", "evil.localhost", "evil.example:127.0.0.1", "127.0.0.1.evil.example", "127.0.0.1@evil",
+        "localhostile", "localhost:9101.evil.example", "localhost:x", "[::1]evil.example", "[::2]", "::1", "127.0.0", "127.0.0.256",
+        "127.0.0.01", "128.0.0.1", "0.0.0.0", "10.0.0.1", ":9101", "",
+    ):
+        foreign = f"Host: {name}\r\n".encode()
+        asks = [state, request_for("/healthz"), request_for("/", OLGA), request_for("/nothing"),
+                request_for("/kill", OLGA, method="POST", body=kill), request_for("/healthz").replace(b"HTTP/1.1", b"HTTP/1.0")]
+        answers = [Answer(exchanged(server.page, ask.replace(host, foreign))) for ask in asks]
+        points.look(f"whatever is asked by the name {name or 'of nobody'} is 421", all(one.says(421, FOREIGN) for one in answers), *answers)
+    after = server.state()
+    points.look("and nothing is killed by that", not after["accounts"][0]["killed"] and after["record"] == records, after)
+    answer = Answer(exchanged(server.page, state.replace(host, b"").replace(b"HTTP/1.1", b"HTTP/1.0")))
+    points.look("HTTP/1.0 needs no name", answer.status == 200, answer)
 
 
 def by_curl(server: Server, folder: Path, points: Points) -> None:
@@ -442,6 +469,7 @@ def requests(gate: str, folder: Path, points: Points) -> None:
         refused_kills(server, points)
         kill_requests(server, points)
         bad_bytes(server, points)
+        hosts(server, points)
         by_curl(server, folder, points)
         too_many(server, points)
         records = server.state()["record"]

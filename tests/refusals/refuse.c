@@ -1,5 +1,6 @@
-/* Refuses what a program asks of the allocator, from one call to another, as REFUSE says ("7", "7-9"), and writes how
-   many calls there were into the file that REFUSE_COUNT names. Built and preloaded by refusing.py. */
+/* Refuses what a program asks of the allocator, from one call to another, as REFUSE says ("7", "7-9"), and all while there is
+   a file of the name that REFUSE_WHILE tells, and writes how many calls there were into the file that REFUSE_COUNT names.
+   Built and preloaded by refusing.py. */
 #define _GNU_SOURCE
 #include <dlfcn.h>
 #include <errno.h>
@@ -11,6 +12,7 @@
 #include <unistd.h>
 
 static long calls, first, last;
+static const char *signal_file;
 static void *(*next_malloc)(size_t);
 static void *(*next_realloc)(void *, size_t);
 static void *(*next_aligned_alloc)(size_t, size_t);
@@ -26,8 +28,10 @@ static int is_refused(void) {
         const char *behind = told ? strchr(told, '-') : 0;
         first = told ? atol(told) : 0;
         last = behind ? atol(behind + 1) : first;
+        signal_file = getenv("REFUSE_WHILE");
     }
     long call = __atomic_add_fetch(&calls, 1, __ATOMIC_SEQ_CST);
+    if (signal_file && access(signal_file, F_OK) == 0) return 1;
     return first && call >= first && call <= last;
 }
 

@@ -58,6 +58,10 @@ class Shim:
         )
         return Run(done.returncode, done.stdout, done.stderr, int(self.count.read_text()))
 
+    def told(self, signal_file: Path) -> dict[str, str]:
+        """The environment of a program to which all is refused while there is such a file."""
+        return {**os.environ, "LD_PRELOAD": self.library, "REFUSE_WHILE": str(signal_file)}
+
     def run_from(self, words: list[str], given: bytes, first: int) -> Run:
         """Runs a program with each allocation refused from this one on."""
         return self.run(words, given, f"{first}-{2**62}")

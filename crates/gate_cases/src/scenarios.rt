@@ -9,7 +9,7 @@ use gx_audit::{Resumed, resume};
 use gx_audit_bytes::AuditVersion::Two;
 use gx_audit_bytes::write_header;
 use gx_case_parts::put_audit;
-use gx_journal::Journaled;
+use gx_journal::{JournalRoom, Journaled};
 use gx_pass::GateName;
 use gx_policy::Policy;
 use gx_records::{ShowsRecords, ShowsState};
@@ -92,9 +92,13 @@ pub(crate) fn run_at_gate<
     requires front { pass.held.front ≡ [] }
     requires none_added { pass.added ≡ 0 }
 {
+    let Ok(room) = JournalRoom::new(alloc) else {
+        shared.release();
+        return out.mark_incomplete();
+    };
     let device = ShortWriter::new(alloc, case.limits);
     let door: Journaled<'_, SharedGate<G, N>, ShortWriter, Brand> = Journaled::new(
-        alloc, Two, &shared, pass, 0, device,
+        room, Two, &shared, pass, 0, device,
     );
     let failure = run_scenario(
         rt,

@@ -32,5 +32,15 @@ pub bytes_on : (version : AuditVersion) (records : List RecordData) (i : ℕ) (r
 bytes_on version records i r d bytes more within is written put =
     one_more version (take i records) (take (i + 1) records) r bytes more written put (one_on records i r d within is)
 
+-- the same, behind what stood there before
+pub bytes_behind : (version : AuditVersion) (records : List RecordData) (i : ℕ) (r d : RecordData) (before bytes more : List ℕ) → i < length records → r ≡ get_or records i d
+    → bytes ≡ before ++ all_bytes version (take i records) → more ≡ bytes ++ record_bytes version r → more ≡ before ++ all_bytes version (take (i + 1) records)
+bytes_behind version records i r d before bytes more within is written put =
+    put
+    ∙ ap (λ (bs : List ℕ). bs ++ record_bytes version r) written
+    ∙ append_assoc before (all_bytes version (take i records)) (record_bytes version r)
+    ∙ ap (λ (bs : List ℕ). before ++ bs)
+    (bytes_on version records i r d (all_bytes version (take i records)) (all_bytes version (take i records) ++ record_bytes version r) within is refl refl)
+
 pub shown_on : (version : AuditVersion) (records : List RecordData) (i : ℕ) (r d : RecordData) → i < length records → r ≡ get_or records i d → AreShown version (take i records) → IsRecordShown version r → AreShown version (take (i + 1) records)
 shown_on version records i r d within is are shown = one_more_shown version (take i records) (take (i + 1) records) r are shown (one_on records i r d within is)

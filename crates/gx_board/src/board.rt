@@ -1,6 +1,6 @@
 //! What follows a shared gate's records for a risk desk's page.
 
-ghost use Rattle.std.specs.Prelude.{◌≡◌, IfOk, IfSome};
+ghost use Rattle.std.specs.Prelude.{◌≡◌, ◌≤◌, length, IfOk, IfSome};
 ghost use mathlib.Core.List.{IsPrefix};
 ghost use Rattle.gx_history.specs.Verdicts.{IsLegal};
 ghost use Rattle.gx_pass.specs.Views.{mine};
@@ -108,6 +108,15 @@ impl<D: Door, G: ShowsRecords + ShowsState> Board<D, G> {
                 Err(refused) => (Board::new(pass, None), Err(refused)),
             },
         }
+    }
+
+    /// How many records there are: at least as many as the pass has met.
+    pub fn length(&mut self, door: &D) -> u64
+        ensures front { self.new.front ≡ self.old.front }
+        ensures own { mine self.new ≡ mine self.old }
+        ensures met { length self.new.front ≤ result }
+    {
+        door.length(&mut self.pass)
     }
 
     /// Lets it go.

@@ -603,8 +603,8 @@ pub(crate) const DESK: Subcommand = Subcommand {
             name: "reconnect",
             value: "",
             kind: Kind::Flag,
-            help: "Where the line breaks, connect again, each second for a minute, and go on; what was asked is not asked \
-                   again, but for kills of several accounts",
+            help: "Where the line breaks, connect again, each second and 60 times since the last answer, and go on; \
+                   what was asked is not asked again, but for kills of several accounts",
         },
         Argument {
             name: WORDS,

@@ -16,16 +16,39 @@ use std::time::Clock;
 pub const NO_ACCOUNTS: &str =
     "kill --all wants --accounts A,B,C, or --status-port P or --policy FILE, which have them";
 
+/// So many lines are obeyed at the most before it is looked again whether anything is heard.
+const LINES_AT_A_TURN: usize = 4_096;
+
 impl<S: Read + Write + Drop, O: Write + Drop, E: Write + Drop> Run<S, O, E> {
-    /// Obeys the command or the next line, if nothing waits for an answer.
-    pub(crate) fn obey_next<R: Wait + Clock>(
+    /// Obeys the command and the lines that have come, up to the first for which anything is waited for: so lines that ask
+    /// nothing wait for nothing.
+    pub(crate) fn obey_lines<R: Wait + Clock>(
         &mut self,
         rt: &R,
         lines: &Receiver<Option<Vec<u8>>, Global>,
     ) -> Result<(), Fault> {
-        if self.phase != Phase::Talking || !self.operator.waiting().is_empty() {
-            return Ok(());
+        for _ in 0..LINES_AT_A_TURN {
+            if !self.is_free() || !self.obey_next(rt, lines)? {
+                break;
+            }
         }
+        Ok(())
+    }
+
+    /// Whether the next line may be obeyed: nothing is waited for, and what became of all that was asked is told.
+    fn is_free(&self) -> bool {
+        self.phase == Phase::Talking
+            && !self.page.is_wanted
+            && !self.has_kills
+            && self.operator.waiting().is_empty()
+    }
+
+    /// Obeys the command or the next line. Answers whether there was one.
+    fn obey_next<R: Wait + Clock>(
+        &mut self,
+        rt: &R,
+        lines: &Receiver<Option<Vec<u8>>, Global>,
+    ) -> Result<bool, Fault> {
         match self.command.take() {
             Some(line) => self.obey(rt, line.as_slice()),
             None if self.unconfirmed.is_some() => self.confirm(rt, lines),
@@ -33,21 +56,27 @@ impl<S: Read + Write + Drop, O: Write + Drop, E: Write + Drop> Run<S, O, E> {
         }
     }
 
-    /// Obeys the next of the lines that come, if one has come.
+    /// Obeys the next of the lines that come. Answers whether one has come.
     fn obey_line<R: Wait + Clock>(
         &mut self,
         rt: &R,
         lines: &Receiver<Option<Vec<u8>>, Global>,
-    ) -> Result<(), Fault> {
+    ) -> Result<bool, Fault> {
         if self.is_single && !self.operator.is_watching() {
-            return self.leave(rt);
+            return self.part(rt);
         }
         match lines.try_recv(rt) {
             Ok(Some(line)) => self.obey(rt, line.as_slice()),
-            Ok(None) => self.leave(rt),
-            Err(error) if error.is_empty() => Ok(()),
-            Err(_) => self.leave(rt),
+            Ok(None) => self.part(rt),
+            Err(error) if error.is_empty() => Ok(false),
+            Err(_) => self.part(rt),
         }
+    }
+
+    /// Logs out, since no line comes any more.
+    pub(crate) fn part<R: Clock>(&mut self, rt: &R) -> Result<bool, Fault> {
+        self.leave(rt)?;
+        Ok(false)
     }
 
     /// Waits for the end of the lines, behind the end of the session: none can be obeyed any more.
@@ -65,14 +94,13 @@ impl<S: Read + Write + Drop, O: Write + Drop, E: Write + Drop> Run<S, O, E> {
         }
     }
 
-    fn obey<R: Clock>(&mut self, rt: &R, line: &[u8]) -> Result<(), Fault> {
+    /// Obeys this line. Answers that there was one.
+    fn obey<R: Clock>(&mut self, rt: &R, line: &[u8]) -> Result<bool, Fault> {
         match Wish::read(line) {
-            Ok(wish) => self.obey_wish(rt, &wish, line),
-            Err(wrong) => {
-                self.tell_wrong(wrong);
-                Ok(())
-            }
+            Ok(wish) => self.obey_wish(rt, &wish, line)?,
+            Err(wrong) => self.tell_wrong(wrong),
         }
+        Ok(true)
     }
 
     /// Does what the line asks for, once the page was asked where that is needed.

@@ -110,12 +110,16 @@ impl<S: Read + Write + Drop, O: Write + Drop, E: Write + Drop> Run<S, O, E> {
     /// A Canceled that the gate sends again answers no Cancel of this run. Any other report that it sends again has a tag or a
     /// token of its own; and where it has sent none before, the first is no Canceled.
     fn hear_report(&mut self, number: u64, report: &Report) -> Result<(), Fault> {
+        let waiting = self.operator.waiting().len();
         let line = if self.repeated == Some(number) && is_canceled(&report.message) {
             self.operator
                 .earlier_line(report.timestamp, &report.message)?
         } else {
             self.operator.hear(report.timestamp, &report.message)?
         };
+        if self.operator.is_watching() || self.operator.waiting().len() < waiting {
+            self.is_answered = true;
+        }
         match line {
             Some(line) => self.show(line.as_slice()),
             None => Ok(()),

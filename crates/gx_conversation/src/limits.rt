@@ -69,29 +69,30 @@ impl<S: Read + Write + Drop, O: Write + Drop, E: Write + Drop> Run<S, O, E> {
         Ok(())
     }
 
-    /// Sends what waits for a yes, where the next line is one; anything else sends nothing.
+    /// Sends what waits for a yes, where the next line is one; anything else sends nothing. Answers whether a line has come.
     pub(crate) fn confirm<R: Wait + Clock>(
         &mut self,
         rt: &R,
         lines: &Receiver<Option<Vec<u8>>, Global>,
-    ) -> Result<(), Fault> {
+    ) -> Result<bool, Fault> {
         let line = match lines.try_recv(rt) {
             Ok(line) => line,
-            Err(error) if error.is_empty() => return Ok(()),
+            Err(error) if error.is_empty() => return Ok(false),
             Err(_) => None,
         };
         let wished = self.unconfirmed.take();
         match (wished, &line) {
-            (Some(wish), Some(text)) if text.as_slice() == b"yes".as_slice() => return self.ask(
-                rt, &wish,
-            ),
+            (Some(wish), Some(text)) if text.as_slice() == b"yes".as_slice() => {
+                self.ask(rt, &wish)?;
+                return Ok(true);
+            }
             _ => {}
         }
         self.has_bad_words = true;
         let _ = self.err.write_all(b"gate: nothing was sent\n");
         if line.is_none() {
-            return self.leave(rt);
+            return self.part(rt);
         }
-        Ok(())
+        Ok(true)
     }
 }

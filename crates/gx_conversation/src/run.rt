@@ -1,5 +1,7 @@
 //! A run over a stream.
 
+ghost use Rattle.std.specs.Prelude.{◌≡◌, false};
+
 use crate::fault::Fault;
 use crate::named::{all_name_orders, named_order};
 use crate::page::{PageUse, Pause};
@@ -113,6 +115,8 @@ pub struct Run<S: Drop, O: Drop, E: Drop> {
     pub(crate) is_taken_up: bool,
     /// Whether anything was asked on a line that broke, and never answered.
     pub(crate) is_lost: bool,
+    /// Whether an answer was heard since `take_answered` was called last: where it watches, any report is one.
+    pub(crate) is_answered: bool,
     /// When something was sent last.
     pub(crate) sent: Timer,
     /// When something was heard last.
@@ -158,6 +162,7 @@ impl<S: Read + Write + Drop, O: Write + Drop, E: Write + Drop> Run<S, O, E> {
             repeated: None,
             is_taken_up: false,
             is_lost: false,
+            is_answered: false,
             sent: now,
             heard: now,
             asked: now,
@@ -180,6 +185,17 @@ impl<S: Read + Write + Drop, O: Write + Drop, E: Write + Drop> Run<S, O, E> {
             }
         }
         Ok(())
+    }
+
+    /// Whether anything that was asked was answered since this was called last: a login is no answer. Where it watches, any
+    /// report is one.
+    pub fn take_answered(&mut self) -> bool
+        ensures was { result ≡ self.old.is_answered }
+        ensures taken { self.new.is_answered ≡ false }
+    {
+        let was = self.is_answered;
+        self.is_answered = false;
+        was
     }
 
     /// Tells that the line broke, and that the gate is called again.
@@ -256,7 +272,7 @@ impl<S: Read + Write + Drop, O: Write + Drop, E: Write + Drop> Run<S, O, E> {
         self.read_reports(rt)?;
         self.keep_time(rt)?;
         self.settle_kills()?;
-        self.obey_next(rt, lines)
+        self.obey_lines(rt, lines)
     }
 
     pub(crate) fn send<R: Clock>(&mut self, rt: &R, packet: &[u8]) -> Result<(), Fault> {

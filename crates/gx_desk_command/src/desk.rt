@@ -13,7 +13,7 @@ use gx_text::Form;
 use gx_units::{AccountName, OutOfMemory, Password, SessionName, UserName, padded};
 use std::alloc::Global;
 use std::env::VarError;
-use std::io::{BufRead, IsTerminal, Write};
+use std::io::{BufRead, BufReader, IsTerminal, Write};
 use std::net::{Net, TcpStream};
 use std::process::ExitCode;
 use std::sync::Wait;
@@ -27,11 +27,11 @@ const READ_TIMEOUT_MILLIS: u64 = 50;
 /// A write of which the gate takes nothing for so many milliseconds fails.
 const WRITE_TIMEOUT_MILLIS: u64 = 5_000;
 
-/// So many times, a second apart, the gate is called again where the line broke.
+/// So many times, a second apart, the gate is called again where the line broke, since it answered anything last.
 const CALLS: u32 = 60;
 
 /// So many lines of standard input are read ahead.
-const LINES_AHEAD: usize = 64;
+const LINES_AHEAD: usize = 1_024;
 
 /// The nanoseconds of a millisecond, and the milliseconds of a day.
 const NANOS_A_MILLISECOND: u64 = 1_000_000;
@@ -189,14 +189,24 @@ fn send_lines<I: BufRead, R: Wait>(
     let _ = to.send(rt, None);
 }
 
+/// Sends the lines of standard input, which is read in pieces: nobody else reads it. Where there is no memory for a piece, none
+/// come.
+fn send_input<R: Wait>(rt: &R, host: &HostRuntime, to: &Sender<Option<Vec<u8>>, Global>) {
+    match BufReader::new(host.alloc(), host.stdin()) {
+        Ok(mut input) => send_lines(rt, host.alloc(), &mut input, to),
+        Err(_) => {
+            let _ = to.send(rt, None);
+        }
+    }
+}
+
 /// Starts the thread that reads standard input.
 fn start_input<R: Threads + Wait + Copy + Send + 'static>(
     rt: R,
     host: HostRuntime,
     to: Sender<Option<Vec<u8>>, Global>,
 ) -> Result<(), OutOfMemory> {
-    let alloc = host.alloc();
-    match thread::spawn(&rt, move || send_lines(&rt, alloc, &mut host.reader(), &to)) {
+    match thread::spawn(&rt, move || send_input(&rt, &host, &to)) {
         Ok(_) => Ok(()),
         Err(_) => Err(OutOfMemory),
     }
@@ -276,17 +286,25 @@ fn call<'a, R: Net<Stream = TcpStream>>(rt: &R, desk: &Desk) -> Result<TcpStream
     }
 }
 
-/// Goes on over a new line to the gate, for which it is called each second for a minute.
+/// Goes on over a new line to the gate, for which it is called each second: so many calls were made since the break behind which
+/// it answered anything last, and no more than `CALLS` are made.
 fn call_again<R, O: Write + Drop, E: Write + Drop>(
     rt: &R,
     desk: &Desk,
     run: &mut Run<TcpStream, O, E>,
+    calls: &mut u32,
 ) -> Result<(), Fault>
 where
     R: Net<Stream = TcpStream> + Wait + Clock,
 {
-    run.tell_broken();
-    for _ in 0..CALLS {
+    if run.take_answered() {
+        *calls = 0;
+    }
+    if *calls < CALLS {
+        run.tell_broken();
+    }
+    for made in *calls..CALLS {
+        *calls = made + 1;
         thread::sleep(rt, Duration::from_secs(1));
         if let Ok(stream) = call(rt, desk) {
             if run.take_up(rt, stream).is_ok() {
@@ -332,11 +350,12 @@ where
     R: Net<Stream = TcpStream> + Wait + Clock,
 {
     run.log_in(rt)?;
+    let mut calls = 0;
     for _ in rt.forever() {
         match run.follow(rt, lines) {
             Ok(Pause::Over) => break,
             Ok(Pause::WantsPage) => ask_page(rt, host, desk, login, run),
-            Err(Fault::LineBroke) if desk.reconnects => call_again(rt, desk, run)?,
+            Err(Fault::LineBroke) if desk.reconnects => call_again(rt, desk, run, &mut calls)?,
             Err(fault) => return Err(fault),
         }
     }

@@ -1,6 +1,6 @@
 //! What threads ask of a gate that they share.
 
-ghost use Rattle.std.specs.Prelude.{◌≡◌, ◌≢◌, ◌↔◌, ◌+◌, ◌≤◌, length, IsTrue, IfErr, IfNone, IfOk, IfSome, OnErr, OnOk, Some, None, is_some};
+ghost use Rattle.std.specs.Prelude.{◌≡◌, ◌≢◌, ◌↔◌, ◌+◌, ◌≤◌, length, IsTrue, IfErr, IfNone, IfOk, IfSome, OnErr, OnOk, Some, None, is_some, vec_capacity};
 ghost use Rattle.gx_units.specs.Spelling.{folded_user};
 ghost use Rattle.gx_history.specs.declared.record.Request.TheVariants as requests;
 ghost use Rattle.gx_history.specs.{InForce.line_of, Showing.has_its_first};
@@ -218,6 +218,23 @@ pub trait Door {
         ensures records { IfOk result.1
             (λ v. v.items ≡ slice (observed result.0).front from most) }
         ensures adds_none { added result.0 ≡ added pass };
+
+    /// Copies the records from this number on, 0 counting as 1, and at most so many, into this list, in place of what stands there.
+    /// Takes no memory, so that it is never refused.
+    fn copy_records<R: Wait>(
+        &self,
+        rt: &R,
+        pass: Self::Pass,
+        from: u64,
+        most: u64,
+        list: &mut Vec<Record>,
+    ) -> Self::Pass
+        requires room { most ≤ vec_capacity list.old }
+        ensures later { IsLater policy (observed pass) (observed result) }
+        ensures own { mine (observed result) ≡ mine (observed pass) }
+        ensures records { list.new.items ≡ slice (observed result).front from most }
+        ensures room { vec_capacity list.new ≡ vec_capacity list.old }
+        ensures adds_none { added result ≡ added pass };
 
     /// Whether so many of the day's first records may be told: a door that keeps its records elsewhere has them all there. Answers
     /// false where they are not and can't be kept any more, or where there are fewer. Whoever tells of records asks before, with

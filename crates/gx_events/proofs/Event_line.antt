@@ -1,10 +1,11 @@
 -- Each event is one line.
-use Rattle.std.proofs.{Common.{◌≡◌, ℕ, zero, suc, ◌-◌, ◌/◌, ◌%◌, Bool, true, false, not, cond, List, [], ◌∷◌, ◌++◌, codes, decimal, length, replicate, refl, ◌∙◌, ap, sym, append_assoc, arith}, lemmas.{Bool.Decides.nat_tests, List.Folds.list_all-append}}
-use Rattle.std.specs.{Prelude.{◌==◌, ◌&&◌, ◌||◌, flat_map, Option, Some, None}, Fmt.{digits, digits_onto, digit_glyph}, List.list_all}
+use Rattle.std.proofs.{Common.{◌≡◌, ℕ, zero, suc, ◌-◌, ◌/◌, ◌%◌, Bool, true, false, not, cond, List, [], ◌∷◌, ◌++◌, codes, decimal, length, replicate, refl, ◌∙◌, ap, sym, append_assoc, true≢false, arith}, lemmas.{Bool.Decides.nat_tests, List.Folds.list_all-append}}
+use Rattle.std.specs.{Prelude.{◌==◌, ◌&&◌, ◌||◌, flat_map, nat_lt, Option, Some, None}, Fmt.{digits, digits_onto, digit_glyph}, List.list_all, Option.option_map_or}
+use Rattle.gx_money.specs.Amounts.{cents_text, comma, dollars_text, grouped}
 use Rattle.gx_units.specs.Spelling.{without_right_spaces, is_visible}
 use Rattle.gx_desk.specs.{declared.Action.Action, Names.command_word}
-use Rattle.gx_text.specs.{Moments.{minute_text, moment_text, with_zeros}, Shown.{hex_digit, hex_pair, is_printed, json_byte, shown_byte}, declared.{moments.Decimals.{TheVariants.{Six, Nine}, Decimals}, form.Form.TheVariants.{Text, Json}}}
-use Rattle.gx_events.specs.{declared.event.Event.Event, Words.{asked_text, done_text, event_text}, Fields.{event_fields, named_fields}, Laws.EventsAreLines, Lines.{event_line, record_field, record_text}}
+use Rattle.gx_text.specs.{Moments.{minute_text, moment_text, with_zeros}, Shown.{hex_digit, hex_pair, is_printed, json_byte, shown_byte, shown_name}, declared.{moments.Decimals.{TheVariants.{Six, Nine}, Decimals}, form.Form.TheVariants.{Text, Json}}}
+use Rattle.gx_events.specs.{declared.{event.Event.Event, limits.RuleLimit.RuleLimit}, Known.limit_in_entry, Words.{asked_text, done_text, event_text, from_text, is_of_money, limit_text, to_text}, Fields.{event_fields, named_fields}, Laws.EventsAreLines, Lines.{event_line, record_field, record_text}}
 
 -- without a line's end
 abbrev inside : List ℕ → Bool
@@ -50,6 +51,62 @@ minute_inside minute =
     both (with_zeros 2 (minute / 60) ++ codes ":") (with_zeros 2 (minute % 60))
     (both (with_zeros 2 (minute / 60)) (codes ":") (padded_inside 2 (minute / 60)) refl)
     (padded_inside 2 (minute % 60))
+
+-- money
+
+comma_inside : (behind : ℕ) → inside (comma behind) ≡ true
+comma_inside behind = by_kind (nat_lt 0 behind && behind % 3 == 0)
+  where
+    by_kind : (due : Bool) → inside (cond due (codes ",") []) ≡ true
+    by_kind true = refl
+    by_kind false = refl
+
+grouped_inside : (ds : List ℕ) → inside ds ≡ true → inside (grouped ds) ≡ true
+grouped_inside [] are = refl
+grouped_inside (d ∷ ds) are =
+    one d (comma (length ds) ++ grouped ds) (first (not (d == 10)) (inside ds) are)
+    (both (comma (length ds)) (grouped ds) (comma_inside (length ds)) (grouped_inside ds (rest (not (d == 10)) (inside ds) are)))
+  where
+    first : (a b : Bool) → (a && b) ≡ true → a ≡ true
+    first true b is = refl
+    first false b is = is
+
+    rest : (a b : Bool) → (a && b) ≡ true → b ≡ true
+    rest true b is = is
+    rest false b is = absurd (true≢false (sym is))
+
+cents_inside : (part : ℕ) → inside (cents_text part) ≡ true
+cents_inside part = by_kind (part % 100 == 0)
+  where
+    by_kind : (whole : Bool) → inside (cond whole (with_zeros 2 (part / 100)) (with_zeros 4 part)) ≡ true
+    by_kind true = padded_inside 2 (part / 100)
+    by_kind false = padded_inside 4 part
+
+dollars_inside : (amount : ℕ) → inside (dollars_text amount) ≡ true
+unfolding dollars_text
+dollars_inside amount =
+    both (codes "$" ++ grouped (decimal (amount / 10000)) ++ codes ".") (cents_text (amount % 10000))
+    (both (codes "$" ++ grouped (decimal (amount / 10000))) (codes ".")
+    (both (codes "$") (grouped (decimal (amount / 10000))) refl (grouped_inside (decimal (amount / 10000)) (decimal_inside (amount / 10000))))
+    refl)
+    (cents_inside (amount % 10000))
+
+limit_inside : (earlier : Option RuleLimit) (limit : ℕ) → inside (limit_text earlier limit) ≡ true
+limit_inside earlier limit = by_kind (is_of_money earlier)
+  where
+    by_kind : (is_money : Bool) → inside (cond is_money (dollars_text limit) (decimal limit)) ≡ true
+    by_kind true = dollars_inside limit
+    by_kind false = decimal_inside limit
+
+to_inside : (earlier : Option RuleLimit) (limit : ℕ) → inside (to_text earlier limit) ≡ true
+to_inside earlier limit = limit_inside earlier limit
+
+from_inside : (earlier : Option RuleLimit) → inside (from_text earlier) ≡ true
+from_inside earlier = by_limit (limit_in_entry earlier)
+  where
+    by_limit : (limit : Option ℕ) → inside (option_map_or (λ l. codes " from " ++ limit_text earlier l) limit []) ≡ true
+    by_limit None = refl
+    by_limit (Some limit) = limit_inside earlier limit
 
 -- names
 
@@ -97,28 +154,33 @@ json_inside name = all_inside json_byte json_byte_inside (without_right_spaces n
 
 -- events
 
-done_inside : (action : Action) (earlier : Option ℕ) → inside (done_text action earlier) ≡ true
+done_inside : (action : Action) (earlier : Option RuleLimit) → inside (done_text action earlier) ≡ true
 unfolding done_text
 done_inside (Action.Kill account) earlier = simp (list_all-append, name_inside)
 done_inside (Action.Lift account) earlier = simp (list_all-append, name_inside)
-done_inside (Action.SetLimit rule limit) None = simp (list_all-append, name_inside, decimal_inside)
-done_inside (Action.SetLimit rule limit) (Some before) = simp (list_all-append, name_inside, decimal_inside)
+done_inside (Action.SetLimit rule limit) earlier =
+    both (codes "limit of " ++ shown_name rule.bytes ++ codes " set" ++ from_text earlier) (to_text earlier limit)
+    (both (codes "limit of " ++ shown_name rule.bytes ++ codes " set") (from_text earlier)
+    (both (codes "limit of " ++ shown_name rule.bytes) (codes " set") (name_inside rule.bytes) refl)
+    (from_inside earlier))
+    (to_inside earlier limit)
 done_inside (Action.Restrict rule stock) earlier = simp (list_all-append, name_inside)
 done_inside (Action.Unrestrict rule stock) earlier = simp (list_all-append, name_inside)
 done_inside (Action.Grant reader account) earlier = simp (list_all-append, name_inside)
 done_inside (Action.Revoke reader account) earlier = simp (list_all-append, name_inside)
 done_inside Action.CloseDay earlier = refl
 
-asked_inside : (action : Action) → inside (asked_text action) ≡ true
+asked_inside : (action : Action) (earlier : Option RuleLimit) → inside (asked_text action earlier) ≡ true
 unfolding asked_text
-asked_inside (Action.Kill account) = name_inside account.bytes
-asked_inside (Action.Lift account) = name_inside account.bytes
-asked_inside (Action.SetLimit rule limit) = simp (list_all-append, name_inside, decimal_inside)
-asked_inside (Action.Restrict rule stock) = simp (list_all-append, name_inside)
-asked_inside (Action.Unrestrict rule stock) = simp (list_all-append, name_inside)
-asked_inside (Action.Grant reader account) = simp (list_all-append, name_inside)
-asked_inside (Action.Revoke reader account) = simp (list_all-append, name_inside)
-asked_inside Action.CloseDay = refl
+asked_inside (Action.Kill account) earlier = name_inside account.bytes
+asked_inside (Action.Lift account) earlier = name_inside account.bytes
+asked_inside (Action.SetLimit rule limit) earlier =
+    both (codes "Set Limit of " ++ shown_name rule.bytes) (to_text earlier limit) (name_inside rule.bytes) (to_inside earlier limit)
+asked_inside (Action.Restrict rule stock) earlier = simp (list_all-append, name_inside)
+asked_inside (Action.Unrestrict rule stock) earlier = simp (list_all-append, name_inside)
+asked_inside (Action.Grant reader account) earlier = simp (list_all-append, name_inside)
+asked_inside (Action.Revoke reader account) earlier = simp (list_all-append, name_inside)
+asked_inside Action.CloseDay earlier = refl
 
 fields_inside : (action : Action) (earlier : Option ℕ) → inside (named_fields action earlier) ≡ true
 unfolding named_fields
@@ -139,7 +201,7 @@ text_inside (Event.LoggedOut user line) = simp (list_all-append, name_inside, de
 text_inside (Event.LoginDenied user line rule) = simp (list_all-append, name_inside, decimal_inside)
 text_inside (Event.MoreDenied count minute) = simp (list_all-append, minute_inside, decimal_inside)
 text_inside (Event.Commanded user action earlier) = simp (list_all-append, done_inside, name_inside)
-text_inside (Event.CommandDenied user action rule) = simp (list_all-append, asked_inside, name_inside)
+text_inside (Event.CommandDenied user action rule earlier) = simp (list_all-append, asked_inside, name_inside)
 text_inside (Event.RecordsUsed percent left) = simp (list_all-append, decimal_inside)
 text_inside (Event.LinesUsed percent left) = simp (list_all-append, decimal_inside)
 
@@ -160,7 +222,7 @@ json_fields_inside (Event.LoggedOut user line) = simp (list_all-append, json_ins
 json_fields_inside (Event.LoginDenied user line rule) = simp (list_all-append, json_inside, decimal_inside)
 json_fields_inside (Event.MoreDenied count minute) = simp (list_all-append, minute_inside, decimal_inside)
 json_fields_inside (Event.Commanded user action earlier) = simp (list_all-append, command_inside, json_inside, fields_inside)
-json_fields_inside (Event.CommandDenied user action rule) = simp (list_all-append, command_inside, json_inside, fields_inside)
+json_fields_inside (Event.CommandDenied user action rule earlier) = simp (list_all-append, command_inside, json_inside, fields_inside)
 json_fields_inside (Event.RecordsUsed percent left) = simp (list_all-append, decimal_inside)
 json_fields_inside (Event.LinesUsed percent left) = simp (list_all-append, decimal_inside)
 
@@ -170,7 +232,7 @@ record_text_inside (Event.LoggedOut user line) number = decimal_inside number
 record_text_inside (Event.LoginDenied user line rule) number = decimal_inside number
 record_text_inside (Event.MoreDenied count minute) number = refl
 record_text_inside (Event.Commanded user action earlier) number = decimal_inside number
-record_text_inside (Event.CommandDenied user action rule) number = decimal_inside number
+record_text_inside (Event.CommandDenied user action rule earlier) number = decimal_inside number
 record_text_inside (Event.RecordsUsed percent left) number = decimal_inside number
 record_text_inside (Event.LinesUsed percent left) number = decimal_inside number
 
@@ -180,7 +242,7 @@ record_field_inside (Event.LoggedOut user line) number = decimal_inside number
 record_field_inside (Event.LoginDenied user line rule) number = decimal_inside number
 record_field_inside (Event.MoreDenied count minute) number = refl
 record_field_inside (Event.Commanded user action earlier) number = decimal_inside number
-record_field_inside (Event.CommandDenied user action rule) number = decimal_inside number
+record_field_inside (Event.CommandDenied user action rule earlier) number = decimal_inside number
 record_field_inside (Event.RecordsUsed percent left) number = decimal_inside number
 record_field_inside (Event.LinesUsed percent left) number = decimal_inside number
 

@@ -4,7 +4,7 @@ use Rattle.gx_units.specs.declared.names.UserName.{UserName}
 use Rattle.gx_desk.specs.declared.Action.{Action}
 use Rattle.gx_policy.specs.Lists.{where_true}
 use Rattle.gx_history.specs.{declared.record.{Asked.Asked, RecordData.RecordData, Request.Request, Verdict.Verdict}, Requests.asked_of, Verdicts.day_limit}
-use Rattle.gx_events.specs.{declared.event.Event.Event, Known.{Known, denied_so_far, limit_named, login_line, minute_of}}
+use Rattle.gx_events.specs.{declared.{event.Event.Event, limits.RuleLimit.RuleLimit}, Known.{Known, denied_so_far, entry_named, login_line, minute_of}}
 
 -- a login: a denied one only where it is the first within its minute
 abbrev pub login_event : UserName → ℕ → Bool → Verdict → Option Event
@@ -18,14 +18,14 @@ logout_event user line Verdict.Granted = Some (Event.LoggedOut user line)
 logout_event user line other = None
 
 -- a command, granted or denied
-abbrev pub command_event : UserName → Option ℕ → Action → Verdict → Option Event
+abbrev pub command_event : UserName → Option RuleLimit → Action → Verdict → Option Event
 command_event user earlier action Verdict.Granted = Some (Event.Commanded user action earlier)
-command_event user earlier action (Verdict.Denied rule) = Some (Event.CommandDenied user action rule)
+command_event user earlier action (Verdict.Denied rule) = Some (Event.CommandDenied user action rule earlier)
 command_event user earlier action other = None
 
--- the limit that the command is to change
-abbrev pub earlier_limit : Known → Action → Option ℕ
-earlier_limit known (Action.SetLimit rule limit) = limit_named known.limits rule
+-- what is known of the limit that the command is to change
+abbrev pub earlier_limit : Known → Action → Option RuleLimit
+earlier_limit known (Action.SetLimit rule limit) = entry_named known.limits rule
 earlier_limit known other = None
 
 -- a request: orders and unreadable messages are not told

@@ -3,7 +3,7 @@ use Rattle.gx_desk.specs.{Names.command_word, declared.Action.Action}
 use Rattle.std.specs.Prelude.{ℕ, List, [], ◌++◌, codes, decimal, Option, Some, None}
 use Rattle.gx_policy.specs.RuleNames.{written_rule}
 use Rattle.gx_text.specs.{Moments.minute_text, Shown.json_name}
-use Rattle.gx_events.specs.declared.event.Event.{Event}
+use Rattle.gx_events.specs.{declared.event.Event.Event, Known.limit_in_entry}
 
 -- a event_key, behind what stands in front of it
 abbrev pub event_key : List ℕ → List ℕ
@@ -56,8 +56,8 @@ event_fields (Event.LoginDenied user line rule) =
     login_fields (codes "login_denied") user.bytes line ++ name_field (codes "denied_by") (written_rule rule)
 event_fields (Event.MoreDenied count minute) = count_fields (codes "more_logins_denied") minute count
 event_fields (Event.Commanded user action earlier) =
-    event_field (command_word action) ++ name_field (codes "user") user.bytes ++ named_fields action earlier
-event_fields (Event.CommandDenied user action rule) =
+    event_field (command_word action) ++ name_field (codes "user") user.bytes ++ named_fields action (limit_in_entry earlier)
+event_fields (Event.CommandDenied user action rule earlier) =
     event_field (command_word action ++ codes "_denied") ++ name_field (codes "user") user.bytes ++ named_fields action None
     ++ name_field (codes "denied_by") (written_rule rule)
 event_fields (Event.RecordsUsed percent left) = used_fields (codes "records_used") percent left

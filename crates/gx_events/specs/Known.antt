@@ -1,7 +1,7 @@
 -- What the log knows of the records so far.
 use Rattle.gx_history.specs.{Requests.{is_denied, asked_of, granted_action, is_login}, declared.«record».{Asked.Asked, RecordData.RecordData}, InForce.rules_in_force, Verdicts.last_moment}
-use Rattle.gx_policy.specs.{Kinds.limit_of, declared.policy.{FileRule.FileRule, PolicyData.PolicyData}, Lists.{behind_last, where_true}}
-use Rattle.std.specs.{Prelude.{ℕ, ◌+◌, ◌/◌, ◌==◌, Bool, not, ◌&&◌, max, min, fold, if◌then◌else◌, List, map, find, length, filter, Option, Some, is_some, unwrap_or, option_and_then, option_map}, Option.option_map_or, List.filter_map}
+use Rattle.gx_policy.specs.{Kinds.{kind_name, limit_of}, declared.{kinds.{ExposureLimit.ExposureLimit, KindName.KindName, OrderLimit.OrderLimit}, policy.{FileRule.FileRule, PolicyData.PolicyData}}, Lists.{behind_last, where_true}}
+use Rattle.std.specs.{Prelude.{ℕ, ◌+◌, ◌/◌, ◌==◌, Bool, true, false, not, ◌&&◌, max, min, fold, if◌then◌else◌, List, map, find, length, filter, Option, Some, is_some, unwrap_or, option_and_then, option_map}, Option.option_map_or, List.filter_map}
 use Rattle.gx_units.specs.{Names.same_rule, declared.names.RuleId.RuleId}
 use Rattle.gx_desk.specs.declared.Action.{Action}
 use Rattle.gx_events.specs.declared.limits.RuleLimit.{RuleLimit}
@@ -38,16 +38,30 @@ login_line r = option_map (λ (a : Asked). a.line) (login_step r)
 abbrev pub highest_line : List RecordData → ℕ
 highest_line records = fold max 0 (filter_map login_line records)
 
--- a rule's name and its limit, if it has one that Set Limit may change
+-- what a rule of this kind counts is a value, so that its limit is an amount of money
+abbrev pub counts_money : KindName → Bool
+counts_money (KindName.Order OrderLimit.Value) = true
+counts_money (KindName.Exposure ExposureLimit.GrossValue) = true
+counts_money other = false
+
+-- a rule's name, its limit, if it has one that Set Limit may change, and whether it is an amount of money
 abbrev pub limit_entry : FileRule → RuleLimit
-limit_entry rule = record { rule = rule.name; limit = limit_of rule.kind }
+limit_entry rule = record { rule = rule.name; limit = limit_of rule.kind; is_money = counts_money (kind_name rule.kind) }
 
 abbrev pub limits_of : List FileRule → List RuleLimit
 limits_of rules = map limit_entry rules
 
+-- what is known of the rule of this name, if there is one
+abbrev pub entry_named : List RuleLimit → RuleId → Option RuleLimit
+entry_named limits name = find (λ (l : RuleLimit). same_rule l.rule name) limits
+
+-- the limit that is known, if there is one
+abbrev pub limit_in_entry : Option RuleLimit → Option ℕ
+limit_in_entry entry = option_and_then (λ (l : RuleLimit). l.limit) entry
+
 -- the limit of the rule of this name
 abbrev pub limit_named : List RuleLimit → RuleId → Option ℕ
-limit_named limits name = option_and_then (λ (l : RuleLimit). l.limit) (find (λ (l : RuleLimit). same_rule l.rule name) limits)
+limit_named limits name = limit_in_entry (entry_named limits name)
 
 pub record Known : Type 0 where
   -- the limits in force
@@ -70,7 +84,7 @@ known_of policy records = record {
 
 -- the limit, set if the rule has this name and a limit
 abbrev pub limit_set : RuleId → ℕ → RuleLimit → RuleLimit
-limit_set name limit l = if same_rule l.rule name && is_some l.limit then record { rule = l.rule; limit = Some limit } else l
+limit_set name limit l = if same_rule l.rule name && is_some l.limit then record { rule = l.rule; limit = Some limit; is_money = l.is_money } else l
 
 -- the limits after a granted command
 abbrev pub limits_after : List RuleLimit → Action → List RuleLimit

@@ -7,9 +7,9 @@ use Rattle.gx_history.specs.declared.record.{RecordData.RecordData, Request.Requ
 use Rattle.gx_text.specs.declared.form.Form.TheVariants.{Text, Json}
 use Rattle.gx_events.specs.Lines.{log_of}
 
--- a policy with the rules GROSS, of 4,000,000 shares, and HALT
-abbrev pub policy_of_two_rules : PolicyData
-policy_of_two_rules = record {
+-- a policy with the rules GROSS, of 4,000,000 shares, CREDIT, of 30,000 dollars, and HALT
+abbrev pub policy_of_three_rules : PolicyData
+policy_of_three_rules = record {
   session = record { bytes = codes "GATE01    " };
   lifters = Two;
   accounts = [];
@@ -17,12 +17,20 @@ policy_of_two_rules = record {
   users = [];
   rules =
       record { name = record { bytes = codes "GROSS   " }; kind = RuleKind.Exposure ExposureLimit.GrossShares 4000000 Each; scope = Scope.All }
+      ∷ record { name = record { bytes = codes "CREDIT  " }; kind = RuleKind.Exposure ExposureLimit.GrossValue 300000000 Each; scope = Scope.All }
       ∷ record { name = record { bytes = codes "HALT    " }; kind = RuleKind.Listed ListKind.Halt []; scope = Scope.All }
       ∷ [];
 }
 
 abbrev pub gross : RuleId
 gross = record { bytes = codes "GROSS   " }
+
+abbrev pub credit : RuleId
+credit = record { bytes = codes "CREDIT  " }
+
+-- no rule of the policy has this name
+abbrev pub credits : RuleId
+credits = record { bytes = codes "CREDITS " }
 
 abbrev pub halt : RuleId
 halt = record { bytes = codes "HALT    " }
@@ -80,12 +88,21 @@ commands =
     ∷ shown_record 9 morning olga 7 (Request.Unreadable (record { length = 1; first = 63 })) (Verdict.Denied RuleName.G3)
     ∷ []
 
+-- the limit of a value, set twice, and asked for by an officer whose it is not; and that of a rule that is not there
+abbrev pub values : List RecordData
+values =
+    shown_record 1 morning olga 7 (command (Action.SetLimit credit 30000)) Verdict.Granted
+    ∷ shown_record 2 morning olga 7 (command (Action.SetLimit credit 9999999)) Verdict.Granted
+    ∷ shown_record 3 morning bob 6 (command (Action.SetLimit credit 12345678900)) (Verdict.Denied RuleName.Q3)
+    ∷ shown_record 4 morning bob 6 (command (Action.SetLimit credits 30000)) (Verdict.Denied RuleName.Q1)
+    ∷ []
+
 -- the first record at 90 hundredths of the day's records, with a login on the last line
 abbrev pub full : List RecordData
 full = shown_record 15099495 morning olga 65535 login Verdict.Granted ∷ []
 
 abbrev pub PeopleAreTold : Type 0
-PeopleAreTold = log_of Text policy_of_two_rules people ≡
+PeopleAreTold = log_of Text policy_of_three_rules people ≡
     codes "10:29:43.698373 OLGA logged in on line 7, record 1\n"
     ++ codes "10:29:43.698373 login of M\",\\x5c\\x20A on line 8 denied by L1, record 2\n"
     ++ codes "10:29:43.698373 limit of GROSS set from 4000000 to 5000000 by OLGA, record 5\n"
@@ -95,7 +112,7 @@ PeopleAreTold = log_of Text policy_of_two_rules people ≡
     ++ codes "24:00:01.000000 OLGA logged out on line 7, record 8\n"
 
 abbrev pub PeopleAreToldInJson : Type 0
-PeopleAreToldInJson = log_of Json policy_of_two_rules people ≡
+PeopleAreToldInJson = log_of Json policy_of_three_rules people ≡
     codes "{\"at\":\"10:29:43.698373412\",\"event\":\"login\",\"user\":\"OLGA\",\"line\":7,\"record\":1}\n"
     ++ codes "{\"at\":\"10:29:43.698373412\",\"event\":\"login_denied\",\"user\":\"M\\\",\\\\ A\",\"line\":8,\"denied_by\":\"L1\",\"record\":2}\n"
     ++ codes "{\"at\":\"10:29:43.698373412\",\"event\":\"limit\",\"user\":\"OLGA\",\"rule\":\"GROSS\",\"from\":4000000,\"to\":5000000,\"record\":5}\n"
@@ -105,7 +122,7 @@ PeopleAreToldInJson = log_of Json policy_of_two_rules people ≡
     ++ codes "{\"at\":\"24:00:01.000000000\",\"event\":\"logout\",\"user\":\"OLGA\",\"line\":7,\"record\":8}\n"
 
 abbrev pub CommandsAreTold : Type 0
-CommandsAreTold = log_of Text policy_of_two_rules commands ≡
+CommandsAreTold = log_of Text policy_of_three_rules commands ≡
     codes "10:29:43.698373 ALFA killed by OLGA, record 1\n"
     ++ codes "10:29:43.698373 Kill of ALFA by BOB denied by Q2, record 2\n"
     ++ codes "10:29:43.698373 Set Limit of GROSS to 9 by BOB denied by Q3, record 3\n"
@@ -115,13 +132,27 @@ CommandsAreTold = log_of Text policy_of_two_rules commands ≡
     ++ codes "10:29:43.698373 day closed by OLGA, record 8\n"
 
 abbrev pub CommandsAreToldInJson : Type 0
-CommandsAreToldInJson = log_of Json policy_of_two_rules (take 3 commands) ≡
+CommandsAreToldInJson = log_of Json policy_of_three_rules (take 3 commands) ≡
     codes "{\"at\":\"10:29:43.698373412\",\"event\":\"kill\",\"user\":\"OLGA\",\"account\":\"ALFA\",\"record\":1}\n"
     ++ codes "{\"at\":\"10:29:43.698373412\",\"event\":\"kill_denied\",\"user\":\"BOB\",\"account\":\"ALFA\",\"denied_by\":\"Q2\",\"record\":2}\n"
     ++ codes "{\"at\":\"10:29:43.698373412\",\"event\":\"limit_denied\",\"user\":\"BOB\",\"rule\":\"GROSS\",\"to\":9,\"denied_by\":\"Q3\",\"record\":3}\n"
 
+abbrev pub ValuesAreTold : Type 0
+ValuesAreTold = log_of Text policy_of_three_rules values ≡
+    codes "10:29:43.698373 limit of CREDIT set from $30,000.00 to $3.00 by OLGA, record 1\n"
+    ++ codes "10:29:43.698373 limit of CREDIT set from $3.00 to $999.9999 by OLGA, record 2\n"
+    ++ codes "10:29:43.698373 Set Limit of CREDIT to $1,234,567.89 by BOB denied by Q3, record 3\n"
+    ++ codes "10:29:43.698373 Set Limit of CREDITS to 30000 by BOB denied by Q1, record 4\n"
+
+abbrev pub ValuesAreToldInJson : Type 0
+ValuesAreToldInJson = log_of Json policy_of_three_rules values ≡
+    codes "{\"at\":\"10:29:43.698373412\",\"event\":\"limit\",\"user\":\"OLGA\",\"rule\":\"CREDIT\",\"from\":300000000,\"to\":30000,\"record\":1}\n"
+    ++ codes "{\"at\":\"10:29:43.698373412\",\"event\":\"limit\",\"user\":\"OLGA\",\"rule\":\"CREDIT\",\"from\":30000,\"to\":9999999,\"record\":2}\n"
+    ++ codes "{\"at\":\"10:29:43.698373412\",\"event\":\"limit_denied\",\"user\":\"BOB\",\"rule\":\"CREDIT\",\"to\":12345678900,\"denied_by\":\"Q3\",\"record\":3}\n"
+    ++ codes "{\"at\":\"10:29:43.698373412\",\"event\":\"limit_denied\",\"user\":\"BOB\",\"rule\":\"CREDITS\",\"to\":30000,\"denied_by\":\"Q1\",\"record\":4}\n"
+
 abbrev pub FullDaysAreTold : Type 0
-FullDaysAreTold = log_of Text policy_of_two_rules full ≡
+FullDaysAreTold = log_of Text policy_of_three_rules full ≡
     codes "10:29:43.698373 OLGA logged in on line 65535, record 15099495\n"
     ++ codes "10:29:43.698373 99 % of the day's lines are used, 0 are left, record 15099495\n"
     ++ codes "10:29:43.698373 90 % of the day's records are used, 1677721 are left, record 15099495\n"

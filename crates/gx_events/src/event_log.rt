@@ -7,7 +7,7 @@ ghost use Rattle.gx_events.specs.{Events.{earlier_limit, is_first_within, lines_
 
 use crate::event::Event;
 use crate::judged::{command_event, denies_login, login_event, login_line, logout_event};
-use crate::limits::Limits;
+use crate::limits::{Limits, RuleLimit};
 use crate::lines::append_line;
 use crate::reached::{records_used, used_at};
 use gx_desk::Action;
@@ -113,12 +113,12 @@ impl EventLog {
         }
     }
 
-    /// The limit that the command is to change.
-    fn earlier_limit(&self, action: &Action) -> Option<u64>
+    /// What is known of the limit that the command is to change.
+    fn earlier_limit(&self, action: &Action) -> Option<RuleLimit>
         ensures { result ≡ earlier_limit self.now.known action.now }
     {
         match action {
-            Action::SetLimit(rule, _) => self.limits.limit(*rule),
+            Action::SetLimit(rule, _) => self.limits.entry(*rule),
             _ => None,
         }
     }

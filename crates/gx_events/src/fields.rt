@@ -5,6 +5,7 @@ ghost use Rattle.gx_desk.specs.{Names.command_word, declared.Action.TheVariants.
 ghost use Rattle.gx_events.specs.{Fields.{count_fields, event_field, event_fields, from_field, event_key, login_fields, minute_field, name_field, named_fields, number_field, used_fields}, declared.event.Event.TheVariants.{LoginDenied, MoreDenied, Commanded, CommandDenied}};
 
 use crate::event::Event;
+use crate::limits::{RuleLimit, limit_in_entry};
 use gx_desk::Action;
 use gx_policy::RuleName;
 use gx_text::{append, append_json_name, append_minute, append_number};
@@ -160,14 +161,14 @@ fn append_commanded_fields(
     text: &mut Vec<u8>,
     user: &UserName,
     action: &Action,
-    earlier: Option<u64>,
+    earlier: Option<RuleLimit>,
 ) -> Result<(), OutOfMemory>
     ensures { OnOk result (text.new.items
         ≡ text.old.items ++ event_fields (Commanded user.now action.now earlier)) }
 {
     append_event_field(text, action.word())?;
     append_name_field(text, b"user", &user.bytes)?;
-    append_named_fields(text, action, earlier)
+    append_named_fields(text, action, limit_in_entry(earlier))
 }
 
 /// Puts the key `event` at the end of the text: the word of the command, and that it is denied.
@@ -186,9 +187,10 @@ fn append_command_denied_fields(
     user: &UserName,
     action: &Action,
     rule: &RuleName,
+    earlier: Option<RuleLimit>,
 ) -> Result<(), OutOfMemory>
     ensures { OnOk result (text.new.items
-        ≡ text.old.items ++ event_fields (CommandDenied user.now action.now rule.now)) }
+        ≡ text.old.items ++ event_fields (CommandDenied user.now action.now rule.now earlier)) }
 {
     append_denied_field(text, action)?;
     append_name_field(text, b"user", &user.bytes)?;
@@ -224,8 +226,8 @@ pub(crate) fn append_event_fields(text: &mut Vec<u8>, event: &Event) -> Result<(
         Event::Commanded(user, action, earlier) => {
             append_commanded_fields(text, user, action, *earlier)
         }
-        Event::CommandDenied(user, action, rule) => {
-            append_command_denied_fields(text, user, action, rule)
+        Event::CommandDenied(user, action, rule, earlier) => {
+            append_command_denied_fields(text, user, action, rule, *earlier)
         }
         Event::RecordsUsed(percent, left) => {
             append_used_fields(text, b"records_used", *percent, *left)

@@ -4,6 +4,7 @@ ghost use Rattle.std.specs.Prelude.{◌≡◌};
 ghost use Rattle.gx_events.specs.{Events.{command_event, login_event, logout_event}, Known.{denies_login, login_line}};
 
 use crate::event::Event;
+use crate::limits::RuleLimit;
 use gx_desk::Action;
 use gx_history::record::{RecordData, Request, Step, Verdict};
 use gx_units::UserName;
@@ -54,10 +55,10 @@ pub(crate) fn logout_event(user: UserName, line: u16, verdict: &Verdict) -> Opti
     }
 }
 
-/// What is told of a command, with the limit that it was to change.
+/// What is told of a command, with what is known of the limit that it was to change.
 pub(crate) fn command_event(
     user: UserName,
-    earlier: Option<u64>,
+    earlier: Option<RuleLimit>,
     action: Action,
     verdict: &Verdict,
 ) -> Option<Event>
@@ -65,7 +66,7 @@ pub(crate) fn command_event(
 {
     match verdict {
         Verdict::Granted => Some(Event::Commanded(user, action, earlier)),
-        Verdict::Denied(rule) => Some(Event::CommandDenied(user, action, *rule)),
+        Verdict::Denied(rule) => Some(Event::CommandDenied(user, action, *rule, earlier)),
         _ => None,
     }
 }

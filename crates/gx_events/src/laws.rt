@@ -1,6 +1,6 @@
 //! Laws of the definitions, each as what a function without a body ensures.
 
-ghost use Rattle.gx_events.specs.{Laws.{EventsAreLines, LimitsAreInForce, LogsGoOn}, Sample.{CommandsAreTold, CommandsAreToldInJson, FullDaysAreTold, PeopleAreTold, PeopleAreToldInJson}};
+ghost use Rattle.gx_events.specs.{Laws.{EventsAreLines, LimitsAreInForce, LogsGoOn}, Sample.{CommandsAreTold, CommandsAreToldInJson, FullDaysAreTold, PeopleAreTold, PeopleAreToldInJson, ValuesAreTold, ValuesAreToldInJson}};
 
 /// A log is told in pieces: the lines of more records stand behind those of the earlier ones.
 pub fn logs_go_on()
@@ -23,5 +23,7 @@ pub fn a_sample_day_is_told()
     ensures people_in_json { PeopleAreToldInJson }
     ensures commands { CommandsAreTold }
     ensures commands_in_json { CommandsAreToldInJson }
+    ensures values { ValuesAreTold }
+    ensures values_in_json { ValuesAreToldInJson }
     ensures full_days { FullDaysAreTold }
 {}

@@ -22,4 +22,4 @@ pub use day::day_log;
 pub use event::Event;
 pub use event_log::EventLog;
 pub use laws::{a_sample_day_is_told, events_are_lines, limits_are_in_force, logs_go_on};
-pub use limits::RuleLimit;
+pub use limits::{RuleLimit, counts_money};

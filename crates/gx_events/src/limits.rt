@@ -1,24 +1,35 @@
 //! The limits of the file's rules, as they are in force.
 
-ghost use Rattle.std.specs.{Prelude.{◌≡◌, IfOk, find, map}, Option.option_map_or};
-ghost use Rattle.gx_units.specs.Names.{same_rule};
+ghost use Rattle.std.specs.{Prelude.{◌≡◌, IfOk, map}, Option.option_map_or};
 ghost use Rattle.gx_history.specs.{Requests.granted_action};
-ghost use Rattle.gx_events.specs.Known.{limit_entry, limits_of, limit_named, limit_set, limits_after};
+ghost use Rattle.gx_events.specs.Known.{counts_money, entry_named, limit_entry, limit_in_entry, limits_of, limit_set, limits_after};
 
 use gx_desk::Action;
 use gx_history::record::{RecordData, Request, Step, Verdict};
-use gx_policy::FileRule;
+use gx_policy::{ExposureLimit, FileRule, KindName, OrderLimit};
 use gx_units::{OutOfMemory, RuleId};
 use std::alloc::Global;
 use std::marker::Model;
 
-/// A rule of the file, and its limit, if it has one that Set Limit may change.
+/// A rule of the file, and its limit, if it has one that Set Limit may change: an amount of money where the rule counts a value.
 #[derive(Clone, Copy, PartialEq, Eq)]
 pub struct RuleLimit {
     /// The name of the rule.
     pub rule: RuleId,
     /// The limit in force; None where the rule has none that Set Limit may change.
     pub limit: Option<u64>,
+    /// Whether the limit is an amount of money, in ten-thousandths of a dollar.
+    pub is_money: bool,
+}
+
+/// Whether a rule of this kind counts a value, so that its limit is an amount of money.
+pub fn counts_money(kind: KindName) -> bool
+    ensures { result ≡ counts_money kind }
+{
+    matches!(
+        kind,
+        KindName::Order(OrderLimit::Value) | KindName::Exposure(ExposureLimit::GrossValue)
+    )
 }
 
 /// The command that the record grants, if it grants one.
@@ -41,6 +52,7 @@ impl RuleLimit {
         RuleLimit {
             rule: rule.name,
             limit: rule.kind.limit(),
+            is_money: counts_money(rule.kind.name()),
         }
     }
 
@@ -54,18 +66,18 @@ impl RuleLimit {
     }
 }
 
-/// What is held under this name.
-fn held_under(limits: &[RuleLimit], name: RuleId) -> Option<RuleLimit>
-    ensures { result ≡ find (λ (l : RuleLimit). same_rule l.rule name) limits.now }
+/// What is known of the rule of this name; None where there is no such rule.
+fn entry_among(limits: &[RuleLimit], name: RuleId) -> Option<RuleLimit>
+    ensures { result ≡ entry_named limits.now name }
 {
     limits.iter().copied().find(|held| held.rule == name)
 }
 
-/// The limit of the rule of this name; None where there is no such rule, or it has none.
-fn limit_among(limits: &[RuleLimit], name: RuleId) -> Option<u64>
-    ensures { result ≡ limit_named limits.now name }
+/// The limit that is known; None where there is no rule, or it has none.
+pub(crate) fn limit_in_entry(entry: Option<RuleLimit>) -> Option<u64>
+    ensures { result ≡ limit_in_entry entry }
 {
-    match held_under(limits, name) {
+    match entry {
         Some(held) => held.limit,
         None => None,
     }
@@ -112,11 +124,11 @@ impl Limits {
         Ok(Limits { items })
     }
 
-    /// The limit of the rule of this name; None where there is no such rule, or it has none.
-    pub(crate) fn limit(&self, name: RuleId) -> Option<u64>
-        ensures { result ≡ limit_named self.now name }
+    /// What is known of the rule of this name, with its limit in force; None where there is no such rule.
+    pub(crate) fn entry(&self, name: RuleId) -> Option<RuleLimit>
+        ensures { result ≡ entry_named self.now name }
     {
-        limit_among(self.items.as_slice(), name)
+        entry_among(self.items.as_slice(), name)
     }
 
     fn set(&mut self, name: RuleId, limit: u64)

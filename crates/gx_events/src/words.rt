@@ -1,11 +1,13 @@
 //! An event in words.
 
 ghost use Rattle.std.specs.Prelude.{◌≡◌, ◌++◌, decimal, OnOk};
-ghost use Rattle.gx_events.specs.{Words.{asked_text, words_between, by_user, denied_by_text, done_text, event_text, from_text, minute_count, of_both, of_name, on_line, to_number, used_text}, declared.event.Event.TheVariants.{LoginDenied, MoreDenied, Commanded, CommandDenied, RecordsUsed, LinesUsed}};
+ghost use Rattle.gx_events.specs.{Words.{asked_text, words_between, by_user, denied_by_text, done_text, event_text, from_text, limit_text, minute_count, of_both, of_name, on_line, to_text, used_text}, declared.event.Event.TheVariants.{LoginDenied, MoreDenied, Commanded, CommandDenied, RecordsUsed, LinesUsed}};
 ghost use Rattle.gx_desk.specs.declared.Action.TheVariants.{SetLimit};
 
 use crate::event::Event;
+use crate::limits::{RuleLimit, limit_in_entry};
 use gx_desk::Action;
+use gx_money::append_dollars;
 use gx_policy::RuleName;
 use gx_text::{append, append_minute, append_name, append_number};
 use gx_units::{OutOfMemory, RuleId, UserName};
@@ -55,20 +57,6 @@ fn append_of_both(
     append_between(text, first, words, second)
 }
 
-/// Puts words and a name, and the number that it is to have, at the end of the text.
-fn append_to_number(
-    text: &mut Vec<u8>,
-    words: &[u8],
-    name: &[u8],
-    number: u64,
-) -> Result<(), OutOfMemory>
-    ensures { OnOk result (text.new.items
-        ≡ text.old.items ++ to_number words.now name.now number) }
-{
-    append_of_name(text, words, name)?;
-    append_with_number(text, b" to ", number)
-}
-
 fn append_on_line(
     text: &mut Vec<u8>,
     user: &UserName,
@@ -81,20 +69,44 @@ fn append_on_line(
     append_with_number(text, words, u64::from(line))
 }
 
-fn append_from(text: &mut Vec<u8>, earlier: Option<u64>) -> Result<(), OutOfMemory>
-    ensures { OnOk result (text.new.items ≡ text.old.items ++ from_text earlier) }
+/// Puts a limit of the rule at the end of the text: an amount of money in dollars, anything else as a number.
+fn append_limit(
+    text: &mut Vec<u8>,
+    earlier: Option<RuleLimit>,
+    limit: u64,
+) -> Result<(), OutOfMemory>
+    ensures { OnOk result (text.new.items ≡ text.old.items ++ limit_text earlier limit) }
 {
     match earlier {
-        Some(limit) => append_with_number(text, b" from ", limit),
-        None => Ok(()),
+        Some(held) if held.is_money => append_dollars(text, u128::from(limit)),
+        _ => append_number(text, limit),
     }
+}
+
+/// Puts the limit that was in force at the end of the text.
+fn append_from(text: &mut Vec<u8>, earlier: Option<RuleLimit>) -> Result<(), OutOfMemory>
+    ensures { OnOk result (text.new.items ≡ text.old.items ++ from_text earlier) }
+{
+    let Some(limit) = limit_in_entry(earlier) else {
+        return Ok(());
+    };
+    append(text, b" from ")?;
+    append_limit(text, earlier, limit)
+}
+
+/// Puts the limit that is asked for at the end of the text.
+fn append_to(text: &mut Vec<u8>, earlier: Option<RuleLimit>, limit: u64) -> Result<(), OutOfMemory>
+    ensures { OnOk result (text.new.items ≡ text.old.items ++ to_text earlier limit) }
+{
+    append(text, b" to ")?;
+    append_limit(text, earlier, limit)
 }
 
 #[tactic(auto, unfolding(crate::specs::Words::done_text))]
 fn append_limit_set(
     text: &mut Vec<u8>,
     rule: &RuleId,
-    earlier: Option<u64>,
+    earlier: Option<RuleLimit>,
     limit: u64,
 ) -> Result<(), OutOfMemory>
     ensures { OnOk result (text.new.items
@@ -103,12 +115,16 @@ fn append_limit_set(
     append_of_name(text, b"limit of ", &rule.bytes)?;
     append(text, b" set")?;
     append_from(text, earlier)?;
-    append_with_number(text, b" to ", limit)
+    append_to(text, earlier, limit)
 }
 
 /// Puts what a granted command did at the end of the text.
 #[tactic(auto, unfolding(crate::specs::Words::done_text))]
-fn append_done(text: &mut Vec<u8>, action: &Action, earlier: Option<u64>) -> Result<(), OutOfMemory>
+fn append_done(
+    text: &mut Vec<u8>,
+    action: &Action,
+    earlier: Option<RuleLimit>,
+) -> Result<(), OutOfMemory>
     ensures { OnOk result (text.new.items ≡ text.old.items ++ done_text action.now earlier) }
 {
     match action {
@@ -137,17 +153,34 @@ fn append_done(text: &mut Vec<u8>, action: &Action, earlier: Option<u64>) -> Res
     }
 }
 
+/// Puts a Set Limit that is asked for at the end of the text.
+#[tactic(auto, unfolding(crate::specs::Words::asked_text))]
+fn append_limit_asked(
+    text: &mut Vec<u8>,
+    rule: &RuleId,
+    earlier: Option<RuleLimit>,
+    limit: u64,
+) -> Result<(), OutOfMemory>
+    ensures { OnOk result (text.new.items
+        ≡ text.old.items ++ asked_text (SetLimit rule.now limit) earlier) }
+{
+    append_of_name(text, b"Set Limit of ", &rule.bytes)?;
+    append_to(text, earlier, limit)
+}
+
 /// Puts what a command asks for at the end of the text.
 #[tactic(auto, unfolding(crate::specs::Words::asked_text))]
-fn append_asked(text: &mut Vec<u8>, action: &Action) -> Result<(), OutOfMemory>
-    ensures { OnOk result (text.new.items ≡ text.old.items ++ asked_text action.now) }
+fn append_asked(
+    text: &mut Vec<u8>,
+    action: &Action,
+    earlier: Option<RuleLimit>,
+) -> Result<(), OutOfMemory>
+    ensures { OnOk result (text.new.items ≡ text.old.items ++ asked_text action.now earlier) }
 {
     match action {
         Action::Kill(account) => append_of_name(text, b"Kill of ", &account.bytes),
         Action::Lift(account) => append_of_name(text, b"Lift of ", &account.bytes),
-        Action::SetLimit(rule, limit) => {
-            append_to_number(text, b"Set Limit of ", &rule.bytes, *limit)
-        }
+        Action::SetLimit(rule, limit) => append_limit_asked(text, rule, earlier, *limit),
         Action::Restrict(rule, stock) => {
             append_of_both(text, b"Restrict of ", &stock.bytes, b" under ", &rule.bytes)
         }
@@ -236,7 +269,7 @@ fn append_commanded(
     text: &mut Vec<u8>,
     user: &UserName,
     action: &Action,
-    earlier: Option<u64>,
+    earlier: Option<RuleLimit>,
 ) -> Result<(), OutOfMemory>
     ensures { OnOk result (text.new.items
         ≡ text.old.items ++ event_text (Commanded user.now action.now earlier)) }
@@ -251,11 +284,12 @@ fn append_command_denied(
     user: &UserName,
     action: &Action,
     rule: &RuleName,
+    earlier: Option<RuleLimit>,
 ) -> Result<(), OutOfMemory>
     ensures { OnOk result (text.new.items
-        ≡ text.old.items ++ event_text (CommandDenied user.now action.now rule.now)) }
+        ≡ text.old.items ++ event_text (CommandDenied user.now action.now rule.now earlier)) }
 {
-    append_asked(text, action)?;
+    append_asked(text, action, earlier)?;
     append_by(text, user)?;
     append_denied_by(text, rule)
 }
@@ -295,8 +329,8 @@ pub(crate) fn append_event_text(text: &mut Vec<u8>, event: &Event) -> Result<(),
         Event::LoginDenied(user, line, rule) => append_login_denied(text, user, *line, rule),
         Event::MoreDenied(count, minute) => append_more_denied(text, *count, *minute),
         Event::Commanded(user, action, earlier) => append_commanded(text, user, action, *earlier),
-        Event::CommandDenied(user, action, rule) => {
-            append_command_denied(text, user, action, rule)
+        Event::CommandDenied(user, action, rule, earlier) => {
+            append_command_denied(text, user, action, rule, *earlier)
         }
         Event::RecordsUsed(percent, left) => append_records_used(text, *percent, *left),
         Event::LinesUsed(percent, left) => append_lines_used(text, *percent, *left),

@@ -1,2 +1,3 @@
 pub mod Identity
 pub mod Reading
+pub mod Watching

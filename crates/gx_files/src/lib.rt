@@ -7,4 +7,4 @@ mod watched;
 
 pub use identity::{FileIdentity, SharedFile, shared_file};
 pub use reading::{ReadFault, read_within};
-pub use watched::{Measured, Watched};
+pub use watched::{Measure, Measured, Watched};

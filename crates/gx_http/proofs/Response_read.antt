@@ -18,6 +18,7 @@ own_has_none Status.Forbidden = refl
 own_has_none Status.NotFound = refl
 own_has_none (Status.MethodNotAllowed method) = refl
 own_has_none Status.TooLarge = refl
+own_has_none Status.Misdirected = refl
 own_has_none Status.Unavailable = refl
 
 one_length : (status : Status) (content : Content) (n : ℕ) → values_named (codes "content-length") (fields_of status content n) ≡ decimal n ∷ []

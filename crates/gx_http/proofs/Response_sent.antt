@@ -54,6 +54,7 @@ own_is_good Status.NotFound = refl
 own_is_good (Status.MethodNotAllowed Method.Get) = refl
 own_is_good (Status.MethodNotAllowed Method.Post) = refl
 own_is_good Status.TooLarge = refl
+own_is_good Status.Misdirected = refl
 own_is_good Status.Unavailable = refl
 
 line_is_good : (status : Status) → is_status_line 1 (code_of status) (reason_of status) ≡ true
@@ -65,6 +66,7 @@ line_is_good Status.Forbidden = refl
 line_is_good Status.NotFound = refl
 line_is_good (Status.MethodNotAllowed method) = refl
 line_is_good Status.TooLarge = refl
+line_is_good Status.Misdirected = refl
 line_is_good Status.Unavailable = refl
 
 fields_are_good : (status : Status) (content : Content) (n : ℕ) → n < 2 ^ 64 → are_headers (fields_of status content n) ≡ true

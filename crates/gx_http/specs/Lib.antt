@@ -1,6 +1,7 @@
 pub mod Words
 pub mod Routes
 pub mod Credentials
+pub mod Hosts
 pub mod Forms
 pub mod Requests
 pub mod Responses

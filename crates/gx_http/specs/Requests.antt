@@ -1,8 +1,8 @@
 -- Which request bytes are, or why they are none that is served.
-use Rattle.std.specs.Prelude.{◌≡◌, ◌⊎◌, ℕ, ◌+◌, ◌<◌, ◌≤◌, Bool, ◌==◌, ◌&&◌, ◌||◌, List, length, map, take, Option, Some, None, Result, Ok, Err, if◌then◌else◌, nat_lt}
+use Rattle.std.specs.Prelude.{◌≡◌, ◌⊎◌, ℕ, ◌+◌, ◌<◌, ◌≤◌, Bool, ◌==◌, ◌&&◌, ◌||◌, List, length, map, take, Option, Some, None, Result, Ok, Err, IsTrue, if◌then◌else◌, nat_lt, codes}
 use Rattle.httparse.specs.{Grammar.{RequestHead, print_request, ReadsRequest, HasNoRequest, MayBecomeRequest}, Spans.{RequestOverflows, header_bytes, name_and_value, span_bytes}, declared.spans.{HeaderSpan.HeaderSpan, RequestSpans.RequestSpans}}
 use Rattle.http1.specs.{Fields.{Header, known_fields}, Framing.{method_kind, request_framing}, declared.{fields.KnownFields.KnownFields, framing.{Framing.Framing, FramingError.FramingError}}}
-use Rattle.gx_http.specs.{declared.{credentials.Credentials.Credentials, forms.KillForm.KillForm, request.{RequestTarget.RequestTarget, Request.Request, RequestFault.RequestFault}, routes.Route.Route}, Credentials.credentials_in, Forms.kill_form, Routes.route_of, Words.◌>>=◌}
+use Rattle.gx_http.specs.{declared.{credentials.Credentials.Credentials, forms.KillForm.KillForm, request.{RequestTarget.RequestTarget, Request.Request, RequestFault.RequestFault}, routes.Route.Route}, Credentials.{credentials_in, value_named}, Forms.kill_form, Hosts.is_for_own_host, Routes.route_of, Words.◌>>=◌}
 
 -- a request has no more bytes than these
 abbrev pub most_bytes : ℕ
@@ -54,6 +54,10 @@ abbrev pub body_length : List ℕ → ℕ → KnownFields → Result ℕ Request
 body_length method minor known =
     if has_its_host minor known.hosts then length_told (request_framing (method_kind method) minor known) else Err RequestFault.BadRequest
 
+-- the field Host, where there is one, names the machine itself
+abbrev pub own_host : Option (List ℕ) → Result (Unit {0}) RequestFault
+own_host value = if is_for_own_host value then Ok tt else Err RequestFault.Misdirected
+
 -- a body of this length, where it fits behind a head of that
 abbrev pub within_bounds : ℕ → ℕ → Result ℕ RequestFault
 within_bounds head body = if nat_lt most_bytes (head + body) then Err RequestFault.TooLarge else Ok body
@@ -83,6 +87,7 @@ request_by caller asked = Ok (record { caller = caller; asked = asked })
 abbrev pub request_in : HeadParts → List ℕ → Result Request RequestFault
 request_in head rest = do
   told ← body_length head.method head.minor (known_fields head.fields)
+  own ← own_host (value_named (codes "Host") head.fields)
   fitting ← within_bounds head.length told
   route ← route_of head.method head.target
   body ← whole_body fitting rest
@@ -111,6 +116,13 @@ IsHeadless bytes (Err RequestFault.Unfinished) = HasNoRequest bytes × MayBecome
 IsHeadless bytes (Err RequestFault.TooLarge) = HasNoRequest bytes × (most_bytes ≤ length bytes)
 IsHeadless bytes (Err RequestFault.BadRequest) = RequestOverflows most_fields bytes
 IsHeadless bytes other = ⊥
+
+-- they begin with a head that names no host but the machine itself
+pub record IsForOwnHost (bytes : List ℕ) : Type 0 where
+  pub head : RequestHead
+  pub rest : List ℕ
+  pub begin : BeginWith bytes head rest
+  pub own : IsTrue (is_for_own_host (value_named (codes "Host") (parts_of head).fields))
 
 -- what bytes are read as
 abbrev pub IsReadAs : List ℕ → Result Request RequestFault → Type 0

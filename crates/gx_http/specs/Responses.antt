@@ -12,6 +12,7 @@ code_of Status.Forbidden = 403
 code_of Status.NotFound = 404
 code_of (Status.MethodNotAllowed method) = 405
 code_of Status.TooLarge = 413
+code_of Status.Misdirected = 421
 code_of Status.Unavailable = 503
 
 -- the words behind the code
@@ -24,12 +25,14 @@ reason_of Status.Forbidden = codes "Forbidden"
 reason_of Status.NotFound = codes "Not Found"
 reason_of (Status.MethodNotAllowed method) = codes "Method Not Allowed"
 reason_of Status.TooLarge = codes "Content Too Large"
+reason_of Status.Misdirected = codes "Misdirected Request"
 reason_of Status.Unavailable = codes "Service Unavailable"
 
 -- what answers bytes that are no request, once no more of them come
 abbrev pub status_of : RequestFault → Status
 status_of RequestFault.Unfinished = Status.BadRequest
 status_of RequestFault.BadRequest = Status.BadRequest
+status_of RequestFault.Misdirected = Status.Misdirected
 status_of RequestFault.NotFound = Status.NotFound
 status_of (RequestFault.MethodNotAllowed method) = Status.MethodNotAllowed method
 status_of RequestFault.TooLarge = Status.TooLarge

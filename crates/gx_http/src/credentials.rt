@@ -23,7 +23,11 @@ pub struct Credentials {
 }
 
 /// The value of the first field of this name, in upper or lower case.
-fn value_named<'a>(bytes: &'a [u8], fields: &[HeaderSpan], name: &[u8]) -> Option<&'a [u8]>
+pub(crate) fn value_named<'a>(
+    bytes: &'a [u8],
+    fields: &[HeaderSpan],
+    name: &[u8],
+) -> Option<&'a [u8]>
     requires { All (IsHeaderWithin (length bytes.now)) fields.now }
     ensures { option_copied result
         ≡ value_named name.now (map (header_bytes bytes.now) fields.now) }
@@ -65,7 +69,7 @@ fn on_both_sides(text: &[u8], place: usize) -> Option<Credentials>
 }
 
 /// The place of the first colon.
-fn colon_in(text: &[u8]) -> Option<usize>
+pub(crate) fn colon_in(text: &[u8]) -> Option<usize>
     ensures place { result ≡ position is_colon text.now }
     ensures within { IfSome result (λ place. place < length text.now) }
 {

@@ -2,6 +2,7 @@
 //!
 //! - `request`: a request as it is read from bytes, or why bytes are none;
 //! - `routes`: what may be asked for, by its path and its method;
+//! - `hosts`: which hosts it may name;
 //! - `credentials`: the user and the password that a request names;
 //! - `forms`: the form that asks for a kill;
 //! - `response`: a response, as bytes;
@@ -10,6 +11,7 @@
 
 mod credentials;
 mod forms;
+mod hosts;
 mod laws;
 mod request;
 mod response;

@@ -1,11 +1,12 @@
 //! A request as it is read from bytes, or why bytes are none.
 
-ghost use Rattle.std.specs.Prelude.{◌≡◌, ℕ, List, length, drop, MatchResult, Ok, Err};
+ghost use Rattle.std.specs.Prelude.{◌≡◌, ℕ, List, length, drop, option_copied, MatchResult, OnOk, Ok, Err};
 ghost use Rattle.httparse.specs.{Grammar.RequestHead, Spans.IsRequestWithin};
-ghost use Rattle.gx_http.specs.Requests.{asked_by, body_length, parts_at, BeginWith, IsReadAs, request_in, request_of, whole_body, within_bounds};
+ghost use Rattle.gx_http.specs.Requests.{asked_by, body_length, own_host, parts_at, BeginWith, IsForOwnHost, IsReadAs, request_in, request_of, whole_body, within_bounds};
 
-use crate::credentials::{Credentials, credentials_in};
+use crate::credentials::{Credentials, credentials_in, value_named};
 use crate::forms::{KillForm, kill_form};
+use crate::hosts::is_for_own_host;
 use crate::routes::{Method, Route, routed};
 use http1::fields::KnownFields;
 use http1::framing::{Framing, MethodKind, request_framing};
@@ -56,6 +57,9 @@ pub enum RequestFault {
     /// They are no request, or its head or its body is not as it has to be.
     #[error("bad request")]
     BadRequest,
+    /// It names another host than the machine itself.
+    #[error("misdirected request")]
+    Misdirected,
     /// There is nothing of this path.
     #[error("not found")]
     NotFound,
@@ -78,6 +82,17 @@ fn body_length(method: &[u8], minor: u8, known: &KnownFields) -> Result<u64, Req
         Ok(Framing::NoBody) => Ok(0),
         Ok(Framing::Length(length)) => Ok(length),
         _ => Err(RequestFault::BadRequest),
+    }
+}
+
+/// The field Host, where there is one, names the machine itself.
+fn own_host(value: Option<&[u8]>) -> Result<(), RequestFault>
+    ensures { result ≡ own_host (option_copied value.entry) }
+{
+    if is_for_own_host(value) {
+        Ok(())
+    } else {
+        Err(RequestFault::Misdirected)
     }
 }
 
@@ -134,7 +149,9 @@ fn behind_head(
 {
     let method = head.method.of(bytes);
     let known = KnownFields::from_spans(bytes, fields);
-    let length = within_bounds(head.len, body_length(method, head.version, &known)?)?;
+    let told = body_length(method, head.version, &known)?;
+    own_host(value_named(bytes, fields, b"Host"))?;
+    let length = within_bounds(head.len, told)?;
     let route = routed(method, head.path.of(bytes))?;
     let body = whole_body(length, &bytes[head.len..])?;
     Ok(Request {
@@ -152,6 +169,7 @@ pub fn read_request(bytes: &[u8]) -> Result<Request, RequestFault>
     ensures begun { (h : RequestHead) (rest : List ℕ) → BeginWith bytes.now h rest
         → result ≡ request_of h rest }
     ensures read { IsReadAs bytes.now result }
+    ensures own { OnOk result (IsForOwnHost bytes.now) }
 {
     let mut fields = [EMPTY_HEADER_SPAN; MOST_FIELDS];
     match parse_request(bytes, &mut fields) {

@@ -30,6 +30,8 @@ pub enum Status {
     MethodNotAllowed(Method),
     /// It has too many bytes.
     TooLarge,
+    /// It names another host than the machine itself.
+    Misdirected,
     /// It cannot be answered now.
     Unavailable,
 }
@@ -65,6 +67,7 @@ impl Status {
             Status::NotFound => 404,
             Status::MethodNotAllowed(_) => 405,
             Status::TooLarge => 413,
+            Status::Misdirected => 421,
             Status::Unavailable => 503,
         }
     }
@@ -82,6 +85,7 @@ impl Status {
             Status::NotFound => b"Not Found",
             Status::MethodNotAllowed(_) => b"Method Not Allowed",
             Status::TooLarge => b"Content Too Large",
+            Status::Misdirected => b"Misdirected Request",
             Status::Unavailable => b"Service Unavailable",
         }
     }
@@ -110,6 +114,7 @@ impl RequestFault {
     {
         match self {
             RequestFault::Unfinished | RequestFault::BadRequest => Status::BadRequest,
+            RequestFault::Misdirected => Status::Misdirected,
             RequestFault::NotFound => Status::NotFound,
             RequestFault::MethodNotAllowed(method) => Status::MethodNotAllowed(method),
             RequestFault::TooLarge => Status::TooLarge,

@@ -1,17 +1,18 @@
 -- What a journal keeps, call by call.
-use Rattle.gx_devices.specs.{declared.fault.WriteFault.WriteFault, Devices.IsFront}
-use Rattle.std.proofs.{Common.{◌≡◌, ℕ, ◌+◌, ◌-◌, ◌≤◌, Bool, true, false, List, ◌++◌, Option, None, length, take, drop, min, is_some, refl, sym, ap, ◌∙◌, subst, arith}, lemmas.{List.{length-take, length-drop, take_all, take-append-drop, take-append-le}, Bool.both_ways}}
+use Rattle.gx_devices.specs.{declared.write.WriteFailed.WriteFailed, Devices.IsFront}
+use Rattle.std.proofs.{Common.{◌≡◌, ℕ, ◌+◌, ◌-◌, ◌<◌, ◌≤◌, Bool, true, false, List, ◌++◌, Option, None, length, take, drop, min, is_some, refl, sym, ap, ◌∙◌, subst, arith}, lemmas.{List.{length-take, length-drop, take_all, take-append-drop, take-append-le}, Bool.both_ways}}
 use Rattle.std.specs.Io.KnownBytes.{Appends}
 use mathlib.Core.List.{IsPrefix}
 use Rattle.gx_history.specs.declared.record.RecordData.{RecordData}
 use Rattle.gx_audit_bytes.specs.declared.version.AuditVersion.{AuditVersion}
+use Rattle.gx_policy.specs.Lists.{slice}
 use Rattle.gx_pass.specs.declared.view.LineView.{LineView}
 use Rattle.gx_pass.proofs.Lists_prefix.{prefix_length}
 use Rattle.gx_journal.specs.Journals.{records_between, is_broken, journal_bytes, known_length, IsGrown, IsJournalKept, JournalData, JournalWriterData}
-use Rattle.gx_journal.proofs.Journal_next.{added_later, cut_there, cut_written, more_written, none_added}
+use Rattle.gx_journal.proofs.Journal_next.{added_later, are_next, cut_written, more_written, none_added, piece_size}
 
 pub sound_of : (writer : JournalWriterData) → writer.fault ≡ None → is_broken writer ≡ false
-sound_of writer none = ap (λ (f : Option WriteFault). is_some f) none
+sound_of writer none = ap (λ (f : Option WriteFailed). is_some f) none
 
 abbrev pub journal : LineView → JournalWriterData → JournalData
 journal met writer = record { met = met; writer = writer }
@@ -48,18 +49,6 @@ kept_later begun count {earlier} version was is writer sound begins kept = recor
   whole = λ s.
       subst (λ (rs : List RecordData). IsGrown begun writer.contents (journal_bytes version rs)) (sym (added_later count writer.done was.front is.front kept.met begins)) (kept.whole s);
   cut = λ broken. absurd (both_ways (is_broken writer) sound broken);
-}
-
--- nothing is written any more
-pub kept_stopped : (begun : Option (List ℕ)) (count : ℕ) {earlier : List RecordData} (version : AuditVersion) (met : LineView) (was is : JournalWriterData) → is_broken was ≡ false → is_broken is ≡ true → is.contents ≡ was.contents → is.done ≡ was.done → is.version ≡ was.version
-    → IsJournalKept begun count earlier version (journal met was) → IsJournalKept begun count earlier version (journal met is)
-kept_stopped begun count version met was is sound broken same done goes kept = record {
-  version_is = goes ∙ kept.version_is;
-  begins = kept.begins;
-  first = omega (arith, done, kept.first);
-  met = omega (arith, done, kept.met);
-  whole = λ s. absurd (both_ways (is_broken is) s broken);
-  cut = λ b. ∣ subst (λ (o : Option (List ℕ)). IsFront begun o (journal_bytes version (drop count met.front))) (sym same) (cut_there version begun was.contents count was.done met.front kept.first kept.met (kept.whole sound)) ∣₁;
 }
 
 -- of a put of records, by its answer
@@ -107,6 +96,25 @@ kept_put begun count version met false {records} was is sound next put kept =
     }
 
 -- A piece of the records behind those that are done.
+
+-- the pass has met more, and of that the next records were put on the device, or a front of them
+pub kept_on : (begun : Option (List ℕ)) (count : ℕ) {earlier : List RecordData} (version : AuditVersion) (met later : LineView) (most : ℕ) (answer : Bool) {records : List RecordData} (was is : JournalWriterData) → is_broken was ≡ false
+    → IsPrefix met.front later.front → records ≡ slice later.front (was.done + 1) most → WasPut answer records was is → IsJournalKept begun count earlier version (journal met was) → IsJournalKept begun count earlier version (journal later is)
+kept_on begun count version met later most answer {records} was is sound begins piece put kept =
+    kept_put begun count version later answer was is sound (are_next later.front records was.done most piece) put
+    (kept_later begun count version met later was sound begins kept)
+
+-- there are some, and not too many
+pub some_next : (was is : LineView) (records : List RecordData) (count done most : ℕ) → count ≤ known_length was → done < count → 0 < most → length was.front ≤ length is.front → was.told ≤ length is.front
+    → records ≡ slice is.front (done + 1) most → 0 < length records
+some_next was is records count done most known left some longer told piece = omega (arith, piece_size is.front records done most piece, known, left, some, longer, told)
+
+pub few_next : (records all : List RecordData) (done most : ℕ) → records ≡ slice all (done + 1) most → length records ≤ most
+few_next records all done most piece = omega (arith, piece_size all records done most piece)
+
+-- as many are known still
+pub known_later : (was is : LineView) (count : ℕ) → count ≤ known_length was → length was.front ≤ length is.front → was.told ≤ length is.front → count ≤ known_length is
+known_later was is count known longer told = omega (arith, known, longer, told)
 
 pub all_known : (h : LineView) (count done : ℕ) → h.told ≤ count → length h.front ≤ count → count ≤ done → known_length h ≤ done
 all_known h count done told front written = omega (arith, told, front, written)

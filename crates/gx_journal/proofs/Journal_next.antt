@@ -88,16 +88,6 @@ cut_written version begun before after count done records next first met is grow
           ∙ append_regrouped text cut.front cut.rest others;
     }
 
--- nothing more was put on the device
-pub cut_there : (version : AuditVersion) (begun after : Option (List ℕ)) (count done : ℕ) (records : List RecordData) → count ≤ done → done ≤ length records
-    → IsGrown begun after (journal_bytes version (records_between count done records)) → IsFront begun after (journal_bytes version (drop count records))
-cut_there version begun after count done records first met grown = record {
-  front = journal_bytes version (records_between count done records);
-  rest = journal_bytes version (drop done records);
-  written = grown_appends begun after (journal_bytes version (records_between count done records)) grown;
-  whole = ap (journal_bytes version) (added_rest count done records first met) ∙ all_joined version (records_between count done records) (drop done records);
-}
-
 no_records : (count : ℕ) (records : List RecordData) → records_between count count records ≡ []
 no_records count records = drop_all count (take count records) (omega (arith, length-take count records))
 

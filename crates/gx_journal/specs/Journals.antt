@@ -1,16 +1,21 @@
 -- What a journal keeps of a day.
-use Rattle.gx_devices.specs.{declared.fault.WriteFault.WriteFault, Devices.IsFront}
+use Rattle.gx_devices.specs.{declared.write.WriteFailed.WriteFailed, Devices.IsFront}
 use Rattle.std.specs.{Prelude.{◌≡◌, ℕ, ◌≤◌, max, List, length, take, drop, [], Bool, Option, Some, None, IsTrue, IsFalse, is_some}, Io.KnownBytes.append_known}
 use Rattle.gx_history.specs.declared.record.RecordData.{RecordData}
 use Rattle.gx_audit_bytes.specs.{declared.version.AuditVersion.AuditVersion, Audits.all_bytes}
 use Rattle.gx_pass.specs.{declared.view.LineView.LineView, Views.line_view}
 
--- what a device holds, as far as that is known, in which version records are put there, how many of the day's records are on it, and why no more are put there
+-- what a device holds, as far as that is known, in which version records are put there, how many of the day's records are on it, how many calls of it have failed, and that no more are put there
 pub record JournalWriterData : Type 0 where
   pub contents : Option (List ℕ)
   pub version : AuditVersion
   pub done : ℕ
-  pub fault : Option WriteFault
+  pub failed : ℕ
+  pub fault : Option WriteFailed
+
+-- so many records are put on the device at once, at most
+abbrev pub most_at_once : ℕ
+most_at_once = 4096
 
 -- what the journal's pass has met, and the device
 pub record JournalData : Type 0 where

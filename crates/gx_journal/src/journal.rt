@@ -1,26 +1,19 @@
 //! A journal of a day.
 
-ghost use Rattle.std.specs.Prelude.{◌≡◌, ◌+◌, ◌<◌, ◌≤◌, ◌^◌, drop, length, take, IfNone, IfOk, IfSome, IsFalse, IsTrue, None, Some};
+ghost use Rattle.std.specs.Prelude.{◌≡◌, ◌<◌, ◌≤◌, length, vec_capacity, IfNone, IfSome, IsFalse, IsTrue, None};
 ghost use mathlib.Core.List.{IsPrefix};
-ghost use Rattle.gx_policy.specs.Lists.{slice};
 ghost use Rattle.gx_pass.specs.Views.{with_told};
-ghost use Rattle.gx_door.specs.Acts.{IsLater};
-ghost use Rattle.gx_journal.specs.Journals.{is_broken, known_length, IsJournalKept};
+ghost use Rattle.gx_journal.specs.Journals.{is_broken, known_length, most_at_once, IsJournalKept};
 
 use crate::name::JournalName;
+use crate::room::{JournalRoom, PIECE};
 use crate::writer::JournalWriter;
 use gx_audit_bytes::AuditVersion;
-use gx_devices::WriteFault;
 use gx_door::Door;
 use gx_history::record::Record;
-use gx_units::OutOfMemory;
-use std::alloc::Global;
 use std::io::Write;
 use std::marker::{Model, PhantomData};
 use std::sync::Wait;
-
-/// How many records are written at a time.
-const PIECE: u64 = 4_096;
 
 /// That so many of the day's first records are on a journal's device. A [`Journal`] alone makes one, and no call of it takes
 /// a record away that was done.
@@ -62,13 +55,15 @@ impl<J: JournalName> KeptRecords<J> {
 pub struct Journal<D: Door, W: Write, J: JournalName> {
     /// Taken out for each call of the door.
     pass: Option<D::Pass>,
+    /// Room for as many records as are written at once.
+    records: Vec<Record>,
     writer: JournalWriter<W>,
     of: PhantomData<J>,
 }
 
 impl<D: Door, W: Write, J: JournalName> Model for Journal<D, W, J> {
-    ghost use Rattle.std.specs.Prelude.{◌≡◌, is_some, IsTrue};
-    ghost use Rattle.gx_journal.specs.Journals.{added_by, met_by, IsJournalKept, JournalData};
+    ghost use Rattle.std.specs.Prelude.{◌≡◌, ◌≤◌, is_some, vec_capacity, IsTrue};
+    ghost use Rattle.gx_journal.specs.Journals.{added_by, met_by, most_at_once, IsJournalKept, JournalData};
 
     ghost Value = { JournalData };
 
@@ -76,13 +71,15 @@ impl<D: Door, W: Write, J: JournalName> Model for Journal<D, W, J> {
 
     ghost invariant = { λ j. IsTrue (is_some j.pass) × (added_by D.added j.pass ≡ 0)
         × IsJournalKept J.begun J.count J.earlier J.version
-        (record { met = met_by D.observed j.pass; writer = j.writer }) };
+        (record { met = met_by D.observed j.pass; writer = j.writer })
+        × (most_at_once ≤ vec_capacity j.records) };
 }
 
 impl<D: Door, W: Write, J: JournalName> Journal<D, W, J> {
-    /// A journal of this version on a device with so many of the records that the pass has met, which are the day's first.
+    /// A journal of this version, in this room, on a device with so many of the records that the pass has met, which are the day's
+    /// first.
     pub fn new(
-        alloc: Global,
+        room: JournalRoom,
         version: AuditVersion,
         pass: D::Pass,
         count: u64,
@@ -100,9 +97,11 @@ impl<D: Door, W: Write, J: JournalName> Journal<D, W, J> {
         ensures done { result.writer.done ≡ count }
         ensures fault { result.writer.fault ≡ None }
     {
+        let JournalRoom { records, bytes } = room;
         Journal {
             pass: Some(pass),
-            writer: JournalWriter::new(alloc, version, count, device),
+            records,
+            writer: JournalWriter::new(version, count, device, bytes),
             of: PhantomData,
         }
     }
@@ -118,13 +117,14 @@ impl<D: Door, W: Write, J: JournalName> Journal<D, W, J> {
     }
 
     /// Writes what records there are, and answers how many are on the device: at least as many as the pass has met, or was
-    /// told of. Once it is broken it writes nothing, and answers none.
+    /// told of. It takes no memory. Once a call of the device has failed it is broken: it writes nothing, and answers none.
     #[tactic(auto, using(crate::proofs::Journal_call::all_known))]
     pub fn keep<R: Wait>(&mut self, rt: &R, door: &D) -> Option<KeptRecords<J>>
         ensures kept { IfSome result (λ k. k ≡ self.new.writer.done) }
         ensures all { IfSome result (λ k. known_length self.old.met ≤ k) }
         ensures sound { IfSome result (λ _. self.new.writer.fault ≡ None) }
         ensures broken { IfNone result (IsTrue (is_broken self.new.writer)) }
+        ensures failed { IfNone result (0 < self.new.writer.failed) }
         ensures grows { self.old.writer.done ≤ self.new.writer.done }
         ensures met { IsPrefix self.old.met.front self.new.met.front }
         ensures refused { IsTrue (is_broken self.old.writer) → result ≡ None }
@@ -159,6 +159,7 @@ impl<D: Door, W: Write, J: JournalName> Journal<D, W, J> {
         ensures grows { self.old.writer.done ≤ self.new.writer.done }
         ensures sound { IsTrue result → self.new.writer.fault ≡ None }
         ensures broken { IsFalse result → IsTrue (is_broken self.new.writer) }
+        ensures failed { IsFalse result → 0 < self.new.writer.failed }
         ensures met { IsPrefix self.old.met.front self.new.met.front }
         ensures refused { IsTrue (is_broken self.old.writer) → IsFalse result }
         ensures over { IsTrue (is_broken self.old.writer) → self.new.writer ≡ self.old.writer }
@@ -185,73 +186,33 @@ impl<D: Door, W: Write, J: JournalName> Journal<D, W, J> {
         ensures stays { IsFalse result → self.new.writer.done ≡ self.old.writer.done }
         ensures sound { IsTrue result → IsFalse (is_broken self.new.writer) }
         ensures broken { IsFalse result → IsTrue (is_broken self.new.writer) }
+        ensures failed { IsFalse result → self.old.writer.failed < self.new.writer.failed }
     {
         let most = PIECE.min(count - self.writer.done());
-        match self.fetch(rt, door, most) {
-            Ok(records) => self.put(records.as_slice()),
-            Err(_) => self.give_up(WriteFault::OutOfMemory),
-        }
-    }
-
-    /// The records behind those that are on the device, at most so many.
-    fn fetch<R: Wait>(&mut self, rt: &R, door: &D, most: u64) -> Result<Vec<Record>, OutOfMemory>
-        requires sound { IsFalse (is_broken self.old.writer) }
-        requires some { 0 < most }
-        requires room { self.old.writer.done + most < 2 ^ 64 }
-        ensures later { IsLater D.policy self.old.met self.new.met }
-        ensures writer { self.new.writer ≡ self.old.writer }
-        ensures records { IfOk result (λ v.
-            v.items ≡ slice self.new.met.front (self.new.writer.done + 1) most) }
-    {
         let Some(pass) = self.pass.take() else {
             unreachable!()
         };
-        let (pass, records) = door.records(rt, pass, self.writer.done() + 1, most);
+        let next = self.writer.done() + 1;
+        let pass = door.copy_records(rt, pass, next, most, &mut self.records);
         self.pass = Some(pass);
-        records
+        self.writer.put(self.records.as_slice())
     }
 
-    /// Puts the next of the records that the pass has met on the device. Answers whether it did.
-    fn put(&mut self, records: &[Record]) -> bool
-        requires next { records.now
-            ≡ take (length records.now) (drop self.old.writer.done self.old.met.front) }
-        requires room { self.old.writer.done + length records.now < 2 ^ 64 }
-        requires sound { IsFalse (is_broken self.old.writer) }
-        ensures met { self.new.met ≡ self.old.met }
-        ensures done { IsTrue result
-            → self.new.writer.done ≡ self.old.writer.done + length records.now }
-        ensures stays { IsFalse result → self.new.writer.done ≡ self.old.writer.done }
-        ensures sound { IsTrue result → IsFalse (is_broken self.new.writer) }
-        ensures broken { IsFalse result → IsTrue (is_broken self.new.writer) }
-    {
-        self.writer.put(records)
-    }
-
-    /// Writes nothing any more.
-    fn give_up(&mut self, fault: WriteFault) -> bool
-        requires sound { IsFalse (is_broken self.old.writer) }
-        ensures answer { IsFalse result }
-        ensures stays { self.new.writer.done ≡ self.old.writer.done }
-        ensures met { self.new.met ≡ self.old.met }
-        ensures broken { IsTrue (is_broken self.new.writer) }
-    {
-        self.writer.give_up(fault);
-        false
-    }
-
-    /// The pass, and the device with the day's records that are on it.
-    pub fn into_parts(self) -> (D::Pass, JournalWriter<W>)
+    /// The pass, the device with the day's records that are on it, and room for as many records as are put there at once.
+    pub fn into_parts(self) -> (D::Pass, JournalWriter<W>, Vec<Record>)
         ensures met { D.observed result.0 ≡ self.met }
         ensures none_added { D.added result.0 ≡ 0 }
         ensures writer { result.1 ≡ self.writer }
         ensures kept { IsJournalKept J.begun J.count J.earlier J.version self }
+        ensures room { most_at_once ≤ vec_capacity result.2 }
     {
         let Journal {
             pass,
+            records,
             writer,
             of: _,
         } = self;
         let Some(pass) = pass else { unreachable!() };
-        (pass, writer)
+        (pass, writer, records)
     }
 }

@@ -5,12 +5,12 @@ ghost use Rattle.std.specs.Prelude.{◌≡◌, ◌≤◌, length, IfOk, IfSome};
 use crate::journal::{Journal, KeptRecords};
 use crate::name::JournalName;
 use crate::progress::{NotKept, Progress};
+use crate::room::JournalRoom;
 use gx_access_gate::{LoginAnswer, Outcome, Pulled, StepFault};
 use gx_audit_bytes::AuditVersion;
 use gx_door::{Caller, Dial, Door, Matched, PullFault, Turned};
 use gx_history::record::{Record, Request};
 use gx_units::{Moment, OutOfMemory, Password, SessionName, UserName};
-use std::alloc::Global;
 use std::io::Write;
 use std::sync::{Condvar, Mutex, Wait};
 
@@ -27,10 +27,10 @@ pub struct Journaled<'x, D: Door, W: Write, J: JournalName> {
 }
 
 impl<'x, D: Door, W: Write, J: JournalName> Journaled<'x, D, W, J> {
-    /// A door with a journal of this version on this device, on which there are so many of the records that the pass has met, the day's
-    /// first.
+    /// A door with a journal of this version, in this room, on this device, on which there are so many of the records that the pass
+    /// has met, the day's first.
     pub fn new(
-        alloc: Global,
+        room: JournalRoom,
         version: AuditVersion,
         door: &'x D,
         pass: D::Pass,
@@ -44,7 +44,7 @@ impl<'x, D: Door, W: Write, J: JournalName> Journaled<'x, D, W, J> {
         requires none_added { D.added pass ≡ 0 }
         requires within { count ≤ length J.earlier }
     {
-        let journal = Journal::new(alloc, version, pass, count, device);
+        let journal = Journal::new(room, version, pass, count, device);
         let progress = Progress::new(journal.kept());
         Journaled {
             door,
@@ -218,6 +218,17 @@ impl<D: Door, W: Write, J: JournalName> Door for Journaled<'_, D, W, J> {
         most: u64,
     ) -> (D::Pass, Result<Vec<Record>, OutOfMemory>) {
         self.door.records(rt, pass, from, most)
+    }
+
+    fn copy_records<R: Wait>(
+        &self,
+        rt: &R,
+        pass: D::Pass,
+        from: u64,
+        most: u64,
+        list: &mut Vec<Record>,
+    ) -> D::Pass {
+        self.door.copy_records(rt, pass, from, most, list)
     }
 
     fn keep<R: Wait>(&self, rt: &R, count: u64) -> bool {

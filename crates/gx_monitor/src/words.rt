@@ -2,14 +2,16 @@
 
 ghost use Rattle.std.specs.Prelude.{◌≡◌, ◌++◌, decimal, OnOk};
 ghost use Rattle.gx_events.specs.Words.{of_name};
-ghost use Rattle.gx_monitor.specs.Words.{of_limit, share_text, side_text, warning_text, whose_of, whose_text};
+ghost use Rattle.gx_monitor.specs.Words.{amount_text, is_in_dollars, of_limit, share_text, side_text, used_of_limit, warning_text, whose_of, whose_text};
 
+use gx_events::counts_money;
 use gx_history::facts::StockSide;
+use gx_money::append_dollars;
 use gx_peaks::figure::Figure;
 use gx_peaks::key::key_of;
 use gx_policy::Policy;
 use gx_text::{append, append_name, append_number};
-use gx_units::{AccountName, OutOfMemory};
+use gx_units::{AccountName, OutOfMemory, RuleId};
 use gx_warnings::Warning;
 use itoa::Buffer;
 
@@ -82,13 +84,54 @@ fn append_side(text: &mut Vec<u8>, side: Option<StockSide>) -> Result<(), OutOfM
     }
 }
 
-fn append_of_limit(text: &mut Vec<u8>, limit: Option<u64>) -> Result<(), OutOfMemory>
-    ensures { OnOk result (text.new.items ≡ text.old.items ++ of_limit limit) }
+/// Whether the rule of this name counts a value; one that is not there does not.
+fn is_in_dollars(policy: &Policy, name: RuleId) -> bool
+    ensures { result ≡ is_in_dollars policy.now name }
 {
-    match limit {
-        Some(limit) => append_with_number(text, b" of ", limit),
-        None => Ok(()),
+    match policy.rule(name) {
+        Some(rule) => counts_money(rule.kind.name()),
+        None => false,
     }
+}
+
+/// Puts an amount of what a rule counts at the end of the text: money in dollars, anything else as a number.
+fn append_amount(text: &mut Vec<u8>, is_money: bool, amount: u128) -> Result<(), OutOfMemory>
+    ensures { OnOk result (text.new.items ≡ text.old.items ++ amount_text is_money amount) }
+{
+    if is_money {
+        append_dollars(text, amount)
+    } else {
+        append_sum(text, amount)
+    }
+}
+
+fn append_of_limit(
+    text: &mut Vec<u8>,
+    is_money: bool,
+    limit: Option<u64>,
+) -> Result<(), OutOfMemory>
+    ensures { OnOk result (text.new.items ≡ text.old.items ++ of_limit is_money limit) }
+{
+    let Some(limit) = limit else {
+        return Ok(());
+    };
+    append(text, b" of ")?;
+    append_amount(text, is_money, u128::from(limit))
+}
+
+/// Puts what is used, and the limit, at the end of the text.
+fn append_used_of_limit(
+    text: &mut Vec<u8>,
+    is_money: bool,
+    used: u128,
+    limit: Option<u64>,
+) -> Result<(), OutOfMemory>
+    ensures { OnOk result
+        (text.new.items ≡ text.old.items ++ used_of_limit is_money used limit) }
+{
+    append(text, b": ")?;
+    append_amount(text, is_money, used)?;
+    append_of_limit(text, is_money, limit)
 }
 
 /// Puts the share, the rule and whose figure it is at the end of the text.
@@ -118,7 +161,6 @@ pub(crate) fn append_warning_text(
 {
     append_share(text, policy, warning)?;
     append_side(text, warning.figure.side)?;
-    append(text, b": ")?;
-    append_sum(text, warning.reading.used)?;
-    append_of_limit(text, warning.reading.limit)
+    let is_money = is_in_dollars(policy, warning.figure.rule);
+    append_used_of_limit(text, is_money, warning.reading.used, warning.reading.limit)
 }

@@ -1,1 +1,2 @@
 mod Kill_call
+mod Answer_made

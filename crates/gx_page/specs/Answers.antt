@@ -1,7 +1,8 @@
 -- A request is answered.
-use Rattle.std.specs.Prelude.{◌≡◌, ℕ, Bool, true, false, List, Ok, Err}
+use Rattle.std.specs.Prelude.{◌≡◌, ℕ, Bool, true, false, List, length, Ok, Err}
 use Rattle.gx_policy.specs.declared.policy.PolicyData.{PolicyData}
-use Rattle.gx_pass.specs.declared.view.LineView.{LineView}
+use Rattle.gx_pass.specs.{declared.view.LineView.LineView, Views.mine}
+use Rattle.gx_door.specs.Keeping.{ShowsKept}
 use Rattle.gx_http.specs.declared.request.Request.{Request}
 use Rattle.gx_status.specs.declared.server.ServerFigures.{ServerFigures}
 use Rattle.gx_button.specs.declared.steps.Refusal.{Refusal}
@@ -26,10 +27,15 @@ abbrev pub IsTold : Bool → PolicyData → List ℕ → ServerFigures → PageR
 IsTold true policy secret about reply text = IsResponse policy secret about reply text
 IsTold false policy secret about reply text = text ≡ notice_bytes Notice.Unkept
 
--- what becomes of the request, and what is told of it
-pub record IsAnswered (policy : PolicyData) (secret : List ℕ) (about : ServerFigures) (was is : LineView) (q : Request) (a : HttpAnswer) : Type 0 where
+-- what becomes of the request, of a pass that has met these records then, and what is told of it: anything of records only where
+-- something shows that all of them are kept
+pub record IsAnswered {K : Type 0} (kept : K → ℕ) (policy : PolicyData) (secret : List ℕ) (about : ServerFigures) (was is : LineView) (q : Request) (a : HttpAnswer) : Type 0 where
   pub reply : PageReply
+  pub met : LineView
+  pub becomes : IsReply policy secret was met q reply
+  pub front : is.front ≡ met.front
+  pub own : mine is ≡ mine met
   pub is_kept : Bool
-  pub becomes : IsReply policy secret was is q reply
+  pub shown : is_kept ≡ true → ShowsKept kept (length is.front)
   pub told : IsTold is_kept policy secret about reply a.text.items
   pub stranger : a.is_stranger ≡ is_stranger reply

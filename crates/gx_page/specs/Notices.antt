@@ -2,7 +2,7 @@
 use Rattle.std.specs.Prelude.{ℕ, List, Result, Ok, Err, codes}
 use Rattle.gx_units.specs.declared.names.LoginRejection.{LoginRejection}
 use Rattle.gx_history.specs.declared.record.Verdict.{Verdict}
-use Rattle.gx_http.specs.{declared.response.Status.Status, Responses.{status_of as fault_status}}
+use Rattle.gx_http.specs.{declared.{request.RequestFault.RequestFault, response.Status.Status}, Responses.{status_of as fault_status}}
 use Rattle.gx_button.specs.declared.steps.{Deed.Deed, Refusal.Refusal}
 use Rattle.gx_page.specs.declared.{notice.Notice.Notice, reply.Health.Health}
 
@@ -62,4 +62,5 @@ notice_words Notice.Denied = codes "the gate denied the kill: the last commands 
 notice_words Notice.Refused = codes "there is no memory or no record left for the kill: try again\n"
 notice_words Notice.Killed = codes "the account is killed\n"
 notice_words Notice.Unkept = codes "the journal can't be written: nothing more is told\n"
+notice_words (Notice.Fault RequestFault.Misdirected) = codes "the page is served by the names 127.0.0.1, localhost and [::1] alone\n"
 notice_words (Notice.Fault fault) = codes "this is no request that is served here\n"

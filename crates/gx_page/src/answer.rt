@@ -57,7 +57,7 @@ fn response_if_kept(
     }
 }
 
-/// Answers a request, once what was done so far is kept: what the answer tells of the gate is kept then, too. A kill makes steps
+/// Answers a request, once all records are kept that the board's pass has met: the answer tells of no others. A kill makes steps
 /// on the line of the board's pass; nothing else makes any.
 ///
 /// # Errors
@@ -81,14 +81,16 @@ pub(crate) fn answer_to<
     requires policy { policy.now ≡ D.policy }
     ensures later { IsPrefix board.front result.0.front }
     ensures answer { IfOk result.1
-        (IsAnswered D.policy secret.now.bytes about board result.0 request.now) }
+        (IsAnswered D.kept D.policy secret.now.bytes about board result.0 request.now) }
 {
     let (board, reply) = reply_to(rt, alloc, door, policy, secret, board, request);
     let reply = match reply {
         Ok(reply) => reply,
         Err(refused) => return (board, Err(refused)),
     };
-    let is_kept = door.keep_all(rt);
+    let mut board = board;
+    let count = board.length(door);
+    let is_kept = door.keep(rt, count);
     match response_if_kept(alloc, is_kept, policy, secret, about, &reply) {
         Ok(text) => {
             let is_stranger = is_stranger(&reply);

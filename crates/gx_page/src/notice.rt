@@ -126,6 +126,8 @@ impl Notice {
             Notice::Refused => b"there is no memory or no record left for the kill: try again\n",
             Notice::Killed => b"the account is killed\n",
             Notice::Unkept => b"the journal can't be written: nothing more is told\n",
+            Notice::Fault(RequestFault::Misdirected) =>
+                b"the page is served by the names 127.0.0.1, localhost and [::1] alone\n",
             Notice::Fault(_) => b"this is no request that is served here\n",
         }
     }

@@ -163,11 +163,16 @@ fn write_more<W: Write>(to: &mut W, ended: &Failure) -> io::Result<()> {
     Ok(())
 }
 
+/// Writes why the program gave up: a line for its fault, and what more there is to tell of it.
+pub fn write_failure<W: Write>(to: &mut W, ended: &Failure) -> io::Result<()> {
+    let line = ended.fault.line();
+    to.write_all(line.as_slice())?;
+    write_more(to, ended)
+}
+
 /// Tells why the program gave up: the status that says so.
 pub fn tell(rt: &HostRuntime, ended: Failure) -> ExitCode {
-    let line = ended.fault.line();
-    let _ = rt.stderr().write_all(line.as_slice());
-    let _ = write_more(&mut io::writer(&rt.stderr()), &ended);
+    let _ = write_failure(&mut io::writer(&rt.stderr()), &ended);
     ExitCode::from(ended.fault.status())
 }
 

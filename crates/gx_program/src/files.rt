@@ -4,7 +4,7 @@ ghost use Rattle.std.specs.Prelude.{◌-◌, ◌<◌};
 
 use crate::ending::Failure;
 use gx_devices::CallCounter;
-use gx_files::{FileIdentity, Measured, ReadFault, read_within, shared_file};
+use gx_files::{FileIdentity, ReadFault, read_within, shared_file};
 use gx_server::{ErrorRecorder, ProgramFault};
 use gx_units::OutOfMemory;
 use std::fs;
@@ -119,8 +119,8 @@ pub fn look_before<'a>(
 
 /// How many bytes are expected of a file: as many as it has now, as far as that can be told.
 pub fn expected_of(file: &File) -> usize {
-    match file.length() {
-        Ok(length) => length as usize,
+    match file.metadata() {
+        Ok(found) => found.len() as usize,
         Err(_) => 0,
     }
 }

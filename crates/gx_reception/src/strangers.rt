@@ -1,12 +1,13 @@
 //! The line of those who have no password.
 
-ghost use Rattle.std.specs.Prelude.{◌≡◌, ◌≤◌, ◌<◌, ◌+◌, [], length, IfOk, IsTrue, OnErr, OnOk, is_some};
+ghost use Rattle.std.specs.Prelude.{◌≡◌, ◌≢◌, ◌≤◌, ◌<◌, ◌+◌, [], length, IfErr, IfOk, IsFalse, IsTrue, OnErr, OnOk, is_some};
 ghost use Rattle.gx_units.specs.declared.names.LoginRejection.TheVariants as rejections;
 ghost use Rattle.gx_access_gate.specs.declared.outcome.LoginAnswer.TheVariants as answers;
 ghost use Rattle.gx_pass.specs.Views.{mine};
 ghost use Rattle.gx_door.specs.{Acts.history_met, Callers.caller_of};
 ghost use Rattle.gx_door.specs.declared.caller.Caller.TheVariants as callers;
-ghost use Rattle.gx_reception.specs.Denials.{are_denied};
+ghost use Rattle.gx_reception.specs.Denials.{are_denied, is_reserved};
+ghost use Rattle.gx_reception.specs.declared.strangers.Undenied.TheVariants as unmade;
 
 use crate::reserve::{LAST_TRADERS_RECORD, MOST_DENIALS};
 use gx_access_gate::{LoginAnswer, StepFault};
@@ -49,7 +50,8 @@ pub enum Undenied {
 }
 
 /// The pass of a line that nobody is ever logged in on: the logins of those who have no password are made on it. All records
-/// of the line are such logins, each denied, and they are never more than may be. Contracts see how many they are.
+/// of the line are such logins, each denied, and they are never more than may be. Contracts see how many they are, and how many
+/// records of the day the pass was told of.
 #[derive(Drop)]
 pub struct Strangers<D: Door> {
     /// Taken out for each call of the gate.
@@ -62,18 +64,22 @@ pub struct Strangers<D: Door> {
 }
 
 impl<D: Door> Model for Strangers<D> {
-    ghost use Rattle.std.specs.Prelude.{ℕ};
+    ghost use Rattle.gx_door.specs.{Acts.history_met};
+    ghost use Rattle.gx_reception.specs.Denials.{StrangersData};
 
-    ghost Value = { ℕ };
+    ghost Value = { StrangersData };
 
-    ghost view = { λ s. s.count };
+    ghost view = { λ s. record {
+      count = s.count;
+      told = (history_met D.observed s.pass).told;
+    } };
 }
 
 impl<D: Door> Strangers<D> {
     /// On a new line.
     pub fn new(pass: D::Pass) -> Strangers<D>
         requires own { mine (D.observed pass) ≡ [] }
-        ensures none { result ≡ 0 }
+        ensures none { result.count ≡ 0 }
     {
         Strangers {
             pass: Some(pass),
@@ -83,7 +89,9 @@ impl<D: Door> Strangers<D> {
 
     /// How many records there are, as the pass is told.
     pub fn length(&mut self, door: &D) -> u64
-        ensures same { self.new ≡ self.old }
+        ensures told { self.new.told ≡ result }
+        ensures more { self.old.told ≤ result }
+        ensures same { self.new.count ≡ self.old.count }
     {
         let Some(mut pass) = self.pass.take() else {
             unreachable!()
@@ -105,10 +113,11 @@ impl<D: Door> Strangers<D> {
         requires clock { R.shown moment }
         requires stranger { caller_of D.policy login.now.user login.now.password
             ≡ callers.Stranger }
-        requires few { self.old < 1048576 }
+        requires few { self.old.count < 1048576 }
         ensures rejected { IfOk result (λ d. d ≡ answers.Rejected rejections.NotAuthorized) }
-        ensures counted { OnOk result (self.new ≡ self.old + 1) }
-        ensures same { OnErr result (self.new ≡ self.old) }
+        ensures counted { OnOk result (self.new.count ≡ self.old.count + 1) }
+        ensures same { OnErr result (self.new.count ≡ self.old.count) }
+        ensures refused { IfErr result (λ e. e ≢ unmade.Spared) }
     {
         let Some(pass) = self.pass.take() else {
             unreachable!()
@@ -149,8 +158,11 @@ impl<D: Door> Strangers<D> {
         requires stranger { caller_of D.policy login.now.user login.now.password
             ≡ callers.Stranger }
         ensures rejected { IfOk result (λ d. d ≡ answers.Rejected rejections.NotAuthorized) }
-        ensures counted { OnOk result (self.new ≡ self.old + 1) }
-        ensures same { OnErr result (self.new ≡ self.old) }
+        ensures counted { OnOk result (self.new.count ≡ self.old.count + 1) }
+        ensures same { OnErr result (self.new.count ≡ self.old.count) }
+        ensures spared { IfErr result (λ e. e ≡ unmade.Spared
+            → IsTrue (is_reserved self.new)) }
+        ensures left { OnOk result (IsFalse (is_reserved self.old)) }
     {
         if self.count >= MOST_DENIALS || self.length(door) >= LAST_TRADERS_RECORD {
             return Err(Undenied::Spared);

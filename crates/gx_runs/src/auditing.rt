@@ -1,12 +1,14 @@
 //! The file of a run's audit: opened before the run, and put in its place behind it.
 
-ghost use Rattle.std.specs.Prelude.{◌-◌, ◌<◌};
+ghost use Rattle.std.specs.Prelude.{◌-◌, ◌^◌, ◌<◌};
 
 use gx_audit::write_audit;
-use gx_audit_bytes::AuditVersion;
-use gx_devices::CallCounter;
+use gx_audit_bytes::{AuditVersion, RECORD_SIZE};
+use gx_devices::{CallCounter, WriteFault, write_whole};
 use gx_files::FileIdentity;
-use gx_program::{Failure, Named, Resource, file_named, identity_of, tell_apart};
+use gx_program::{
+    Failure, Named, Resource, file_named, identity_of, longest_file, tell_apart, write_failure,
+};
 use gx_records::ShowsRecords;
 use gx_server::{ErrorRecorder, ProgramFault};
 use gx_units::OutOfMemory;
@@ -17,6 +19,9 @@ use std::{fs, io};
 
 /// What is told of a name beside the audit's that is not free for it.
 const NOT_REGULAR: &str = "the name with .tmp behind it is not a regular file's";
+
+/// What is told of an audit that the system lets no file be as long as.
+const TOO_LONG: &str = "it would be longer than a file may be (ulimit -f)";
 
 /// Where the audit of a run goes.
 #[derive(Drop)]
@@ -157,24 +162,76 @@ fn way_through<'a>(rt: &HostRuntime, path: &'a str) -> Result<AuditWay, Failure<
     }
 }
 
-/// Writes the gate's audit to the device of this place.
-fn write_records<'a, G: ShowsRecords, W: Write + Drop>(
+/// What stands in an audit's place.
+trait Audited {
+    /// How many bytes it has.
+    fn length(&self) -> u64;
+
+    /// Writes it.
+    fn put<W: Write>(&self, writer: &mut CallCounter<W>) -> Result<(), WriteFault>
+        requires { writer.old.failed < 2 ^ 64 - 1 };
+}
+
+/// The records of a gate, in this version.
+#[derive(Drop)]
+struct GateAudit<'g, G: ShowsRecords> {
     version: AuditVersion,
-    gate: &G,
+    gate: &'g G,
+}
+
+impl<G: ShowsRecords> Audited for GateAudit<'_, G> {
+    fn length(&self) -> u64 {
+        let header = u64::from(self.version.has_header());
+        let records = self.gate.length().saturating_add(header);
+        records.saturating_mul(RECORD_SIZE as u64)
+    }
+
+    fn put<W: Write>(&self, writer: &mut CallCounter<W>) -> Result<(), WriteFault> {
+        Ok(write_audit(self.version, self.gate, writer)?)
+    }
+}
+
+/// Why there is none.
+#[derive(Drop)]
+struct NoAudit<'t> {
+    text: &'t [u8],
+}
+
+impl Audited for NoAudit<'_> {
+    fn length(&self) -> u64 {
+        self.text.len() as u64
+    }
+
+    fn put<W: Write>(&self, writer: &mut CallCounter<W>) -> Result<(), WriteFault> {
+        Ok(write_whole(writer, self.text)?)
+    }
+}
+
+/// Writes what is to stand in the audit's place to the device of this one.
+fn write_to<'a, A: Audited, W: Write + Drop>(
+    audit: &A,
     device: W,
     place: Resource<'a>,
 ) -> Result<(), Failure<'a>> {
     let mut writer = CallCounter::new(ErrorRecorder::new(device));
-    match write_audit(version, gate, &mut writer) {
+    match audit.put(&mut writer) {
         Ok(()) => Ok(()),
-        Err(failed) => Err(Failure::of_writing(failed.into(), place, writer.into_inner().cause)),
+        Err(fault) => Err(Failure::of_writing(fault, place, writer.into_inner().cause)),
     }
 }
 
-/// Cuts off what a file has, where it is a regular one.
-fn cut<'a>(path: &'a str, file: &File) -> Result<(), Failure<'a>> {
+/// Makes room for so many bytes in a file, where it is a regular one: what it has is cut off.
+fn make_room<'a>(
+    rt: &HostRuntime,
+    path: &'a str,
+    file: &File,
+    length: u64,
+) -> Result<(), Failure<'a>> {
     if identity(file).is_none() {
         return Ok(());
+    }
+    if length > longest_file(rt).unwrap_or(u64::MAX) {
+        return Err(unwritten(path, Error::new(ErrorKind::InvalidData, TOO_LONG)));
     }
     match file.set_len(0) {
         Ok(()) => Ok(()),
@@ -182,26 +239,25 @@ fn cut<'a>(path: &'a str, file: &File) -> Result<(), Failure<'a>> {
     }
 }
 
-/// Writes the gate's audit into an open file, from its beginning.
-fn write_through<'a, G: ShowsRecords>(
-    version: AuditVersion,
-    gate: &G,
+/// Writes it into an open file, from its beginning.
+fn write_through<'a, A: Audited>(
+    rt: &HostRuntime,
+    audit: &A,
     path: &'a str,
     file: &File,
 ) -> Result<(), Failure<'a>> {
-    cut(path, file)?;
-    write_records(version, gate, file, Resource::File(path))
+    make_room(rt, path, file, audit.length())?;
+    write_to(audit, file, Resource::File(path))
 }
 
-/// Writes the gate's audit into a named pipe.
-fn write_pipe<'a, G: ShowsRecords>(
+/// Writes it into a named pipe.
+fn write_pipe<'a, A: Audited>(
     rt: &HostRuntime,
-    version: AuditVersion,
-    gate: &G,
+    audit: &A,
     path: &'a str,
 ) -> Result<(), Failure<'a>> {
     match open_to_write(rt, path, false) {
-        Ok(file) => write_records(version, gate, file, Resource::File(path)),
+        Ok(file) => write_to(audit, file, Resource::File(path)),
         Err(error) => Err(unwritten(path, error)),
     }
 }
@@ -242,15 +298,14 @@ impl Beside {
         }
     }
 
-    /// Writes the gate's audit into the file, and puts it in its place.
-    fn write<'a, G: ShowsRecords>(
+    /// Writes it into the file, and puts that in its place.
+    fn write<'a, A: Audited>(
         &self,
         rt: &HostRuntime,
-        version: AuditVersion,
-        gate: &G,
+        audit: &A,
         path: &'a str,
     ) -> Result<(), Failure<'a>> {
-        write_through(version, gate, path, &self.file)?;
+        write_through(rt, audit, path, &self.file)?;
         self.put(rt, path)
     }
 }
@@ -276,18 +331,13 @@ impl<'a> AuditFile<'a> {
         Ok(AuditFile { path, way })
     }
 
-    /// Writes the gate's audit there in this version.
-    fn write<G: ShowsRecords>(
-        &self,
-        rt: &HostRuntime,
-        version: AuditVersion,
-        gate: &G,
-    ) -> Result<(), Failure<'a>> {
+    /// Writes it there.
+    fn write<A: Audited>(&self, rt: &HostRuntime, audit: &A) -> Result<(), Failure<'a>> {
         let path = self.path;
         match &self.way {
-            AuditWay::Through(file) => write_through(version, gate, path, file),
-            AuditWay::Pipe => write_pipe(rt, version, gate, path),
-            AuditWay::Beside(beside) => beside.write(rt, version, gate, path),
+            AuditWay::Through(file) => write_through(rt, audit, path, file),
+            AuditWay::Pipe => write_pipe(rt, audit, path),
+            AuditWay::Beside(beside) => beside.write(rt, audit, path),
         }
     }
 
@@ -318,11 +368,38 @@ pub fn close_audited<'a, G: ShowsRecords>(
     audit: Option<AuditFile<'a>>,
 ) -> Result<(), Failure<'a>> {
     let kept = match audit {
-        Some(file) => file.write(rt, version, &gate),
+        Some(file) => file.write(
+            rt,
+            &GateAudit {
+                version,
+                gate: &gate,
+            },
+        ),
         None => Ok(()),
     };
     gate.close();
     kept
+}
+
+/// Writes why there is no audit in its place, where one is wanted: its records would be more than were kept.
+pub fn fail_audit<'a>(
+    rt: &HostRuntime,
+    why: &Failure<'a>,
+    audit: Option<AuditFile<'a>>,
+) -> Result<(), Failure<'a>> {
+    let Some(file) = audit else {
+        return Ok(());
+    };
+    let mut text = Vec::new(rt.alloc());
+    if write_failure(&mut text, why).is_err() {
+        return Err(OutOfMemory.into());
+    }
+    file.write(
+        rt,
+        &NoAudit {
+            text: text.as_slice(),
+        },
+    )
 }
 
 /// Lets the audit's file go, where there was no run.

@@ -4,13 +4,15 @@ ghost use Rattle.std.specs.Prelude.{◌≤◌};
 ghost use Rattle.gx_clock.specs.Moments.{last_shown};
 
 use gx_clock::{DayClock, TimeOfDay};
-use gx_command_line::Ends;
+use gx_command_line::{Ends, Serving, Standby};
 use gx_control::ServerControl;
 use gx_log::Log;
+use gx_program::{Failure, refused};
 use gx_shortened::Shortened;
 use gx_units::{Moment, OutOfMemory};
 use std::alloc::Global;
 use std::io::Read;
+use std::path::Path;
 use std::sync::{Arc, Wait};
 use std::thread::Threads;
 use std::time::{Clock, Duration};
@@ -18,6 +20,9 @@ use std::{fmt, fs, thread};
 
 /// So many milliseconds lie between two looks at the clock and for the file.
 const POLL_MILLIS: u64 = 100;
+
+/// What is told of a name that no file has.
+const NO_NAME: &str = "a file has a name";
 
 /// The nanoseconds of a second.
 const SECOND: u64 = 1_000_000_000;
@@ -168,6 +173,45 @@ fn end_when_come<R: Threads + Wait + Clock + Copy + Send + 'static>(
     match thread::spawn(&rt, move || await_end(&rt, &host, &theirs, &awaited)) {
         Ok(_) => Ok(()),
         Err(_) => Err(OutOfMemory),
+    }
+}
+
+/// The folder that the file of this name stands in.
+fn folder_of(name: &str) -> &str {
+    match Path::new(name).parent() {
+        Some(folder) if !folder.as_os_str().is_empty() => folder.as_os_str(),
+        _ => ".",
+    }
+}
+
+/// Whether there can be a file of this name: its folder is there, and the system takes such a name.
+fn look_for_room<'a>(host: &HostRuntime, name: &'a str) -> Result<(), Failure<'a>> {
+    if name.is_empty() {
+        return Err(refused(name, NO_NAME));
+    }
+    match fs::exists(host, name) {
+        Ok(true) => return Ok(()),
+        Ok(false) => {}
+        Err(error) => return Err(Failure::unread(name, error)),
+    }
+    match fs::metadata(host, folder_of(name)) {
+        Ok(_) => Ok(()),
+        Err(error) => Err(Failure::unread(name, error)),
+    }
+}
+
+/// Whether each file can come that a server waits for: the one that ends it, and the one for which it takes over.
+pub fn look_ahead<'a>(host: &HostRuntime, serving: &Serving<'a>) -> Result<(), Failure<'a>> {
+    if let Some(name) = serving.ends.stop_file {
+        look_for_room(host, name)?;
+    }
+    match serving.standby {
+        Some(
+            Standby {
+                takeover_file: Some(name),
+            },
+        ) => look_for_room(host, name),
+        _ => Ok(()),
     }
 }
 

@@ -4,24 +4,62 @@ ghost use Rattle.std.specs.Prelude.{◌-◌, ◌^◌, ◌<◌};
 
 use gx_access_gate::AccessGate;
 use gx_audit::{Resumed, resume};
-use gx_audit_bytes::{AuditVersion, write_header_in};
+use gx_audit_bytes::{AuditVersion, RECORD_SIZE, write_header_in};
 use gx_command_line::JournalFile;
 use gx_devices::{CallCounter, write_whole};
-use gx_files::Watched;
+use gx_files::{Measure, Measured, Watched};
 use gx_log::Log;
 use gx_policy::Policy;
-use gx_program::{Content, Failure, Resource, expected_of, look_before, read_file};
+use gx_program::{
+    Content, Failure, Resource, expected_of, file_named, go_to, identity_of, longest_file,
+    look_before, read_file,
+};
 use gx_server::{ErrorRecorder, ProgramFault};
+use gx_units::OutOfMemory;
 use std::fs::{File, OpenOptions, TryLockError};
-use std::io::Write;
+use std::io::{Seek, SeekFrom, Write};
 use std::sync::Wait;
 use std::{fs, io};
 
-/// The file of a journal, which no other program may make longer or shorter. A flush forces it to the disk, where that was
-/// asked for.
+/// So many bytes at the end of a journal may not be on the disk, where each write of it is forced there: as many as one write
+/// has, 4,096 records of 128 bytes.
+const TAIL: u64 = 524_288;
+
+/// The file of a journal, and the name that it was opened by.
+#[derive(Drop)]
+struct NamedFile {
+    rt: HostRuntime,
+    path: String,
+    file: File,
+}
+
+impl Measured for NamedFile {
+    ghost told = { λ _ _. Unit {0} };
+
+    fn measure(&self) -> io::Result<Measure> {
+        let found = self.file.metadata()?;
+        Ok(Measure {
+            length: found.len(),
+            is_named: identity_of(&found) == file_named(&self.rt, self.path.as_str()),
+        })
+    }
+}
+
+impl Write for NamedFile {
+    fn write(&mut self, buf: &[u8]) -> io::Result<usize> {
+        self.file.write(buf)
+    }
+
+    fn flush(&mut self) -> io::Result<()> {
+        self.file.flush()
+    }
+}
+
+/// The file of a journal, which no other program may move, or make longer or shorter, and which becomes no longer than the system
+/// lets a file be. A flush forces it to the disk, where that was asked for.
 #[derive(Drop)]
 pub struct JournalDevice {
-    watched: Watched<File>,
+    watched: Watched<NamedFile>,
     is_synced: bool,
 }
 
@@ -32,7 +70,7 @@ impl Write for JournalDevice {
 
     fn flush(&mut self) -> io::Result<()> {
         if self.is_synced {
-            self.watched.file.sync_data()
+            self.watched.file.file.sync_data()
         } else {
             Ok(())
         }
@@ -133,7 +171,7 @@ fn prepare<'a>(
 ) -> Result<(), Failure<'a>>
     requires { device.old.failed < 2 ^ 64 - 1 }
 {
-    if let Err(error) = device.device().device.watched.file.set_len(kept) {
+    if let Err(error) = device.device().device.watched.file.file.set_len(kept) {
         return Err(Failure::unwritten(Resource::File(path), error));
     }
     if kept > 0 {
@@ -149,7 +187,45 @@ fn prepare<'a>(
     }
 }
 
-/// Prepares the journal, and forces its name to the disk, where it is forced there.
+/// The last bytes of a file of so many.
+fn tail_of<'a>(
+    rt: &HostRuntime,
+    path: &'a str,
+    start: u64,
+    length: u64,
+) -> Result<Vec<u8>, Failure<'a>> {
+    match File::open(rt, path) {
+        Ok(mut file) => {
+            go_to(path, &mut file, start)?;
+            let count = length.saturating_sub(start) as usize;
+            read_file(rt, path, Content::Records, file, count)
+        }
+        Err(error) => Err(Failure::unread(path, error)),
+    }
+}
+
+/// Writes these bytes at this place of a file, over what is there, and forces them to the disk.
+fn write_at(rt: &HostRuntime, path: &str, start: u64, bytes: &[u8]) -> io::Result<()> {
+    let mut options = OpenOptions::new();
+    options.write(true);
+    let mut file = options.open(rt, path)?;
+    file.seek(SeekFrom::Start(start))?;
+    file.write_all(bytes)?;
+    file.sync_data()
+}
+
+/// Writes the end of a journal of so many bytes once more, in its place: what an earlier server wrote and could not force to the
+/// disk may be read as if it were there, since Linux takes it for written once that has failed.
+fn write_tail<'a>(rt: &HostRuntime, path: &'a str, length: u64) -> Result<(), Failure<'a>> {
+    let start = length.saturating_sub(TAIL);
+    let bytes = tail_of(rt, path, start, length)?;
+    match write_at(rt, path, start, bytes.as_slice()) {
+        Ok(()) => Ok(()),
+        Err(error) => Err(Failure::unwritten(Resource::File(path), error)),
+    }
+}
+
+/// Prepares the journal, and forces what it has and its name to the disk, where it is forced there.
 fn prepare_named<'a>(
     rt: &HostRuntime,
     policy: &Policy,
@@ -164,10 +240,38 @@ fn prepare_named<'a>(
     if !journal.is_synced {
         return Ok(());
     }
+    write_tail(rt, journal.path, kept)?;
     match sync_folder(rt, journal.path) {
         Ok(()) => Ok(()),
         Err(error) => Err(Failure::unwritten(Resource::File(journal.path), error)),
     }
+}
+
+/// A journal's device: its open file, of which so many bytes stand, prepared to go on behind them.
+fn open_device<'a>(
+    rt: &HostRuntime,
+    policy: &Policy,
+    version: AuditVersion,
+    journal: JournalFile<'a>,
+    file: File,
+    kept: u64,
+) -> Result<ErrorRecorder<JournalDevice>, Failure<'a>> {
+    let Ok(path) = String::from_str(rt.alloc(), journal.path) else {
+        return Err(OutOfMemory.into());
+    };
+    let watched = Watched {
+        file: NamedFile {
+            rt: *rt,
+            path,
+            file,
+        },
+        length: kept,
+        most: longest_file(rt).unwrap_or(u64::MAX),
+    };
+    let is_synced = journal.is_synced;
+    let mut device = CallCounter::new(ErrorRecorder::new(JournalDevice { watched, is_synced }));
+    prepare_named(rt, policy, version, journal, kept, &mut device)?;
+    Ok(device.into_inner())
 }
 
 /// The day of the journal in its open file, which is this program's from now on. A day that is begun there is kept in the
@@ -197,16 +301,12 @@ pub(crate) fn go_on_from<'a, G: AccessGate>(
         length,
     } = found;
     let Resumed { gate, kept } = resumed;
-    let mut device = CallCounter::new(ErrorRecorder::new(JournalDevice {
-        watched: Watched { file, length: kept },
-        is_synced: journal.is_synced,
-    }));
-    match prepare_named(rt, policy, version, journal, kept, &mut device) {
-        Ok(()) => Ok(Day {
+    match open_device(rt, policy, version, journal, file, kept) {
+        Ok(device) => Ok(Day {
             cut: length.saturating_sub(kept),
             gate,
             version,
-            device: device.into_inner(),
+            device,
         }),
         Err(ended) => {
             gate.close();
@@ -220,6 +320,21 @@ pub fn look_back<'a>(path: &'a str, device: &JournalDevice) -> Result<(), Failur
     match device.watched.check() {
         Ok(()) => Ok(()),
         Err(error) => Err(Failure::unwritten(Resource::File(path), error)),
+    }
+}
+
+/// Tells how many records a journal has room for, where the system lets no file be as long as a day may want.
+pub fn tell_room<R: Wait>(rt: &R, host: &HostRuntime, log: &Log) {
+    let Some(most) = longest_file(host) else {
+        return;
+    };
+    let records = (most / RECORD_SIZE as u64).saturating_sub(1);
+    let made = format!(in host.alloc();
+        "journal: a file may have {most} bytes (ulimit -f), so this one has room for {records} records\n"
+    );
+    match made {
+        Ok(line) => log.tell(rt, line.as_bytes()),
+        Err(_) => log.leave_out(rt),
     }
 }
 

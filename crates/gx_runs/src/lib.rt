@@ -16,9 +16,11 @@ mod running;
 mod standby;
 mod starts;
 
-pub use auditing::{AuditFile, close_audited, leave_audit, open_audit};
-pub use ends::{await_ends, connections_of};
-pub use keeping::{Day, JournalDevice, look_back, open_file, open_journal, take_up, tell_cut};
+pub use auditing::{AuditFile, close_audited, fail_audit, leave_audit, open_audit};
+pub use ends::{await_ends, connections_of, look_ahead};
+pub use keeping::{
+    Day, JournalDevice, look_back, open_file, open_journal, take_up, tell_cut, tell_room,
+};
 pub use running::{Input, names_of, run_files};
 pub use standby::{TakenOver, take_over};
 pub use starts::{Start, audit_version};

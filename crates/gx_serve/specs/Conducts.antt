@@ -1,5 +1,5 @@
 -- When a user is put out.
-use Rattle.std.specs.Prelude.{ℕ, ◌+◌, Bool, true, false, ◌&&◌, min, nat_le, Option, Some, None, if◌then◌else◌}
+use Rattle.std.specs.Prelude.{◌≡◌, ◌≤◌, ℕ, ◌+◌, Bool, true, false, ◌&&◌, min, nat_le, Option, Some, None, if◌then◌else◌}
 use Rattle.gx_policy.specs.declared.rule_name.RuleName.{RuleName}
 use Rattle.gx_history.specs.declared.record.Verdict.{Verdict}
 use Rattle.gx_door.specs.declared.caller.Caller.{Caller}
@@ -33,3 +33,9 @@ exclusion_of conduct length =
     if nat_le 1000 conduct.silent then Some Exclusion.Silent
     else if is_trader_here conduct.caller && nat_le 16711680 length then Some Exclusion.Kept
     else None
+
+-- whether a user is put out, and why, as it was found behind so many records or more
+pub record WasJudged (conduct : ConductData) (count : ℕ) (why : Option Exclusion) : Type 0 where
+  pub length : ℕ
+  pub later : count ≤ length
+  pub judged : exclusion_of conduct length ≡ why

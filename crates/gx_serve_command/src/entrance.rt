@@ -1,7 +1,7 @@
 //! Where connections come in.
 
 use crate::announcing::Announcer;
-use crate::limits::places_for;
+use crate::limits::capacity_for;
 use crate::page::{PageEntrance, listen, open_page};
 use crate::runtime::ServerRuntime;
 use gx_clock::DayClock;
@@ -53,8 +53,12 @@ fn open_ports<'a, R: ServerRuntime>(
     rt: &R,
     host: &HostRuntime,
     serving: &Serving<'a>,
+    has_page: bool,
 ) -> Result<(TcpListener, Option<PageEntrance>), Failure<'a>> {
     let listener = listen(rt, serving.port)?;
+    if !has_page {
+        return Ok((listener, None));
+    }
     let page = open_page(rt, host, serving)?;
     Ok((listener, page))
 }
@@ -69,10 +73,11 @@ pub(crate) fn open_lobby<'a, R: ServerRuntime>(
     last: Moment,
     log: &Arc<Log, Global>,
 ) -> Result<ServerEntrance, Failure<'a>> {
-    let (listener, page) = open_ports(rt, host, serving)?;
-    let places = places_for(rt, host, log, serving.at_once, page.is_some());
+    let wants_page = serving.status_port.is_some();
+    let capacity = capacity_for(rt, host, log, serving.at_once, wants_page);
+    let (listener, page) = open_ports(rt, host, serving, capacity.has_page)?;
     let clock = start.clock(serving.midnight, last);
-    let control = open_control(rt, host, serving, clock, places, log)?;
+    let control = open_control(rt, host, serving, clock, capacity.places, log)?;
     let announcer = Announcer::begin(*rt, *host, &control, serving.port)?;
     Ok(ServerEntrance {
         listener,

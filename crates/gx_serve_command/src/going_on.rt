@@ -6,7 +6,7 @@ use crate::runtime::ServerRuntime;
 use gx_access_gate::AccessGate;
 use gx_audit_bytes::AuditVersion;
 use gx_command_line::{JournalFile, Serving, Standby};
-use gx_devices::WriteFault;
+use gx_devices::WriteFailed;
 use gx_listen::ServeFault;
 use gx_log::Log;
 use gx_policy::Policy;
@@ -14,7 +14,8 @@ use gx_program::{Failure, Named, Resource, tell_apart};
 use gx_records::{ShowsRecords, ShowsState};
 use gx_runs::{
     AuditFile, Day, JournalDevice, Start, TakenOver, audit_version, close_audited, connections_of,
-    leave_audit, look_back, open_audit, open_file, open_journal, take_over, take_up, tell_cut,
+    fail_audit, leave_audit, look_back, open_audit, open_file, open_journal, take_over, take_up,
+    tell_cut, tell_room,
 };
 use gx_server::ErrorRecorder;
 use gx_shared::{KeptDay, serve_journaled};
@@ -56,6 +57,7 @@ fn go_on<'a, G: ShowsRecords + ShowsState + Send, R: ServerRuntime>(
             },
         ) => {
             let count = gate.length();
+            tell_room(rt, host, log);
             tell_cut(rt, host, log, count, cut);
             let connections = connections_of(serving.ends);
             let alloc = host.alloc();
@@ -86,17 +88,18 @@ fn go_on<'a, G: ShowsRecords + ShowsState + Send, R: ServerRuntime>(
 
 /// Whether a journal in this file was kept, and what the system said where it was not.
 fn kept<'a>(
-    fault: Option<WriteFault>,
+    fault: Option<WriteFailed>,
     path: &'a str,
     said: Option<io::Error>,
 ) -> Result<(), Failure<'a>> {
     match fault {
-        Some(fault) => Err(Failure::of_writing(fault, Resource::File(path), said)),
+        Some(failed) => Err(Failure::of_writing(failed.into(), Resource::File(path), said)),
         None => Ok(()),
     }
 }
 
-/// How a server ended that kept its records in a journal, once its audit is written.
+/// How a server ended that kept its records in a journal, once its audit is written. Where the journal has failed, the reason
+/// stands in the audit's place: the gate has made steps that are in no journal, and that nobody was told of.
 fn close_server<'a, G: ShowsRecords>(
     host: &HostRuntime,
     path: &'a str,
@@ -110,12 +113,16 @@ fn close_server<'a, G: ShowsRecords>(
         fault,
         device,
     } = left;
-    let audited = close_audited(host, version, gate, audit);
     let ErrorRecorder { device, cause } = device;
-    kept(fault, path, cause)
-        .and(look_back(path, &device))
-        .and(ended)
-        .and(audited)
+    let journaled = kept(fault, path, cause).and(look_back(path, &device));
+    let audited = match &journaled {
+        Ok(()) => close_audited(host, version, gate, audit),
+        Err(why) => {
+            gate.close();
+            fail_audit(host, why, audit)
+        }
+    };
+    journaled.and(ended).and(audited)
 }
 
 /// The day that a journal holds, and the file of its audit. Nothing is written before all files are seen to differ.

@@ -1,53 +1,79 @@
 //! How many connections the descriptors allow that may be open.
 
 use gx_log::Log;
-use std::fs;
+use gx_program::most_descriptors;
 use std::sync::Wait;
-
-/// Where Linux tells the limits of a process, a line each.
-const LIMITS: &str = "/proc/self/limits";
 
 /// So many descriptors a server wants beside those of the connections that it serves: the standard streams, the listener,
 /// the journal and the audit, and the connection that waits for a place.
 const OWN: u64 = 8;
 
-/// So many the risk desk's page wants: its listener, its connections, and the one that waits for a place.
-const PAGE: u64 = 34;
+/// So many the risk desk's page wants: its listener, its 64 connections, and the one that waits for a place.
+const PAGE: u64 = 66;
 
-/// How many descriptors may be open, by the text of that file; `None` where it names no number.
-fn limit_in(text: &str) -> Option<u64> {
-    let (_, behind) = text.split_once("Max open files")?;
-    behind.split_whitespace().next()?.parse().ok()
+/// What a server has descriptors for.
+#[derive(Clone, Copy, PartialEq, Eq)]
+pub(crate) struct ServerCapacity {
+    /// How many connections it serves at once.
+    pub(crate) places: u16,
+    /// Whether it serves the risk desk's page, where it is asked for.
+    pub(crate) has_page: bool,
 }
 
-/// How many descriptors may be open; `None` where that can't be told.
-fn limit_of(rt: &HostRuntime) -> Option<u64> {
-    limit_in(fs::read_to_string(rt, LIMITS).ok()?.as_str())
+/// What so many descriptors are enough for, of so many connections at once and the page, if it is asked for: the page gives way
+/// where both can't be, and one connection is served always.
+fn capacity_within(limit: u64, at_once: u16, page: bool) -> ServerCapacity {
+    let has_page = page && limit > OWN + PAGE;
+    let own = if has_page { OWN + PAGE } else { OWN };
+    let left = limit.saturating_sub(own).max(1);
+    ServerCapacity {
+        places: u16::try_from(left).unwrap_or(at_once).min(at_once),
+        has_page,
+    }
 }
 
-/// How many connections are served at once where so many are asked for: fewer, where the descriptors for them may not be
-/// open, which is told.
-pub(crate) fn places_for<R: Wait>(
+/// Tells what is not served as it was asked for.
+fn tell_less<R: Wait>(
     rt: &R,
     host: &HostRuntime,
     log: &Log,
-    at_once: u16,
-    has_page: bool,
-) -> u16 {
-    let own = if has_page { OWN + PAGE } else { OWN };
-    let wanted = u64::from(at_once) + own;
-    let limit = limit_of(host).unwrap_or(wanted);
-    if limit >= wanted {
-        return at_once;
-    }
-    let places = u16::try_from(limit.saturating_sub(own).max(1)).unwrap_or(at_once);
+    limit: u64,
+    asked: ServerCapacity,
+    capacity: ServerCapacity,
+) {
+    let (at_once, places) = (asked.places, capacity.places);
+    let page = if asked.has_page && !capacity.has_page {
+        ", and the page is not"
+    } else {
+        ""
+    };
     let made = format!(in host.alloc();
-        "gate: {limit} descriptors may be open (ulimit -n), and {at_once} connections at once want {wanted}: \
-         {places} are served at once\n"
+        "gate: {limit} descriptors may be open (ulimit -n), too few for {at_once} connections at once: \
+         {places} are served{page}\n"
     );
     match made {
         Ok(line) => log.tell(rt, line.as_bytes()),
         Err(_) => log.leave_out(rt),
     }
-    places
+}
+
+/// What a server has descriptors for, where so many connections at once are asked for, and the page or not. Where that is less, it is
+/// told.
+pub(crate) fn capacity_for<R: Wait>(
+    rt: &R,
+    host: &HostRuntime,
+    log: &Log,
+    at_once: u16,
+    page: bool,
+) -> ServerCapacity {
+    let limit = most_descriptors(host).unwrap_or(u64::MAX);
+    let capacity = capacity_within(limit, at_once, page);
+    let asked = ServerCapacity {
+        places: at_once,
+        has_page: page,
+    };
+    if capacity != asked {
+        tell_less(rt, host, log, limit, asked, capacity);
+    }
+    capacity
 }

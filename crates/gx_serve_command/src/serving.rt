@@ -7,7 +7,7 @@ use gx_command_line::Serving;
 use gx_log::{Log, write_on};
 use gx_program::{Failure, policy_of, tell, tell_in};
 use gx_records::{ShowsRecords, ShowsState};
-use gx_runs::{Start, names_of};
+use gx_runs::{Start, look_ahead, names_of};
 use gx_units::OutOfMemory;
 use std::alloc::Global;
 use std::process::ExitCode;
@@ -26,6 +26,7 @@ fn serve_port<'a, G: ShowsRecords + ShowsState + Send, R: ServerRuntime>(
     serving: Serving<'a>,
     log: &Arc<Log, Global>,
 ) -> Result<(), Failure<'a>> {
+    look_ahead(host, &serving)?;
     let start = Start::of_run(rt, serving.files.version, serving.midnight);
     let path = serving.journal.map(|journal| journal.path);
     let named = names_of(host, serving.files, path)?;

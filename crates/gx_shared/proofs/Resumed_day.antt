@@ -1,5 +1,5 @@
 -- What is put behind the last record of a day, and what a day that goes on begins with.
-use Rattle.gx_devices.specs.declared.fault.WriteFault.{WriteFault}
+use Rattle.gx_devices.specs.declared.write.WriteFailed.{WriteFailed}
 use Rattle.std.proofs.{Common.{◌≡◌, ℕ, ◌+◌, ◌≤◌, Bool, false, List, Option, Some, None, length, take, drop, is_some, refl, sym, ap, ◌∙◌, subst, arith}, lemmas.List.{length-take, length-drop}}
 use Rattle.std.specs.Io.KnownBytes.{Appends}
 use mathlib.Core.List.{IsPrefix}
@@ -17,7 +17,7 @@ use Rattle.gx_shared.specs.GoingOn.{GoesOn}
 pub sound_at : (writer : JournalWriterData) (answer : Bool) → answer ≡ is_broken writer → answer ≡ false → writer.fault ≡ None
 sound_at writer answer is denied = none_of writer.fault (sym is ∙ denied)
   where
-    none_of : (fault : Option WriteFault) → is_some fault ≡ false → fault ≡ None
+    none_of : (fault : Option WriteFailed) → is_some fault ≡ false → fault ≡ None
     none_of None e = refl
     none_of (Some fault) e = absurd (cc e)
 

@@ -7,7 +7,7 @@ use gx_access_gate::AccessGate;
 use gx_door::Issuer;
 use gx_journal::{JournalName, Journaled};
 use gx_pass::{GateName, PassFault};
-use gx_records::ShowsState;
+use gx_records::{ShowsRecords, ShowsState};
 use std::io::Write;
 use std::sync::Wait;
 
@@ -25,7 +25,7 @@ impl<'x, G: AccessGate, N: GateName> Entrance<'x, G, N> {
     }
 }
 
-impl<G: ShowsState, N: GateName> Issuer<SharedGate<G, N>> for Entrance<'_, G, N> {
+impl<G: ShowsRecords + ShowsState, N: GateName> Issuer<SharedGate<G, N>> for Entrance<'_, G, N> {
     ghost left = { λ e. e.permits.left };
 
     ghost last = { λ e. e.permits.issued };
@@ -35,7 +35,7 @@ impl<G: ShowsState, N: GateName> Issuer<SharedGate<G, N>> for Entrance<'_, G, N>
     }
 }
 
-impl<G: ShowsState, N: GateName, W: Write, J: JournalName> Issuer<
+impl<G: ShowsRecords + ShowsState, N: GateName, W: Write, J: JournalName> Issuer<
     Journaled<'_, SharedGate<G, N>, W, J>,
 > for Entrance<'_, G, N> {
     ghost left = { λ e. e.permits.left };

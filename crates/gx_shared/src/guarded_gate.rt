@@ -1,6 +1,6 @@
 //! What lies under the lock.
 
-ghost use Rattle.std.specs.Prelude.{◌≡◌, ◌≢◌, ◌↔◌, ◌+◌, ◌<◌, ◌++◌, ◌∷◌, [], length, IsTrue, IfErr, IfNone, IfOk, IfSome, OnErr, OnOk, Some, None, is_some};
+ghost use Rattle.std.specs.Prelude.{◌≡◌, ◌≢◌, ◌↔◌, ◌+◌, ◌<◌, ◌≤◌, ◌++◌, ◌∷◌, [], length, IsTrue, IfErr, IfNone, IfOk, IfSome, OnErr, OnOk, Some, None, is_some, vec_capacity};
 ghost use mathlib.Core.List.{IsPrefix};
 ghost use Rattle.gx_units.specs.Spelling.{folded_user};
 ghost use Rattle.gx_history.specs.{InForce.line_of, Showing.has_its_first, Verdicts.IsLegal};
@@ -10,19 +10,21 @@ ghost use Rattle.gx_pass.specs.declared.pass.PassFault.TheVariants as pass_fault
 ghost use Rattle.gx_pass.specs.Views.{highest_line, mine, of_line};
 ghost use Rattle.gx_door.specs.declared.fault.PullFault.TheVariants as pull_faults;
 ghost use Rattle.gx_door.specs.{Acts.{asked_on, gate_at, login_on, AddsOwn, EndsWith, IsLater, IsPulled, IsToldFull, LogsIn, MayBeRefused}, Callers.caller_of, Matching.{EndsSo, MatchesBehind, Turns}};
-ghost use Rattle.gx_shared.specs.Permits.{all_parts};
+ghost use Rattle.gx_shared.specs.{CountedPasses.{priority_of}, Permits.{all_parts}};
 
+use crate::copying::copy_slice;
 use crate::counted_pass::CountedPass;
 use crate::counting::CountingKeeper;
 use crate::permit::{BlankLedgers, Permits};
+use crate::priority_lock::Priority;
 use crate::resuming::resume;
 use crate::steps::{asked_on, leave, match_and_note, match_some, pull, step_and_note, turn};
 use gx_access_gate::{AccessGate, LoginAnswer, Outcome, Pulled, StepFault};
-use gx_door::{Caller, Matched, PullFault, Turned};
+use gx_door::{Caller, Matched, PullFault, Turned, is_officer};
 use gx_history::record::{Record, Request};
 use gx_pass::{Blank, GateName, Keeper, Pass, PassFault};
 use gx_policy::Policy;
-use gx_records::ShowsState;
+use gx_records::{ShowsRecords, ShowsState};
 use gx_units::{Moment, OutOfMemory, Password, SessionName, UserName};
 use std::alloc::Global;
 use std::marker::Model;
@@ -112,6 +114,17 @@ impl<G: AccessGate, N: GateName> GuardedGate<G, N> {
         ensures { result ≡ caller_of N.policy user password }
     {
         Caller::of(self.gate.policy(), user, password)
+    }
+
+    /// How a user of this name waits for the gate once he is logged in: an officer goes before all others.
+    pub fn priority_of(&self, user: UserName) -> Priority
+        ensures { result ≡ priority_of N.policy user }
+    {
+        if is_officer(self.gate.policy(), user.folded()) {
+            Priority::Urgent
+        } else {
+            Priority::Ordinary
+        }
     }
 
     /// A pass of the next line, for one of these permits. It has met all records.
@@ -353,6 +366,30 @@ impl<G: AccessGate, N: GateName> GuardedGate<G, N> {
     pub fn release(self) {
         let GuardedGate { gate, keeper: _ } = self;
         gate.close();
+    }
+}
+
+impl<G: ShowsRecords, N: GateName> GuardedGate<G, N> {
+    /// Copies the records from this number on, 0 counting as 1, and at most so many, into this list, in place of what stands
+    /// there. Takes no memory.
+    pub fn copy_records(
+        &mut self,
+        pass: Pass<N>,
+        from: u64,
+        most: u64,
+        list: &mut Vec<Record>,
+    ) -> Pass<N>
+        requires room { most ≤ vec_capacity list.old }
+        ensures same { self.new ≡ self.old }
+        ensures front { result.front ≡ self.new }
+        ensures later { IsLater N.policy pass result }
+        ensures own { mine result ≡ mine pass }
+        ensures records { list.new.items ≡ slice self.new from most }
+        ensures room { vec_capacity list.new ≡ vec_capacity list.old }
+    {
+        let entered = self.keeper.enter(pass);
+        copy_slice(&self.gate, from, most, list);
+        leave(&self.gate, &mut self.keeper, entered)
     }
 }
 

@@ -15,13 +15,13 @@ use crate::rest::put_rest;
 use crate::shared::SharedGate;
 use gx_audit_bytes::AuditVersion;
 use gx_control::{ServerControl, Tallied};
-use gx_devices::WriteFault;
-use gx_journal::{Journal, JournalName, Journaled};
+use gx_devices::WriteFailed;
+use gx_journal::{Journal, JournalName, JournalRoom, Journaled};
 use gx_leaving::log_out_at_last;
 use gx_listen::{Companion, DayLog, Ending, serve_door};
 use gx_pass::{Blank, GateName, PassFault};
 use gx_policy::Policy;
-use gx_records::ShowsState;
+use gx_records::{ShowsRecords, ShowsState};
 use std::alloc::Global;
 use std::io::Write;
 use std::marker::Brand;
@@ -35,15 +35,15 @@ use std::time::Clock;
 pub struct KeptDay<G, W> {
     /// The gate that was served: its records are a legal day.
     pub gate: G,
-    /// Why no more records were kept, if so. The server was asked to end then.
-    pub fault: Option<WriteFault>,
+    /// Why no more records were kept, if so: a call of the device has failed. The server was asked to end then.
+    pub fault: Option<WriteFailed>,
     /// The device of the journal.
     pub device: W,
 }
 
 /// Closes a gate that no thread shares any more, and keeps what its journal lacks, unless that has failed. Gives a pass
 /// too, which has met all that was done, and how many records that are.
-pub fn close_kept<G: ShowsState, N: GateName, J: JournalName, W: Write + Drop>(
+pub fn close_kept<G: ShowsRecords + ShowsState, N: GateName, J: JournalName, W: Write + Drop>(
     shared: SharedGate<G, N>,
     journal: Journal<SharedGate<G, N>, W, J>,
 ) -> (KeptDay<G, W>, CountedPass<N>, Total<N>)
@@ -55,9 +55,9 @@ pub fn close_kept<G: ShowsState, N: GateName, J: JournalName, W: Write + Drop>(
     ensures kept { result.0.fault ≡ None → IsGrown J.begun (W.contents result.0.device)
         (journal_bytes J.version (drop J.count (G.state result.0.gate).records)) }
 {
-    let (pass, mut writer) = journal.into_parts();
+    let (pass, mut writer, mut room) = journal.into_parts();
     let (gate, met, total) = shared.close(pass);
-    put_rest(&gate, &mut writer);
+    put_rest(&gate, &mut writer, &mut room);
     let (device, fault) = writer.into_parts();
     let kept = KeptDay {
         gate,
@@ -89,7 +89,7 @@ fn untallied<G, W>(kept: KeptDay<G, Tallied<'_, W>>) -> KeptDay<G, W>
 /// written on it is counted in what the threads share. Gives a pass too, which has met all that was done, how many records that are, and how
 /// the server ended.
 fn serve_kept<
-    G: ShowsState + Send,
+    G: ShowsRecords + ShowsState + Send,
     N: GateName + Send + Sync,
     J: JournalName + Send + Sync,
     W: Write + Drop + Send,
@@ -101,6 +101,7 @@ fn serve_kept<
     shared: SharedGate<G, N>,
     permits: Permits<N>,
     pass: CountedPass<N>,
+    room: JournalRoom,
     version: AuditVersion,
     count: u64,
     device: W,
@@ -129,7 +130,7 @@ fn serve_kept<
 {
     let device = Tallied::new(device, &control.journal);
     let door: Journaled<'_, SharedGate<G, N>, Tallied<'_, W>, J> = Journaled::new(
-        alloc, version, &shared, pass, count, device,
+        room, version, &shared, pass, count, device,
     );
     let entrance = Entrance::new(&shared, permits);
     let served = serve_door(
@@ -154,7 +155,7 @@ fn serve_kept<
 }
 
 fn serve_named<
-    G: ShowsState + Send,
+    G: ShowsRecords + ShowsState + Send,
     N: GateName + Send + Sync,
     J: JournalName + Send + Sync,
     W: Write + Drop + Send,
@@ -166,6 +167,7 @@ fn serve_named<
     gate: G,
     blank: Blank,
     ledgers: BlankLedgers,
+    room: JournalRoom,
     version: AuditVersion,
     count: u64,
     device: W,
@@ -205,6 +207,7 @@ fn serve_named<
                 shared,
                 permits,
                 pass,
+                room,
                 version,
                 count,
                 device,
@@ -226,13 +229,14 @@ fn serve_named<
 /// logged in by the records is logged out before. What is written on the device is counted in what the threads share. Gives what is left of
 /// the day, and how the server ended.
 ///
-/// After a fault of the device nothing more is sent, and the server ends.
+/// After a fault of the device nothing more is sent, and the server ends. All memory that its writes take is taken before it
+/// serves anybody.
 ///
 /// # Errors
 ///
 /// `NoLines` where the records have the last line that there is. The gate is closed then, as it is where memory is refused.
 pub fn serve_journaled<
-    G: ShowsState + Send,
+    G: ShowsRecords + ShowsState + Send,
     W: Write + Drop + Send,
     C: Companion + Send,
     R: Threads + Wait + Clock + Sync,
@@ -268,6 +272,10 @@ pub fn serve_journaled<
         gate.close();
         return Err(PassFault::OutOfMemory);
     };
+    let Ok(room) = JournalRoom::new(alloc) else {
+        gate.close();
+        return Err(PassFault::OutOfMemory);
+    };
     // no connection is left that made the records
     log_out_at_last(&mut gate);
     serve_named::<G, Brand, Brand, W, C, R>(
@@ -276,6 +284,7 @@ pub fn serve_journaled<
         gate,
         blank,
         BlankLedgers::new(),
+        room,
         version,
         count,
         device,

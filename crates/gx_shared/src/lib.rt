@@ -12,11 +12,13 @@
 //! - `shared`: the gate that threads share, a [`Door`](gx_door::Door), behind its lock;
 //! - `guarded_gate`: what lies under the lock, a gate and the keeper of its history, whose records are the same;
 //! - `entrance`: where passes are issued, an [`Issuer`](gx_door::Issuer);
+//! - `priority_lock`: the lock, at which an officer's step goes before traders', who take turns;
 //! - `permit`: what passes are issued for, each with a part of a ledger, and how many lines were issued;
 //! - `counted_pass`: a pass, and how many records were added with it;
 //! - `counting`: the keeper, and the books in which each record and each line is counted;
 //! - `steps`: each step is one call of the gate, and the keeper notes its record before the lock is let go;
 //! - `ending`: what a Kill or a Close Day ends, counted in front of its step;
+//! - `copying`: records, copied into room that is there;
 //! - `resuming`: the keeper of a history that was there before it, which it reads a portion at a time;
 //! - `serving`: a server whose day begins with it, and the gate that was served;
 //! - `keeping`: a server whose day is kept in a journal, on whatever device that lies, and may go on from records that
@@ -24,6 +26,7 @@
 //! - `rest`: what the journal lacks at the end of the day, taken from the closed gate.
 #![tactic(auto)]
 
+mod copying;
 mod counted_pass;
 mod counting;
 mod ending;
@@ -32,6 +35,7 @@ mod guarded_gate;
 mod keeping;
 mod logging;
 mod permit;
+mod priority_lock;
 mod rest;
 mod resuming;
 mod serving;
@@ -42,5 +46,6 @@ pub use counted_pass::CountedPass;
 pub use entrance::Entrance;
 pub use keeping::{KeptDay, close_kept, serve_journaled};
 pub use permit::{BlankLedgers, Permits};
+pub use priority_lock::Priority;
 pub use serving::{Served, serve};
 pub use shared::SharedGate;

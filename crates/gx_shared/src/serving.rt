@@ -13,7 +13,7 @@ use gx_control::ServerControl;
 use gx_listen::{Companion, Ending, ServeFault, serve_door};
 use gx_pass::{Blank, GateName};
 use gx_policy::Policy;
-use gx_records::ShowsState;
+use gx_records::{ShowsRecords, ShowsState};
 use std::alloc::Global;
 use std::marker::Brand;
 use std::net::TcpListener;
@@ -32,7 +32,7 @@ pub struct Served<G> {
 
 /// Serves at a gate of this name. Gives a pass too, which has met all that was done, and how many records that are.
 fn serve_shared<
-    G: ShowsState + Send,
+    G: ShowsRecords + ShowsState + Send,
     N: GateName + Send + Sync,
     C: Companion + Send,
     R: Threads + Wait + Clock + Sync,
@@ -87,7 +87,7 @@ fn serve_shared<
 
 /// Serves at a gate of this name.
 fn serve_named<
-    G: ShowsState + Send,
+    G: ShowsRecords + ShowsState + Send,
     N: GateName + Send + Sync,
     C: Companion + Send,
     R: Threads + Wait + Clock + Sync,
@@ -129,7 +129,11 @@ fn serve_named<
 /// Takes connections under the policy, and serves each until it ends: so many of them, or
 /// fewer where the server is asked to end. The companion, if there is one, is served beside them. Gives the gate back, also
 /// where it gave up.
-pub fn serve<G: ShowsState + Send, C: Companion + Send, R: Threads + Wait + Clock + Sync>(
+pub fn serve<
+    G: ShowsRecords + ShowsState + Send,
+    C: Companion + Send,
+    R: Threads + Wait + Clock + Sync,
+>(
     rt: &R,
     alloc: Global,
     policy: &Policy,

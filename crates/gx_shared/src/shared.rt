@@ -1,45 +1,33 @@
 //! The gate under one lock.
 
-ghost use Rattle.std.specs.Prelude.{◌≡◌, ◌+◌, [], length, IfErr, IfOk, OnErr, OnOk, Some};
+ghost use Rattle.std.specs.Prelude.{◌≡◌, ◌+◌, [], length, IfErr, IfOk, OnErr, OnOk};
 ghost use mathlib.Core.List.{IsPrefix};
 ghost use Rattle.gx_history.specs.{InForce.line_of, Verdicts.IsLegal};
 ghost use Rattle.gx_pass.specs.declared.pass.PassFault.TheVariants as pass_faults;
 ghost use Rattle.gx_pass.specs.Views.{highest_line, mine, of_line};
-ghost use Rattle.gx_shared.specs.Permits.{all_parts};
+ghost use Rattle.gx_door.specs.Acts.{gate_met, login_on, IsLater, IsToldFull, LogsIn};
+ghost use Rattle.gx_shared.specs.{Permits.{all_parts}, CountedPasses.{priority_of}};
 
 use crate::counted_pass::CountedPass;
 use crate::guarded_gate::GuardedGate;
 use crate::permit::{BlankLedgers, Permits};
+use crate::priority_lock::{Priority, PriorityLock};
 use gx_access_gate::{AccessGate, LoginAnswer, Outcome, Pulled, StepFault};
 use gx_door::{Caller, Dial, Door, Matched, PullFault, Turned};
 use gx_history::record::{Record, Request};
 use gx_pass::{Blank, GateName, PassFault};
 use gx_policy::Policy;
-use gx_records::ShowsState;
+use gx_records::{ShowsRecords, ShowsState};
 use gx_units::{Moment, OutOfMemory, Password, SessionName, UserName};
 use std::alloc::Global;
-use std::hint::spin_loop;
+use std::sync::Wait;
 use std::sync::ledger::Total;
-use std::sync::{Mutex, MutexGuard, Wait};
-
-/// So many times it is looked whether the lock is free, before a thread sleeps until it is.
-const LOOKS: u32 = 30;
-
-/// So many times a processor pauses between two such looks.
-const PAUSES: u32 = 10;
-
-/// Lets a moment pass between two looks.
-fn pause() {
-    for _ in 0..PAUSES {
-        spin_loop();
-    }
-}
 
 /// The gate under one lock. Each call takes the lock once, but for `length`, which takes none.
 ///
 /// It ends by `close`, `take_back` or `release`, and is never dropped.
 pub struct SharedGate<G: AccessGate, N: GateName> {
-    guarded: Mutex<GuardedGate<G, N>>,
+    guarded: PriorityLock<GuardedGate<G, N>>,
 }
 
 impl<G: AccessGate, N: GateName> SharedGate<G, N> {
@@ -65,7 +53,7 @@ impl<G: AccessGate, N: GateName> SharedGate<G, N> {
     {
         let (guarded, permits) = GuardedGate::new(alloc, policy, blank, ledgers)?;
         let shared = SharedGate {
-            guarded: Mutex::new(guarded),
+            guarded: PriorityLock::new(guarded),
         };
         Ok((shared, permits))
     }
@@ -101,7 +89,7 @@ impl<G: AccessGate, N: GateName> SharedGate<G, N> {
         match guarded.issue(&mut permits) {
             Ok(pass) => {
                 let shared = SharedGate {
-                    guarded: Mutex::new(guarded),
+                    guarded: PriorityLock::new(guarded),
                 };
                 Ok((shared, permits, pass))
             }
@@ -110,18 +98,6 @@ impl<G: AccessGate, N: GateName> SharedGate<G, N> {
                 Err(fault)
             }
         }
-    }
-
-    /// What lies under the lock, once nobody else has it. Others have it for a few microseconds, and whoever sleeps until
-    /// then is woken only after more of them: so it is looked for a while before that.
-    fn guarded<R: Wait>(&self, rt: &R) -> MutexGuard<'_, GuardedGate<G, N>> {
-        for _ in 0..LOOKS {
-            if let Some(guarded) = self.guarded.try_lock() {
-                return guarded;
-            }
-            pause();
-        }
-        self.guarded.lock(rt)
     }
 
     /// A pass of the next line, for one of these permits. It has met all records, of which none is of its line.
@@ -141,7 +117,7 @@ impl<G: AccessGate, N: GateName> SharedGate<G, N> {
         ensures none_less { OnErr result (permits.new ≡ permits.old) }
         ensures counted { permits.new.added ≡ permits.old.added }
     {
-        self.guarded(rt).issue(permits)
+        self.guarded.lock(rt, Priority::Ordinary).issue(permits)
     }
 
     /// The gate, the pass, which has met all its records, and how many these are. It has all that the pass had met, and of
@@ -157,9 +133,9 @@ impl<G: AccessGate, N: GateName> SharedGate<G, N> {
         ensures total { result.2.amount ≡ length (G.state result.0).records }
     {
         let SharedGate { guarded } = self;
-        let CountedPass { pass, share } = pass;
+        let CountedPass { pass, rights } = pass;
         let (gate, pass, total) = guarded.into_inner().close(pass);
-        (gate, CountedPass { pass, share }, total)
+        (gate, CountedPass { pass, rights }, total)
     }
 
     /// The gate, where no pass is at hand. If all permits are left, so that none was issued, it has as many records as are
@@ -181,7 +157,7 @@ impl<G: AccessGate, N: GateName> SharedGate<G, N> {
     }
 }
 
-impl<G: ShowsState, N: GateName> Door for SharedGate<G, N> {
+impl<G: ShowsRecords + ShowsState, N: GateName> Door for SharedGate<G, N> {
     ghost use Rattle.std.specs.Prelude.{ℕ};
 
     type Pass = CountedPass<N>;
@@ -201,7 +177,9 @@ impl<G: ShowsState, N: GateName> Door for SharedGate<G, N> {
     }
 
     fn caller<R: Wait>(&self, rt: &R, user: UserName, password: Password) -> Caller {
-        self.guarded(rt).caller(user, password)
+        self.guarded
+            .lock(rt, Priority::Ordinary)
+            .caller(user, password)
     }
 
     fn login<R: Wait + Dial>(
@@ -213,12 +191,30 @@ impl<G: ShowsState, N: GateName> Door for SharedGate<G, N> {
         session: SessionName,
         wanted: u64,
         moment: Moment,
-    ) -> (CountedPass<N>, Result<LoginAnswer, StepFault>) {
-        let CountedPass { pass, mut share } = pass;
-        let (pass, result) = self
-            .guarded(rt)
-            .login(pass, &mut share, user, password, session, wanted, moment);
-        (CountedPass { pass, share }, result)
+    ) -> (CountedPass<N>, Result<LoginAnswer, StepFault>)
+        requires clock { R.shown moment }
+        ensures later { IsLater N.policy pass.held result.0.held }
+        ensures done { IfOk result.1 (LogsIn N.policy pass.held result.0.held
+            (login_on N.policy pass.held.line user password session wanted moment) wanted) }
+        ensures refused { OnErr result.1 (mine result.0.held ≡ mine pass.held) }
+        ensures full { IfErr result.1 (IsToldFull (gate_met N.policy result.0.held)) }
+        ensures adds_one { OnOk result.1 (result.0.added ≡ pass.added + 1) }
+        ensures adds_none { OnErr result.1 (result.0.added ≡ pass.added) }
+        ensures priority { result.0.priority ≡ priority_of N.policy user }
+    {
+        let CountedPass { pass, mut rights } = pass;
+        let mut guarded = self.guarded.lock(rt, Priority::Ordinary);
+        rights.priority = guarded.priority_of(user);
+        let (pass, result) = guarded.login(
+            pass,
+            &mut rights.share,
+            user,
+            password,
+            session,
+            wanted,
+            moment,
+        );
+        (CountedPass { pass, rights }, result)
     }
 
     fn act<R: Wait + Dial>(
@@ -229,11 +225,12 @@ impl<G: ShowsState, N: GateName> Door for SharedGate<G, N> {
         request: Request,
         moment: Moment,
     ) -> (CountedPass<N>, Result<Outcome, StepFault>) {
-        let CountedPass { pass, mut share } = pass;
+        let CountedPass { pass, mut rights } = pass;
         let (pass, result) = self
-            .guarded(rt)
-            .act_with_pass(pass, &mut share, user, request, moment);
-        (CountedPass { pass, share }, result)
+            .guarded
+            .lock(rt, rights.priority)
+            .act_with_pass(pass, &mut rights.share, user, request, moment);
+        (CountedPass { pass, rights }, result)
     }
 
     fn match_one<R: Wait + Dial>(
@@ -242,9 +239,12 @@ impl<G: ShowsState, N: GateName> Door for SharedGate<G, N> {
         pass: CountedPass<N>,
         moment: Moment,
     ) -> (CountedPass<N>, Result<Option<Outcome>, StepFault>) {
-        let CountedPass { pass, mut share } = pass;
-        let (pass, result) = self.guarded(rt).match_one(pass, &mut share, moment);
-        (CountedPass { pass, share }, result)
+        let CountedPass { pass, mut rights } = pass;
+        let (pass, result) = self
+            .guarded
+            .lock(rt, rights.priority)
+            .match_one(pass, &mut rights.share, moment);
+        (CountedPass { pass, rights }, result)
     }
 
     fn match_some<R: Wait + Dial>(
@@ -254,9 +254,12 @@ impl<G: ShowsState, N: GateName> Door for SharedGate<G, N> {
         moment: Moment,
         most: u64,
     ) -> (CountedPass<N>, Matched) {
-        let CountedPass { pass, mut share } = pass;
-        let (pass, matched) = self.guarded(rt).match_some(pass, &mut share, moment, most);
-        (CountedPass { pass, share }, matched)
+        let CountedPass { pass, mut rights } = pass;
+        let (pass, matched) = self
+            .guarded
+            .lock(rt, rights.priority)
+            .match_some(pass, &mut rights.share, moment, most);
+        (CountedPass { pass, rights }, matched)
     }
 
     fn turn<R: Wait + Dial>(
@@ -268,11 +271,12 @@ impl<G: ShowsState, N: GateName> Door for SharedGate<G, N> {
         moment: Moment,
         most: u64,
     ) -> (CountedPass<N>, Result<Turned, StepFault>) {
-        let CountedPass { pass, mut share } = pass;
+        let CountedPass { pass, mut rights } = pass;
         let (pass, result) = self
-            .guarded(rt)
-            .turn(pass, &mut share, user, request, moment, most);
-        (CountedPass { pass, share }, result)
+            .guarded
+            .lock(rt, rights.priority)
+            .turn(pass, &mut rights.share, user, request, moment, most);
+        (CountedPass { pass, rights }, result)
     }
 
     fn pull<R: Wait>(
@@ -283,9 +287,12 @@ impl<G: ShowsState, N: GateName> Door for SharedGate<G, N> {
         from: u64,
         most: u64,
     ) -> (CountedPass<N>, Result<Pulled, PullFault>) {
-        let CountedPass { pass, share } = pass;
-        let (pass, result) = self.guarded(rt).pull(pass, user, from, most);
-        (CountedPass { pass, share }, result)
+        let CountedPass { pass, rights } = pass;
+        let (pass, result) = self
+            .guarded
+            .lock(rt, rights.priority)
+            .pull(pass, user, from, most);
+        (CountedPass { pass, rights }, result)
     }
 
     fn logout<R: Wait + Dial>(
@@ -305,9 +312,30 @@ impl<G: ShowsState, N: GateName> Door for SharedGate<G, N> {
         from: u64,
         most: u64,
     ) -> (CountedPass<N>, Result<Vec<Record>, OutOfMemory>) {
-        let CountedPass { pass, share } = pass;
-        let (pass, result) = self.guarded(rt).records(pass, from, most);
-        (CountedPass { pass, share }, result)
+        let CountedPass { pass, rights } = pass;
+        let (pass, result) = self
+            .guarded
+            .lock(rt, rights.priority)
+            .records(pass, from, most);
+        (CountedPass { pass, rights }, result)
+    }
+
+    fn copy_records<R: Wait>(
+        &self,
+        rt: &R,
+        pass: CountedPass<N>,
+        from: u64,
+        most: u64,
+        list: &mut Vec<Record>,
+    ) -> CountedPass<N> {
+        let CountedPass { pass, rights } = pass;
+        // those that stand there go before the lock is taken
+        list.clear();
+        let pass = self
+            .guarded
+            .lock(rt, rights.priority)
+            .copy_records(pass, from, most, list);
+        CountedPass { pass, rights }
     }
 
     fn keep<R: Wait>(&self, _rt: &R, _count: u64) -> bool {
@@ -324,16 +352,16 @@ impl<G: ShowsState, N: GateName> Door for SharedGate<G, N> {
         one: CountedPass<N>,
         other: CountedPass<N>,
     ) -> (CountedPass<N>, CountedPass<N>) {
-        let CountedPass { pass, share } = one;
+        let CountedPass { pass, rights } = one;
         let CountedPass {
             pass: other,
-            share: others,
+            rights: theirs,
         } = other;
-        let (pass, other) = self.guarded(rt).meet(pass, other);
-        let first = CountedPass { pass, share };
+        let (pass, other) = self.guarded.lock(rt, rights.priority).meet(pass, other);
+        let first = CountedPass { pass, rights };
         let second = CountedPass {
             pass: other,
-            share: others,
+            rights: theirs,
         };
         (first, second)
     }

@@ -278,6 +278,7 @@ impl<T: Drop> ConnectionState<T> {
         ensures told { history_met D.observed self.new.pass
             ≡ with_told (history_met D.observed self.old.pass) result }
         ensures front { length (history_met D.observed self.old.pass).front ≤ result }
+        ensures conduct { self.new.conduct ≡ self.old.conduct }
         ensures user { self.new.user ≡ self.old.user }
         ensures session { self.new.session ≡ self.old.session }
         ensures outbox { self.new.outbox ≡ self.old.outbox }

@@ -1,7 +1,8 @@
 //! What becomes of a packet.
 
-ghost use Rattle.std.specs.Prelude.{◌≡◌};
-ghost use Rattle.gx_serve.specs.Takings.{IsTakenIn};
+ghost use Rattle.std.specs.Prelude.{◌≡◌, length};
+ghost use Rattle.gx_door.specs.Acts.{history_met};
+ghost use Rattle.gx_serve.specs.{Conducts.WasJudged, Takings.{IsTakenByConduct, IsTakenIn}};
 
 use crate::conduct::Exclusion;
 use crate::state::{Break, BrokenOff, ConnectionState, TakenPacket};
@@ -20,8 +21,11 @@ pub enum Taken<'a> {
 }
 
 impl<T: Drop> ConnectionState<T> {
-    /// Why the user is put out, if he is.
+    /// Why the user is put out, if he is, by his conduct and by how many records there are.
     fn exclusion<D: Door<Pass = T>>(&mut self, door: &D) -> Option<Exclusion>
+        ensures judged { WasJudged self.old.conduct
+            (length (history_met D.observed self.old.pass).front) result }
+        ensures conduct { self.new.conduct ≡ self.old.conduct }
         ensures user { self.new.user ≡ self.old.user }
         ensures session { self.new.session ≡ self.old.session }
         ensures outbox { self.new.outbox ≡ self.old.outbox }
@@ -41,6 +45,8 @@ impl<T: Drop> ConnectionState<T> {
     ) -> Taken<'a>
         requires clock { R.shown moment }
         ensures taken { IsTakenIn packet.now result }
+        ensures judged { IsTakenByConduct self.old.conduct
+            (length (history_met D.observed self.old.pass).front) result }
     {
         match self.exclusion(door) {
             Some(why) => {

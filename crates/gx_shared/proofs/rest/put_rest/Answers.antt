@@ -8,10 +8,11 @@ use Rattle.gx_shared.proofs.rest.put_rest.Goals as goal
 
 pub loop-writer-init : goal.loop-writer-init
 loop-writer-init g c =
-    let sound = sound_at c.args.writer.now c.is_broken.result c.is_broken.ensures c.if-is_broken.false in
+    let sound = sound_at c.args.writer.now c.is_broken.result c.is_broken.ensures.broken c.if-is_broken.false in
     record {
       first = omega arith;
       within = c.requires.within;
+      room = c.requires.room;
       sound = sound;
       begun = sound;
       version = refl;
@@ -25,6 +26,7 @@ loop-writer-preserved g c =
     record {
       first = omega (arith, done, c.loop-writer.invariant.first);
       within = omega (arith, done, c.min-most.ensures, c.length-count.ensures.count, c.done-in-loop-writer.ensures, c.loop-writer.invariant.within);
+      room = omega (arith, c.put_piece.ensures.room, c.loop-writer.invariant.room);
       sound = c.if-not-put_piece.ensures.sound refl;
       begun = c.loop-writer.invariant.begun;
       version = c.put_piece.ensures.version ∙ c.loop-writer.invariant.version;

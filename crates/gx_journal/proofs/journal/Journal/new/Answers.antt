@@ -8,4 +8,5 @@ invariant_of-result g c = (
   c.requires.none_added,
   kept_begun g.J.JournalName.begun g.J.JournalName.count g.J.JournalName.earlier g.J.JournalName.version (g.D.Door.observed c.args.pass) c.new.result c.requires.met (rw (← c.requires.count) c.requires.within)
       (c.new.ensures.contents ∙ c.requires.begun) (c.new.ensures.done ∙ c.requires.count) c.new.ensures.fault (c.new.ensures.version ∙ c.requires.version),
+  c.room.invariant.0,
 )
